@@ -1,0 +1,12 @@
+//! Objects that react to entries and migrate, and what one entry sends and replies.
+#![tactic(auto)]
+
+mod chare;
+mod outbox;
+mod output;
+#[cfg(test)]
+mod tests;
+
+pub use crate::chare::Chare;
+pub use crate::outbox::Outbox;
+pub use crate::output::Output;

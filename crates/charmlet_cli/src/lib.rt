@@ -1,0 +1,14 @@
+//! Runs scripts over a store, line by line.
+#![tactic(auto)]
+
+mod blanks;
+mod files;
+mod running;
+mod small;
+mod stop;
+#[cfg(test)]
+mod tests;
+
+pub use crate::files::script_in;
+pub use crate::running::{RunError, run_script};
+pub use crate::stop::Stop;

@@ -1,0 +1,96 @@
+//! Why the program stops before its work is done.
+
+use crate::running::RunError;
+use charmlet_chare::Chare;
+use charmlet_script::ReadError;
+use std::alloc::{AllocError, AllocFailed};
+use std::io;
+use thiserror::Error;
+
+/// Why the program stops, with the text for standard error.
+#[derive(Clone, Copy, Debug, PartialEq, Eq, Error)]
+pub enum Stop {
+    /// Memory or the output failed outside a step.
+    #[error("cannot go on")]
+    CannotGoOn,
+    /// The script isn't there, is a folder, or a read of it failed.
+    #[error("cannot read script")]
+    UnreadableScript,
+    /// The script's first malformed line. Lines count from 1.
+    #[error("script line {0}")]
+    MalformedLine(u64),
+}
+
+impl Stop {
+    ghost use Rattle.std.specs.Prelude.{◌≡◌};
+    ghost use Rattle.charmlet_cli.specs.Stop.{status_of};
+
+    /// The program's exit status: 1 where it can't go on, and 2 for a script that can't be run.
+    pub fn status(&self) -> u8
+        ensures { result ≡ status_of self.now }
+    {
+        match self {
+            Stop::CannotGoOn => 1,
+            Stop::UnreadableScript | Stop::MalformedLine(_) => 2,
+        }
+    }
+}
+
+impl From<ReadError> for Stop {
+    ghost use Rattle.std.specs.Prelude.{◌≡◌};
+    ghost use Rattle.charmlet_cli.specs.Stop.{stop_of};
+
+    ghost from_gives = { λ error stop. stop ≡ stop_of error };
+
+    fn from(error: ReadError) -> Stop {
+        match error {
+            ReadError::Memory => Stop::CannotGoOn,
+            ReadError::Failed(_) => Stop::UnreadableScript,
+            ReadError::Malformed(line) => Stop::MalformedLine(line),
+        }
+    }
+}
+
+impl<C: Chare> From<RunError<C>> for Stop {
+    ghost use Rattle.std.specs.Prelude.{◌≡◌};
+    ghost use Rattle.charmlet_cli.specs.declared.stop.Stop.TheVariants.{CannotGoOn};
+
+    ghost from_gives = { λ _ stop. stop ≡ CannotGoOn };
+
+    fn from(_error: RunError<C>) -> Stop {
+        Stop::CannotGoOn
+    }
+}
+
+impl From<AllocError> for Stop {
+    ghost use Rattle.std.specs.Prelude.{◌≡◌};
+    ghost use Rattle.charmlet_cli.specs.declared.stop.Stop.TheVariants.{CannotGoOn};
+
+    ghost from_gives = { λ _ stop. stop ≡ CannotGoOn };
+
+    fn from(_error: AllocError) -> Stop {
+        Stop::CannotGoOn
+    }
+}
+
+impl<T: Drop> From<AllocFailed<T>> for Stop {
+    ghost use Rattle.std.specs.Prelude.{◌≡◌};
+    ghost use Rattle.charmlet_cli.specs.declared.stop.Stop.TheVariants.{CannotGoOn};
+
+    ghost from_gives = { λ _ stop. stop ≡ CannotGoOn };
+
+    fn from(_error: AllocFailed<T>) -> Stop {
+        Stop::CannotGoOn
+    }
+}
+
+impl From<io::Error> for Stop {
+    ghost use Rattle.std.specs.Prelude.{◌≡◌};
+    ghost use Rattle.charmlet_cli.specs.declared.stop.Stop.TheVariants.{CannotGoOn};
+
+    ghost from_gives = { λ _ stop. stop ≡ CannotGoOn };
+
+    fn from(_error: io::Error) -> Stop {
+        Stop::CannotGoOn
+    }
+}

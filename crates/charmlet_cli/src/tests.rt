@@ -1,0 +1,384 @@
+use crate::small::Small;
+use crate::{RunError, Stop, run_script, script_in};
+use charmlet_chare::Chare;
+use charmlet_kinds::Counter;
+use charmlet_model::{Answer, Elem, Kind, Manifest, Refusal, Step, Told, Words};
+use charmlet_script::{Line, Script, read_script};
+use std::alloc::{AllocError, Global};
+use std::io;
+use std::io::Write;
+use std::test::Fail;
+
+// The lines of the script and what they print, those of the script behind `> `.
+const FIRST_RUN: &str = "\
+> array 0 1
+> supply 1 1
+supplied 1 1
+> req 7 1 0 0 65535 5
+told unknown
+> deliver 0 c7.1
+delivered c7.1
+> flush
+flushed 2
+> status 7 1
+told replied
+> req 7 2 0 0 0 3
+told unknown
+> deliver 0 c7.2
+delivered c7.2
+> status 7 2
+told unknown
+> flush
+flushed 4
+> status 7 2
+told replied 8
+> status 7 1
+told past
+";
+
+const REPEATS: &str = "\
+> array 0 1
+> req 7 1 0 0 65535 5
+told unknown
+> req 7 1 0 0 65535 5
+told unknown
+> req 7 3 0 0 1
+refused 5 OutOfTurn 2
+> req 7 2 0 0 1
+refused 6 Waiting
+> flush
+flushed 1
+> req 7 1 0 0 1
+told accepted
+> req 7 2 9 0 1
+refused 6 Waiting
+> req 8 1 9 0 1
+refused 4 NoArray
+";
+
+const SUM_STOPS: &str = "\
+> array 0 1
+> supply 1 1
+supplied 1 1
+> req 7 1 0 0 65535 18446744073709551615
+told unknown
+> req 8 1 0 0 0 1
+told unknown
+> deliver 0 c7.1
+delivered c7.1
+> deliver 0 c8.1
+delivered c8.1
+> flush
+flushed 4
+> status 8 1
+told replied 18446744073709551615
+";
+
+const REFUSED: &str = "\
+> array 3 1
+> req 1 1 3 0 0 1
+told unknown
+> deliver 1 c1.1
+refused 17 BadPes
+> deliver 0 c1.2
+refused 8 NoMessage
+> deliver 0 c1.0
+refused 8 NoMessage
+> deliver 0 e3.0.1
+refused 8 NoMessage
+> deliver 0 c1.1
+refused 9 Absent
+> req 2 1 3 0 65535
+told unknown
+> deliver 0 c2.1
+refused 11 NoBlank 1
+> supply 1 0
+supplied 1 0
+> deliver 0 c2.1
+refused 11 NoBlank 1
+> supply 1 2
+supplied 1 2
+> deliver 0 c2.1
+delivered c2.1
+> deliver 0 c1.1
+delivered c1.1
+> deliver 0 c1.1
+refused 8 NoMessage
+> req 2 2 3 0 65535 9
+told unknown
+> deliver 0 c2.2
+delivered c2.2
+> req 2 3 3 0 1
+told unknown
+> deliver 0 c2.3
+delivered c2.3
+> status 2 3
+told unknown
+> flush
+flushed 8
+> status 2 3
+told replied 1
+> status 2 0
+told past
+> status 9 1
+told unknown
+> req 2 0 3 0 1
+refused 5 OutOfTurn 4
+";
+
+// The script in a transcript, and what it prints.
+fn parts(alloc: Global, transcript: &str) -> Result<(String, String), AllocError> {
+    let mut script = String::new(alloc);
+    let mut output = String::new(alloc);
+    for line in transcript.lines() {
+        let (text, line) = match line.strip_prefix("> ") {
+            Some(line) => (&mut script, line),
+            None => (&mut output, line),
+        };
+        text.push_str(line)?;
+        text.push('\n')?;
+    }
+    Ok((script, output))
+}
+
+fn counters(alloc: Global, script: &Script) -> Result<Vec<Counter>, AllocError> {
+    let mut counters = Vec::new(alloc);
+    for _ in 0..script.blanks(Kind::Counter) {
+        counters.push(Counter::blank())?;
+    }
+    Ok(counters)
+}
+
+#[test]
+fn transcripts_are_printed(rt: HostRuntime) -> Result<(), Fail> {
+    let alloc = rt.alloc();
+    for transcript in [FIRST_RUN, REPEATS, SUM_STOPS, REFUSED] {
+        let (text, wanted) = parts(alloc, transcript)?;
+        let script = read_script(alloc, &mut text.as_bytes())?;
+        let mut output = Vec::new(alloc);
+        let ran = run_script(alloc, &script, counters(alloc, &script)?, &mut output);
+        assert!(rt; ran.is_ok());
+        assert_eq!(rt; output.as_slice(), wanted.as_bytes());
+    }
+    Ok(())
+}
+
+#[test]
+fn boxed_objects_run(rt: HostRuntime) -> Result<(), Fail> {
+    let alloc = rt.alloc();
+    let (text, wanted) = parts(alloc, FIRST_RUN)?;
+    let script = read_script(alloc, &mut text.as_bytes())?;
+    let mut blanks: Vec<Box<dyn Chare + Send>> = Vec::new(alloc);
+    blanks.push(Box::new(alloc, Counter::blank())?)?;
+    blanks.push(Box::new(alloc, Counter::blank())?)?;
+    let mut output = Vec::new(alloc);
+    let ran = run_script(alloc, &script, blanks, &mut output);
+    assert!(rt; ran.is_ok());
+    assert_eq!(rt; output.as_slice(), wanted.as_bytes());
+    Ok(())
+}
+
+#[test]
+fn missing_blanks_write_nothing(rt: HostRuntime) -> Result<(), Fail> {
+    let alloc = rt.alloc();
+    let script = read_script(alloc, &mut "array 0 1\nsupply 1 2\nsupply 1 1\n".as_bytes())?;
+    assert_eq!(rt; script.blanks(Kind::Counter), 3);
+    let mut blanks = Vec::new(alloc);
+    blanks.push(Counter::blank())?;
+    blanks.push(Counter::blank())?;
+    let mut output = Vec::new(alloc);
+    match run_script(alloc, &script, blanks, &mut output) {
+        Err(RunError::TooFewBlanks(blanks)) => assert_eq!(rt; blanks.len(), 2),
+        _ => panic!(rt; "three blanks are wanted"),
+    }
+    assert!(rt; output.is_empty());
+    Ok(())
+}
+
+// A request with so many words.
+fn long_request(alloc: Global, client: u32, words: usize) -> Result<Step, AllocError> {
+    let mut items = Vec::new(alloc);
+    for word in 0..words {
+        items.push(word as u64)?;
+    }
+    Ok(Step::Request {
+        client,
+        number: 1,
+        to: Elem { array: 0, index: 0 },
+        entry: 0,
+        words: Words::new(items),
+    })
+}
+
+fn small(alloc: Global) -> Result<Option<Small<Counter>>, AllocError> {
+    let Some(manifest) = Manifest::of(alloc, &[(0, 1)])? else {
+        return Ok(None);
+    };
+    Ok(Some(Small::new(alloc, manifest)))
+}
+
+#[test]
+fn limits_are_kept(rt: HostRuntime) -> Result<(), Fail> {
+    let alloc = rt.alloc();
+    let mut store = small(alloc)?.expect(&rt, "a manifest");
+    let long = long_request(alloc, 0, 513)?;
+    let answer = store.step(&long);
+    assert!(rt; matches!(answer, Answer::Refused(Refusal::TooLong)));
+    for client in 0..1024 {
+        let request = long_request(alloc, client, 512)?;
+        let answer = store.step(&request);
+        assert!(rt;
+            matches!(answer, Answer::Told(Told::Unknown)),
+            "client {client}"
+        );
+    }
+    let request = long_request(alloc, 1024, 0)?;
+    let answer = store.step(&request);
+    assert!(rt; matches!(answer, Answer::Refused(Refusal::ClientsFull)));
+    let answer = store.step(&Step::Flush);
+    assert!(rt; matches!(answer, Answer::Flushed(1024)));
+    let repeat = long_request(alloc, 1023, 0)?;
+    let answer = store.step(&repeat);
+    assert!(rt; matches!(answer, Answer::Told(Told::Accepted)));
+    Ok(())
+}
+
+// An output that takes so many more bytes, and then fails.
+#[derive(Drop)]
+struct FullOutput {
+    taken: Vec<u8>,
+    room: usize,
+}
+
+impl Write for FullOutput {
+    fn write(&mut self, bytes: &[u8]) -> io::Result<usize> {
+        if bytes.len() > self.room {
+            return Err(io::Error::from(io::ErrorKind::StorageFull));
+        }
+        self.taken.extend_from_slice(bytes)?;
+        self.room -= bytes.len();
+        Ok(bytes.len())
+    }
+
+    fn flush(&mut self) -> io::Result<()> {
+        Ok(())
+    }
+}
+
+#[test]
+fn failed_output_ends_the_run(rt: HostRuntime) -> Result<(), Fail> {
+    let alloc = rt.alloc();
+    let (text, wanted) = parts(alloc, FIRST_RUN)?;
+    let script = read_script(alloc, &mut text.as_bytes())?;
+    let mut output = FullOutput {
+        taken: Vec::new(alloc),
+        room: 40,
+    };
+    let ran = run_script(alloc, &script, counters(alloc, &script)?, &mut output);
+    assert!(rt; matches!(ran, Err(RunError::Output(_))));
+    assert!(rt; wanted.as_bytes().starts_with(output.taken.as_slice()));
+    assert!(rt; output.taken.starts_with(b"supplied 1 1\ntold unknown\n"));
+    let stop = match ran {
+        Ok(()) => panic!(rt; "the output failed"),
+        Err(error) => Stop::from(error),
+    };
+    assert_eq!(rt; stop.status(), 1);
+    assert_eq!(rt; format!(in alloc; "{stop}")?.as_str(), "cannot go on");
+    Ok(())
+}
+
+#[test]
+fn stops_have_their_statuses(rt: HostRuntime) -> Result<(), Fail> {
+    let alloc = rt.alloc();
+    let Err(error) = read_script(alloc, &mut "array 0 1\nsupply\n".as_bytes()) else {
+        panic!(rt; "the second line is malformed")
+    };
+    let stop = Stop::from(error);
+    assert_eq!(rt; stop.status(), 2);
+    assert_eq!(rt; format!(in alloc; "{stop}")?.as_str(), "script line 2");
+    let stop = Stop::UnreadableScript;
+    assert_eq!(rt; stop.status(), 2);
+    assert_eq!(rt; format!(in alloc; "{stop}")?.as_str(), "cannot read script");
+    let missing = script_in(&rt, "there is no such script");
+    assert_eq!(rt; missing.err(), Some(Stop::UnreadableScript));
+    let folder = script_in(&rt, ".");
+    assert_eq!(rt; folder.err(), Some(Stop::UnreadableScript));
+    Ok(())
+}
+
+// What one line prints. Where it is refused memory it is tried again, so many times in all.
+fn printed(
+    alloc: Global,
+    store: &mut Small<Counter>,
+    line: &Line,
+    tries: usize,
+) -> Result<String, AllocError> {
+    match line {
+        Line::Supply { kind, count } => {
+            let mut blanks = Vec::new(alloc);
+            for _ in 0..*count {
+                blanks.push(Counter::blank())?;
+            }
+            for _ in 0..tries {
+                match store.supply(blanks) {
+                    Ok(()) => return format!(in alloc; "supplied {kind} {count}\n"),
+                    Err(refused) => blanks = refused,
+                }
+            }
+            String::from_str(alloc, "refused memory\n")
+        }
+        Line::Step(step) => {
+            let steps = std::slice::from_ref(step);
+            for _ in 0..tries {
+                let Ok(answers) = store.run(steps) else {
+                    continue;
+                };
+                match answers.as_slice() {
+                    [Answer::Refused(Refusal::Memory)] => {}
+                    [answer] => return format!(in alloc; "{answer}\n"),
+                    _ => return String::from_str(alloc, "more answers than steps\n"),
+                }
+            }
+            String::from_str(alloc, "refused memory\n")
+        }
+    }
+}
+
+// What the script prints, if memory is refused in lines alone, each of which is tried so many times.
+fn all_printed(alloc: Global, text: &str, tries: usize) -> Result<String, Stop> {
+    let script = read_script(alloc, &mut text.as_bytes())?;
+    let Some(mut store) = small(alloc)? else {
+        return Err(Stop::CannotGoOn);
+    };
+    let mut output = String::new(alloc);
+    for line in script.lines() {
+        let text = printed(alloc, &mut store, line, tries)?;
+        output.push_str(text.as_str())?;
+    }
+    Ok(output)
+}
+
+#[test]
+fn refused_memory_changes_no_later_line(rt: HostRuntime) -> Result<(), Fail> {
+    let alloc = rt.alloc();
+    let (text, wanted) = match parts(alloc, FIRST_RUN) {
+        Ok(parts) => parts,
+        Err(_) => parts(alloc, FIRST_RUN)?,
+    };
+    let output = match all_printed(alloc, text.as_str(), 2) {
+        Ok(output) => output,
+        Err(_) => all_printed(alloc, text.as_str(), 2)?,
+    };
+    assert_eq!(rt; output.as_str(), wanted.as_str());
+    Ok(())
+}
+
+// The same run, which ends where memory is refused: it passes once there is no such allocation.
+#[test]
+fn first_run_meets_no_refusal(rt: HostRuntime) -> Result<(), Fail> {
+    let alloc = rt.alloc();
+    let (text, wanted) = parts(alloc, FIRST_RUN)?;
+    let output = all_printed(alloc, text.as_str(), 1)?;
+    assert_eq!(rt; output.as_str(), wanted.as_str());
+    Ok(())
+}

@@ -1,0 +1,74 @@
+-- From clap's matches and faults to the script that a line asks to run.
+use Rattle.std.proofs.Common.{◌≡◌, ◌∷◌, [], List, true, Option, Some, None, codes, refl, inl, inr, option_and_then, option_map, Result, Ok, Err, IfErr}
+use Rattle.std.specs.Str.{bytes_eq}
+use Rattle.clap.specs.Walk.{Row, Text, first_of}
+use Rattle.std.specs.Prelude.{Box, IsErrAnd}
+use Rattle.std.specs.Box.{box_value}
+use Rattle.clap.specs.Simple.{App, is_simple, subcommand_of, subcommand_rows}
+use Rattle.clap.specs.declared.parser.matches.SubCommand.{SubCommand}
+use Rattle.clap.specs.declared.parser.matches.ArgMatches.TheViews.{out-SubCommand}
+use Rattle.clap.specs.Faults.{fault_of, is_simple_and_free}
+use Rattle.clap.specs.Kinds.{Kinds, HasKind, IsAmong}
+use Rattle.clap.specs.Values.{kind_of}
+use Rattle.clap.specs.declared.error.Error.{Error}
+use Rattle.clap.proofs.OnLiterals.{clap_on_literals}
+use Rattle.charmlet_command.specs.CommandLine.{AsksNothing, IsErrorOf, asked_script, charmlet_line, script_of}
+use Rattle.charmlet_command.specs.declared.CommandError.{CommandError}
+use Rattle.charmlet_command.specs.declared.CommandError.TheVariants.{Memory, Line}
+
+-- clap's faults of our command are exact
+charmlet_is_free : is_simple_and_free charmlet_line ≡ true
+unfolding clap_on_literals
+charmlet_is_free = refl
+
+-- and so are its matches
+charmlet_is_simple : is_simple charmlet_line ≡ true
+unfolding clap_on_literals
+charmlet_is_simple = refl
+
+-- the name and the values of the subcommand that was met
+pub script_is : (found : Option (Text × List Row)) (name : Text) (rows : List Row)
+    → Some name ≡ option_map (λ p. p.0) found → Some rows ≡ option_map (λ p. p.1) found → bytes_eq name (codes "run") ≡ true
+    → first_of (codes "script") rows ≡ option_and_then script_of found
+script_is None name rows n r run = absurd (cc)
+script_is (Some (met, values)) name rows n r run =
+    let same_name : name ≡ met = cc in
+    let same_rows : rows ≡ values = cc in
+    rw (← same_name, ← same_rows, run) refl
+
+module _ {Z : Type 0} where
+  -- the name of the subcommand, as its getter and as the rows have it
+  pub name_of_rows : (o : Option (Box SubCommand Z)) → option_map (λ b. (out-SubCommand (box_value b)).name.now) o ≡ option_map (λ p. p.0) (subcommand_rows o)
+  name_of_rows None = refl
+  name_of_rows (Some b) = refl
+
+-- where clap finds no fault, the subcommand that it met decides
+pub asked_is : (app : App) (words : List Text) (others : Type 0) (found : Option (Text × List Row)) → app ≡ charmlet_line
+    → (is_simple_and_free app ≡ true → fault_of app words ≡ [])
+    → (is_simple app ≡ true → others × (found ≡ subcommand_of app words))
+    → asked_script words ≡ option_and_then script_of found
+unfolding asked_script
+asked_is app words others found is none met =
+    let no_fault : fault_of charmlet_line words ≡ [] = rw is at none charmlet_is_free in
+    let same : found ≡ subcommand_of charmlet_line words = (rw is at met charmlet_is_simple).1 in
+    rw (no_fault, same) refl
+
+-- where it finds one, nothing is asked
+faulty : (words : List Text) (error : Error) (faults : Kinds) → fault_of charmlet_line words ≡ faults → IsAmong (kind_of error) faults → asked_script words ≡ None
+unfolding asked_script
+faulty words error [] e among = absurd among
+faulty words error (k ∷ ks) e among = rw e refl
+
+nothing_asked : (words : List Text) (error : Error) (answer : CommandError) → HasKind (fault_of charmlet_line words) error → IsErrorOf error answer
+    → AsksNothing words answer
+nothing_asked words error Memory kinds is = tt
+nothing_asked words error (Line text) kinds is = elim kinds [
+  | inl memory ↦ let never : Line text ≡ Memory = is.memory memory in absurd (cc)
+  | inr among ↦ faulty words error _ refl among
+]
+
+-- what clap's error becomes is an answer to words that ask for nothing
+pub error_is : {T : Type 0} (app : App) (words : List Text) (error : Error) (r : Result T CommandError) → app ≡ charmlet_line
+    → (is_simple_and_free app ≡ true → HasKind (fault_of app words) error) → IsErrAnd r (IsErrorOf error) → IfErr r (AsksNothing words)
+error_is app words error (Ok value) is kinds answered = tt
+error_is app words error (Err answer) is kinds answered = nothing_asked words error answer (rw is at kinds charmlet_is_free) answered

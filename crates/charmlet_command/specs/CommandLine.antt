@@ -1,0 +1,61 @@
+-- What a command line asks for, by clap's meaning of its words.
+use Rattle.std.specs.Prelude.{◌≡◌, ◌≢◌, Bool, List, [], ◌∷◌, Option, Some, None, codes, true, if◌then◌else◌, option_and_then}
+use Rattle.std.specs.Str.{bytes_eq}
+use Rattle.clap.specs.Walk.{Row, Rule, Text, first_of}
+use Rattle.clap.specs.Simple.{App, new_app, new_rule, on_top, subcommand_of, with_rule, with_subcommand}
+use Rattle.clap.specs.Kinds.{Kinds}
+use Rattle.clap.specs.Faults.{fault_of}
+use Rattle.clap.specs.Values.{kind_of}
+use Rattle.clap.specs.declared.builder.action.ArgAction.TheVariants.{Set}
+use Rattle.clap.specs.declared.builder.command.Command.{Command as Parser}
+use Rattle.clap.specs.declared.builder.command.Command.TheViews.{out-Command}
+use Rattle.clap.specs.declared.error.Error.{Error}
+use Rattle.clap.specs.declared.error.kind.ErrorKind.TheVariants.{OutOfMemory}
+use Rattle.charmlet_command.specs.declared.Command.{Command}
+use Rattle.charmlet_command.specs.declared.Command.TheVariants.{Run}
+use Rattle.charmlet_command.specs.declared.CommandError.{CommandError}
+use Rattle.charmlet_command.specs.declared.CommandError.TheVariants.{Memory, Line}
+
+-- a parser has an argument that its subcommands take too
+abbrev pub has_globals : Parser → Bool
+has_globals parser = (out-Command parser).has_globals
+
+-- the word that names the script's file
+abbrev pub script_word : Rule
+script_word = record (new_rule (codes "script")) { value_names = 1; required = true; action = Some Set }
+
+-- `run SCRIPT`
+abbrev pub run_line : App
+run_line = with_rule (new_app (codes "run")) script_word
+
+-- `charmlet`, which wants a subcommand
+abbrev pub charmlet_line : App
+charmlet_line =
+    with_subcommand (on_top (λ top. record top { subcommand_required = true }) (new_app (codes "charmlet"))) run_line.top
+
+-- the script that a subcommand and its values ask to run
+abbrev pub script_of : Text × List Row → Option Text
+script_of found = if bytes_eq found.0 (codes "run") then first_of (codes "script") found.1 else None
+
+-- nothing is asked where clap finds a fault
+abbrev pub unless_faulty : Kinds → Option Text → Option Text
+unless_faulty [] asked = asked
+unless_faulty (fault ∷ faults) asked = None
+
+-- the script that the words ask to run
+unfoldable pub asked_script : List Text → Option Text
+asked_script words = unless_faulty (fault_of charmlet_line words) (option_and_then script_of (subcommand_of charmlet_line words))
+
+-- the words ask for the command
+abbrev pub Asks : List Text → Command → Type 0
+Asks words (Run script) = asked_script words ≡ Some script.now
+
+-- the words ask for no command, want of memory aside
+abbrev pub AsksNothing : List Text → CommandError → Type 0
+AsksNothing words Memory = Unit {0}
+AsksNothing words (Line error) = asked_script words ≡ None
+
+-- what clap's error becomes: want of memory has no text
+pub record IsErrorOf (error : Error) (answer : CommandError) : Type 0 where
+  pub memory : kind_of error ≡ OutOfMemory → answer ≡ Memory
+  pub line : kind_of error ≢ OutOfMemory → answer ≡ Line error

@@ -1,0 +1,11 @@
+//! What an entry is told.
+
+ghost use Rattle.std.specs.Prelude.{◌≡◌};
+ghost use Rattle.charmlet_model.specs.Reaction.{word};
+
+/// A word of a payload; one that it lacks counts as 0.
+pub fn word_at(payload: &[u64], index: usize) -> u64
+    ensures { result ≡ word payload.now index }
+{
+    payload.get(index).copied().unwrap_or(0)
+}

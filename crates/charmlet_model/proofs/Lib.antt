@@ -1,0 +1,9 @@
+pub mod Maps
+pub mod Histories
+pub mod Lasts
+pub mod Bytes
+pub mod Reactions
+pub mod Fits
+pub mod Births
+pub mod ManifestLemmas
+pub mod Sameness

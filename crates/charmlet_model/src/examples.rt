@@ -1,0 +1,48 @@
+//! Worked examples, each the contract of a function that does nothing.
+
+ghost use Rattle.charmlet_model.specs.Examples.{CounterIsPacked, TapeIsPacked, TapeDropsItsFirst, BytesAreFaulty, CountersAddUp, SumsStop, RingPassesToken, AccountsPay, TreeGrowsAgain};
+
+/// A counter at 5 has eight bytes.
+pub fn counter_is_packed()
+    ensures { CounterIsPacked }
+{}
+
+/// A tape with the items 1 and 2 has twenty bytes.
+pub fn tape_is_packed()
+    ensures { TapeIsPacked }
+{}
+
+/// A full tape drops its first item for a new one.
+pub fn tape_drops_its_first()
+    ensures { TapeDropsItsFirst }
+{}
+
+/// Bytes with one too many, one too few, or a length past the limit are no tape.
+pub fn bytes_are_faulty()
+    ensures { BytesAreFaulty }
+{}
+
+/// A counter is made with 5 and adds 3; the client is told of each request what is durable of it.
+pub fn counters_add_up()
+    ensures { CountersAddUp }
+{}
+
+/// A sum stops at the greatest number.
+pub fn sums_stop()
+    ensures { SumsStop }
+{}
+
+/// Three elements of a ring pass a token with four hops.
+pub fn ring_passes_token()
+    ensures { RingPassesToken }
+{}
+
+/// An account pays what it has, and not more.
+pub fn accounts_pay()
+    ensures { AccountsPay }
+{}
+
+/// A tree of seven loses an element, which is constructed again and keeps its counts.
+pub fn tree_grows_again()
+    ensures { TreeGrowsAgain }
+{}

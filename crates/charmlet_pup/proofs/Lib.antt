@@ -1,0 +1,3 @@
+pub mod Bytes
+pub mod Visits
+pub mod WordLemmas

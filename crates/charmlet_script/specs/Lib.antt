@@ -1,0 +1,3 @@
+pub mod Script
+pub mod Line
+pub mod Reading

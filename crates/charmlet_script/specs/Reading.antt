@@ -1,0 +1,113 @@
+-- A whole script, line by line, up to its first malformed line; and what its reader answers.
+use Rattle.std.specs.Prelude.{◌≡◌, ◌≢◌, ℕ, Bool, false, true, ◌+◌, ◌==◌, ◌&&◌, not, List, [], ◌∷◌, ◌++◌, length, take, Option, Some, None, Result, Ok, Err, if◌then◌else◌, nat_lt, nat_le}
+use Rattle.std.specs.List.{list_any}
+use Rattle.std.specs.Option.{option_map_or}
+use Rattle.std.specs.IoError.{error_kind}
+use Rattle.std.specs.declared.io.Error.{Error}
+use Rattle.std.specs.declared.io.ErrorKind.TheVariants.{OutOfMemory}
+use Rattle.charmlet_model.specs.Texts.{Text}
+use Rattle.charmlet_script.specs.declared.error.LineFault.{LineFault}
+use Rattle.charmlet_script.specs.declared.error.LineFault.TheVariants as faults
+use Rattle.charmlet_script.specs.declared.error.ReadError.{ReadError}
+use Rattle.charmlet_script.specs.declared.error.ReadError.TheVariants as errors
+use Rattle.charmlet_script.specs.declared.script.ArrayLine.{ArrayLine}
+use Rattle.charmlet_script.specs.declared.line.Item.{Item}
+use Rattle.charmlet_script.specs.declared.line.Item.TheVariants as items
+use Rattle.charmlet_script.specs.Script.{Contents, no_lines}
+use Rattle.charmlet_script.specs.Line.{◌>>=◌, is_empty, item_of, parts_of}
+
+-- ---- what a reader of one line answers
+
+-- nothing was spelled, want of memory aside
+abbrev pub IsNotSpelled : {A : Type 0} → LineFault → Option A → Type 0
+IsNotSpelled faults.Memory spelled = Unit {0}
+IsNotSpelled faults.Malformed spelled = spelled ≡ None
+
+-- it answers what was spelled, want of memory aside
+abbrev pub Spells : {A : Type 0} → Result A LineFault → Option A → Type 0
+Spells (Ok x) spelled = spelled ≡ Some x
+Spells (Err fault) spelled = IsNotSpelled fault spelled
+
+-- it leaves what was spelled, want of memory aside
+abbrev pub LeavesLines : {A : Type 0} → Result A LineFault → Contents → Option Contents → Type 0
+LeavesLines (Ok x) new spelled = spelled ≡ Some new
+LeavesLines (Err fault) new spelled = IsNotSpelled fault spelled
+
+-- ---- the lines of a script
+
+-- the greatest length of a script, in bytes
+abbrev pub max_length : ℕ
+max_length = 1048576
+
+-- what stands past a length counts as one byte that no line may hold
+unfoldable pub within : ℕ → Text → Text
+within most bytes = if nat_le (length bytes) most then bytes else take most bytes ++ 255 ∷ []
+
+-- the lines end with a line feed, which the last may lack
+abbrev pub lines_of : Text → List Text
+lines_of = parts_of 10
+
+-- an array has a line
+abbrev pub has_array : ℕ → List ArrayLine → Bool
+has_array array = list_any (λ other. other.array == array)
+
+-- an array line stands before the other lines, once for an array, and at most 64 times
+abbrev pub may_add : Contents → ArrayLine → Bool
+may_add script line = is_empty script.lines && (nat_lt (length script.arrays) 64 && not (has_array line.array script.arrays))
+
+-- the script with one more array, if it may stand there
+unfoldable pub with_array : Contents → ArrayLine → Option Contents
+with_array script line =
+    if may_add script line then Some (record script { arrays = script.arrays ++ line ∷ [] }) else None
+
+-- the script with what a line spells, if it may stand there
+unfoldable pub with_item : Contents → Item → Option Contents
+with_item script items.Skipped = Some script
+with_item script (items.Array line) = with_array script line
+with_item script (items.Line line) = Some (record script { lines = script.lines ++ line ∷ [] })
+
+-- the script with the next line, unless that line is malformed
+unfoldable pub with_line : Contents → Text → Option Contents
+with_line script line = item_of line >>= with_item script
+
+-- the script with the lines from this number on, or the number of the first malformed one
+unfoldable pub with_lines : Contents → ℕ → List Text → Result Contents ℕ
+with_lines script number [] = Ok script
+with_lines script number (line ∷ lines) =
+    option_map_or (λ next. with_lines next (number + 1) lines) (with_line script line) (Err number)
+
+-- an item is an array
+abbrev pub is_array : Item → Bool
+is_array (items.Array line) = true
+is_array _ = false
+
+-- a line spells an array
+abbrev pub is_array_line : Text → Bool
+is_array_line line = option_map_or is_array (item_of line) false
+
+-- what lines spell: a script, or the number of the first malformed line, which is 1 where none is an array line
+unfoldable pub lines_spell : List Text → Result Contents ℕ
+lines_spell lines = if list_any is_array_line lines then with_lines no_lines 1 lines else Err 1
+
+-- the script that the bytes spell, or the number of the first malformed line
+abbrev pub script_of : Text → Result Contents ℕ
+script_of bytes = lines_spell (lines_of (within max_length bytes))
+
+-- ---- what a reader of a script answers
+
+-- it answers what the bytes spell, want of memory and a failed read aside
+abbrev pub Answers : Result Contents ReadError → Result Contents ℕ → Type 0
+Answers (Ok script) spelled = spelled ≡ Ok script
+Answers (Err (errors.Malformed number)) spelled = spelled ≡ Err number
+Answers (Err errors.Memory) spelled = Unit {0}
+Answers (Err (errors.Failed error)) spelled = Unit {0}
+
+-- want of memory is no failed read
+abbrev pub IsHonest : ReadError → Type 0
+IsHonest (errors.Failed error) = error_kind error ≢ OutOfMemory
+IsHonest _ = Unit {0}
+
+-- what a failed read is answered by
+pub record IsErrorOf (error : Error) (answer : ReadError) : Type 0 where
+  pub memory : error_kind error ≡ OutOfMemory → answer ≡ errors.Memory
+  pub failed : error_kind error ≢ OutOfMemory → answer ≡ errors.Failed error

@@ -1,0 +1,181 @@
+//! What one line spells.
+
+ghost use Rattle.std.specs.Prelude.{◌≡◌, map, nat_lt};
+ghost use Rattle.std.specs.List.{list_all};
+ghost use Rattle.charmlet_script.specs.Line.{array_of, deliver_of, flush_of, is_skipped, item_of, request_of, spelled_by, status_of, step_of, supply_of};
+ghost use Rattle.charmlet_script.specs.Reading.{Spells};
+
+use crate::error::LineFault;
+use crate::id::id_of;
+use crate::number::{count_of, kind_of, numbers, u16_of, u32_of, u64_of};
+use crate::script::{ArrayLine, Line};
+use crate::split::words;
+use charmlet_model::{Elem, Step};
+use std::alloc::Global;
+
+/// What one line of the text spells.
+#[derive(Debug, Drop)]
+pub(crate) enum Item {
+    /// An empty line or a comment.
+    Skipped,
+    Array(ArrayLine),
+    Line(Line),
+}
+
+/// What follows `array`: `A K`.
+#[tactic(auto, unfolding(crate::specs::Line::array_of))]
+fn array_of(words: &[&[u8]]) -> Option<ArrayLine>
+    ensures { result ≡ array_of (map (λ word. word.now) words.now) }
+{
+    let [array, kind] = words else {
+        return None;
+    };
+    let array = u16_of(array)?;
+    let kind = kind_of(kind)?;
+    Some(ArrayLine { array, kind })
+}
+
+/// What follows `supply`: `K N`.
+#[tactic(auto, unfolding(crate::specs::Line::supply_of))]
+fn supply_of(words: &[&[u8]]) -> Option<Line>
+    ensures { result ≡ supply_of (map (λ word. word.now) words.now) }
+{
+    let [kind, count] = words else {
+        return None;
+    };
+    let kind = kind_of(kind)?;
+    let count = count_of(count)?;
+    Some(Line::Supply { kind, count })
+}
+
+/// What follows `req`: `C N A I E W..`.
+#[tactic(auto, unfolding(crate::specs::Line::request_of))]
+fn request_of(alloc: Global, words: &[&[u8]]) -> Result<Step, LineFault>
+    ensures { Spells result (request_of (map (λ word. word.now) words.now)) }
+{
+    let [client, number, array, index, entry, payload @ ..] = words else {
+        return Err(LineFault::Malformed);
+    };
+    let client = u32_of(client).ok_or(LineFault::Malformed)?;
+    let number = u64_of(number).ok_or(LineFault::Malformed)?;
+    let array = u16_of(array).ok_or(LineFault::Malformed)?;
+    let index = u64_of(index).ok_or(LineFault::Malformed)?;
+    let entry = u16_of(entry).ok_or(LineFault::Malformed)?;
+    let words = numbers(alloc, payload)?;
+    let to = Elem { array, index };
+    Ok(Step::Request {
+        client,
+        number,
+        to,
+        entry,
+        words,
+    })
+}
+
+/// What follows `status`: `C N`.
+#[tactic(auto, unfolding(crate::specs::Line::status_of))]
+fn status_of(words: &[&[u8]]) -> Option<Step>
+    ensures { result ≡ status_of (map (λ word. word.now) words.now) }
+{
+    let [client, number] = words else {
+        return None;
+    };
+    let client = u32_of(client)?;
+    let number = u64_of(number)?;
+    Some(Step::Status { client, number })
+}
+
+/// What follows `deliver`: `PE ID`.
+#[tactic(auto, unfolding(crate::specs::Line::deliver_of))]
+fn deliver_of(alloc: Global, words: &[&[u8]]) -> Result<Step, LineFault>
+    ensures { Spells result (deliver_of (map (λ word. word.now) words.now)) }
+{
+    let [processor, id] = words else {
+        return Err(LineFault::Malformed);
+    };
+    let processor = u16_of(processor).ok_or(LineFault::Malformed)?;
+    let id = id_of(alloc, id)?;
+    Ok(Step::Deliver { processor, id })
+}
+
+/// What follows `flush`: nothing.
+#[tactic(auto, unfolding(crate::specs::Line::flush_of))]
+fn flush_of(words: &[&[u8]]) -> Option<Step>
+    ensures { result ≡ flush_of (map (λ word. word.now) words.now) }
+{
+    if words.is_empty() {
+        Some(Step::Flush)
+    } else {
+        None
+    }
+}
+
+/// The step that a first word and the words after it spell.
+#[tactic(auto, unfolding(crate::specs::Line::step_of))]
+fn step_of(alloc: Global, name: &[u8], words: &[&[u8]]) -> Result<Step, LineFault>
+    ensures { Spells result (step_of name.now (map (λ word. word.now) words.now)) }
+{
+    if name == b"req".as_slice() {
+        request_of(alloc, words)
+    } else if name == b"status".as_slice() {
+        status_of(words).ok_or(LineFault::Malformed)
+    } else if name == b"deliver".as_slice() {
+        deliver_of(alloc, words)
+    } else if name == b"flush".as_slice() {
+        flush_of(words).ok_or(LineFault::Malformed)
+    } else {
+        Err(LineFault::Malformed)
+    }
+}
+
+/// What words spell.
+#[tactic(auto, unfolding(crate::specs::Line::spelled_by))]
+fn spelled_by(alloc: Global, words: &[&[u8]]) -> Result<Item, LineFault>
+    ensures { Spells result (spelled_by (map (λ word. word.now) words.now)) }
+{
+    let [name, words @ ..] = words else {
+        return Err(LineFault::Malformed);
+    };
+    if *name == b"array".as_slice() {
+        let line = array_of(words).ok_or(LineFault::Malformed)?;
+        Ok(Item::Array(line))
+    } else if *name == b"supply".as_slice() {
+        let line = supply_of(words).ok_or(LineFault::Malformed)?;
+        Ok(Item::Line(line))
+    } else {
+        let step = step_of(alloc, name, words)?;
+        Ok(Item::Line(Line::Step(step)))
+    }
+}
+
+/// Whether each byte is ASCII.
+fn is_ascii(line: &[u8]) -> bool
+    ensures { result ≡ list_all (λ b. nat_lt b 128) line.now }
+{
+    line.iter().all(|b| *b < 128)
+}
+
+/// Whether the line is empty or a comment.
+fn is_skipped(line: &[u8]) -> bool
+    ensures { result ≡ is_skipped line.now }
+{
+    match line {
+        [] => true,
+        [first, ..] => *first == b'#',
+    }
+}
+
+/// What a line spells, wherever it stands.
+#[tactic(auto, unfolding(crate::specs::Line::item_of))]
+pub(crate) fn item_of(alloc: Global, line: &[u8]) -> Result<Item, LineFault>
+    ensures { Spells result (item_of line.now) }
+{
+    if !is_ascii(line) {
+        return Err(LineFault::Malformed);
+    }
+    if is_skipped(line) {
+        return Ok(Item::Skipped);
+    }
+    let words = words(alloc, line)?;
+    spelled_by(alloc, &words)
+}

@@ -1,0 +1,96 @@
+//! Words that are numbers.
+
+ghost use Rattle.std.specs.Prelude.{◌≡◌, map};
+ghost use Rattle.charmlet_script.specs.Line.{count_of, kind_of, number_of, numbers_of, runs};
+ghost use Rattle.charmlet_script.specs.Reading.{Spells};
+
+use crate::error::LineFault;
+use charmlet_model::{Kind, Words};
+use std::alloc::Global;
+
+/// The most blanks that one line supplies.
+pub const MAX_BLANKS: u32 = 10_000;
+
+/// A decimal number of 64 bits. `parse` alone would take a sign too.
+#[tactic(auto, unfolding(crate::specs::Line::number_of))]
+pub(crate) fn u64_of(word: &[u8]) -> Option<u64>
+    ensures { result ≡ number_of 64 word.now }
+{
+    if !word.iter().all(|b| b.is_ascii_digit()) {
+        return None;
+    }
+    let Ok(text) = std::str::from_utf8(word) else {
+        return None;
+    };
+    match text.parse::<u64>() {
+        Ok(number) => Some(number),
+        Err(_) => None,
+    }
+}
+
+/// A decimal number of 32 bits.
+pub(crate) fn u32_of(word: &[u8]) -> Option<u32>
+    ensures { result ≡ number_of 32 word.now }
+{
+    let number = u64_of(word)?;
+    if number <= u64::from(u32::MAX) {
+        Some(number as u32)
+    } else {
+        None
+    }
+}
+
+/// A decimal number of 16 bits.
+pub(crate) fn u16_of(word: &[u8]) -> Option<u16>
+    ensures { result ≡ number_of 16 word.now }
+{
+    let number = u64_of(word)?;
+    if number <= u64::from(u16::MAX) {
+        Some(number as u16)
+    } else {
+        None
+    }
+}
+
+/// Whether objects of the kind can run so far.
+fn runs(kind: Kind) -> bool
+    ensures { result ≡ runs kind }
+{
+    matches!(kind, Kind::Counter)
+}
+
+/// A kind, by its number.
+#[tactic(auto, unfolding(crate::specs::Line::kind_of))]
+pub(crate) fn kind_of(word: &[u8]) -> Option<Kind>
+    ensures { result ≡ kind_of word.now }
+{
+    let kind = Kind::of_number(u16_of(word)?)?;
+    if runs(kind) { Some(kind) } else { None }
+}
+
+/// A number of blanks.
+#[tactic(auto, unfolding(crate::specs::Line::count_of))]
+pub(crate) fn count_of(word: &[u8]) -> Option<u32>
+    ensures { result ≡ count_of word.now }
+{
+    let count = u32_of(word)?;
+    if count <= MAX_BLANKS {
+        Some(count)
+    } else {
+        None
+    }
+}
+
+/// Each word as a number of 64 bits.
+pub(crate) fn numbers(alloc: Global, words: &[&[u8]]) -> Result<Words, LineFault>
+    ensures { Spells result (numbers_of (map (λ word. word.now) words.now)) }
+{
+    let mut numbers = Vec::new(alloc);
+    for word in words {
+        let Some(number) = u64_of(word) else {
+            return Err(LineFault::Malformed);
+        };
+        numbers.push(number)?;
+    }
+    Ok(Words::new(numbers))
+}

@@ -1,0 +1,167 @@
+//! The reader of scripts.
+
+ghost use Rattle.std.specs.Prelude.{◌≡◌, ◌+◌, ◌<◌, ◌≤◌, ◌==◌, IfErr, IfOk, IfSome, OnOk, length, map, take};
+ghost use Rattle.std.specs.List.{list_any};
+ghost use Rattle.charmlet_script.specs.Script.{most_lines, no_lines};
+ghost use Rattle.charmlet_script.specs.Reading.{Answers, IsHonest, LeavesLines, has_array, is_array_line, lines_spell, may_add, script_of, with_array, with_item, with_line, with_lines, within};
+
+use crate::error::{LineFault, ReadError};
+use crate::line::{Item, item_of};
+use crate::script::{ArrayLine, Script};
+use crate::split::parts;
+use charmlet_model::MAX_ARRAYS;
+use std::alloc::{AllocError, Global};
+use std::io;
+use std::io::Read;
+
+/// The greatest length of a script, in bytes.
+pub const MAX_LENGTH: usize = 1_048_576;
+
+/// A byte that no line may hold.
+const BEYOND: u8 = 255;
+
+fn has_array(arrays: &[ArrayLine], array: u16) -> bool
+    ensures { result ≡ has_array array arrays.now }
+{
+    arrays.iter().any(|other| other.array == array)
+}
+
+/// Whether an array line may stand here: before the other lines, once for an array, and at most 64
+/// times.
+fn may_add(script: &Script, line: ArrayLine) -> bool
+    ensures { result ≡ may_add script.now line }
+{
+    let arrays = script.arrays();
+    if !script.lines().is_empty() || arrays.len() >= MAX_ARRAYS {
+        return false;
+    }
+    !has_array(arrays, line.array)
+}
+
+#[tactic(auto, unfolding(crate::specs::Reading::with_array))]
+fn add_array(script: &mut Script, line: ArrayLine) -> Result<(), LineFault>
+    ensures { LeavesLines result script.new (with_array script.old line) }
+{
+    if !may_add(script, line) {
+        return Err(LineFault::Malformed);
+    }
+    script.push_array(line)?;
+    Ok(())
+}
+
+/// Adds what a line spells, where it may stand there.
+#[tactic(auto, unfolding(crate::specs::Reading::with_item))]
+fn add_item(script: &mut Script, item: Item) -> Result<(), LineFault>
+    requires { length script.old.lines < most_lines }
+    ensures { LeavesLines result script.new (with_item script.old item) }
+{
+    match item {
+        Item::Skipped => Ok(()),
+        Item::Array(line) => add_array(script, line),
+        Item::Line(line) => {
+            script.push_line(line)?;
+            Ok(())
+        }
+    }
+}
+
+/// Adds the next line of a script.
+#[tactic(auto, unfolding(crate::specs::Reading::with_line))]
+fn add_line(alloc: Global, script: &mut Script, line: &[u8]) -> Result<(), LineFault>
+    requires { length script.old.lines < most_lines }
+    ensures { LeavesLines result script.new (with_line script.old line.now) }
+{
+    let item = item_of(alloc, line)?;
+    add_item(script, item)
+}
+
+/// Whether the line spells an array.
+fn is_array_line(alloc: Global, line: &[u8]) -> Result<bool, AllocError>
+    ensures { IfOk result (λ found. found ≡ is_array_line line.now) }
+{
+    match item_of(alloc, line) {
+        Ok(Item::Array(_)) => Ok(true),
+        Ok(_) | Err(LineFault::Malformed) => Ok(false),
+        Err(LineFault::Memory) => Err(AllocError),
+    }
+}
+
+fn has_array_line(alloc: Global, lines: &[&[u8]]) -> Result<bool, AllocError>
+    ensures { IfOk result (λ found. found ≡ list_any is_array_line (map (λ line. line.now) lines.now)) }
+{
+    for line in lines {
+        if is_array_line(alloc, line)? {
+            return Ok(true);
+        }
+    }
+    Ok(false)
+}
+
+/// Reads lines up to the first malformed one.
+fn add_lines(alloc: Global, lines: &[&[u8]]) -> Result<Script, ReadError>
+    requires { length lines.now ≤ most_lines }
+    ensures reads { Answers result (with_lines no_lines 1 (map (λ line. line.now) lines.now)) }
+    ensures failed { IfErr result IsHonest }
+{
+    let mut script = Script::new(alloc);
+    for (index, line) in lines.iter().enumerate() {
+        match add_line(alloc, &mut script, line) {
+            Ok(()) => {}
+            Err(LineFault::Memory) => return Err(ReadError::Memory),
+            Err(LineFault::Malformed) => return Err(ReadError::Malformed(index as u64 + 1)),
+        }
+    }
+    Ok(script)
+}
+
+/// The script that lines spell.
+#[tactic(auto, unfolding(crate::specs::Reading::lines_spell))]
+fn read_lines(alloc: Global, lines: &[&[u8]]) -> Result<Script, ReadError>
+    requires { length lines.now ≤ most_lines }
+    ensures reads { Answers result (lines_spell (map (λ line. line.now) lines.now)) }
+    ensures failed { IfErr result IsHonest }
+{
+    if has_array_line(alloc, lines)? {
+        add_lines(alloc, lines)
+    } else {
+        Err(ReadError::Malformed(1))
+    }
+}
+
+/// The reader's bytes, up to one past the greatest length of a script.
+fn read_start<R: Read>(alloc: Global, reader: &mut R) -> Result<Vec<u8>, io::Error>
+    ensures { IfSome (R.remaining reader.old) (λ bytes. IfOk result (λ text. text.items ≡ take (MAX_LENGTH + 1) bytes)) }
+{
+    let mut text = Vec::new(alloc);
+    let mut limited = Read::take(reader, MAX_LENGTH as u64 + 1);
+    limited.read_to_end(&mut text)?;
+    Ok(text)
+}
+
+/// Puts one byte that no line may hold in the place of what goes past the greatest length.
+#[tactic(auto, unfolding(crate::specs::Reading::within))]
+fn cut(text: &mut Vec<u8>) -> Result<(), AllocError>
+    ensures text { OnOk result (text.new.items ≡ within MAX_LENGTH text.old.items) }
+    ensures length { OnOk result (length text.new.items ≤ MAX_LENGTH + 1) }
+{
+    if text.len() > MAX_LENGTH {
+        text.truncate(MAX_LENGTH);
+        text.push(BEYOND)?;
+    }
+    Ok(())
+}
+
+/// Reads a script of at most 1,048,576 bytes, and nothing past the byte after these.
+///
+/// Where a line is malformed, it answers `ReadError::Malformed` with the number of the first one, or
+/// with 1 where no line spells an array; where a read fails, `ReadError::Failed`, and where memory
+/// runs out, `ReadError::Memory`. After an error the reader has given any part of its bytes.
+pub fn read_script<R: Read>(alloc: Global, reader: &mut R) -> Result<Script, ReadError>
+    ensures reads { IfSome (R.remaining reader.old) (λ bytes. Answers result (script_of bytes)) }
+    ensures failed { IfErr result IsHonest }
+{
+    let mut text = read_start(alloc, reader)?;
+    cut(&mut text)?;
+    let lines = parts(alloc, &text, b'\n')?;
+    read_lines(alloc, &lines)
+}

@@ -1,0 +1,209 @@
+use crate::{Line, MAX_LENGTH, ReadError, Script, Supplied, read_script};
+use charmlet_model::{Elem, Kind, MsgId, Origin, Step};
+use std::alloc::Global;
+use std::io;
+use std::io::{ErrorKind, Read};
+use std::test::Fail;
+
+const WORKED: &str = "\
+array 0 1
+supply 1 1
+req 7 1 0 0 65535 5
+deliver 0 c7.1
+flush
+status 7 1
+";
+
+fn read(alloc: Global, text: &[u8]) -> Result<Script, ReadError> {
+    let mut reader = text;
+    read_script(alloc, &mut reader)
+}
+
+/// The number of the malformed line, or 0.
+fn malformed(alloc: Global, text: &[u8]) -> u64 {
+    match read(alloc, text) {
+        Err(ReadError::Malformed(line)) => line,
+        _ => 0,
+    }
+}
+
+#[test]
+fn a_worked_script_is_read(rt: HostRuntime) -> Result<(), Fail> {
+    let script = read(rt.alloc(), WORKED.as_bytes())?;
+    let [array] = script.arrays() else {
+        panic!(rt; "one array");
+    };
+    assert!(rt; array.array == 0 && array.kind == Kind::Counter);
+    let [
+        Line::Supply { kind, count: 1 },
+        Line::Step(
+            Step::Request {
+                client: 7,
+                number: 1,
+                to,
+                entry: 65535,
+                words,
+            },
+        ),
+        Line::Step(Step::Deliver { processor: 0, id }),
+        Line::Step(Step::Flush),
+        Line::Step(
+            Step::Status {
+                client: 7,
+                number: 1,
+            },
+        ),
+    ] = script.lines()
+    else {
+        panic!(rt; "other lines");
+    };
+    let origin = Origin::Client(7);
+    assert_eq!(rt; *kind, Kind::Counter);
+    assert_eq!(rt; *to, Elem { array: 0, index: 0 });
+    assert_eq!(rt; words.as_slice(), [5].as_slice());
+    assert_eq!(rt; *id, MsgId { origin, number: 1 });
+    assert_eq!(rt; script.blanks(Kind::Counter), 1);
+    Ok(())
+}
+
+#[test]
+fn spaces_zeros_and_comments_are_allowed(rt: HostRuntime) -> Result<(), Fail> {
+    let text =
+        "\n# a comment\r\n  array  007 01 \nsupply 1 10000\nsupply 01 000000000000000000002\n\
+        deliver 0 e1.2.18446744073709551615\nreq 1 2 3 4 5";
+    let script = read(rt.alloc(), text.as_bytes())?;
+    assert!(rt; matches!(script.arrays(), [array] if array.array == 7));
+    assert_eq!(rt; script.lines().len(), 4);
+    assert_eq!(rt; script.blanks(Kind::Counter), 10002);
+    assert_eq!(rt; script.blanks(Kind::Tape), 0);
+    let [
+        ..,
+        Line::Step(Step::Deliver { id, .. }),
+        Line::Step(Step::Request { words, .. }),
+    ] = script.lines()
+    else {
+        panic!(rt; "other lines");
+    };
+    let origin = Origin::Element(Elem { array: 1, index: 2 });
+    assert_eq!(rt;
+        *id,
+        MsgId {
+            origin,
+            number: u64::MAX
+        }
+    );
+    assert!(rt; words.is_empty());
+    Ok(())
+}
+
+#[test]
+fn the_first_malformed_line_is_named(rt: HostRuntime) {
+    let alloc = rt.alloc();
+    for (text, line) in [
+        // no array line
+        ("", 1),
+        ("flush\nbad\n", 1),
+        ("array 0 2\n", 1),
+        ("array 65536 1\n", 1),
+        ("array 0 1\r\n", 1),
+        // an array line that may not stand there
+        ("array 0 1\narray 0 1\n", 2),
+        ("array 0 1\nflush\narray 1 1\n", 3),
+        // no line of the language
+        ("bad\narray 0 1\n", 1),
+        ("array 0 1\n   \n", 2),
+        ("array 0 1\nflush\r\n", 2),
+        ("array 0 1\nflush now\n", 2),
+        ("array 0 1\n\nbad\nworse\n", 3),
+        ("array 0 1\n# é\n", 2),
+        // numbers out of range, and none
+        ("array 0 1\nsupply 1 10001\n", 2),
+        ("array 0 1\nsupply 2 1\n", 2),
+        ("array 0 1\nstatus 4294967296 1\n", 2),
+        ("array 0 1\nstatus 1 18446744073709551616\n", 2),
+        ("array 0 1\nstatus +5 1\n", 2),
+        ("array 0 1\nreq 1 1 0 0 65536\n", 2),
+        ("array 0 1\nreq 1 1 0 0 1 x\n", 2),
+        ("array 0 1\ndeliver 0 c7\n", 2),
+        ("array 0 1\ndeliver 0 e1.2\n", 2),
+        ("array 0 1\ndeliver 0 c.1\n", 2),
+        ("array 0 1\ndeliver 0 7.1\n", 2),
+    ] {
+        assert_eq!(rt; malformed(alloc, text.as_bytes()), line, "{text:?}");
+    }
+}
+
+#[test]
+fn a_script_has_at_most_64_arrays(rt: HostRuntime) -> Result<(), Fail> {
+    let alloc = rt.alloc();
+    let mut text = String::new(alloc);
+    for array in 0..64u16 {
+        text.push_str(format!(in alloc; "array {array} 1\n")?.as_str())?;
+    }
+    assert_eq!(rt; read(alloc, text.as_bytes())?.arrays().len(), 64);
+    text.push_str("array 64 1\n")?;
+    assert_eq!(rt; malformed(alloc, text.as_bytes()), 65);
+    Ok(())
+}
+
+#[test]
+fn a_script_has_at_most_1048576_bytes(rt: HostRuntime) -> Result<(), Fail> {
+    let alloc = rt.alloc();
+    let mut text = b"array 0 1\n".to_vec(alloc)?;
+    for _ in text.len()..MAX_LENGTH {
+        text.push(b'#')?;
+    }
+    assert!(rt; read(alloc, &text).is_ok());
+    text.push(b'\n')?;
+    assert_eq!(rt; malformed(alloc, &text), 2);
+    Ok(())
+}
+
+/// A reader that gives a line, and fails from then on.
+#[derive(Drop)]
+struct Failing {
+    is_started: bool,
+    kind: ErrorKind,
+}
+
+impl Read for Failing {
+    fn read(&mut self, buf: &mut [u8]) -> io::Result<usize> {
+        if self.is_started {
+            return Err(io::Error::from(self.kind));
+        }
+        self.is_started = true;
+        let mut line: &[u8] = b"array 0 1\n";
+        line.read(buf)
+    }
+}
+
+#[test]
+fn a_failed_read_is_told(rt: HostRuntime) {
+    let mut reader = Failing {
+        is_started: false,
+        kind: ErrorKind::PermissionDenied,
+    };
+    let result = read_script(rt.alloc(), &mut reader);
+    assert!(rt;
+        matches!(result, Err(ReadError::Failed(error)) if error.kind() == ErrorKind::PermissionDenied)
+    );
+    let mut reader = Failing {
+        is_started: false,
+        kind: ErrorKind::OutOfMemory,
+    };
+    let result = read_script(rt.alloc(), &mut reader);
+    assert!(rt; matches!(result, Err(ReadError::Memory)));
+}
+
+#[test]
+fn texts_are_as_users_know_them(rt: HostRuntime) -> Result<(), Fail> {
+    let alloc = rt.alloc();
+    let supplied = Supplied {
+        kind: Kind::Tape,
+        count: 40,
+    };
+    assert_eq!(rt; format!(in alloc; "{supplied}")?.as_str(), "supplied 6 40");
+    let error = ReadError::Malformed(3);
+    assert_eq!(rt; format!(in alloc; "{error}")?.as_str(), "script line 3");
+    Ok(())
+}
