@@ -3,7 +3,7 @@
 use crate::blanks::Blanks;
 use crate::small::Small;
 use charmlet_chare::Chare;
-use charmlet_model::{Answer, Kind, Manifest, Refusal};
+use charmlet_model::{Answer, Kind, Refusal};
 use charmlet_script::{Line, Script, Supplied};
 use std::alloc::{AllocError, AllocFailed, Global};
 use std::io;
@@ -15,8 +15,6 @@ pub enum RunError<C: Chare> {
     /// There are fewer objects of a kind than the script supplies. All come back, and nothing was
     /// written.
     TooFewBlanks(Vec<C>),
-    /// The script's arrays are no manifest, which no script that was read has. Nothing was written.
-    NoManifest,
     /// Memory was refused outside a step.
     Memory,
     /// The output failed.
@@ -55,9 +53,7 @@ pub fn run_script<C: Chare, W: Write>(
     if !has_enough(script, blanks.as_slice()) {
         return Err(RunError::TooFewBlanks(blanks));
     }
-    let Some(manifest) = manifest_of(alloc, script)? else {
-        return Err(RunError::NoManifest);
-    };
+    let manifest = script.manifest(alloc)?;
     let mut blanks = Blanks::new(alloc, blanks)?;
     let mut store = Small::new(alloc, manifest);
     for line in script.lines() {
@@ -89,15 +85,6 @@ fn has_enough<C: Chare>(script: &Script, blanks: &[C]) -> bool {
         }
     }
     true
-}
-
-/// The manifest of the script's arrays.
-fn manifest_of(alloc: Global, script: &Script) -> Result<Option<Manifest>, AllocError> {
-    let mut pairs = Vec::new(alloc);
-    for line in script.arrays() {
-        pairs.push((line.array, line.kind.number()))?;
-    }
-    Manifest::of(alloc, pairs.as_slice())
 }
 
 /// Supplies so many objects of a kind. Where memory is refused, they wait for a later line.

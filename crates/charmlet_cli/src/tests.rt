@@ -164,6 +164,24 @@ fn transcripts_are_printed(rt: HostRuntime) -> Result<(), Fail> {
 }
 
 #[test]
+fn long_payload_is_refused(rt: HostRuntime) -> Result<(), Fail> {
+    let alloc = rt.alloc();
+    let mut text = String::from_str(alloc, "array 0 1\nreq 8 1 0 0 0")?;
+    for _ in 0..512 {
+        text.push_str(" 1")?;
+    }
+    for (word, wanted) in [("", "told unknown\n"), (" 1", "refused 7 TooLong\n")] {
+        text.push_str(word)?;
+        let script = read_script(alloc, &mut text.as_bytes())?;
+        let mut output = Vec::new(alloc);
+        let ran = run_script(alloc, &script, counters(alloc, &script)?, &mut output);
+        assert!(rt; ran.is_ok());
+        assert_eq!(rt; output.as_slice(), wanted.as_bytes());
+    }
+    Ok(())
+}
+
+#[test]
 fn boxed_objects_run(rt: HostRuntime) -> Result<(), Fail> {
     let alloc = rt.alloc();
     let (text, wanted) = parts(alloc, FIRST_RUN)?;

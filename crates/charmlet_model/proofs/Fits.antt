@@ -1,5 +1,5 @@
 -- A legal history keeps a world fit.
-use Rattle.std.proofs.Common.{◌≡◌, ℕ, ◌+◌, ◌<◌, ◌≤◌, Bool, true, false, cond, ◌&&◌, ◌||◌, List, [], ◌∷◌, ◌++◌, length, refl, sym, ap, subst, ◌∙◌, arith, inr}
+use Rattle.std.proofs.Common.{◌≡◌, ℕ, ◌^◌, ◌+◌, ◌<◌, ◌≤◌, Bool, true, false, cond, ◌&&◌, ◌||◌, List, [], ◌∷◌, ◌++◌, length, refl, sym, ap, subst, ◌∙◌, arith, inr}
 use Rattle.std.proofs.lemmas.Bool.{leb-true, ltb-true}
 use Rattle.std.specs.Prelude.{Option, Some, None, IfSome, IsSome, is_some, if◌then◌else◌, ◌==◌, nat_lt, option_and_then, unwrap_or}
 use Rattle.std.specs.List.{All, AllByRecursion}
@@ -9,7 +9,7 @@ use Rattle.std.specs.BTreeMap.{is_at}
 use Rattle.std.specs.Ordering.{is_eq, eq_by_cmp, nat_cmp}
 use Rattle.std.specs.Cmp.{nat_cmp_total, nat_eq_equiv, both_ways}
 use Rattle.std.proofs.lemmas.Cmp.{tied_itself}
-use Rattle.std.proofs.lemmas.Map.Views.{exact_unsigned_eq, tells_apart, All-values-insert_entry}
+use Rattle.std.proofs.lemmas.Map.Views.{exact_unsigned_eq, tells_apart, All-values-insert_entry, All-keys-insert_entry}
 use Rattle.std.proofs.lemmas.Map.Lookups.{exact_unsigned}
 use Rattle.charmlet_model.specs.declared.names.Elem.{Elem}
 use Rattle.charmlet_model.specs.declared.names.Origin.{Origin}
@@ -27,7 +27,7 @@ use Rattle.charmlet_model.specs.Names.{elem_cmp, same_origin, same_id}
 use Rattle.charmlet_model.specs.Reaction.{greatest, kind_of, react}
 use Rattle.charmlet_model.specs.Packed.{IsState}
 use Rattle.charmlet_model.specs.World.{World, world, after, performed, delivered, reaction_of, can, can_deliver, can_all, message_among, without, numbered, request, answered, record_of, row_of, no_client, has_room, client_of, kind_of_array, advanced, IsEvent}
-use Rattle.charmlet_model.specs.Fit.{AreWords, AreApart, AreDistinct, WasSent, IsMessage, IsRecord, IsKept, IsRow, IsFit}
+use Rattle.charmlet_model.specs.Fit.{IsElem, IsOrigin, AreWords, AreApart, AreDistinct, WasSent, IsMessage, IsRecord, IsKept, IsRow, IsFit}
 use Rattle.charmlet_model.proofs.Maps.{elem_total, elem_exact, both_parts, same_from_test, rising-insert_entry, length-insert_entry}
 use Rattle.charmlet_model.proofs.Histories.{row_of-insert, record_at-insert}
 use Rattle.charmlet_model.proofs.Reactions.{IsOutgoing, IsReaction, react-reaction, AllByRecursion-append}
@@ -168,19 +168,22 @@ module _ (w : World) (client number : ℕ) (to : Elem) (entry : ℕ) (words : Li
       AllByRecursion-map (IsMessage w) (λ n. IsMessage w' n × (same_id n.id m.id ≡ false)) w.pending
       (λ n k.
       let sent = still_sent next.1 n.id.origin n.id.number k.sent in
-      (record { sent = sent.0; array = k.array; index = k.index; entry = k.entry; words = k.words }, ap (λ b. b && (n.id.number == number)) sent.1))
+      (record { origin = k.origin; sent = sent.0; to = k.to; entry = k.entry; words = k.words }, ap (λ b. b && (n.id.number == number)) sent.1))
       fit.messages in
       let new : IsMessage w' m = record {
+        origin = event.small_client;
         sent = (omega arith, row_of-insert w.clients client row client ∙ ap (λ b. cond b row (client_of w client)) (tied_itself-nat client));
-        array = with_array.1;
-        index = event.0;
-        entry = event.1;
-        words = (short, event.2);
+        to = record { array = with_array.1; index = event.small_index };
+        entry = event.small_entry;
+        words = (short, event.small_words);
       } in
       record {
         rising_arrays = fit.rising_arrays;
         rising_records = fit.rising_records;
         rising_clients = rising-insert_entry nat_cmp nat_cmp_total client row w.clients fit.rising_clients;
+        small_arrays = fit.small_arrays;
+        small_clients = All-keys-insert_entry nat_cmp client row (λ (c : ℕ). c < 2 ^ 32) w.clients fit.small_clients event.small_client;
+        known_records = fit.known_records;
         some_arrays = fit.some_arrays;
         few_arrays = fit.few_arrays;
         few_clients = few_after with_room.1 fit.rising_clients fit.few_clients;
@@ -215,14 +218,14 @@ pub numbered-distinct : (from : Elem) (ss : List Outgoing) (sent : ℕ) → AreD
 numbered-distinct from [] sent = tt
 numbered-distinct from (s ∷ ss) sent = (numbered-apart (record { origin = Element from; number = sent + 1 }) from ss (sent + 1) (λ _. omega arith), numbered-distinct from ss (sent + 1))
 
-numbered-messages : (w : World) (from : Elem) (ss : List Outgoing) (sent : ℕ) → sent + length ss ≤ (record_of w from).sent → IsSome (kind_of_array w from.array) →
+numbered-messages : (w : World) (from : Elem) (ss : List Outgoing) (sent : ℕ) → sent + length ss ≤ (record_of w from).sent → IsElem w.manifest from →
     AllByRecursion (IsOutgoing from) ss → AllByRecursion (IsMessage w) (numbered from sent ss)
 numbered-messages w from [] sent room known h = tt
 numbered-messages w from (s ∷ ss) sent room known h = (
   record {
+    origin = known;
     sent = (omega arith, omega arith);
-    array = subst (λ a. IsSome (kind_of_array w a)) (sym h.0.array) known;
-    index = h.0.index;
+    to = record { array = subst (λ a. IsSome (kind_of_array w a)) (sym h.0.array) known.array; index = h.0.index };
     entry = h.0.entry;
     words = h.0.words;
   },
@@ -302,6 +305,10 @@ module _ (w : World) (m : Message) (o : Reaction) where
       let last = ap (λ (r : ClientRow). r.last) sent.1 in
       All-values-insert_entry nat_cmp k (record { last = (row_of w.clients k).last; reply = Some o.reply }) (λ (r : ClientRow). 0 < r.last) w.clients h (let above = sent.0 in omega arith)
 
+  small_answered : (origin : Origin) → IsOrigin w.manifest origin → All (λ c. c < 2 ^ 32) (keys_of w.clients) → All (λ c. c < 2 ^ 32) (keys_of (answered w.clients origin o.reply))
+  small_answered (Element x) known h = h
+  small_answered (Client k) known h = All-keys-insert_entry nat_cmp k (record { last = (row_of w.clients k).last; reply = Some o.reply }) (λ (c : ℕ). c < 2 ^ 32) w.clients h known
+
   rows_answered : (origin : Origin) → AreWords 512 o.reply → ((c : ℕ) → IsRow (client_of w c)) → (c : ℕ) → IsRow (row_of (answered w.clients origin o.reply) c)
   rows_answered (Element x) short h c = h c
   rows_answered (Client k) short h c =
@@ -317,12 +324,14 @@ module _ (w : World) (m : Message) (o : Reaction) where
       let old : AllByRecursion (λ n. IsMessage w n × (same_id m.id n.id ≡ false)) left =
       All-both (IsMessage w) (λ n. same_id m.id n.id ≡ false) left
       (AllByRecursion-without (IsMessage w) m.id w.pending fit.messages) (without-apart m.id w.pending fit.distinct) in
-      let knows : IsSome (kind_of_array v m.to.array) = ap is_some known in
       let enough : (record_of w m.to).sent + length o.sends ≤ (record_of v m.to).sent = let here = ap (λ (r : Record). r.sent) record_here in omega arith in
       record {
         rising_arrays = fit.rising_arrays;
         rising_records = rising-insert_entry elem_cmp elem_total m.to next w.records fit.rising_records;
         rising_clients = rising_answered m.id.origin fit.rising_clients;
+        small_arrays = fit.small_arrays;
+        small_clients = small_answered m.id.origin message.origin fit.small_clients;
+        known_records = All-keys-insert_entry elem_cmp m.to next (IsElem w.manifest) w.records fit.known_records message.to;
         some_arrays = fit.some_arrays;
         few_arrays = fit.few_arrays;
         few_clients = few_answered m.id.origin (row_known m.id.origin m.id.number message.sent) fit.rising_clients fit.few_clients;
@@ -333,8 +342,8 @@ module _ (w : World) (m : Message) (o : Reaction) where
             (λ n k. numbered-apart n.id m.to o.sends (record_of w m.to).sent (used n.id.origin n.id.number k.0.sent)) old);
         messages = AllByRecursion-append (IsMessage v) left sends
             (AllByRecursion-map (λ n. IsMessage w n × (same_id m.id n.id ≡ false)) (IsMessage v) left
-            (λ n k. record { sent = still_pending message.sent n.id.origin n.id.number k.0.sent k.1; array = k.0.array; index = k.0.index; entry = k.0.entry; words = k.0.words }) old)
-            (numbered-messages v m.to o.sends (record_of w m.to).sent enough knows reaction.sends);
+            (λ n k. record { origin = k.0.origin; sent = still_pending message.sent n.id.origin n.id.number k.0.sent k.1; to = k.0.to; entry = k.0.entry; words = k.0.words }) old)
+            (numbered-messages v m.to o.sends (record_of w m.to).sent enough message.to reaction.sends);
         records = λ x.
             subst (IsRecord (kind_of_array w x.array)) (sym (record_at-insert w.records m.to next x))
             (elim (eq_by_cmp elem_cmp x m.to) as (λ b. eq_by_cmp elem_cmp x m.to ≡ b → IsRecord (kind_of_array w x.array) (cond b next (record_of w x))) [

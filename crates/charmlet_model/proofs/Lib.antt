@@ -2,8 +2,13 @@ pub mod Maps
 pub mod Histories
 pub mod Lasts
 pub mod Bytes
+pub mod ReadStates
+pub mod ReadWas
 pub mod Reactions
 pub mod Fits
 pub mod Births
 pub mod ManifestLemmas
 pub mod Sameness
+pub mod CoreLemmas
+pub mod RunLemmas
+pub mod CanLemmas

@@ -6,9 +6,15 @@ pub mod Texts
 pub mod Manifest
 pub mod Reaction
 pub mod Packed
+pub mod Unpacked
 pub mod World
 pub mod Fit
 pub mod Told
 pub mod Own
+pub mod Core
+pub mod CoreLaws
+pub mod Run
 pub mod Examples
+pub mod CoreExamples
 pub mod Laws
+pub mod PackedLaws

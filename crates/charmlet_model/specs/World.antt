@@ -131,10 +131,19 @@ abbrev pub can_all : World → List Event → Bool
 can_all w [] = true
 can_all w (e ∷ es) = can w e && can_all (after w e) es
 
--- the numbers of an event are of their types
+-- the numbers of a request are of their types
+pub record IsRequest (client number : ℕ) (to : Elem) (entry : ℕ) (words : List ℕ) : Type 0 where
+  pub small_client : client < 2 ^ 32
+  pub small_number : IsWord number
+  pub small_array : to.array < 2 ^ 16
+  pub small_index : IsWord to.index
+  pub small_entry : entry < 2 ^ 16
+  pub small_words : AllByRecursion IsWord words
+
+-- the numbers of an event are of their types; those of a delivery are a pending message's
 abbrev pub IsEvent : Event → Type 0
 IsEvent (Deliver id) = Unit {0}
-IsEvent (Accept client number to entry words) = IsWord to.index × (entry < 2 ^ 16) × AllByRecursion IsWord words
+IsEvent (Accept client number to entry words) = IsRequest client number to entry words
 
 -- c events came before the history
 pub record IsLegal (w : World) (c : ℕ) (history : List Event) : Type 0 where

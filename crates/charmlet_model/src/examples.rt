@@ -1,5 +1,6 @@
 //! Worked examples, each the contract of a function that does nothing.
 
+ghost use Rattle.charmlet_model.specs.CoreExamples.{RequestsAreRefusedInOrder, DeliveriesAreRefusedInOrder, MovesAreRefusedInOrder, CheckpointsAreRefusedInOrder};
 ghost use Rattle.charmlet_model.specs.Examples.{CounterIsPacked, TapeIsPacked, TapeDropsItsFirst, BytesAreFaulty, CountersAddUp, SumsStop, RingPassesToken, AccountsPay, TreeGrowsAgain};
 
 /// A counter at 5 has eight bytes.
@@ -45,4 +46,24 @@ pub fn accounts_pay()
 /// A tree of seven loses an element, which is constructed again and keeps its counts.
 pub fn tree_grows_again()
     ensures { TreeGrowsAgain }
+{}
+
+/// Which refusal a request answers where several apply.
+pub fn requests_are_refused_in_order()
+    ensures { RequestsAreRefusedInOrder }
+{}
+
+/// Which refusal a delivery answers where several apply.
+pub fn deliveries_are_refused_in_order()
+    ensures { DeliveriesAreRefusedInOrder }
+{}
+
+/// Which refusal a move answers where several apply; a move to the own processor asks for nothing.
+pub fn moves_are_refused_in_order()
+    ensures { MovesAreRefusedInOrder }
+{}
+
+/// Which refusal a checkpoint answers where several apply, and what a flush and a status answer.
+pub fn checkpoints_are_refused_in_order()
+    ensures { CheckpointsAreRefusedInOrder }
 {}

@@ -1,5 +1,8 @@
 //! Laws of the definitions. Each is the contract of a function that does nothing.
 
+ghost use Rattle.charmlet_model.specs.CoreLaws.{PlainAnswersAreOne, RefusalsChangeNothing, HaltedStoresRefuse, HistoriesGrow, DurableEventsAreThere, AcceptedCanBe, AssignedCanBe};
+ghost use Rattle.charmlet_model.specs.PackedLaws.{PackedIsReadBack, ReadWasPacked};
+ghost use Rattle.charmlet_model.specs.Run.{RunsJoin};
 ghost use Rattle.charmlet_model.specs.Laws.{NoneBeginsAnother, PackedIsRead, ToldStaysTrue, RecordsAreOwn, LegalKeepsFit, IdsAreUsedOnce, WorldsAreTheirAnswers};
 
 /// The bytes of an object aren't the beginning of those of another one of its kind.
@@ -10,6 +13,16 @@ pub fn packed_objects_end()
 /// The bytes of an object are read as a whole, with no fault.
 pub fn packed_objects_are_read()
     ensures { PackedIsRead }
+{}
+
+/// Reading what was packed gives it back.
+pub fn packed_objects_are_read_back()
+    ensures { PackedIsReadBack }
+{}
+
+/// Bytes that are read as a state are those that it packs to.
+pub fn read_objects_were_packed()
+    ensures { ReadWasPacked }
 {}
 
 /// What a client was told of a history is true of every legal history that begins with it.
@@ -35,4 +48,45 @@ pub fn ids_are_used_once()
 /// A fit world is what it answers.
 pub fn worlds_are_their_answers()
     ensures { WorldsAreTheirAnswers }
+{}
+
+/// Two answers to one step of the runtime that speak neither of memory nor of the device are equal,
+/// and so is what follows.
+pub fn plain_answers_are_one()
+    ensures { PlainAnswersAreOne }
+{}
+
+/// A refused step changes nothing, but one that the device refuses halts the store.
+pub fn refusals_change_nothing()
+    ensures { RefusalsChangeNothing }
+{}
+
+/// A halted store refuses each step but a release and the commit that finishes a delivery.
+pub fn halted_stores_refuse()
+    ensures { HaltedStoresRefuse }
+{}
+
+/// A step adds to the history, and takes nothing of it away.
+pub fn histories_grow()
+    ensures { HistoriesGrow }
+{}
+
+/// No more events are durable than there are.
+pub fn durable_events_are_there()
+    ensures { DurableEventsAreThere }
+{}
+
+/// Two runs in a row are a run.
+pub fn runs_join()
+    ensures { RunsJoin }
+{}
+
+/// A request that is neither refused nor a repeat can be accepted, and the history has room for it.
+pub fn accepted_can_be()
+    ensures { AcceptedCanBe }
+{}
+
+/// A message whose assignment isn't refused can be delivered, and the history has room for it.
+pub fn assigned_can_be()
+    ensures { AssignedCanBe }
 {}

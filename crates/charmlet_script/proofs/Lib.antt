@@ -1,3 +1,4 @@
 pub mod Numbers
 pub mod LineLoops
 pub mod Limit
+pub mod Manifests

@@ -102,10 +102,10 @@ Answers (Err (errors.Malformed number)) spelled = spelled ≡ Err number
 Answers (Err errors.Memory) spelled = Unit {0}
 Answers (Err (errors.Failed error)) spelled = Unit {0}
 
--- want of memory is no failed read
-abbrev pub IsHonest : ReadError → Type 0
-IsHonest (errors.Failed error) = error_kind error ≢ OutOfMemory
-IsHonest _ = Unit {0}
+-- a read that fails for want of memory is told as that
+abbrev pub TellsWantOfMemory : ReadError → Type 0
+TellsWantOfMemory (errors.Failed error) = error_kind error ≢ OutOfMemory
+TellsWantOfMemory _ = Unit {0}
 
 -- what a failed read is answered by
 pub record IsErrorOf (error : Error) (answer : ReadError) : Type 0 where

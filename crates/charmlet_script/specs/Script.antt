@@ -1,8 +1,9 @@
 -- What a script holds, and what its supply lines come to.
-use Rattle.std.specs.Prelude.{ℕ, ◌==◌, ◌-◌, ◌^◌, ◌++◌, List, [], codes, if◌then◌else◌, sum_by}
+use Rattle.std.specs.Prelude.{◌≡◌, ◌≤◌, ℕ, true, is_some, length, map, ◌==◌, ◌-◌, ◌^◌, ◌++◌, List, [], codes, if◌then◌else◌, sum_by}
 use Rattle.std.specs.Fmt.{decimal}
 use Rattle.charmlet_model.specs.declared.kind.Kind.{Kind}
 use Rattle.charmlet_model.specs.Kind.{kind_number}
+use Rattle.charmlet_model.specs.Manifest.{manifest_of}
 use Rattle.charmlet_model.specs.Texts.{Text, kind_text}
 use Rattle.charmlet_script.specs.declared.script.ArrayLine.{ArrayLine}
 use Rattle.charmlet_script.specs.declared.script.Line.{Line}
@@ -18,9 +19,18 @@ pub record Contents : Type 0 where
 abbrev pub no_lines : Contents
 no_lines = record { arrays = []; lines = [] }
 
--- a number of lines that no script passes
+-- no script has more lines than this
 abbrev pub most_lines : ℕ
 most_lines = 2 ^ 32 - 1
+
+-- the arrays with the numbers of their kinds
+abbrev pub pairs_of : List ArrayLine → List (ℕ × ℕ)
+pairs_of = map (λ line. (line.array, kind_number line.kind))
+
+-- what holds of every script: its arrays make a manifest, and its lines are few enough to add up their counts
+pub record IsScript (arrays : List ArrayLine) (lines : List Line) : Type 0 where
+  pub declared : is_some (manifest_of (pairs_of arrays)) ≡ true
+  pub few : length lines ≤ most_lines
 
 -- how many blanks of a kind a line supplies
 abbrev pub blanks_in : Kind → Line → ℕ

@@ -3,8 +3,9 @@
 ghost use Rattle.std.specs.Prelude.{◌≡◌, ◌+◌, ◌<◌, ◌≤◌, ◌==◌, IfErr, IfOk, IfSome, OnOk, length, map, take};
 ghost use Rattle.std.specs.List.{list_any};
 ghost use Rattle.charmlet_script.specs.Script.{most_lines, no_lines};
-ghost use Rattle.charmlet_script.specs.Reading.{Answers, IsHonest, LeavesLines, has_array, is_array_line, lines_spell, may_add, script_of, with_array, with_item, with_line, with_lines, within};
+ghost use Rattle.charmlet_script.specs.Reading.{Answers, TellsWantOfMemory, LeavesLines, has_array, is_array_line, lines_spell, may_add, script_of, with_array, with_item, with_line, with_lines, within};
 
+use crate::draft::Draft;
 use crate::error::{LineFault, ReadError};
 use crate::line::{Item, item_of};
 use crate::script::{ArrayLine, Script};
@@ -28,7 +29,7 @@ fn has_array(arrays: &[ArrayLine], array: u16) -> bool
 
 /// Whether an array line may stand here: before the other lines, once for an array, and at most 64
 /// times.
-fn may_add(script: &Script, line: ArrayLine) -> bool
+fn may_add(script: &Draft, line: ArrayLine) -> bool
     ensures { result ≡ may_add script.now line }
 {
     let arrays = script.arrays();
@@ -39,7 +40,7 @@ fn may_add(script: &Script, line: ArrayLine) -> bool
 }
 
 #[tactic(auto, unfolding(crate::specs::Reading::with_array))]
-fn add_array(script: &mut Script, line: ArrayLine) -> Result<(), LineFault>
+fn add_array(script: &mut Draft, line: ArrayLine) -> Result<(), LineFault>
     ensures { LeavesLines result script.new (with_array script.old line) }
 {
     if !may_add(script, line) {
@@ -51,8 +52,7 @@ fn add_array(script: &mut Script, line: ArrayLine) -> Result<(), LineFault>
 
 /// Adds what a line spells, where it may stand there.
 #[tactic(auto, unfolding(crate::specs::Reading::with_item))]
-fn add_item(script: &mut Script, item: Item) -> Result<(), LineFault>
-    requires { length script.old.lines < most_lines }
+fn add_item(script: &mut Draft, item: Item) -> Result<(), LineFault>
     ensures { LeavesLines result script.new (with_item script.old item) }
 {
     match item {
@@ -67,8 +67,7 @@ fn add_item(script: &mut Script, item: Item) -> Result<(), LineFault>
 
 /// Adds the next line of a script.
 #[tactic(auto, unfolding(crate::specs::Reading::with_line))]
-fn add_line(alloc: Global, script: &mut Script, line: &[u8]) -> Result<(), LineFault>
-    requires { length script.old.lines < most_lines }
+fn add_line(alloc: Global, script: &mut Draft, line: &[u8]) -> Result<(), LineFault>
     ensures { LeavesLines result script.new (with_line script.old line.now) }
 {
     let item = item_of(alloc, line)?;
@@ -98,12 +97,12 @@ fn has_array_line(alloc: Global, lines: &[&[u8]]) -> Result<bool, AllocError>
 }
 
 /// Reads lines up to the first malformed one.
-fn add_lines(alloc: Global, lines: &[&[u8]]) -> Result<Script, ReadError>
-    requires { length lines.now ≤ most_lines }
+fn add_lines(alloc: Global, lines: &[&[u8]]) -> Result<Draft, ReadError>
     ensures reads { Answers result (with_lines no_lines 1 (map (λ line. line.now) lines.now)) }
-    ensures failed { IfErr result IsHonest }
+    ensures few { IfOk result (λ script. length script.lines ≤ length lines.now) }
+    ensures memory { IfErr result TellsWantOfMemory }
 {
-    let mut script = Script::new(alloc);
+    let mut script = Draft::new(alloc);
     for (index, line) in lines.iter().enumerate() {
         match add_line(alloc, &mut script, line) {
             Ok(()) => {}
@@ -119,13 +118,13 @@ fn add_lines(alloc: Global, lines: &[&[u8]]) -> Result<Script, ReadError>
 fn read_lines(alloc: Global, lines: &[&[u8]]) -> Result<Script, ReadError>
     requires { length lines.now ≤ most_lines }
     ensures reads { Answers result (lines_spell (map (λ line. line.now) lines.now)) }
-    ensures failed { IfErr result IsHonest }
+    ensures memory { IfErr result TellsWantOfMemory }
 {
-    if has_array_line(alloc, lines)? {
-        add_lines(alloc, lines)
-    } else {
-        Err(ReadError::Malformed(1))
+    if !has_array_line(alloc, lines)? {
+        return Err(ReadError::Malformed(1));
     }
+    let script = add_lines(alloc, lines)?;
+    Ok(script.finish())
 }
 
 /// The reader's bytes, up to one past the greatest length of a script.
@@ -158,7 +157,7 @@ fn cut(text: &mut Vec<u8>) -> Result<(), AllocError>
 /// runs out, `ReadError::Memory`. After an error the reader has given any part of its bytes.
 pub fn read_script<R: Read>(alloc: Global, reader: &mut R) -> Result<Script, ReadError>
     ensures reads { IfSome (R.remaining reader.old) (λ bytes. Answers result (script_of bytes)) }
-    ensures failed { IfErr result IsHonest }
+    ensures memory { IfErr result TellsWantOfMemory }
 {
     let mut text = read_start(alloc, reader)?;
     cut(&mut text)?;

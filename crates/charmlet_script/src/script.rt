@@ -1,7 +1,10 @@
 //! What scripts hold.
 
-use charmlet_model::{Kind, Step};
-use std::alloc::{AllocFailed, Global};
+ghost use Rattle.std.specs.Prelude.{◌≡◌, IfOk};
+ghost use Rattle.charmlet_script.specs.Script.{pairs_of};
+
+use charmlet_model::{Kind, Manifest, Step};
+use std::alloc::{AllocError, Global};
 use std::fmt;
 use std::marker::Model;
 
@@ -57,7 +60,18 @@ impl fmt::Display for Supplied {
     }
 }
 
-/// A script: its arrays, and the lines behind them in order. A contract sees the two lists.
+/// The arrays with the numbers of their kinds.
+fn pairs_of(alloc: Global, arrays: &[ArrayLine]) -> Result<Vec<(u16, u16)>, AllocError>
+    ensures { IfOk result (λ pairs. pairs.items ≡ pairs_of arrays.now) }
+{
+    arrays
+        .iter()
+        .map(|line| (line.array, line.kind.number()))
+        .collect(alloc)
+}
+
+/// A script that was read: its arrays, which make a manifest, and the lines behind them in order. A
+/// contract sees the two lists.
 #[derive(Debug, Drop)]
 pub struct Script {
     arrays: Vec<ArrayLine>,
@@ -65,28 +79,25 @@ pub struct Script {
 }
 
 impl Model for Script {
-    ghost use Rattle.std.specs.Prelude.{◌≤◌, length};
-    ghost use Rattle.charmlet_script.specs.Script.{Contents, most_lines};
+    ghost use Rattle.charmlet_script.specs.Script.{Contents, IsScript};
 
     ghost Value = { Contents };
 
     ghost view = { λ script. record { arrays = script.arrays.items; lines = script.lines.items } };
 
-    ghost invariant = { λ script. length script.lines.items ≤ most_lines };
+    ghost invariant = { λ script. IsScript script.arrays.items script.lines.items };
 }
 
 impl Script {
-    ghost use Rattle.std.specs.Prelude.{◌≡◌, ◌<◌, ◌++◌, ◌∷◌, [], OnOk, OnErr, length};
-    ghost use Rattle.charmlet_script.specs.Script.{blanks_of, most_lines, no_lines};
+    ghost use Rattle.std.specs.Prelude.{◌≡◌, IfOk, Some};
+    ghost use Rattle.charmlet_model.specs.Manifest.{manifest_of};
+    ghost use Rattle.charmlet_script.specs.Script.{IsScript, blanks_of, pairs_of};
 
-    /// An empty script.
-    pub(crate) fn new(alloc: Global) -> Self
-        ensures { result ≡ no_lines }
+    pub(crate) fn new(arrays: Vec<ArrayLine>, lines: Vec<Line>) -> Self
+        requires { IsScript arrays.items lines.items }
+        ensures { result ≡ record { arrays = arrays.items; lines = lines.items } }
     {
-        Script {
-            arrays: Vec::new(alloc),
-            lines: Vec::new(alloc),
-        }
+        Script { arrays, lines }
     }
 
     /// The arrays, in the order of their lines.
@@ -103,6 +114,17 @@ impl Script {
         self.lines.as_slice()
     }
 
+    /// The manifest of the arrays. It fails only for want of memory.
+    pub fn manifest(&self, alloc: Global) -> Result<Manifest, AllocError>
+        ensures { IfOk result (λ manifest. manifest_of (pairs_of self.now.arrays) ≡ Some manifest) }
+    {
+        let pairs = pairs_of(alloc, &self.arrays)?;
+        match Manifest::of(alloc, &pairs)? {
+            Some(manifest) => Ok(manifest),
+            None => unreachable!(),
+        }
+    }
+
     /// How many blanks of the kind the script supplies: the sum over its supply lines.
     pub fn blanks(&self, kind: Kind) -> u64
         ensures { result ≡ blanks_of kind self.now.lines }
@@ -112,22 +134,5 @@ impl Script {
             total += u64::from(line.blanks(kind));
         }
         total
-    }
-
-    /// Adds an array.
-    pub(crate) fn push_array(&mut self, line: ArrayLine) -> Result<(), AllocFailed<ArrayLine>>
-        ensures ok { OnOk result (self.new ≡ record self.old { arrays = self.old.arrays ++ line ∷ [] }) }
-        ensures err { OnErr result (self.new ≡ self.old) }
-    {
-        self.arrays.push(line)
-    }
-
-    /// Adds a line behind the arrays.
-    pub(crate) fn push_line(&mut self, line: Line) -> Result<(), AllocFailed<Line>>
-        requires { length self.old.lines < most_lines }
-        ensures ok { OnOk result (self.new ≡ record self.old { lines = self.old.lines ++ line ∷ [] }) }
-        ensures err { OnErr result (self.new ≡ self.old) }
-    {
-        self.lines.push(line)
     }
 }

@@ -63,6 +63,9 @@ fn a_worked_script_is_read(rt: HostRuntime) -> Result<(), Fail> {
     assert_eq!(rt; words.as_slice(), [5].as_slice());
     assert_eq!(rt; *id, MsgId { origin, number: 1 });
     assert_eq!(rt; script.blanks(Kind::Counter), 1);
+    let manifest = script.manifest(rt.alloc())?;
+    assert_eq!(rt; manifest.kind_of(0), Some(Kind::Counter));
+    assert_eq!(rt; manifest.kind_of(1), None);
     Ok(())
 }
 

@@ -1,30 +1,9 @@
 //! What is kept of a client.
 
-ghost use Rattle.std.specs.Prelude.{◌≡◌, IfOk};
-ghost use Rattle.charmlet_model.specs.Told.{told_of};
+ghost use Rattle.std.specs.Prelude.{◌≡◌};
 
-use charmlet_model::{ClientRow, Told, Words};
-use std::alloc::{AllocError, Global};
+use charmlet_model::{ClientRow, Words};
 use std::mem;
-
-/// What a client is told of a request by a row that is kept of it. It fails only for want of memory.
-pub fn told_by(alloc: Global, row: &ClientRow, number: u64) -> Result<Told, AllocError>
-    ensures { IfOk result (λ told. told ≡ told_of row.now number) }
-{
-    if number == 0 {
-        return Ok(Told::Past);
-    }
-    if row.last < number {
-        return Ok(Told::Unknown);
-    }
-    if number < row.last {
-        return Ok(Told::Past);
-    }
-    match &row.reply {
-        None => Ok(Told::Accepted),
-        Some(reply) => Ok(Told::Replied(Words::from_slice(alloc, reply.as_slice())?)),
-    }
-}
 
 /// A client's row in the present world, and in the durable one.
 #[derive(Debug, Drop)]
@@ -45,10 +24,7 @@ impl Client {
         ensures durable { durable_row result ≡ no_client }
     {
         Client {
-            present: ClientRow {
-                last: 0,
-                reply: None,
-            },
+            present: ClientRow::new(),
             older: None,
         }
     }

@@ -1,0 +1,69 @@
+//! Scripts that are being read.
+
+use crate::script::{ArrayLine, Line, Script};
+use std::alloc::{AllocFailed, Global};
+use std::marker::Model;
+
+/// The lines of a script so far. A contract sees the two lists.
+#[derive(Drop)]
+pub(crate) struct Draft {
+    arrays: Vec<ArrayLine>,
+    lines: Vec<Line>,
+}
+
+impl Model for Draft {
+    ghost use Rattle.charmlet_script.specs.Script.{Contents};
+
+    ghost Value = { Contents };
+
+    ghost view = { λ draft. record { arrays = draft.arrays.items; lines = draft.lines.items } };
+}
+
+impl Draft {
+    ghost use Rattle.std.specs.Prelude.{◌≡◌, ◌++◌, ◌∷◌, [], OnOk, OnErr};
+    ghost use Rattle.charmlet_script.specs.Script.{IsScript, no_lines};
+
+    pub(crate) fn new(alloc: Global) -> Self
+        ensures { result ≡ no_lines }
+    {
+        Draft {
+            arrays: Vec::new(alloc),
+            lines: Vec::new(alloc),
+        }
+    }
+
+    pub(crate) fn arrays(&self) -> &[ArrayLine]
+        ensures { result.now ≡ self.now.arrays }
+    {
+        self.arrays.as_slice()
+    }
+
+    pub(crate) fn lines(&self) -> &[Line]
+        ensures { result.now ≡ self.now.lines }
+    {
+        self.lines.as_slice()
+    }
+
+    pub(crate) fn push_array(&mut self, line: ArrayLine) -> Result<(), AllocFailed<ArrayLine>>
+        ensures ok { OnOk result (self.new ≡ record self.old { arrays = self.old.arrays ++ line ∷ [] }) }
+        ensures err { OnErr result (self.new ≡ self.old) }
+    {
+        self.arrays.push(line)
+    }
+
+    pub(crate) fn push_line(&mut self, line: Line) -> Result<(), AllocFailed<Line>>
+        ensures ok { OnOk result (self.new ≡ record self.old { lines = self.old.lines ++ line ∷ [] }) }
+        ensures err { OnErr result (self.new ≡ self.old) }
+    {
+        self.lines.push(line)
+    }
+
+    /// The script, once all its lines were read.
+    pub(crate) fn finish(self) -> Script
+        requires { IsScript self.arrays self.lines }
+        ensures { result ≡ self }
+    {
+        let Draft { arrays, lines } = self;
+        Script::new(arrays, lines)
+    }
+}
