@@ -14,25 +14,25 @@ use Rattle.charmlet_model.specs.World.{can, can_deliver, is_next, has_room, clie
 use Rattle.charmlet_model.specs.Core.{Core, present, Blanks, Gate, When, MayLackMemory, MayFail, gates, first_refusal, request_gates, new_request_gates, assign_gates, message_gates, is_repeat, is_out_of_turn, is_waiting, is_full, are_counts_full, pending_message, Request, Assign}
 
 -- no condition of an order holds
-abbrev Passes : List Gate → Type 0
+abbrev pub Passes : List Gate → Type 0
 Passes [] = Unit {0}
 Passes (When holds refusal ∷ more) = (holds ≡ false) × Passes more
 Passes (MayLackMemory ∷ more) = Passes more
 Passes (MayFail ∷ more) = Passes more
 
 -- so it is where the first refusal is none
-all_pass : (order : List Gate) → first_refusal order ≡ None → Passes order
+pub all_pass : (order : List Gate) → first_refusal order ≡ None → Passes order
 all_pass [] h = tt
 all_pass (When true refusal ∷ more) h = absurd (let no : ⊥ = cc in no)
 all_pass (When false refusal ∷ more) h = (refl, all_pass more h)
 all_pass (MayLackMemory ∷ more) h = all_pass more h
 all_pass (MayFail ∷ more) h = all_pass more h
 
-not_not : (b : Bool) → not b ≡ false → b ≡ true
+pub not_not : (b : Bool) → not b ≡ false → b ≡ true
 not_not true h = refl
 not_not false h = cc
 
-neither : (a b : Bool) → (a || b) ≡ false → (a ≡ false) × (b ≡ false)
+pub neither : (a b : Bool) → (a || b) ≡ false → (a ≡ false) × (b ≡ false)
 neither true b h = cc
 neither false b h = (refl, h)
 

@@ -199,7 +199,7 @@ module _ (w : World) (client number : ℕ) (to : Elem) (entry : ℕ) (words : Li
 
 -- ---- a delivery
 
-IfSome-map : {A : Type 0} (P Q : A → Type 0) (o : Option A) → ((x : A) → P x → Q x) → IfSome o P → IfSome o Q
+pub IfSome-map : {A : Type 0} (P Q : A → Type 0) (o : Option A) → ((x : A) → P x → Q x) → IfSome o P → IfSome o Q
 IfSome-map P Q None f h = tt
 IfSome-map P Q (Some x) f h = f x h
 

@@ -59,7 +59,7 @@ record-here w m (Some o) =
     record_at-insert w.records m.to (advanced (record_of w m.to) o) m.to
     ∙ ap (λ b. cond b (advanced (record_of w m.to) o) (record_of w m.to)) (ap is_eq (tied_itself elem_total m.to))
 
-record-elsewhere : (w : World) (m : Message) (o : Option Reaction) (x : Elem) → eq_by_cmp elem_cmp x m.to ≡ false → record_of (performed w m o) x ≡ record_of w x
+pub record-elsewhere : (w : World) (m : Message) (o : Option Reaction) (x : Elem) → eq_by_cmp elem_cmp x m.to ≡ false → record_of (performed w m o) x ≡ record_of w x
 record-elsewhere w m None x apart = refl
 record-elsewhere w m (Some o) x apart =
     record_at-insert w.records m.to (advanced (record_of w m.to) o) x

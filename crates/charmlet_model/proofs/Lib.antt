@@ -12,3 +12,11 @@ pub mod Sameness
 pub mod CoreLemmas
 pub mod RunLemmas
 pub mod CanLemmas
+pub mod ShelfLemmas
+pub mod Removals
+pub mod Deliveries
+pub mod SoundLemmas
+pub mod ToldLemmas
+pub mod OpenedLemmas
+pub mod RunTruths
+pub mod PlainWorlds

@@ -13,8 +13,12 @@ pub mod Told
 pub mod Own
 pub mod Core
 pub mod CoreLaws
+pub mod Shelves
+pub mod Sound
 pub mod Run
+pub mod RunLaws
 pub mod Examples
 pub mod CoreExamples
+pub mod ShelfExamples
 pub mod Laws
 pub mod PackedLaws

@@ -1,6 +1,7 @@
 //! Worked examples, each the contract of a function that does nothing.
 
 ghost use Rattle.charmlet_model.specs.CoreExamples.{RequestsAreRefusedInOrder, DeliveriesAreRefusedInOrder, MovesAreRefusedInOrder, CheckpointsAreRefusedInOrder};
+ghost use Rattle.charmlet_model.specs.ShelfExamples.{MovedCounterStandsOnce};
 ghost use Rattle.charmlet_model.specs.Examples.{CounterIsPacked, TapeIsPacked, TapeDropsItsFirst, BytesAreFaulty, CountersAddUp, SumsStop, RingPassesToken, AccountsPay, TreeGrowsAgain};
 
 /// A counter at 5 has eight bytes.
@@ -66,4 +67,9 @@ pub fn moves_are_refused_in_order()
 /// Which refusal a checkpoint answers where several apply, and what a flush and a status answer.
 pub fn checkpoints_are_refused_in_order()
     ensures { CheckpointsAreRefusedInOrder }
+{}
+
+/// A counter that was moved stands on one shelf, and the census adds up.
+pub fn moved_counter_stands_once()
+    ensures { MovedCounterStandsOnce }
 {}

@@ -1,8 +1,11 @@
 //! Laws of the definitions. Each is the contract of a function that does nothing.
 
 ghost use Rattle.charmlet_model.specs.CoreLaws.{PlainAnswersAreOne, RefusalsChangeNothing, HaltedStoresRefuse, HistoriesGrow, DurableEventsAreThere, AcceptedCanBe, AssignedCanBe};
+ghost use Rattle.charmlet_model.specs.Sound.{StepsKeepSound, SoundIsFit, OpenedIsSound, NewIsFit, ToldIsDurable};
 ghost use Rattle.charmlet_model.specs.PackedLaws.{PackedIsReadBack, ReadWasPacked};
 ghost use Rattle.charmlet_model.specs.Run.{RunsJoin};
+ghost use Rattle.charmlet_model.specs.Shelves.{NoneStandsTwice, ShelvesAreOne, OneShelfShowsAll};
+ghost use Rattle.charmlet_model.specs.RunLaws.{RunsKeepSound, RunsTellTheTruth};
 ghost use Rattle.charmlet_model.specs.Laws.{NoneBeginsAnother, PackedIsRead, ToldStaysTrue, RecordsAreOwn, LegalKeepsFit, IdsAreUsedOnce, WorldsAreTheirAnswers};
 
 /// The bytes of an object aren't the beginning of those of another one of its kind.
@@ -89,4 +92,54 @@ pub fn accepted_can_be()
 /// A message whose assignment isn't refused can be delivered, and the history has room for it.
 pub fn assigned_can_be()
     ensures { AssignedCanBe }
+{}
+
+/// No element stands on two shelves.
+pub fn none_stands_twice()
+    ensures { NoneStandsTwice }
+{}
+
+/// A world and the places of its elements say what stands on each shelf.
+pub fn shelves_are_one()
+    ensures { ShelvesAreOne }
+{}
+
+/// What one shelf shows is all that there is.
+pub fn one_shelf_shows_all()
+    ensures { OneShelfShowsAll }
+{}
+
+/// A step keeps the runtime sound, so that its history stays legal.
+pub fn steps_keep_sound()
+    ensures { StepsKeepSound }
+{}
+
+/// The present world of a sound runtime is fit.
+pub fn sound_worlds_are_fit()
+    ensures { SoundIsFit }
+{}
+
+/// A store that opens with a fit world is sound.
+pub fn opened_stores_are_sound()
+    ensures { OpenedIsSound }
+{}
+
+/// A world in which nothing has happened yet is fit.
+pub fn new_worlds_are_fit()
+    ensures { NewIsFit }
+{}
+
+/// What a step tells a client is true of the durable events.
+pub fn told_is_durable()
+    ensures { ToldIsDurable }
+{}
+
+/// A run keeps the runtime sound.
+pub fn runs_keep_sound()
+    ensures { RunsKeepSound }
+{}
+
+/// All that clients are told in a run is true of the events that are durable when it ends.
+pub fn runs_tell_the_truth()
+    ensures { RunsTellTheTruth }
 {}

@@ -22,6 +22,7 @@ mod state;
 mod step;
 mod told;
 mod words;
+mod world;
 
 pub use crate::client::ClientRow;
 pub use crate::event::Event;
@@ -33,10 +34,11 @@ pub use crate::message::{Message, Outgoing, Sends};
 pub use crate::names::{Elem, MsgId, Origin};
 pub use crate::reaction::Reaction;
 pub use crate::refusal::Refusal;
-pub use crate::state::{Record, State};
+pub use crate::state::{Record, Resident, State};
 pub use crate::step::{Answer, Step};
 pub use crate::told::Told;
 pub use crate::words::Words;
+pub use crate::world::World;
 
 /// The entry of a message that constructs its receiver.
 pub const CONSTRUCT: u16 = 65535;

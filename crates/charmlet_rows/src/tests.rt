@@ -1,3 +1,5 @@
+mod worlds;
+
 use charmlet_model::{
     CONSTRUCT, ClientRow, Elem, Half, Kind, Manifest, MsgId, Origin, Reaction, Refusal, Sends,
     State, Words, react,
