@@ -4,7 +4,6 @@
 mod blanks;
 mod files;
 mod running;
-mod small;
 mod stop;
 #[cfg(test)]
 mod tests;

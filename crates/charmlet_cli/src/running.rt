@@ -1,10 +1,12 @@
 //! Runs of scripts.
 
+ghost use Rattle.charmlet_small.specs.Small.{StandsSo};
+
 use crate::blanks::Blanks;
-use crate::small::Small;
 use charmlet_chare::Chare;
 use charmlet_model::{Answer, Kind, Refusal};
 use charmlet_script::{Line, Script, Supplied};
+use charmlet_small::Small;
 use std::alloc::{AllocError, AllocFailed, Global};
 use std::io;
 use std::io::Write;
@@ -57,21 +59,50 @@ pub fn run_script<C: Chare, W: Write>(
     let mut blanks = Blanks::new(alloc, blanks)?;
     let mut store = Small::new(alloc, manifest);
     for line in script.lines() {
-        match line {
-            Line::Supply { kind, count } => match supply(&mut store, &mut blanks, *kind, *count) {
-                Ok(supplied) => writeln!(writer, "{supplied}")?,
-                Err(refusal) => {
-                    let answer = Answer::Refused(refusal);
-                    writeln!(writer, "{answer}")?;
-                }
-            },
-            Line::Step(step) => {
-                let answer = store.step(step);
-                writeln!(writer, "{answer}")?;
-            }
-        }
-        writer.flush()?;
+        run_line(&mut store, &mut blanks, line, writer)?;
     }
+    Ok(())
+}
+
+/// Runs one line, and writes what it answers.
+fn run_line<C: Chare, W: Write>(
+    store: &mut Small<C>,
+    blanks: &mut Blanks<C>,
+    line: &Line,
+    writer: &mut W,
+) -> Result<(), RunError<C>>
+    requires { StandsSo C.state store.old }
+    ensures { StandsSo C.state store.new }
+{
+    let step = match line {
+        Line::Supply { kind, count } => return supply_line(store, blanks, *kind, *count, writer),
+        Line::Step(step) => step,
+    };
+    let answer = store.step(step);
+    writeln!(writer, "{answer}")?;
+    writer.flush()?;
+    Ok(())
+}
+
+/// Supplies so many objects of a kind, and writes that it did, or why not.
+fn supply_line<C: Chare, W: Write>(
+    store: &mut Small<C>,
+    blanks: &mut Blanks<C>,
+    kind: Kind,
+    count: u32,
+    writer: &mut W,
+) -> Result<(), RunError<C>>
+    requires { StandsSo C.state store.old }
+    ensures { StandsSo C.state store.new }
+{
+    match supply(store, blanks, kind, count) {
+        Ok(supplied) => writeln!(writer, "{supplied}")?,
+        Err(refusal) => {
+            let answer = Answer::Refused(refusal);
+            writeln!(writer, "{answer}")?;
+        }
+    }
+    writer.flush()?;
     Ok(())
 }
 
@@ -93,7 +124,10 @@ fn supply<C: Chare>(
     blanks: &mut Blanks<C>,
     kind: Kind,
     count: u32,
-) -> Result<Supplied, Refusal> {
+) -> Result<Supplied, Refusal>
+    requires { StandsSo C.state store.old }
+    ensures { StandsSo C.state store.new }
+{
     let number = kind.number();
     let objects = blanks.take(number, count as usize)?;
     match store.supply(objects) {

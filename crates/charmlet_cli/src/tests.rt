@@ -1,9 +1,14 @@
-use crate::small::Small;
+ghost use Rattle.std.specs.Prelude.{IfOk, IfSome};
+ghost use Rattle.charmlet_small.specs.Small.{StandsSo};
+
 use crate::{RunError, Stop, run_script, script_in};
 use charmlet_chare::Chare;
 use charmlet_kinds::Counter;
-use charmlet_model::{Answer, Elem, Kind, Manifest, Refusal, Step, Told, Words};
+use charmlet_model::{
+    Answer, CONSTRUCT, Elem, Kind, Manifest, MsgId, Origin, Refusal, Step, Words,
+};
 use charmlet_script::{Line, Script, read_script};
+use charmlet_small::Small;
 use std::alloc::{AllocError, Global};
 use std::io;
 use std::io::Write;
@@ -213,51 +218,22 @@ fn missing_blanks_write_nothing(rt: HostRuntime) -> Result<(), Fail> {
     Ok(())
 }
 
-// A request with so many words.
-fn long_request(alloc: Global, client: u32, words: usize) -> Result<Step, AllocError> {
-    let mut items = Vec::new(alloc);
-    for word in 0..words {
-        items.push(word as u64)?;
-    }
-    Ok(Step::Request {
-        client,
-        number: 1,
-        to: Elem { array: 0, index: 0 },
-        entry: 0,
-        words: Words::new(items),
-    })
-}
-
-fn small(alloc: Global) -> Result<Option<Small<Counter>>, AllocError> {
-    let Some(manifest) = Manifest::of(alloc, &[(0, 1)])? else {
-        return Ok(None);
-    };
-    Ok(Some(Small::new(alloc, manifest)))
-}
-
 #[test]
 fn limits_are_kept(rt: HostRuntime) -> Result<(), Fail> {
     let alloc = rt.alloc();
-    let mut store = small(alloc)?.expect(&rt, "a manifest");
-    let long = long_request(alloc, 0, 513)?;
-    let answer = store.step(&long);
-    assert!(rt; matches!(answer, Answer::Refused(Refusal::TooLong)));
+    let mut text = String::from_str(alloc, "array 0 1\n")?;
+    let mut wanted = String::new(alloc);
     for client in 0..1024 {
-        let request = long_request(alloc, client, 512)?;
-        let answer = store.step(&request);
-        assert!(rt;
-            matches!(answer, Answer::Told(Told::Unknown)),
-            "client {client}"
-        );
+        text.push_str(format!(in alloc; "req {client} 1 0 0 0 1\n")?.as_str())?;
+        wanted.push_str("told unknown\n")?;
     }
-    let request = long_request(alloc, 1024, 0)?;
-    let answer = store.step(&request);
-    assert!(rt; matches!(answer, Answer::Refused(Refusal::ClientsFull)));
-    let answer = store.step(&Step::Flush);
-    assert!(rt; matches!(answer, Answer::Flushed(1024)));
-    let repeat = long_request(alloc, 1023, 0)?;
-    let answer = store.step(&repeat);
-    assert!(rt; matches!(answer, Answer::Told(Told::Accepted)));
+    text.push_str("req 1024 1 0 0 0\nflush\nreq 1023 1 0 0 0\n")?;
+    wanted.push_str("refused 19 ClientsFull\nflushed 1024\ntold accepted\n")?;
+    let script = read_script(alloc, &mut text.as_bytes())?;
+    let mut output = Vec::new(alloc);
+    let ran = run_script(alloc, &script, counters(alloc, &script)?, &mut output);
+    assert!(rt; ran.is_ok());
+    assert_eq!(rt; output.as_slice(), wanted.as_bytes());
     Ok(())
 }
 
@@ -324,56 +300,153 @@ fn stops_have_their_statuses(rt: HostRuntime) -> Result<(), Fail> {
     Ok(())
 }
 
-// What one line prints. Where it is refused memory it is tried again, so many times in all.
-fn printed(
-    alloc: Global,
-    store: &mut Small<Counter>,
-    line: &Line,
-    tries: usize,
-) -> Result<String, AllocError> {
-    match line {
-        Line::Supply { kind, count } => {
-            let mut blanks = Vec::new(alloc);
-            for _ in 0..*count {
-                blanks.push(Counter::blank())?;
-            }
-            for _ in 0..tries {
-                match store.supply(blanks) {
-                    Ok(()) => return format!(in alloc; "supplied {kind} {count}\n"),
-                    Err(refused) => blanks = refused,
-                }
-            }
-            String::from_str(alloc, "refused memory\n")
-        }
-        Line::Step(step) => {
-            let steps = std::slice::from_ref(step);
-            for _ in 0..tries {
-                let Ok(answers) = store.run(steps) else {
-                    continue;
-                };
-                match answers.as_slice() {
-                    [Answer::Refused(Refusal::Memory)] => {}
-                    [answer] => return format!(in alloc; "{answer}\n"),
-                    _ => return String::from_str(alloc, "more answers than steps\n"),
-                }
-            }
-            String::from_str(alloc, "refused memory\n")
-        }
+// A store with an array of counters.
+fn small<C: Chare>(alloc: Global) -> Result<Option<Small<C>>, AllocError>
+    ensures { IfOk result (λ store. IfSome store (StandsSo C.state)) }
+{
+    match Manifest::of(alloc, &[(0, 1)])? {
+        Some(manifest) => Ok(Some(Small::new(alloc, manifest))),
+        None => Ok(None),
     }
 }
 
+// A request with no words.
+fn request(alloc: Global, client: u32, index: u64, entry: u16) -> Step {
+    Step::Request {
+        client,
+        number: 1,
+        to: Elem { array: 0, index },
+        entry,
+        words: Words::new(Vec::new(alloc)),
+    }
+}
+
+// The message that can be delivered next, with its processor.
+fn next_of<C: Chare>(alloc: Global, store: &Small<C>) -> Result<String, AllocError>
+    requires { StandsSo C.state store.now }
+{
+    match store.next() {
+        Some((processor, id)) => format!(in alloc; "{processor} {id}\n"),
+        None => String::from_str(alloc, "none\n"),
+    }
+}
+
+// What is next in a new store, behind a message that waits for its receiver, once that is to be
+// constructed, and once it is.
+fn nexts<C: Chare>(alloc: Global, blanks: Vec<C>) -> Result<String, AllocError> {
+    let Some(mut store) = small(alloc)? else {
+        return String::from_str(alloc, "no store\n");
+    };
+    let mut nexts = next_of(alloc, &store)?;
+    let _ = store.supply(blanks);
+    let _ = store.step(&request(alloc, 8, 3, 0));
+    nexts.push_str(next_of(alloc, &store)?.as_str())?;
+    let _ = store.step(&request(alloc, 7, 3, CONSTRUCT));
+    nexts.push_str(next_of(alloc, &store)?.as_str())?;
+    let id = MsgId {
+        origin: Origin::Client(7),
+        number: 1,
+    };
+    let _ = store.step(&Step::Deliver { processor: 0, id });
+    nexts.push_str(next_of(alloc, &store)?.as_str())?;
+    Ok(nexts)
+}
+
+#[test]
+fn oldest_deliverable_message_is_next(rt: HostRuntime) -> Result<(), Fail> {
+    let alloc = rt.alloc();
+    let nexts = nexts(alloc, one_counter(alloc)?)?;
+    assert_eq!(rt; nexts.as_str(), "none\nnone\n0 c7.1\n0 c8.1\n");
+    Ok(())
+}
+
+// What a supply line prints. Where it is refused memory it is tried again, so many times in all.
+fn supplied<C: Chare>(
+    alloc: Global,
+    store: &mut Small<C>,
+    mut blanks: Vec<C>,
+    tries: usize,
+) -> Result<String, AllocError>
+    requires { StandsSo C.state store.old }
+    ensures { StandsSo C.state store.new }
+{
+    let count = blanks.len();
+    for _ in 0..tries {
+        match store.supply(blanks) {
+            Ok(()) => return format!(in alloc; "supplied 1 {count}\n"),
+            Err(refused) => blanks = refused,
+        }
+    }
+    String::from_str(alloc, "refused memory\n")
+}
+
+// What a step prints. Where it is refused memory it is tried again, so many times in all.
+fn answered<C: Chare>(
+    alloc: Global,
+    store: &mut Small<C>,
+    step: &Step,
+    tries: usize,
+) -> Result<String, AllocError>
+    requires { StandsSo C.state store.old }
+    ensures { StandsSo C.state store.new }
+{
+    let steps = std::slice::from_ref(step);
+    for _ in 0..tries {
+        let Ok(answers) = store.run(steps) else {
+            continue;
+        };
+        match answers.as_slice() {
+            [Answer::Refused(Refusal::Memory)] => {}
+            [answer] => return format!(in alloc; "{answer}\n"),
+            _ => return String::from_str(alloc, "more answers than steps\n"),
+        }
+    }
+    String::from_str(alloc, "refused memory\n")
+}
+
+// What a line prints.
+fn printed<C: Chare>(
+    alloc: Global,
+    store: &mut Small<C>,
+    blanks: &mut Vec<C>,
+    line: &Line,
+    tries: usize,
+) -> Result<String, AllocError>
+    requires { StandsSo C.state store.old }
+    ensures { StandsSo C.state store.new }
+{
+    let count = match line {
+        Line::Step(step) => return answered(alloc, store, step, tries),
+        Line::Supply { count, .. } => *count,
+    };
+    let left = blanks.len().saturating_sub(count as usize);
+    let supply = blanks.split_off(left)?;
+    supplied(alloc, store, supply, tries)
+}
+
 // What the script prints, if memory is refused in lines alone, each of which is tried so many times.
-fn all_printed(alloc: Global, text: &str, tries: usize) -> Result<String, Stop> {
+fn all_printed<C: Chare>(
+    alloc: Global,
+    text: &str,
+    mut blanks: Vec<C>,
+    tries: usize,
+) -> Result<String, Stop> {
     let script = read_script(alloc, &mut text.as_bytes())?;
     let Some(mut store) = small(alloc)? else {
         return Err(Stop::CannotGoOn);
     };
     let mut output = String::new(alloc);
     for line in script.lines() {
-        let text = printed(alloc, &mut store, line, tries)?;
+        let text = printed(alloc, &mut store, &mut blanks, line, tries)?;
         output.push_str(text.as_str())?;
     }
     Ok(output)
+}
+
+fn one_counter(alloc: Global) -> Result<Vec<Counter>, AllocError> {
+    let mut counters = Vec::new(alloc);
+    counters.push(Counter::blank())?;
+    Ok(counters)
 }
 
 #[test]
@@ -383,9 +456,9 @@ fn refused_memory_changes_no_later_line(rt: HostRuntime) -> Result<(), Fail> {
         Ok(parts) => parts,
         Err(_) => parts(alloc, FIRST_RUN)?,
     };
-    let output = match all_printed(alloc, text.as_str(), 2) {
+    let output = match all_printed(alloc, text.as_str(), one_counter(alloc)?, 2) {
         Ok(output) => output,
-        Err(_) => all_printed(alloc, text.as_str(), 2)?,
+        Err(_) => all_printed(alloc, text.as_str(), one_counter(alloc)?, 2)?,
     };
     assert_eq!(rt; output.as_str(), wanted.as_str());
     Ok(())
@@ -396,7 +469,7 @@ fn refused_memory_changes_no_later_line(rt: HostRuntime) -> Result<(), Fail> {
 fn first_run_meets_no_refusal(rt: HostRuntime) -> Result<(), Fail> {
     let alloc = rt.alloc();
     let (text, wanted) = parts(alloc, FIRST_RUN)?;
-    let output = all_printed(alloc, text.as_str(), 1)?;
+    let output = all_printed(alloc, text.as_str(), one_counter(alloc)?, 1)?;
     assert_eq!(rt; output.as_str(), wanted.as_str());
     Ok(())
 }

@@ -33,7 +33,7 @@ use Rattle.charmlet_model.proofs.Removals.{rising-removed, length-removed, looku
 -- ---- the place of a receiver
 
 module _ (places : List (Elem × ℕ)) (processors : ℕ) (y : Elem) (rising : IsStrictlySortedBy elem_cmp (keys_of places)) where
-  abbrev seen : Elem → List (Elem × ℕ) → Option ℕ
+  abbrev pub seen : Elem → List (Elem × ℕ) → Option ℕ
   seen x entries = lookup (is_at (elem_cmp x)) entries
 
   -- it has a place in range exactly while it has a state
@@ -51,14 +51,14 @@ module _ (places : List (Elem × ℕ)) (processors : ℕ) (y : Elem) (rising : I
       (ap is_some gone, subst (λ o. IfSome o (λ p. p < processors)) (sym gone) tt)
   placed-here some (Some s) (Some t) h = h
 
-  placed-elsewhere : (x : Elem) → eq_by_cmp elem_cmp x y ≡ false → (s t : Option State) → seen x (placed places processors y s t) ≡ seen x places
+  pub placed-elsewhere : (x : Elem) → eq_by_cmp elem_cmp x y ≡ false → (s t : Option State) → seen x (placed places processors y s t) ≡ seen x places
   placed-elsewhere x apart None None = refl
   placed-elsewhere x apart None (Some t) =
       lookup-insert_entry elem_cmp elem_total x y (home y processors) places ∙ ap (λ b. cond b (Some (home y processors)) (seen x places)) apart
   placed-elsewhere x apart (Some s) None = lookup-removed elem_total x y places rising ∙ ap (λ b. cond b None (seen x places)) apart
   placed-elsewhere x apart (Some s) (Some t) = refl
 
-  placed-rising : (s t : Option State) → IsStrictlySortedBy elem_cmp (keys_of (placed places processors y s t))
+  pub placed-rising : (s t : Option State) → IsStrictlySortedBy elem_cmp (keys_of (placed places processors y s t))
   placed-rising None None = rising
   placed-rising None (Some t) = rising-insert_entry elem_cmp elem_total y (home y processors) places rising
   placed-rising (Some s) None = rising-removed elem_cmp (is_at (elem_cmp y)) places rising

@@ -40,7 +40,7 @@ module _ (processors : ℕ) where
         | false ↦ homes_all P es h.1
       ]
 
-  homes_rising : (es : List (Elem × Record)) → IsStrictlySortedBy elem_cmp (keys_of es) → IsStrictlySortedBy elem_cmp (keys_of (homes processors es))
+  pub homes_rising : (es : List (Elem × Record)) → IsStrictlySortedBy elem_cmp (keys_of es) → IsStrictlySortedBy elem_cmp (keys_of (homes processors es))
   unfolding IsStrictlySortedBy
   homes_rising [] h = tt
   homes_rising (e ∷ es) h =
@@ -55,14 +55,14 @@ module _ (processors : ℕ) where
   absent test (e ∷ es) h = ap (λ b. cond b (Some e.1) (lookup test es)) h.0 ∙ absent test es h.1
 
   -- its home, for an element that is there
-  abbrev at_home : Elem → Bool → Option ℕ
+  abbrev pub at_home : Elem → Bool → Option ℕ
   at_home x there = if there then Some (home x processors) else None
 
   rest_rises : (e : Elem × Record) (es : List (Elem × Record)) → IsStrictlySortedBy elem_cmp (keys_of (e ∷ es)) → IsStrictlySortedBy elem_cmp (keys_of es)
   unfolding IsStrictlySortedBy
   rest_rises e es h = h.1
 
-  lookup-homes : (x : Elem) (es : List (Elem × Record)) → IsStrictlySortedBy elem_cmp (keys_of es) →
+  pub lookup-homes : (x : Elem) (es : List (Elem × Record)) → IsStrictlySortedBy elem_cmp (keys_of es) →
       lookup (is_at (elem_cmp x)) (homes processors es) ≡ at_home x (is_some (record_at es x).state)
   lookup-homes x [] rising = refl
   lookup-homes x (e ∷ es) rising =

@@ -90,7 +90,9 @@ impl Model for Script {
 
 impl Script {
     ghost use Rattle.std.specs.Prelude.{◌≡◌, IfOk, Some};
+    ghost use Rattle.charmlet_model.specs.Fit.{IsFit};
     ghost use Rattle.charmlet_model.specs.Manifest.{manifest_of};
+    ghost use Rattle.charmlet_model.specs.Sound.{new_world};
     ghost use Rattle.charmlet_script.specs.Script.{IsScript, blanks_of, pairs_of};
 
     pub(crate) fn new(arrays: Vec<ArrayLine>, lines: Vec<Line>) -> Self
@@ -114,9 +116,10 @@ impl Script {
         self.lines.as_slice()
     }
 
-    /// The manifest of the arrays. It fails only for want of memory.
+    /// The manifest of the arrays, with which a new world is fit. It fails only for want of memory.
     pub fn manifest(&self, alloc: Global) -> Result<Manifest, AllocError>
-        ensures { IfOk result (λ manifest. manifest_of (pairs_of self.now.arrays) ≡ Some manifest) }
+        ensures manifest { IfOk result (λ manifest. manifest_of (pairs_of self.now.arrays) ≡ Some manifest) }
+        ensures fit { IfOk result (λ manifest. IsFit (new_world manifest)) }
     {
         let pairs = pairs_of(alloc, &self.arrays)?;
         match Manifest::of(alloc, &pairs)? {

@@ -1,0 +1,10 @@
+pub mod Entries
+pub mod Standing
+pub mod Orders
+pub mod Requests
+pub mod Flushes
+pub mod Nexts
+pub mod MessagePlaces
+pub mod Homes
+pub mod Assigning
+pub mod Delivering

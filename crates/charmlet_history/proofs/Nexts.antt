@@ -1,0 +1,65 @@
+-- The oldest message that can be delivered.
+use Rattle.std.proofs.Common.{◌≡◌, ◌+◌, ◌==◌, ◌&&◌, ◌||◌, true, false, cond, List, [], ◌∷◌, refl, sym, ap, ◌∙◌}
+use Rattle.std.specs.Prelude.{Some, nat_le}
+use Rattle.std.specs.Cmp.{nat_eq_equiv}
+use Rattle.std.specs.Cmp.Derive.{both_true}
+use Rattle.std.specs.List.{AllByRecursion}
+use Rattle.charmlet_model.specs.declared.names.Origin.{Origin}
+use Rattle.charmlet_model.specs.declared.names.Origin.TheVariants.{Client, Element}
+use Rattle.charmlet_model.specs.declared.names.MsgId.{MsgId}
+use Rattle.charmlet_model.specs.declared.message.Message.{Message}
+use Rattle.charmlet_model.specs.declared.event.Event.TheVariants.{Deliver}
+use Rattle.charmlet_model.specs.declared.TheConstants.{CONSTRUCT}
+use Rattle.charmlet_model.specs.Names.{same_origin, same_id}
+use Rattle.charmlet_model.specs.Reaction.{greatest}
+use Rattle.charmlet_model.specs.World.{World, can, can_deliver, message_among, oldest_deliverable}
+use Rattle.charmlet_model.specs.Fit.{AreDistinct, AreApart}
+use Rattle.charmlet_model.specs.Core.{present}
+use Rattle.charmlet_model.proofs.Fits.{same_id-is}
+use Rattle.charmlet_model.proofs.SoundLemmas.{sound_fit}
+use Rattle.charmlet_history.specs.declared.element.Element as kept
+use Rattle.charmlet_history.specs.Kept.{Kept, Stands, core_of, is_deliverable, oldest}
+
+-- ---- ids
+
+same_origin-itself : (a : Origin) → same_origin a a ≡ true
+same_origin-itself (Client c) = nat_eq_equiv.refl c
+same_origin-itself (Element x) = both_true (nat_eq_equiv.refl x.array) (nat_eq_equiv.refl x.index)
+
+same_id-itself : (a : MsgId) → same_id a a ≡ true
+same_id-itself a = both_true (same_origin-itself a.origin) (nat_eq_equiv.refl a.number)
+
+-- ---- each message is the one that its id names
+
+behind : (m n : Message) (ms : List Message) → same_id m.id n.id ≡ false → message_among n.id ms ≡ Some n → message_among n.id (m ∷ ms) ≡ Some n
+behind m n ms apart found =
+    elim (same_id n.id m.id) as (λ b. same_id n.id m.id ≡ b → cond b (Some m) (message_among n.id ms) ≡ Some n) [
+      | true ↦ λ same. absurd (let no : false ≡ true = sym apart ∙ ap (same_id m.id) (same_id-is n.id m.id same) ∙ same_id-itself m.id in let never : ⊥ = cc in never)
+      | false ↦ λ _. found
+    ] refl
+
+all_behind : (m : Message) (ms ns : List Message) → AreApart m.id ns → AllByRecursion (λ n. message_among n.id ms ≡ Some n) ns → AllByRecursion (λ n. message_among n.id (m ∷ ms) ≡ Some n) ns
+all_behind m ms [] apart found = tt
+all_behind m ms (n ∷ ns) apart found = (behind m n ms apart.0 found.0, all_behind m ms ns apart.1 found.1)
+
+all_named : (ms : List Message) → AreDistinct ms → AllByRecursion (λ m. message_among m.id ms ≡ Some m) ms
+all_named [] h = tt
+all_named (m ∷ ms) h = (ap (λ b. cond b (Some m) (message_among m.id ms)) (same_id-itself m.id), all_behind m ms ms h.0 (all_named ms h.1))
+
+-- ---- so the oldest one is found by the kept counts
+
+module _ (k : Kept) (stands : Stands k) where
+  abbrev w : World
+  w = present (core_of k)
+
+  deliverable_is : (m : Message) → is_deliverable k m ≡ can_deliver w (Some m)
+  deliverable_is m = ap (λ (e : kept.Element). (e.is_there || (m.entry == CONSTRUCT)) && nat_le (e.received + 1) greatest && nat_le (e.sent + 16) greatest) (stands.elements m.to)
+
+  same_oldest : (ms : List Message) → AllByRecursion (λ m. message_among m.id w.pending ≡ Some m) ms → oldest k ms ≡ oldest_deliverable w ms
+  same_oldest [] named = refl
+  same_oldest (m ∷ ms) named =
+      ap (λ b. cond b (Some m.id) (oldest k ms)) (deliverable_is m ∙ ap (can_deliver w) (sym named.0))
+      ∙ ap (λ o. cond (can w (Deliver m.id)) (Some m.id) o) (same_oldest ms named.1)
+
+  pub oldest_is : oldest k k.pending ≡ oldest_deliverable w w.pending
+  oldest_is = ap (oldest k) stands.pending ∙ same_oldest w.pending (all_named w.pending (sound_fit (core_of k) stands.sound).distinct)

@@ -1,0 +1,41 @@
+-- Steps by their orders.
+use Rattle.std.proofs.Common.{◌≡◌, inl, inr, true, false, List, [], ◌∷◌, ◌++◌, refl, sym, ap}
+use Rattle.std.specs.Prelude.{Some, None}
+use Rattle.charmlet_model.specs.declared.refusal.Refusal.{Refusal}
+use Rattle.charmlet_model.specs.declared.refusal.Refusal.TheVariants.{Memory}
+use Rattle.charmlet_model.specs.Core.{Core, CoreStep, Blanks, Gate, When, MayLackMemory, MayFail, Steps, gates, first_refusal, may_lack_memory, stepped_unless, refused, is_possible, answer_of, next_core, next_blanks}
+
+-- ---- one order behind another
+
+pub none_of_both : (order more : List Gate) → first_refusal order ≡ None → first_refusal (order ++ more) ≡ first_refusal more
+none_of_both [] more h = refl
+none_of_both (When true refusal ∷ order) more h = absurd (let no : ⊥ = cc in no)
+none_of_both (When false refusal ∷ order) more h = none_of_both order more h
+none_of_both (MayLackMemory ∷ order) more h = none_of_both order more h
+none_of_both (MayFail ∷ order) more h = none_of_both order more h
+
+pub some_of_first : (order more : List Gate) (refusal : Refusal) → first_refusal order ≡ Some refusal → first_refusal (order ++ more) ≡ Some refusal
+some_of_first [] more refusal h = absurd (let no : ⊥ = cc in no)
+some_of_first (When true other ∷ order) more refusal h = h
+some_of_first (When false other ∷ order) more refusal h = some_of_first order more refusal h
+some_of_first (MayLackMemory ∷ order) more refusal h = some_of_first order more refusal h
+some_of_first (MayFail ∷ order) more refusal h = some_of_first order more refusal h
+
+pub memory_behind : (order : List Gate) → first_refusal order ≡ None → may_lack_memory (order ++ MayLackMemory ∷ []) ≡ true
+memory_behind [] h = refl
+memory_behind (When true refusal ∷ order) h = absurd (let no : ⊥ = cc in no)
+memory_behind (When false refusal ∷ order) h = memory_behind order h
+memory_behind (MayLackMemory ∷ order) h = refl
+memory_behind (MayFail ∷ order) h = memory_behind order h
+
+-- ---- what a step answers by its order
+
+module _ (core : Core) (blanks : Blanks) (step : CoreStep) (possible : is_possible core step ≡ true) where
+  pub is_refused : (refusal : Refusal) → first_refusal (gates core blanks step) ≡ Some refusal → Steps core blanks step (refused core blanks refusal)
+  is_refused refusal h = (possible, inl (sym (ap (stepped_unless core blanks step) h)))
+
+  pub lacks_memory : may_lack_memory (gates core blanks step) ≡ true → Steps core blanks step (refused core blanks Memory)
+  lacks_memory h = (possible, inr (inl (h, refl)))
+
+  pub is_done : first_refusal (gates core blanks step) ≡ None → Steps core blanks step (record { answer = answer_of core step; core = next_core core step; blanks = next_blanks core blanks step })
+  is_done h = (possible, inl (sym (ap (stepped_unless core blanks step) h)))

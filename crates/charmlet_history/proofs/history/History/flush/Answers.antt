@@ -1,0 +1,18 @@
+use Rattle.std.proofs.Common.{rules, ◌≡◌, ◌-◌, ◌≤◌, ◌∙◌, length, sym, ap, subst, arith}
+use Rattle.std.specs.Prelude.{drop}
+use Rattle.std.proofs.lemmas.List.{length-drop, take_all}
+use Rattle.charmlet_history.specs.Flushed.{flushed_rows}
+use Rattle.charmlet_history.specs.Kept.{Stands, kept_in}
+use Rattle.charmlet_history.proofs.Flushes.{all_durable_stands}
+use Rattle.charmlet_history.proofs.history.History.flush.Goals as goal
+
+pub returns-clause-stands : goal.returns-clause-stands
+returns-clause-stands c =
+    let k = kept_in c.args.self.now in
+    let events = c.deref.result.now in
+    let all : events ≡ k.events = c.deref.ensures.value in
+    let enough : length (drop k.durable events) ≤ length events - k.durable = let count = length-drop k.durable events in omega arith in
+    let rows : c.flush_rows.new.clients.entries ≡ flushed_rows k.clients (drop k.durable k.events) =
+    c.flush_rows.ensures ∙ ap (flushed_rows k.clients) (take_all (length events - k.durable) (drop k.durable events) enough ∙ ap (drop k.durable) all) in
+    let count : c.len-self.result ≡ length k.events = search rules in
+    subst Stands (λ i. record k { clients = sym rows i; durable = sym count i }) (all_durable_stands k c.requires)

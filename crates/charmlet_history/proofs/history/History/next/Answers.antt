@@ -1,0 +1,7 @@
+use Rattle.std.proofs.Common.{◌∙◌}
+use Rattle.charmlet_history.specs.Kept.{kept_in}
+use Rattle.charmlet_history.proofs.Nexts.{oldest_is}
+use Rattle.charmlet_history.proofs.history.History.next.Goals as goal
+
+pub returns : goal.returns
+returns c = c.oldest.ensures ∙ oldest_is (kept_in c.args.self.now) c.requires

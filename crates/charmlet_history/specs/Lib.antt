@@ -1,0 +1,5 @@
+-- The definitions that contracts cite.
+pub mod Client
+pub mod Kept
+pub mod Flushed
+pub mod Delivered

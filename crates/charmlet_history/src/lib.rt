@@ -1,0 +1,14 @@
+//! Histories: the events of a store, and what clients are told of them.
+#![tactic(auto)]
+
+mod client;
+mod delivery;
+mod element;
+mod flush;
+mod history;
+mod next;
+mod request;
+
+pub use crate::element::Element;
+pub use crate::history::History;
+pub use crate::request::Request;

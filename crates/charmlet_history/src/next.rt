@@ -1,0 +1,39 @@
+//! Which message is delivered next.
+
+ghost use Rattle.std.specs.Prelude.{◌≡◌};
+ghost use Rattle.charmlet_model.specs.Core.{present};
+ghost use Rattle.charmlet_model.specs.World.{oldest_deliverable};
+ghost use Rattle.charmlet_history.specs.Kept.{Stands, core_in, is_deliverable, kept_in, oldest};
+
+use crate::history::History;
+use charmlet_model::{CONSTRUCT, Message, MsgId};
+
+impl History {
+    /// The oldest pending message that can be delivered, if there is one.
+    pub fn next(&self) -> Option<MsgId>
+        requires { Stands (kept_in self.now) }
+        ensures { result ≡ oldest_deliverable (present (core_in self.now)) (present (core_in self.now)).pending }
+    {
+        self.oldest()
+    }
+
+    /// The oldest pending message that can be delivered by the counts that are kept.
+    fn oldest(&self) -> Option<MsgId>
+        ensures { result ≡ oldest (kept_in self.now) (kept_in self.now).pending }
+    {
+        for message in &self.pending {
+            if self.is_deliverable(message) {
+                return Some(message.id);
+            }
+        }
+        None
+    }
+
+    /// Whether the receiver is there or is constructed, and its counts have room.
+    fn is_deliverable(&self, message: &Message) -> bool
+        ensures { result ≡ is_deliverable (kept_in self.now) message.now }
+    {
+        let element = self.element(message.to);
+        (element.is_there || message.entry == CONSTRUCT) && element.has_room()
+    }
+}

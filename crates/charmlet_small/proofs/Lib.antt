@@ -1,0 +1,3 @@
+pub mod Assigning
+pub mod Performing
+pub mod Showing

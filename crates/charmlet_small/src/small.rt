@@ -1,0 +1,120 @@
+//! A store in memory, on one processor, whose lists are the plainest ones.
+
+ghost use Rattle.std.specs.Prelude.{◌≡◌, ◌+◌, ℕ, IfErr, IfOk, OnErr, OnOk, option_map};
+ghost use Rattle.charmlet_model.specs.declared.kind.Kind as kind;
+ghost use Rattle.charmlet_model.specs.Fit.{IsFit};
+ghost use Rattle.charmlet_model.specs.Run.{Does, Runs};
+ghost use Rattle.charmlet_model.specs.Shelves.{count_of};
+ghost use Rattle.charmlet_model.specs.Sound.{new_world, opened};
+ghost use Rattle.charmlet_model.specs.World.{oldest_deliverable};
+ghost use Rattle.charmlet_small.specs.Small.{StandsSo, answer_in, store_in, world_in};
+
+use crate::stock::Stock;
+use charmlet_chare::Chare;
+use charmlet_history::{History, Request};
+use charmlet_model::{Answer, Elem, Manifest, MsgId, Refusal, Resident, Step, Told};
+use std::alloc::{AllocError, Global};
+use std::collections::BTreeMap;
+
+/// A history, the objects that it made, and a stock of blank ones.
+#[derive(Drop)]
+pub struct Small<C> {
+    pub(crate) alloc: Global,
+    pub(crate) history: History,
+    pub(crate) residents: BTreeMap<Elem, Resident<C>>,
+    pub(crate) stock: Stock<C>,
+}
+
+impl<C: Chare> Small<C> {
+    /// A store with these arrays, and nothing in it. It takes no memory.
+    pub fn new(alloc: Global, manifest: Manifest) -> Self
+        ensures core { (store_in C.state result).core ≡ opened 1 (new_world manifest) 0 1 }
+        ensures blanks { (kind : kind.Kind) → (store_in C.state result).blanks kind ≡ 0 }
+        ensures stands { IsFit (new_world manifest) → StandsSo C.state result }
+    {
+        Small {
+            alloc,
+            history: History::new(alloc, manifest),
+            residents: BTreeMap::new(alloc),
+            stock: Stock::new(alloc),
+        }
+    }
+
+    /// Takes blank objects into the stock. Where memory is refused it hands all of them back, and nothing
+    /// has changed.
+    pub fn supply(&mut self, blanks: Vec<C>) -> Result<(), Vec<C>>
+        requires { StandsSo C.state self.old }
+        ensures stands { StandsSo C.state self.new }
+        ensures core { (store_in C.state self.new).core ≡ (store_in C.state self.old).core }
+        ensures ok { OnOk result ((kind : kind.Kind) → (store_in C.state self.new).blanks kind ≡ (store_in C.state self.old).blanks kind + count_of C.state blanks.items kind) }
+        ensures err { IfErr result (λ objects. (objects.items ≡ blanks.items) × ((store_in C.state self.new).blanks ≡ (store_in C.state self.old).blanks)) }
+    {
+        self.stock.supply(blanks)
+    }
+
+    /// The oldest message that can be delivered, and its processor.
+    pub fn next(&self) -> Option<(u16, MsgId)>
+        requires { StandsSo C.state self.now }
+        ensures { result ≡ option_map (λ id. (0, id)) (oldest_deliverable (world_in self.now) (world_in self.now).pending) }
+    {
+        let id = self.history.next()?;
+        Some((0, id))
+    }
+
+    /// Runs the steps one after another, and gives an answer for each. Room for all answers is made
+    /// first; where it is refused, no step was done.
+    pub fn run(&mut self, steps: &[Step]) -> Result<Vec<Answer>, AllocError>
+        requires { StandsSo C.state self.old }
+        ensures stands { StandsSo C.state self.new }
+        ensures ok { IfOk result (λ answers. Runs (store_in C.state self.old) steps.now answers.items (store_in C.state self.new)) }
+        ensures err { OnErr result (store_in C.state self.new ≡ store_in C.state self.old) }
+    {
+        let mut answers = Vec::with_capacity(self.alloc, steps.len())?;
+        for step in steps {
+            let answer = self.step(step);
+            answers.push(answer)?;
+        }
+        Ok(answers)
+    }
+
+    /// Runs one step. A refusal is an answer, and leaves all as it was.
+    pub fn step(&mut self, step: &Step) -> Answer
+        requires { StandsSo C.state self.old }
+        ensures stands { StandsSo C.state self.new }
+        ensures does { Does (store_in C.state self.old) step.now result (store_in C.state self.new) }
+    {
+        match step {
+            Step::Request {
+                client,
+                number,
+                to,
+                entry,
+                words,
+            } => {
+                let request = Request {
+                    client: *client,
+                    number: *number,
+                    to: *to,
+                    entry: *entry,
+                    words: words.as_slice(),
+                };
+                answer_of(self.history.request(&request))
+            }
+            Step::Status { client, number } => answer_of(self.history.status(*client, *number)),
+            Step::Deliver { processor, id } => match self.deliver(*processor, *id) {
+                Ok(()) => Answer::Delivered(*id),
+                Err(refusal) => Answer::Refused(refusal),
+            },
+            Step::Flush => Answer::Flushed(self.history.flush()),
+        }
+    }
+}
+
+fn answer_of(told: Result<Told, Refusal>) -> Answer
+    ensures { result ≡ answer_in told }
+{
+    match told {
+        Ok(told) => Answer::Told(told),
+        Err(refusal) => Answer::Refused(refusal),
+    }
+}
