@@ -1,1 +1,3 @@
+-- The definitions that contracts cite.
+pub mod Lines
 pub mod Stop

@@ -1,7 +1,6 @@
 //! Runs scripts over a store, line by line.
 #![tactic(auto)]
 
-mod blanks;
 mod files;
 mod running;
 mod stop;

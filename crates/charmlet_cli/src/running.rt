@@ -1,12 +1,20 @@
 //! Runs of scripts.
 
-ghost use Rattle.charmlet_small.specs.Small.{StandsSo};
+ghost use Rattle.std.specs.Prelude.{◌≡◌, ◌+◌, ◌≤◌, ◌++◌, ◌∷◌, [], true, OnOk};
+ghost use Rattle.std.specs.Io.KnownBytes.{Appends};
+ghost use Rattle.charmlet_model.specs.declared.kind.Kind.{Kind};
+ghost use Rattle.charmlet_model.specs.Run.{Store};
+ghost use Rattle.charmlet_model.specs.Shelves.{count_of};
+ghost use Rattle.charmlet_model.specs.Texts.{Text};
+ghost use Rattle.charmlet_script.specs.Script.{blanks_in, blanks_of};
+ghost use Rattle.charmlet_small.specs.Stock.{part_of};
+ghost use Rattle.charmlet_small.specs.Small.{StandsSo, store_in};
+ghost use Rattle.charmlet_cli.specs.Lines.{Follows, Prints, Supplies, held_in, opening_of};
 
-use crate::blanks::Blanks;
 use charmlet_chare::Chare;
 use charmlet_model::{Answer, Kind, Refusal};
 use charmlet_script::{Line, Script, Supplied};
-use charmlet_small::Small;
+use charmlet_small::{Small, Stock};
 use std::alloc::{AllocError, AllocFailed, Global};
 use std::io;
 use std::io::Write;
@@ -51,15 +59,17 @@ pub fn run_script<C: Chare, W: Write>(
     script: &Script,
     blanks: Vec<C>,
     writer: &mut W,
-) -> Result<(), RunError<C>> {
+) -> Result<(), RunError<C>>
+    ensures { OnOk result ((text : Text) × (last : Store) × Prints (opening_of script.now) script.now.lines text last × Appends (W.contents writer.old) (W.contents writer.new) text) }
+{
     if !has_enough(script, blanks.as_slice()) {
         return Err(RunError::TooFewBlanks(blanks));
     }
     let manifest = script.manifest(alloc)?;
-    let mut blanks = Blanks::new(alloc, blanks)?;
+    let mut source = Stock::of(blanks);
     let mut store = Small::new(alloc, manifest);
     for line in script.lines() {
-        run_line(&mut store, &mut blanks, line, writer)?;
+        run_line(&mut store, &mut source, line, writer)?;
     }
     Ok(())
 }
@@ -67,15 +77,18 @@ pub fn run_script<C: Chare, W: Write>(
 /// Runs one line, and writes what it answers.
 fn run_line<C: Chare, W: Write>(
     store: &mut Small<C>,
-    blanks: &mut Blanks<C>,
+    source: &mut Stock<C>,
     line: &Line,
     writer: &mut W,
 ) -> Result<(), RunError<C>>
-    requires { StandsSo C.state store.old }
-    ensures { StandsSo C.state store.new }
+    requires stands { StandsSo C.state store.old }
+    requires enough { (kind : Kind) → blanks_in kind line.now ≤ held_in C.state source.old kind }
+    ensures stands { StandsSo C.state store.new }
+    ensures prints { OnOk result ((text : Text) × Follows (store_in C.state store.old) line.now text (store_in C.state store.new) × Appends (W.contents writer.old) (W.contents writer.new) (text ++ 10 ∷ [])) }
+    ensures left { OnOk result ((kind : Kind) → held_in C.state source.old kind ≤ held_in C.state source.new kind + blanks_in kind line.now) }
 {
     let step = match line {
-        Line::Supply { kind, count } => return supply_line(store, blanks, *kind, *count, writer),
+        Line::Supply { kind, count } => return supply_line(store, source, *kind, *count, writer),
         Line::Step(step) => step,
     };
     let answer = store.step(step);
@@ -84,57 +97,53 @@ fn run_line<C: Chare, W: Write>(
     Ok(())
 }
 
-/// Supplies so many objects of a kind, and writes that it did, or why not.
+/// Supplies so many objects of a kind, and writes that it did, or that memory was refused.
 fn supply_line<C: Chare, W: Write>(
     store: &mut Small<C>,
-    blanks: &mut Blanks<C>,
+    source: &mut Stock<C>,
     kind: Kind,
     count: u32,
     writer: &mut W,
 ) -> Result<(), RunError<C>>
-    requires { StandsSo C.state store.old }
-    ensures { StandsSo C.state store.new }
+    requires stands { StandsSo C.state store.old }
+    requires enough { count ≤ held_in C.state source.old kind }
+    ensures stands { StandsSo C.state store.new }
+    ensures prints { OnOk result ((text : Text) × Supplies (store_in C.state store.old) kind count text (store_in C.state store.new) × Appends (W.contents writer.old) (W.contents writer.new) (text ++ 10 ∷ [])) }
+    ensures left { OnOk result ((k : Kind) → held_in C.state source.old k ≤ held_in C.state source.new k + part_of kind count k) }
 {
-    match supply(store, blanks, kind, count) {
-        Ok(supplied) => writeln!(writer, "{supplied}")?,
-        Err(refusal) => {
-            let answer = Answer::Refused(refusal);
-            writeln!(writer, "{answer}")?;
-        }
+    if store.draw(source, kind, count as usize).is_err() {
+        let answer = Answer::Refused(Refusal::Memory);
+        writeln!(writer, "{answer}")?;
+        writer.flush()?;
+        return Ok(());
     }
+    let supplied = Supplied { kind, count };
+    writeln!(writer, "{supplied}")?;
     writer.flush()?;
     Ok(())
 }
 
 /// Whether there are as many objects of each kind as the script supplies.
-fn has_enough<C: Chare>(script: &Script, blanks: &[C]) -> bool {
-    for kind in Kind::ALL {
-        let number = kind.number();
-        let count = blanks.iter().filter(|blank| blank.kind() == number).count();
-        if (count as u64) < script.blanks(kind) {
+fn has_enough<C: Chare>(script: &Script, blanks: &[C]) -> bool
+    ensures { result ≡ true → (kind : Kind) → blanks_of kind script.now.lines ≤ count_of C.state blanks.now kind }
+{
+    for kind in &Kind::ALL {
+        if (count_kind(blanks, *kind) as u64) < script.blanks(*kind) {
             return false;
         }
     }
     true
 }
 
-/// Supplies so many objects of a kind. Where memory is refused, they wait for a later line.
-fn supply<C: Chare>(
-    store: &mut Small<C>,
-    blanks: &mut Blanks<C>,
-    kind: Kind,
-    count: u32,
-) -> Result<Supplied, Refusal>
-    requires { StandsSo C.state store.old }
-    ensures { StandsSo C.state store.new }
+/// How many of the objects are of the kind.
+fn count_kind<C: Chare>(objects: &[C], kind: Kind) -> usize
+    ensures { result ≡ count_of C.state objects.now kind }
 {
-    let number = kind.number();
-    let objects = blanks.take(number, count as usize)?;
-    match store.supply(objects) {
-        Ok(()) => Ok(Supplied { kind, count }),
-        Err(objects) => {
-            blanks.give_back(number, objects);
-            Err(Refusal::Memory)
+    let mut count = 0;
+    for object in objects {
+        if object.kind() == kind.number() {
+            count += 1;
         }
     }
+    count
 }

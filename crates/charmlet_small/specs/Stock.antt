@@ -6,6 +6,7 @@ use Rattle.charmlet_model.specs.declared.kind.Kind.{Kind}
 use Rattle.charmlet_model.specs.declared.state.State.{State}
 use Rattle.charmlet_model.specs.declared.reaction.Reaction.{Reaction}
 use Rattle.charmlet_model.specs.declared.TheConstants.{CONSTRUCT}
+use Rattle.charmlet_model.specs.Kind.{kind_number}
 use Rattle.charmlet_model.specs.Reaction.{stays, entered}
 use Rattle.charmlet_model.specs.Shelves.{count_of}
 use Rattle.charmlet_small.specs.declared.stock.Stock.{Stock}
@@ -17,6 +18,10 @@ blanks_in state stock = count_of state stock.blanks.items
 -- room for one more blank
 abbrev pub HasPlace : {C : Type 0} → Stock C → Type 0
 HasPlace stock = vec_len stock.blanks < vec_capacity stock.blanks
+
+-- so many of one kind
+abbrev pub part_of : Kind → ℕ → Kind → ℕ
+part_of kind count k = if kind_number k == kind_number kind then count else 0
 
 -- what a message makes of an element that is there; a construction leaves it
 abbrev pub reaction_at : State → Message → Reaction

@@ -7,3 +7,4 @@ mod small;
 mod stock;
 
 pub use crate::small::Small;
+pub use crate::stock::Stock;

@@ -1,18 +1,19 @@
 //! A store in memory, on one processor, whose lists are the plainest ones.
 
-ghost use Rattle.std.specs.Prelude.{◌≡◌, ◌+◌, ℕ, IfErr, IfOk, OnErr, OnOk, option_map};
-ghost use Rattle.charmlet_model.specs.declared.kind.Kind as kind;
+ghost use Rattle.std.specs.Prelude.{◌≡◌, ◌+◌, ◌≤◌, ℕ, IfErr, IfOk, OnErr, OnOk, option_map};
+ghost use Rattle.charmlet_model.specs.declared.kind.Kind as kinds;
 ghost use Rattle.charmlet_model.specs.Fit.{IsFit};
 ghost use Rattle.charmlet_model.specs.Run.{Does, Runs};
 ghost use Rattle.charmlet_model.specs.Shelves.{count_of};
 ghost use Rattle.charmlet_model.specs.Sound.{new_world, opened};
 ghost use Rattle.charmlet_model.specs.World.{oldest_deliverable};
+ghost use Rattle.charmlet_small.specs.Stock.{blanks_in, part_of};
 ghost use Rattle.charmlet_small.specs.Small.{StandsSo, answer_in, store_in, world_in};
 
 use crate::stock::Stock;
 use charmlet_chare::Chare;
 use charmlet_history::{History, Request};
-use charmlet_model::{Answer, Elem, Manifest, MsgId, Refusal, Resident, Step, Told};
+use charmlet_model::{Answer, Elem, Kind, Manifest, MsgId, Refusal, Resident, Step, Told};
 use std::alloc::{AllocError, Global};
 use std::collections::BTreeMap;
 
@@ -29,7 +30,7 @@ impl<C: Chare> Small<C> {
     /// A store with these arrays, and nothing in it. It takes no memory.
     pub fn new(alloc: Global, manifest: Manifest) -> Self
         ensures core { (store_in C.state result).core ≡ opened 1 (new_world manifest) 0 1 }
-        ensures blanks { (kind : kind.Kind) → (store_in C.state result).blanks kind ≡ 0 }
+        ensures blanks { (kind : kinds.Kind) → (store_in C.state result).blanks kind ≡ 0 }
         ensures stands { IsFit (new_world manifest) → StandsSo C.state result }
     {
         Small {
@@ -46,10 +47,29 @@ impl<C: Chare> Small<C> {
         requires { StandsSo C.state self.old }
         ensures stands { StandsSo C.state self.new }
         ensures core { (store_in C.state self.new).core ≡ (store_in C.state self.old).core }
-        ensures ok { OnOk result ((kind : kind.Kind) → (store_in C.state self.new).blanks kind ≡ (store_in C.state self.old).blanks kind + count_of C.state blanks.items kind) }
+        ensures ok { OnOk result ((kind : kinds.Kind) → (store_in C.state self.new).blanks kind ≡ (store_in C.state self.old).blanks kind + count_of C.state blanks.items kind) }
         ensures err { IfErr result (λ objects. (objects.items ≡ blanks.items) × ((store_in C.state self.new).blanks ≡ (store_in C.state self.old).blanks)) }
     {
         self.stock.supply(blanks)
+    }
+
+    /// Draws so many blanks of a kind into the stock from another one, which has them. Where memory is
+    /// refused, both are as before.
+    pub fn draw(
+        &mut self,
+        source: &mut Stock<C>,
+        kind: Kind,
+        count: usize,
+    ) -> Result<(), AllocError>
+        requires stands { StandsSo C.state self.old }
+        requires enough { count ≤ blanks_in C.state source.old kind }
+        ensures stands { StandsSo C.state self.new }
+        ensures core { (store_in C.state self.new).core ≡ (store_in C.state self.old).core }
+        ensures drawn { OnOk result ((k : kinds.Kind) → (store_in C.state self.new).blanks k ≡ (store_in C.state self.old).blanks k + part_of kind count k) }
+        ensures left { OnOk result ((k : kinds.Kind) → blanks_in C.state source.old k ≡ blanks_in C.state source.new k + part_of kind count k) }
+        ensures err { OnErr result ((store_in C.state self.new ≡ store_in C.state self.old) × (source.new.blanks.items ≡ source.old.blanks.items)) }
+    {
+        self.stock.draw(source, kind, count)
     }
 
     /// The oldest message that can be delivered, and its processor.

@@ -20,7 +20,7 @@ returns-then-is_err-clause-ends g c =
     let same : core_in c.assign.new.self ≡ core =
     when_err (core_in c.assign.new.self ≡ core) c.assign.result (sym c.is_err.ensures.value ∙ c.if-is_err.true) c.assign.ensures.err in
     let back : blanks_in g.C.Chare.state c.give_back.new.self ≡ blanks =
-    c.give_back.ensures ∙ ap (λ k. with_given (Some k) (blanks_in g.C.Chare.state c.take.new.self)) its ∙ ap (with_given (Some kind)) taken ∙ taken_and_given blanks (Some kind) has in
+    c.give_back.ensures.blanks ∙ ap (λ k. with_given (Some k) (blanks_in g.C.Chare.state c.take.new.self)) its ∙ ap (with_given (Some kind)) taken ∙ taken_and_given blanks (Some kind) has in
     subst (λ (next : Store). IsNotDelivered (record { core = core; blanks = blanks }) c.args.processor c.args.id Memory next) (λ i. record { core = sym same i; blanks = sym back i })
     (has_no_memory core blanks c.args.processor c.args.id c.requires.can (subst (Has blanks) (sym c.requires.wanted) has))
 

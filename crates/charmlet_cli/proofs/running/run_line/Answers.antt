@@ -1,0 +1,28 @@
+use Rattle.std.proofs.Common.{◌≡◌, ◌≤◌, cond, ◌∷◌, ◌++◌, [], refl, sym, ap, subst, ◌∙◌}
+use Rattle.std.specs.Cmp.{nat_eq_equiv}
+use Rattle.std.specs.Io.KnownBytes.{Appends}
+use Rattle.charmlet_model.specs.Kind.{kind_number}
+use Rattle.charmlet_model.specs.Texts.{answer_text}
+use Rattle.charmlet_script.specs.declared.script.Line.TheVariants.{Supply}
+use Rattle.charmlet_script.specs.Script.{blanks_in}
+use Rattle.charmlet_small.specs.Small.{store_in}
+use Rattle.charmlet_cli.specs.Lines.{Follows, held_in}
+use Rattle.charmlet_cli.proofs.Printing.{appends_keeps}
+use Rattle.charmlet_cli.proofs.running.run_line.Goals as goal
+
+pub supply_line-requires-clause-enough : goal.supply_line-requires-clause-enough
+supply_line-requires-clause-enough g c κs within =
+    let kind = c.in-Supply.kind in
+    let line : c.args.line.now ≡ Supply kind c.in-Supply.count = c.in-Supply.is in
+    let part : blanks_in kind c.args.line.now ≡ c.in-Supply.count =
+    ap (blanks_in kind) line ∙ ap (λ b. cond b c.in-Supply.count 0) (nat_eq_equiv.refl (kind_number kind)) in
+    subst (λ n. n ≤ held_in g.C.Chare.state c.args.source.now kind) part (c.requires.enough kind)
+
+pub returns-clause-prints : goal.returns-clause-prints
+returns-clause-prints g c =
+    let text = answer_text c.step-answer.result in
+    let bytes : Appends (g.W.Write.contents c.args.writer.now) (g.W.Write.contents c.writeln.new.self) (text ++ 10 ∷ []) = c.in_ok-writeln.ensures.bytes in
+    let before = store_in g.C.Chare.state c.args.store.now in
+    let next = store_in g.C.Chare.state c.step-answer.new.self in
+    let follows : Follows before c.args.line.now text next = subst (λ line. Follows before line text next) (sym c.in-Step.is) (c.step-answer.result, c.step-answer.ensures.does, refl) in
+    (text, follows, appends_keeps _ _ _ (text ++ 10 ∷ []) bytes c.in_ok-flush.ensures.bytes)
