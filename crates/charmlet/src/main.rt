@@ -2,10 +2,11 @@
 #![tactic(auto)]
 
 use charmlet_chare::Chare;
-use charmlet_cli::{Stop, run_script, script_in};
+use charmlet_cli::{Stop, open_script, run_script};
 use charmlet_command::{Command, CommandError, command_of};
-use charmlet_kinds::Counter;
+use charmlet_kinds::{Account, Counter, Ring, Sum, Tape, Tree};
 use charmlet_model::Kind;
+use charmlet_script::read_script;
 use std::io::{BufWriter, Write};
 use std::process::ExitCode;
 use std::rt::Runtime;
@@ -14,10 +15,21 @@ use std::{env, io};
 /// Runs a script over a store in memory, with its lines on standard output.
 fn run<R: Runtime + AllocGlobal>(rt: &R, path: &str) -> Result<(), Stop> {
     let alloc = rt.alloc();
-    let script = script_in(rt, path)?;
+    let mut file = open_script(rt, path)?;
+    let script = read_script(alloc, &mut file)?;
     let mut blanks: Vec<Box<dyn Chare + Send>> = Vec::new(alloc);
-    for _ in 0..script.blanks(Kind::Counter) {
-        blanks.push(Box::new(alloc, Counter::blank())?)?;
+    for kind in &Kind::ALL {
+        for _ in 0..script.blanks(*kind) {
+            let blank: Box<dyn Chare + Send> = match kind {
+                Kind::Counter => Box::new(alloc, Counter::blank())?,
+                Kind::Ring => Box::new(alloc, Ring::blank())?,
+                Kind::Account => Box::new(alloc, Account::blank())?,
+                Kind::Sum => Box::new(alloc, Sum::blank())?,
+                Kind::Tree => Box::new(alloc, Tree::blank())?,
+                Kind::Tape => Box::new(alloc, Tape::blank(alloc))?,
+            };
+            blanks.push(blank)?;
+        }
     }
     let mut writer = BufWriter::new(alloc, io::writer(rt))?;
     run_script(alloc, &script, blanks, &mut writer)?;

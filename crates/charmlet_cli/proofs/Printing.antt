@@ -1,7 +1,7 @@
 -- Lines and what they print.
-use Rattle.std.proofs.Common.{ℕ, List, [], ◌∷◌, ◌++◌, refl, sym, ap, subst, ◌∙◌}
-use Rattle.std.specs.Prelude.{Option, Some, None}
-use Rattle.std.specs.Io.KnownBytes.{Appends, Keeps}
+use Rattle.std.proofs.Common.{◌≡◌, ℕ, List, [], ◌∷◌, ◌++◌, refl, sym, ap, subst, ◌∙◌}
+use Rattle.std.specs.Prelude.{Option, Some, None, Result, Ok, Err, OnOk}
+use Rattle.std.specs.Io.KnownBytes.{Appends}
 use Rattle.std.proofs.lemmas.List.{append_assoc, append-nil}
 use Rattle.charmlet_model.specs.Texts.{Text}
 use Rattle.charmlet_model.specs.Run.{Store}
@@ -16,15 +16,15 @@ appends_then (Some a) None c xs ys h k = absurd h
 appends_then (Some a) (Some b) None xs ys h k = absurd k
 appends_then (Some a) (Some b) (Some c) xs ys h k = k ∙ ap (λ zs. zs ++ ys) h ∙ append_assoc a xs ys
 
-pub appends_keeps : (a b c : Option (List ℕ)) (xs : List ℕ) → Appends a b xs → Keeps b c → Appends a c xs
-appends_keeps None b c xs h k = tt
-appends_keeps (Some a) None c xs h k = absurd h
-appends_keeps (Some a) (Some b) None xs h k = absurd k
-appends_keeps (Some a) (Some b) (Some c) xs h k = k ∙ h
-
 pub appends_nothing : (a : Option (List ℕ)) → Appends a a []
 appends_nothing None = tt
 appends_nothing (Some a) = sym (append-nil a)
+
+-- the one text of a line is written
+pub line_written : {T E : Type 0} (Fits Written : Text → Type 0) (text : Text) (r : Result T E) → Fits text → OnOk r ((t : Text) → Some text ≡ Some t → Written t) →
+    OnOk r ((t : Text) × Fits t × Written t)
+line_written Fits Written text (Ok x) fits written = (text, fits, written text refl)
+line_written Fits Written text (Err e) fits written = tt
 
 -- ---- one line more
 

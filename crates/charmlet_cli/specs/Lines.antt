@@ -1,5 +1,5 @@
 -- What the lines of a script do to a store, and what they print.
-use Rattle.std.specs.Prelude.{◌≡◌, ◌⊎◌, ℕ, ◌+◌, List, [], ◌∷◌, ◌++◌, unwrap_or}
+use Rattle.std.specs.Prelude.{◌≡◌, ◌⊎◌, ℕ, ◌+◌, ◌≤◌, List, [], ◌∷◌, ◌++◌, unwrap_or}
 use Rattle.charmlet_model.specs.declared.kind.Kind.{Kind}
 use Rattle.charmlet_model.specs.declared.refusal.Refusal.TheVariants.{Memory}
 use Rattle.charmlet_model.specs.declared.step.Answer.{Answer}
@@ -10,11 +10,15 @@ use Rattle.charmlet_model.specs.Run.{Store, Does}
 use Rattle.charmlet_model.specs.Sound.{new_world, opened}
 use Rattle.charmlet_script.specs.declared.script.Line.{Line}
 use Rattle.charmlet_script.specs.declared.script.Line.TheVariants.{Supply, Step}
-use Rattle.charmlet_script.specs.Script.{Contents, pairs_of, supplied_text}
+use Rattle.charmlet_script.specs.Script.{Contents, blanks_of, pairs_of, supplied_text}
 use Rattle.charmlet_model.specs.declared.state.State.{State}
 use Rattle.charmlet_model.specs.Shelves.{count_of}
 use Rattle.charmlet_small.specs.declared.stock.Stock.{Stock}
 use Rattle.charmlet_small.specs.Stock.{part_of}
+
+-- there are as many objects of each kind as the lines supply
+abbrev pub AreEnough : {C : Type 0} → (C → State) → List C → List Line → Type 0
+AreEnough state objects lines = (kind : Kind) → blanks_of kind lines ≤ count_of state objects kind
 
 -- how many blanks of a kind are still to be supplied
 abbrev pub held_in : {C : Type 0} → (C → State) → Stock C → Kind → ℕ

@@ -1,17 +1,19 @@
 //! Scripts in files.
 
+ghost use Rattle.std.specs.Prelude.{◌≡◌, IfErr};
+ghost use Rattle.charmlet_cli.specs.declared.stop.Stop.TheVariants as stops;
+
 use crate::stop::Stop;
-use charmlet_script::{Script, read_script};
 use std::fs::File;
 use std::rt::Files;
 
-/// Reads a script from a file. What stops it: a file that isn't there or can't be read, its first
-/// malformed line, or want of memory.
-pub fn script_in<R: Files + AllocGlobal>(rt: &R, path: &str) -> Result<Script, Stop> {
-    let mut file = match File::open(rt, path) {
-        Ok(file) => file,
-        Err(_) => return Err(Stop::UnreadableScript),
-    };
-    let script = read_script(rt.alloc(), &mut file)?;
-    Ok(script)
+/// Opens a script's file, to be read from its beginning. Where there is none, or it can't be opened, the
+/// answer is `Stop::UnreadableScript`.
+pub fn open_script<R: Files>(rt: &R, path: &str) -> Result<R::File, Stop>
+    ensures { IfErr result (λ stop. stop ≡ stops.UnreadableScript) }
+{
+    match File::open(rt, path) {
+        Ok(file) => Ok(file),
+        Err(_) => Err(Stop::UnreadableScript),
+    }
 }

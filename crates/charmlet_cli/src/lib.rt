@@ -7,6 +7,6 @@ mod stop;
 #[cfg(test)]
 mod tests;
 
-pub use crate::files::script_in;
+pub use crate::files::open_script;
 pub use crate::running::{RunError, run_script};
 pub use crate::stop::Stop;

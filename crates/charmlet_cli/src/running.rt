@@ -1,23 +1,25 @@
 //! Runs of scripts.
 
-ghost use Rattle.std.specs.Prelude.{◌≡◌, ◌+◌, ◌≤◌, ◌++◌, ◌∷◌, [], true, OnOk};
+ghost use Rattle.std.specs.Prelude.{◌≡◌, ◌↔◌, ◌+◌, ◌≤◌, ◌++◌, ◌∷◌, [], true, Some, OnOk, IfErr};
 ghost use Rattle.std.specs.Io.KnownBytes.{Appends};
 ghost use Rattle.charmlet_model.specs.declared.kind.Kind.{Kind};
 ghost use Rattle.charmlet_model.specs.Run.{Store};
 ghost use Rattle.charmlet_model.specs.Shelves.{count_of};
 ghost use Rattle.charmlet_model.specs.Texts.{Text};
-ghost use Rattle.charmlet_script.specs.Script.{blanks_in, blanks_of};
+ghost use Rattle.charmlet_script.specs.Script.{blanks_in};
 ghost use Rattle.charmlet_small.specs.Stock.{part_of};
 ghost use Rattle.charmlet_small.specs.Small.{StandsSo, store_in};
-ghost use Rattle.charmlet_cli.specs.Lines.{Follows, Prints, Supplies, held_in, opening_of};
+ghost use Rattle.charmlet_cli.specs.Lines.{AreEnough, Follows, Prints, Supplies, held_in, opening_of};
+ghost use Rattle.charmlet_cli.specs.RunError.{Leaves};
+ghost use Rattle.charmlet_cli.specs.declared.running.RunError.TheVariants as errors;
 
 use charmlet_chare::Chare;
 use charmlet_model::{Answer, Kind, Refusal};
 use charmlet_script::{Line, Script, Supplied};
 use charmlet_small::{Small, Stock};
-use std::alloc::{AllocError, AllocFailed, Global};
-use std::io;
+use std::alloc::{AllocError, Global};
 use std::io::Write;
+use std::{fmt, io};
 
 /// Why a run of a script ended before its last line.
 #[derive(Drop)]
@@ -32,18 +34,16 @@ pub enum RunError<C: Chare> {
 }
 
 impl<C: Chare> From<AllocError> for RunError<C> {
+    ghost from_gives = { λ _ error. error ≡ errors.Memory };
+
     fn from(_error: AllocError) -> Self {
         RunError::Memory
     }
 }
 
-impl<C: Chare, T: Drop> From<AllocFailed<T>> for RunError<C> {
-    fn from(_error: AllocFailed<T>) -> Self {
-        RunError::Memory
-    }
-}
-
 impl<C: Chare> From<io::Error> for RunError<C> {
+    ghost from_gives = { λ e error. error ≡ errors.Output e };
+
     fn from(error: io::Error) -> Self {
         RunError::Output(error)
     }
@@ -60,7 +60,9 @@ pub fn run_script<C: Chare, W: Write>(
     blanks: Vec<C>,
     writer: &mut W,
 ) -> Result<(), RunError<C>>
-    ensures { OnOk result ((text : Text) × (last : Store) × Prints (opening_of script.now) script.now.lines text last × Appends (W.contents writer.old) (W.contents writer.new) text) }
+    ensures enough { OnOk result (AreEnough C.state blanks.items script.now.lines) }
+    ensures prints { OnOk result ((text : Text) × (last : Store) × Prints (opening_of script.now) script.now.lines text last × Appends (W.contents writer.old) (W.contents writer.new) text) }
+    ensures err { IfErr result (Leaves C.state blanks.items script.now.lines writer.old writer.new) }
 {
     if !has_enough(script, blanks.as_slice()) {
         return Err(RunError::TooFewBlanks(blanks));
@@ -80,7 +82,7 @@ fn run_line<C: Chare, W: Write>(
     source: &mut Stock<C>,
     line: &Line,
     writer: &mut W,
-) -> Result<(), RunError<C>>
+) -> io::Result<()>
     requires stands { StandsSo C.state store.old }
     requires enough { (kind : Kind) → blanks_in kind line.now ≤ held_in C.state source.old kind }
     ensures stands { StandsSo C.state store.new }
@@ -91,10 +93,7 @@ fn run_line<C: Chare, W: Write>(
         Line::Supply { kind, count } => return supply_line(store, source, *kind, *count, writer),
         Line::Step(step) => step,
     };
-    let answer = store.step(step);
-    writeln!(writer, "{answer}")?;
-    writer.flush()?;
-    Ok(())
+    write_line(writer, &store.step(step))
 }
 
 /// Supplies so many objects of a kind, and writes that it did, or that memory was refused.
@@ -104,7 +103,7 @@ fn supply_line<C: Chare, W: Write>(
     kind: Kind,
     count: u32,
     writer: &mut W,
-) -> Result<(), RunError<C>>
+) -> io::Result<()>
     requires stands { StandsSo C.state store.old }
     requires enough { count ≤ held_in C.state source.old kind }
     ensures stands { StandsSo C.state store.new }
@@ -112,20 +111,22 @@ fn supply_line<C: Chare, W: Write>(
     ensures left { OnOk result ((k : Kind) → held_in C.state source.old k ≤ held_in C.state source.new k + part_of kind count k) }
 {
     if store.draw(source, kind, count as usize).is_err() {
-        let answer = Answer::Refused(Refusal::Memory);
-        writeln!(writer, "{answer}")?;
-        writer.flush()?;
-        return Ok(());
+        return write_line(writer, &Answer::Refused(Refusal::Memory));
     }
-    let supplied = Supplied { kind, count };
-    writeln!(writer, "{supplied}")?;
-    writer.flush()?;
-    Ok(())
+    write_line(writer, &Supplied { kind, count })
+}
+
+/// Writes a line and its line feed, and flushes, so that whoever reads the output has it at once.
+fn write_line<T: fmt::Display, W: Write>(writer: &mut W, line: &T) -> io::Result<()>
+    ensures { OnOk result ((text : Text) → T.output line.now ≡ Some text → Appends (W.contents writer.old) (W.contents writer.new) (text ++ 10 ∷ [])) }
+{
+    writeln!(writer, "{line}")?;
+    writer.flush()
 }
 
 /// Whether there are as many objects of each kind as the script supplies.
 fn has_enough<C: Chare>(script: &Script, blanks: &[C]) -> bool
-    ensures { result ≡ true → (kind : Kind) → blanks_of kind script.now.lines ≤ count_of C.state blanks.now kind }
+    ensures { (result ≡ true) ↔ AreEnough C.state blanks.now script.now.lines }
 {
     for kind in &Kind::ALL {
         if (count_kind(blanks, *kind) as u64) < script.blanks(*kind) {

@@ -3,7 +3,7 @@ ghost use Rattle.charmlet_pup.specs.Fields.{reads_u64, u64_bytes};
 ghost use Rattle.charmlet_pup.specs.ReadsBack.{ReadsBack-u64};
 ghost use Rattle.charmlet_pup.specs.Visit.{AnyRoom};
 ghost use Rattle.charmlet_model.specs.declared.state.State.TheVariants as states;
-ghost use Rattle.charmlet_model.specs.Packed.{IsWord};
+ghost use Rattle.charmlet_model.specs.Packed.{IsState};
 
 use crate::payload::word_at;
 use charmlet_chare::{Chare, Outbox};
@@ -21,7 +21,7 @@ const GET: u16 = 1;
 #[derive(Debug, Drop)]
 pub struct Counter {
     count: u64,
-    ghost is_word: { IsWord count },
+    ghost is_state: { IsState (states.Counter count) },
 }
 
 impl Counter {
@@ -49,6 +49,7 @@ impl Pup for Counter {
     ghost reads_back = { λ c _. ReadsBack-u64 c.count };
 }
 
+#[tactic(auto, using(crate::proofs::States::states))]
 impl Chare for Counter {
     ghost use Rattle.charmlet_kinds.specs.Counter.{state_of};
 
@@ -58,12 +59,10 @@ impl Chare for Counter {
         Kind::Counter.number()
     }
 
-    #[tactic(auto, using(crate::proofs::CounterLemmas::counters))]
     fn size(&mut self) -> usize {
         size_of(self)
     }
 
-    #[tactic(auto, using(crate::proofs::CounterLemmas::counters))]
     fn pack(&mut self, into: &mut Vec<u8>) -> Result<(), AllocError> {
         pack(self, into)
     }

@@ -30,4 +30,4 @@ counters n kind = if kind_number kind == 1 then n else 0
 
 -- two counters were supplied: the one that was constructed was moved into the other one, and is retired
 abbrev pub MovedCounterStandsOnce : Type 0
-MovedCounterStandsOnce = Shows (map (records_of itself) two_shelves) ((elem 0 0, 1) ∷ []) counter_world × AddsUp itself (counters 2) two_shelves [] (counters 1)
+MovedCounterStandsOnce = Shows (map (records_of itself) two_shelves) ((elem 0 0, 1) ∷ []) counter_world × AddsUp itself (counters 2) two_shelves (counters 0) (counters 1)

@@ -65,8 +65,8 @@ abbrev pub on_shelves : {C : Type 0} → (C → State) → List (List (Elem × R
 on_shelves state shelves kind = sum_by (λ entries. count_of state (objects_of entries) kind) shelves
 
 -- The census: of each kind, what was supplied is on the shelves, in the stock, or retired.
-abbrev pub AddsUp : {C : Type 0} → (C → State) → (Kind → ℕ) → List (List (Elem × Resident C)) → List C → (Kind → ℕ) → Type 0
-AddsUp state supplied shelves stock retired = (kind : Kind) → supplied kind ≡ on_shelves state shelves kind + count_of state stock kind + retired kind
+abbrev pub AddsUp : {C : Type 0} → (C → State) → (supplied : Kind → ℕ) → List (List (Elem × Resident C)) → (in_stock retired : Kind → ℕ) → Type 0
+AddsUp state supplied shelves in_stock retired = (kind : Kind) → supplied kind ≡ on_shelves state shelves kind + in_stock kind + retired kind
 
 -- ---- laws
 

@@ -2,7 +2,7 @@
 
 ghost use Rattle.charmlet_model.specs.CoreLaws.{PlainAnswersAreOne, RefusalsChangeNothing, HaltedStoresRefuse, HistoriesGrow, DurableEventsAreThere, AcceptedCanBe, AssignedCanBe};
 ghost use Rattle.charmlet_model.specs.Sound.{StepsKeepSound, SoundIsFit, OpenedIsSound, NewIsFit, ToldIsDurable};
-ghost use Rattle.charmlet_model.specs.PackedLaws.{PackedIsReadBack, ReadWasPacked};
+ghost use Rattle.charmlet_model.specs.PackedLaws.{PackedFormsAreWhatIsRead, PackedIsReadBack, ReadWasPacked};
 ghost use Rattle.charmlet_model.specs.Run.{RunsJoin};
 ghost use Rattle.charmlet_model.specs.Shelves.{NoneStandsTwice, ShelvesAreOne, OneShelfShowsAll};
 ghost use Rattle.charmlet_model.specs.RunLaws.{RunsKeepSound, RunsTellTheTruth};
@@ -26,6 +26,11 @@ pub fn packed_objects_are_read_back()
 /// Bytes that are read as a state are those that it packs to.
 pub fn read_objects_were_packed()
     ensures { ReadWasPacked }
+{}
+
+/// Bytes are read with no fault exactly where they are the packed form of an object of that kind.
+pub fn packed_forms_are_what_is_read()
+    ensures { PackedFormsAreWhatIsRead }
 {}
 
 /// What a client was told of a history is true of every legal history that begins with it.

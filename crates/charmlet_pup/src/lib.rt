@@ -7,12 +7,14 @@
 mod er;
 mod fault;
 mod flags;
+mod laws;
+mod lists;
 mod numbers;
 mod pup;
 #[cfg(test)]
 mod tests;
-mod words;
 
 pub use crate::er::{Er, Pass};
 pub use crate::fault::PupFault;
+pub use crate::laws::packed_values_are_read;
 pub use crate::pup::{Pup, pack, size_of, unpack};

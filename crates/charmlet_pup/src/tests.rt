@@ -1,36 +1,47 @@
 ghost use Rattle.std.specs.Prelude.{◌++◌, ◌≤◌, length, vec_capacity, vec_len};
 ghost use Rattle.std.proofs.Common.{lit<};
-ghost use Rattle.charmlet_pup.specs.Fields.{reads_then, reads_u8, reads_u16, reads_u32, reads_u64, reads_words, u8_bytes, u16_bytes, u32_bytes, u64_bytes, words_bytes};
-ghost use Rattle.charmlet_pup.specs.ReadsBack.{ReadsBack-then, ReadsBack-u8, ReadsBack-u16, ReadsBack-u32, ReadsBack-u64, ReadsBack-words};
-ghost use Rattle.charmlet_pup.specs.Visit.{AnyRoom, RoomForWords};
+ghost use Rattle.charmlet_pup.specs.Fields.{byte_list, flag_bytes, reads_byte_list, reads_flag, reads_then, reads_u8, reads_u16, reads_u32, reads_u64, reads_words, u8_bytes, u16_bytes, u32_bytes, u64_bytes, words_bytes};
+ghost use Rattle.charmlet_pup.specs.ReadsBack.{ReadsBack-byte_list, ReadsBack-flag, ReadsBack-then, ReadsBack-u8, ReadsBack-u16, ReadsBack-u32, ReadsBack-u64, ReadsBack-words};
+ghost use Rattle.charmlet_pup.specs.Visit.{AnyRoom, RoomForBytes, RoomForWords, RoomThen};
 
-use crate::{Er, Pass, Pup, PupFault, pack, size_of, unpack};
+use crate::{Er, Pass, Pup, PupFault, pack, packed_values_are_read, size_of, unpack};
+use std::alloc::Global;
 use std::test::Fail;
 
-// A number of each width.
+// A field of every sort.
 #[derive(Drop)]
 struct Sample {
     narrow: u8,
     short: u16,
     wide: u32,
     long: u64,
+    is_open: bool,
+    words: Vec<u64>,
+    name: Vec<u8>,
+    ghost few_words: { vec_len words ≤ 64 },
+    ghost short_name: { vec_len name ≤ 16 },
 }
 
 impl Pup for Sample {
-    ghost bytes = { λ s. u8_bytes s.narrow ++ (u16_bytes s.short ++ (u32_bytes s.wide ++ u64_bytes s.long)) };
+    ghost bytes = { λ s. u8_bytes s.narrow ++ (u16_bytes s.short ++ (u32_bytes s.wide ++ (u64_bytes s.long ++ (flag_bytes s.is_open ++ (words_bytes s.words.items ++ byte_list s.name.items))))) };
 
-    ghost reads = { reads_then reads_u8 (reads_then reads_u16 (reads_then reads_u32 reads_u64)) };
+    ghost reads = { reads_then reads_u8 (reads_then reads_u16 (reads_then reads_u32 (reads_then reads_u64 (reads_then reads_flag (reads_then (reads_words 64) (reads_byte_list 16)))))) };
 
-    ghost has_room = { λ _. AnyRoom };
+    ghost keeps_limits = { λ s. (length s.words.items ≤ 64) × (length s.name.items ≤ 16) };
+
+    ghost has_room = { λ s. RoomThen reads_u8 AnyRoom (RoomThen reads_u16 AnyRoom (RoomThen reads_u32 AnyRoom (RoomThen reads_u64 AnyRoom (RoomThen reads_flag AnyRoom (RoomThen (reads_words 64) (RoomForWords (vec_capacity s.words)) (RoomForBytes (vec_capacity s.name))))))) };
 
     fn pup(&mut self, er: &mut Er<'_>) -> Result<(), PupFault> {
         er.u8(&mut self.narrow)?;
         er.u16(&mut self.short)?;
         er.u32(&mut self.wide)?;
-        er.u64(&mut self.long)
+        er.u64(&mut self.long)?;
+        er.flag(&mut self.is_open)?;
+        er.words(&mut self.words, 64)?;
+        er.bytes(&mut self.name, 16)
     }
 
-    ghost reads_back = { λ s _. ReadsBack-then _ _ _ _ (ReadsBack-u8 s.narrow) (ReadsBack-then _ _ _ _ (ReadsBack-u16 s.short) (ReadsBack-then _ _ _ _ (ReadsBack-u32 s.wide) (ReadsBack-u64 s.long))) };
+    ghost reads_back = { λ s within. ReadsBack-then _ _ _ _ (ReadsBack-u8 s.narrow) (ReadsBack-then _ _ _ _ (ReadsBack-u16 s.short) (ReadsBack-then _ _ _ _ (ReadsBack-u32 s.wide) (ReadsBack-then _ _ _ _ (ReadsBack-u64 s.long) (ReadsBack-then _ _ _ _ (ReadsBack-flag s.is_open) (ReadsBack-then _ _ _ _ (ReadsBack-words 64 s.words.items within.0 (lit< tt)) (ReadsBack-byte_list 16 s.name.items within.1 (lit< tt))))))) };
 }
 
 // At most 64 numbers.
@@ -56,32 +67,120 @@ impl Pup for Row {
     ghost reads_back = { λ r within. ReadsBack-words 64 r.items.items within (lit< tt) };
 }
 
-#[test]
-fn numbers_have_their_widths(rt: HostRuntime) -> Result<(), Fail> {
-    let mut sample = Sample {
-        narrow: 0xab,
-        short: 0x1234,
-        wide: 0x89ab_cdef,
-        long: 5,
-    };
-    let packed = [
-        0xabu8, 0x34, 0x12, 0xef, 0xcd, 0xab, 0x89, 5, 0, 0, 0, 0, 0, 0, 0,
-    ];
-    let mut bytes = Vec::new(rt.alloc());
-    assert_eq!(rt; size_of(&mut sample), 15);
-    pack(&mut sample, &mut bytes)?;
-    assert_eq!(rt; bytes.as_slice(), packed.as_slice());
-    let mut copy = Sample {
+// A number, a mark, and a label of at most 16 bytes.
+#[derive(Drop)]
+struct Parcel {
+    number: u32,
+    is_sealed: bool,
+    label: Vec<u8>,
+    ghost short_label: { vec_len label ≤ 16 },
+}
+
+impl Pup for Parcel {
+    ghost bytes = { λ p. u32_bytes p.number ++ (flag_bytes p.is_sealed ++ byte_list p.label.items) };
+
+    ghost reads = { reads_then reads_u32 (reads_then reads_flag (reads_byte_list 16)) };
+
+    ghost keeps_limits = { λ p. length p.label.items ≤ 16 };
+
+    ghost has_room = { λ p. RoomThen reads_u32 AnyRoom (RoomThen reads_flag AnyRoom (RoomForBytes (vec_capacity p.label))) };
+
+    fn pup(&mut self, er: &mut Er<'_>) -> Result<(), PupFault> {
+        er.u32(&mut self.number)?;
+        er.flag(&mut self.is_sealed)?;
+        er.bytes(&mut self.label, 16)
+    }
+
+    ghost reads_back = { λ p short. ReadsBack-then _ _ _ _ (ReadsBack-u32 p.number) (ReadsBack-then _ _ _ _ (ReadsBack-flag p.is_sealed) (ReadsBack-byte_list 16 p.label.items short (lit< tt))) };
+}
+
+// At most 4 bytes.
+#[derive(Drop)]
+struct Name {
+    letters: Vec<u8>,
+    ghost short: { vec_len letters ≤ 4 },
+}
+
+impl Pup for Name {
+    ghost bytes = { λ n. byte_list n.letters.items };
+
+    ghost reads = { reads_byte_list 4 };
+
+    ghost keeps_limits = { λ n. length n.letters.items ≤ 4 };
+
+    ghost has_room = { λ n. RoomForBytes (vec_capacity n.letters) };
+
+    fn pup(&mut self, er: &mut Er<'_>) -> Result<(), PupFault> {
+        er.bytes(&mut self.letters, 4)
+    }
+
+    ghost reads_back = { λ n within. ReadsBack-byte_list 4 n.letters.items within (lit< tt) };
+}
+
+// A sample with nothing in it.
+fn blank(alloc: Global) -> Sample {
+    Sample {
         narrow: 0,
         short: 0,
         wide: 0,
         long: 0,
+        is_open: false,
+        words: Vec::new(alloc),
+        name: Vec::new(alloc),
+    }
+}
+
+#[test]
+fn one_routine_serves_all_modes(rt: HostRuntime) -> Result<(), Fail> {
+    let alloc = rt.alloc();
+    let packed = [
+        0xabu8, 0x34, 0x12, 0xef, 0xcd, 0xab, 0x89, 5, 0, 0, 0, 0, 0, 0, 0, 1, 1, 0, 0, 0, 7, 0, 0,
+        0, 0, 0, 0, 0, 2, 0, 0, 0, 0x68, 0x69,
+    ];
+    let mut sample = blank(alloc);
+    assert_eq!(rt; size_of(&mut sample), 24);
+    unpack(&mut sample, &packed)?;
+    assert_eq!(rt; sample.narrow, 0xab);
+    assert_eq!(rt; sample.short, 0x1234);
+    assert_eq!(rt; sample.wide, 0x89ab_cdef);
+    assert_eq!(rt; sample.long, 5);
+    assert!(rt; sample.is_open);
+    assert_eq!(rt; sample.words.as_slice(), [7u64].as_slice());
+    assert_eq!(rt; sample.name.as_slice(), b"hi".as_slice());
+    assert_eq!(rt; size_of(&mut sample), 34);
+    let mut bytes = Vec::new(alloc);
+    pack(&mut sample, &mut bytes)?;
+    assert_eq!(rt; bytes.as_slice(), packed.as_slice());
+    Ok(())
+}
+
+#[test]
+fn parcels_pack_to_their_fields(rt: HostRuntime) -> Result<(), Fail> {
+    let alloc = rt.alloc();
+    let packed = [7u8, 0, 0, 0, 1, 3, 0, 0, 0, 0x74, 0x65, 0x61];
+    let mut parcel = Parcel {
+        number: 0,
+        is_sealed: false,
+        label: Vec::new(alloc),
     };
-    unpack(&mut copy, &bytes)?;
-    assert_eq!(rt; copy.narrow, 0xab);
-    assert_eq!(rt; copy.short, 0x1234);
-    assert_eq!(rt; copy.wide, 0x89ab_cdef);
-    assert_eq!(rt; copy.long, 5);
+    unpack(&mut parcel, &packed)?;
+    assert_eq!(rt; parcel.number, 7);
+    assert!(rt; parcel.is_sealed);
+    assert_eq!(rt; parcel.label.as_slice(), b"tea".as_slice());
+    assert_eq!(rt; size_of(&mut parcel), 12);
+    let mut bytes = Vec::new(alloc);
+    pack(&mut parcel, &mut bytes)?;
+    assert_eq!(rt; bytes.as_slice(), packed.as_slice());
+    for (bytes, fault) in [
+        (&packed[..3], PupFault::Short),
+        (&[7, 0, 0, 0, 2], PupFault::BadFlag),
+        (&[7, 0, 0, 0, 1, 17, 0, 0, 0], PupFault::TooMany),
+    ] {
+        let unpacked = unpack(&mut parcel, bytes);
+        assert_eq!(rt; unpacked, Err(fault));
+        assert_eq!(rt; size_of(&mut parcel), 12);
+    }
+    packed_values_are_read::<Parcel>();
     Ok(())
 }
 
@@ -129,6 +228,51 @@ fn faults_leave_the_list(rt: HostRuntime) -> Result<(), Fail> {
         let unpacked = unpack(&mut row, bytes);
         assert_eq!(rt; unpacked, Err(fault));
         assert_eq!(rt; row.items.as_slice(), [7u64].as_slice());
+    }
+    Ok(())
+}
+
+#[test]
+fn bytes_are_their_length_and_themselves(rt: HostRuntime) -> Result<(), Fail> {
+    let alloc = rt.alloc();
+    let mut name = Name {
+        letters: Vec::new(alloc),
+    };
+    for packed in [
+        [4u8, 0, 0, 0, 0x64, 0x6f, 0x6f, 0x72].as_slice(),
+        &[0, 0, 0, 0],
+        &[2, 0, 0, 0, 0, 0xff],
+    ] {
+        unpack(&mut name, packed)?;
+        assert_eq!(rt; name.letters.as_slice(), &packed[4..]);
+        assert_eq!(rt; size_of(&mut name), packed.len());
+        let mut bytes = Vec::new(alloc);
+        pack(&mut name, &mut bytes)?;
+        assert_eq!(rt; bytes.as_slice(), packed);
+    }
+    Ok(())
+}
+
+#[test]
+fn faults_leave_the_bytes(rt: HostRuntime) -> Result<(), Fail> {
+    let mut name = Name {
+        letters: Vec::new(rt.alloc()),
+    };
+    unpack(&mut name, &[2, 0, 0, 0, 7, 9])?;
+    let trailing = [4u8, 0, 0, 0, 1, 2, 3, 4, 5];
+    for (bytes, fault) in [
+        ([].as_slice(), PupFault::Short),
+        (&trailing[..3], PupFault::Short),
+        (&trailing[..4], PupFault::Short),
+        (&trailing[..7], PupFault::Short),
+        (&trailing, PupFault::Trailing),
+        (&[5, 0, 0, 0], PupFault::TooMany),
+        (&[5, 0, 0, 0, 1, 2, 3, 4, 5], PupFault::TooMany),
+        (&[0, 0, 0, 1], PupFault::TooMany),
+    ] {
+        let unpacked = unpack(&mut name, bytes);
+        assert_eq!(rt; unpacked, Err(fault));
+        assert_eq!(rt; name.letters.as_slice(), [7u8, 9].as_slice());
     }
     Ok(())
 }

@@ -1,11 +1,10 @@
 -- One line of a script: its words, and what they spell.
-use Rattle.std.specs.Prelude.{ℕ, Bool, true, false, not, ◌==◌, ◌&&◌, ◌∷◌, [], ◌^◌, List, Option, Some, None, option_and_then, if◌then◌else◌, nat_lt, nat_le, length, codes, filter}
+use Rattle.std.specs.Prelude.{ℕ, Bool, true, not, ◌==◌, ◌&&◌, ◌∷◌, [], ◌^◌, List, Option, Some, None, option_and_then, if◌then◌else◌, nat_lt, nat_le, length, codes, filter}
 use Rattle.std.specs.Char.{is_ascii_digit}
 use Rattle.std.specs.List.{slice_split, list_all}
 use Rattle.std.specs.Str.{bytes_eq}
 use Rattle.std.specs.Str.Parse.{digits_value}
 use Rattle.charmlet_model.specs.declared.kind.Kind.{Kind}
-use Rattle.charmlet_model.specs.declared.kind.Kind.TheVariants.{Counter}
 use Rattle.charmlet_model.specs.declared.names.MsgId.{MsgId}
 use Rattle.charmlet_model.specs.declared.names.Origin.TheVariants.{Client, Element}
 use Rattle.charmlet_model.specs.declared.step.Step.{Step}
@@ -55,17 +54,11 @@ count_of word = do
   n ← number_of 32 word
   if nat_le n 10000 then Some n else None
 
--- whether objects of the kind can run so far
-abbrev pub runs : Kind → Bool
-runs Counter = true
-runs _ = false
-
--- a kind that runs, by its number
+-- a kind, by its number
 unfoldable pub kind_of : Text → Option Kind
 kind_of word = do
   n ← number_of 16 word
-  kind ← numbered_kind n
-  if runs kind then Some kind else None
+  numbered_kind n
 
 -- C.N, the id of a client's message
 unfoldable pub client_id : List Text → Option MsgId

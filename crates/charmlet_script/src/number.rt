@@ -1,7 +1,7 @@
 //! Words that are numbers.
 
 ghost use Rattle.std.specs.Prelude.{◌≡◌, map};
-ghost use Rattle.charmlet_script.specs.Line.{count_of, kind_of, number_of, numbers_of, runs};
+ghost use Rattle.charmlet_script.specs.Line.{count_of, kind_of, number_of, numbers_of};
 ghost use Rattle.charmlet_script.specs.Reading.{Spells};
 
 use crate::error::LineFault;
@@ -52,20 +52,12 @@ pub(crate) fn u16_of(word: &[u8]) -> Option<u16>
     }
 }
 
-/// Whether objects of the kind can run so far.
-fn runs(kind: Kind) -> bool
-    ensures { result ≡ runs kind }
-{
-    matches!(kind, Kind::Counter)
-}
-
-/// A kind, by its number.
+/// A kind, by its number, 1 to 6.
 #[tactic(auto, unfolding(crate::specs::Line::kind_of))]
 pub(crate) fn kind_of(word: &[u8]) -> Option<Kind>
     ensures { result ≡ kind_of word.now }
 {
-    let kind = Kind::of_number(u16_of(word)?)?;
-    if runs(kind) { Some(kind) } else { None }
+    Kind::of_number(u16_of(word)?)
 }
 
 /// A number of blanks.

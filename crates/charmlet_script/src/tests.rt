@@ -1,4 +1,4 @@
-use crate::{Line, MAX_LENGTH, ReadError, Script, Supplied, read_script};
+use crate::{ArrayLine, Line, MAX_LENGTH, ReadError, Script, Supplied, read_script};
 use charmlet_model::{Elem, Kind, MsgId, Origin, Step};
 use std::alloc::Global;
 use std::io;
@@ -100,13 +100,33 @@ fn spaces_zeros_and_comments_are_allowed(rt: HostRuntime) -> Result<(), Fail> {
 }
 
 #[test]
+fn six_kinds_have_numbers(rt: HostRuntime) -> Result<(), Fail> {
+    let text = "array 11 1\narray 12 2\narray 13 3\narray 14 4\narray 15 5\narray 16 6\n\
+        supply 1 10\nsupply 2 20\nsupply 3 30\nsupply 4 40\nsupply 5 50\nsupply 6 60\n";
+    let script = read(rt.alloc(), text.as_bytes())?;
+    for (array, kind, count) in [
+        (11, Kind::Counter, 10),
+        (12, Kind::Ring, 20),
+        (13, Kind::Account, 30),
+        (14, Kind::Sum, 40),
+        (15, Kind::Tree, 50),
+        (16, Kind::Tape, 60),
+    ] {
+        assert!(rt; script.arrays().contains(&ArrayLine { array, kind }));
+        assert_eq!(rt; script.blanks(kind), count);
+    }
+    Ok(())
+}
+
+#[test]
 fn the_first_malformed_line_is_named(rt: HostRuntime) {
     let alloc = rt.alloc();
     for (text, line) in [
         // no array line
         ("", 1),
         ("flush\nbad\n", 1),
-        ("array 0 2\n", 1),
+        ("array 0 0\n", 1),
+        ("array 0 7\n", 1),
         ("array 65536 1\n", 1),
         ("array 0 1\r\n", 1),
         // an array line that may not stand there
@@ -121,7 +141,8 @@ fn the_first_malformed_line_is_named(rt: HostRuntime) {
         ("array 0 1\n# é\n", 2),
         // numbers out of range, and none
         ("array 0 1\nsupply 1 10001\n", 2),
-        ("array 0 1\nsupply 2 1\n", 2),
+        ("array 0 1\nsupply 0 1\n", 2),
+        ("array 0 1\nsupply 7 1\n", 2),
         ("array 0 1\nstatus 4294967296 1\n", 2),
         ("array 0 1\nstatus 1 18446744073709551616\n", 2),
         ("array 0 1\nstatus +5 1\n", 2),

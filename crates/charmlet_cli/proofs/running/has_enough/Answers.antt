@@ -1,4 +1,4 @@
-use Rattle.std.proofs.Common.{◌≡◌, ◌≤◌, List, [], ◌∷◌, sym, subst, arith}
+use Rattle.std.proofs.Common.{◌≡◌, ◌≤◌, List, [], ◌∷◌, refl, sym, subst, arith}
 use Rattle.std.specs.Prelude.{take, get_or}
 use Rattle.std.specs.List.{AllByRecursion}
 use Rattle.std.proofs.lemmas.List.{take_more, take_all}
@@ -19,15 +19,15 @@ loop-kind-preserved g c =
     let kind = get_or all_kinds at kinds.Counter in
     let wanted : c.blanks.result ≡ blanks_of kind c.args.script.now.lines = c.blanks.ensures in
     let counted : c.count_kind.result ≡ count_of g.C.Chare.state c.args.blanks.now kind = c.count_kind.ensures in
-    let less : c.blanks.result ≤ c.count_kind.result = c.if-count_kind-blanks.false in
+    let less = c.if-count_kind-blanks.false in
     let enough : P kind = omega arith in
     subst (AllByRecursion P) (sym (take_more all_kinds at kinds.Counter c.loop-kind-test.true)) (AllByRecursion-append P (take at all_kinds) (kind ∷ []) c.loop-kind.invariant (enough, tt))
 
 pub returns : goal.returns
-returns g c = λ _.
+returns g c =
     let P : Kind → Type 0 = λ kind. blanks_of kind c.args.script.now.lines ≤ count_of g.C.Chare.state c.args.blanks.now kind in
     let all : AllByRecursion P all_kinds = subst (AllByRecursion P) (take_all c.loop-kind.kind-index all_kinds c.loop-kind-test.false) c.loop-kind.invariant in
-    each P all
+    ((λ _. each P all), λ _. refl)
   where
     each : (P : Kind → Type 0) → AllByRecursion P all_kinds → (kind : Kind) → P kind
     each P all kinds.Counter = all.0

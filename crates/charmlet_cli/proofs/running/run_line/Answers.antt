@@ -7,7 +7,7 @@ use Rattle.charmlet_script.specs.declared.script.Line.TheVariants.{Supply}
 use Rattle.charmlet_script.specs.Script.{blanks_in}
 use Rattle.charmlet_small.specs.Small.{store_in}
 use Rattle.charmlet_cli.specs.Lines.{Follows, held_in}
-use Rattle.charmlet_cli.proofs.Printing.{appends_keeps}
+use Rattle.charmlet_cli.proofs.Printing.{line_written}
 use Rattle.charmlet_cli.proofs.running.run_line.Goals as goal
 
 pub supply_line-requires-clause-enough : goal.supply_line-requires-clause-enough
@@ -20,9 +20,9 @@ supply_line-requires-clause-enough g c κs within =
 
 pub returns-clause-prints : goal.returns-clause-prints
 returns-clause-prints g c =
-    let text = answer_text c.step-answer.result in
-    let bytes : Appends (g.W.Write.contents c.args.writer.now) (g.W.Write.contents c.writeln.new.self) (text ++ 10 ∷ []) = c.in_ok-writeln.ensures.bytes in
     let before = store_in g.C.Chare.state c.args.store.now in
-    let next = store_in g.C.Chare.state c.step-answer.new.self in
-    let follows : Follows before c.args.line.now text next = subst (λ line. Follows before line text next) (sym c.in-Step.is) (c.step-answer.result, c.step-answer.ensures.does, refl) in
-    (text, follows, appends_keeps _ _ _ (text ++ 10 ∷ []) bytes c.in_ok-flush.ensures.bytes)
+    let next = store_in g.C.Chare.state c.step.new.self in
+    let text = answer_text c.step.result in
+    let follows : Follows before c.args.line.now text next = subst (λ line. Follows before line text next) (sym c.in-Step.is) (c.step.result, c.step.ensures.does, refl) in
+    line_written (λ text. Follows before c.args.line.now text next) (λ text. Appends (g.W.Write.contents c.args.writer.now) (g.W.Write.contents c.write_line.new.writer) (text ++ 10 ∷ []))
+    text c.write_line.result follows c.write_line.ensures

@@ -1,5 +1,6 @@
-use Rattle.std.proofs.Common.{rules, ◌≡◌, ◌+◌, ◌≤◌, true, [], ◌∷◌, ◌++◌, refl, sym, ap, subst, ◌∙◌, arith}
+use Rattle.std.proofs.Common.{rules, ◌≡◌, ◌+◌, ◌≤◌, true, false, [], ◌∷◌, ◌++◌, refl, sym, ap, subst, ◌∙◌, arith}
 use Rattle.std.specs.Prelude.{drop, take, get_or, unwrap_or}
+use Rattle.std.proofs.lemmas.Bool.{iff_false}
 use Rattle.std.proofs.lemmas.List.{take_more, take_all}
 use Rattle.std.proofs.lemmas.List.Sums.{sum_by-drop_more}
 use Rattle.charmlet_model.specs.declared.kind.Kind.{Kind}
@@ -9,14 +10,15 @@ use Rattle.charmlet_model.specs.Shelves.{count_of}
 use Rattle.charmlet_model.specs.Texts.{Text}
 use Rattle.charmlet_script.specs.Script.{blanks_in, blanks_of, pairs_of}
 use Rattle.charmlet_small.specs.Small.{store_in}
-use Rattle.charmlet_cli.specs.Lines.{Prints, held_in, opening_of}
+use Rattle.charmlet_cli.specs.Lines.{AreEnough, Prints, held_in, opening_of}
+use Rattle.charmlet_cli.proofs.Endings.{memory_ends, output_ends}
 use Rattle.charmlet_cli.proofs.Printing.{appends_then, appends_nothing, prints_more}
 use Rattle.charmlet_cli.proofs.running.run_script.Goals as goal
 
 pub loop-line-init : goal.loop-line-init
 loop-line-init g c =
     let is : c.has_enough.result ≡ true = search rules in
-    let enough : (kind : Kind) → blanks_of kind c.args.script.now.lines ≤ count_of g.C.Chare.state c.as_slice.result.now kind = c.has_enough.ensures is in
+    let enough : (kind : Kind) → blanks_of kind c.args.script.now.lines ≤ count_of g.C.Chare.state c.as_slice.result.now kind = c.has_enough.ensures.0 is in
     let items : c.as_slice.result.now ≡ c.of-source.result.blanks.items = c.as_slice.ensures.value ∙ sym c.of-source.ensures in (
       c.new-store.ensures.stands c.in_ok-manifest.ensures.fit,
       ([], (refl, refl), appends_nothing (g.W.Write.contents c.args.writer.now)),
@@ -58,8 +60,8 @@ loop-line-preserved g c =
           omega arith,
     )
 
-pub returns : goal.returns
-returns g c =
+pub returns-clause-prints : goal.returns-clause-prints
+returns-clause-prints g c =
     let so_far = c.loop-line.invariant.1 in
     let last = store_in g.C.Chare.state c.loop-line.store in
     let manifest : unwrap_or (manifest_of (pairs_of c.args.script.now.arrays)) [] ≡ c.in_ok-manifest.manifest = ap (λ o. unwrap_or o []) c.in_ok-manifest.ensures.manifest in
@@ -70,3 +72,29 @@ returns g c =
     let all : take c.loop-line.line-index c.lines-line-items.result.now ≡ c.args.script.now.lines =
     take_all c.loop-line.line-index c.lines-line-items.result.now c.loop-line-test.false ∙ c.lines-line-items.ensures in
     (so_far.0, last, subst (λ store. Prints store c.args.script.now.lines so_far.0 last) opening (subst (λ lines. Prints (store_in g.C.Chare.state c.new-store.result) lines so_far.0 last) all so_far.1), so_far.2)
+
+pub returns-then-not-has_enough-clause-err : goal.returns-then-not-has_enough-clause-err
+returns-then-not-has_enough-clause-err g c =
+    let not_enough : c.has_enough.result ≡ false = search rules in
+    let items : c.as_slice.result.now ≡ c.args.blanks.items = c.as_slice.ensures.value in (
+      refl,
+      refl,
+      λ enough. iff_false c.has_enough.ensures not_enough (subst (λ items. AreEnough g.C.Chare.state items c.args.script.now.lines) (sym items) enough),
+    )
+
+pub returns-in_err-manifest-clause-err : goal.returns-in_err-manifest-clause-err
+returns-in_err-manifest-clause-err g c =
+    let is : c.has_enough.result ≡ true = search rules in
+    memory_ends g.C.Chare.state c.args.blanks.items c.args.script.now.lines c.args.writer.now c.args.writer.now c.from_residual.result
+    (subst (λ items. AreEnough g.C.Chare.state items c.args.script.now.lines) c.as_slice.ensures.value (c.has_enough.ensures.0 is)) c.from_residual.ensures.1
+
+pub returns-in_err-run_line-clause-err : goal.returns-in_err-run_line-clause-err
+returns-in_err-run_line-clause-err g c =
+    let is : c.has_enough.result ≡ true = search rules in
+    output_ends g.C.Chare.state c.args.blanks.items c.args.script.now.lines c.args.writer.now c.run_line.new.writer _ c.from_residual-in_err-run_line.result
+    (subst (λ items. AreEnough g.C.Chare.state items c.args.script.now.lines) c.as_slice.ensures.value (c.has_enough.ensures.0 is)) c.from_residual-in_err-run_line.ensures.1
+
+pub returns-clause-enough : goal.returns-clause-enough
+returns-clause-enough g c =
+    let is : c.has_enough.result ≡ true = search rules in
+    subst (λ items. AreEnough g.C.Chare.state items c.args.script.now.lines) c.as_slice.ensures.value (c.has_enough.ensures.0 is)

@@ -37,7 +37,7 @@ shown (suc (suc p)) x = elim (here x) as (λ b. None ≡ if_here (place b) (suc 
   | false ↦ refl
 ]
 
-adds_up : AddsUp itself (counters 2) two_shelves [] (counters 1)
+adds_up : AddsUp itself (counters 2) two_shelves (counters 0) (counters 1)
 adds_up kinds.Counter = refl
 adds_up kinds.Ring = refl
 adds_up kinds.Account = refl

@@ -1,7 +1,7 @@
 use Rattle.std.proofs.Common.{ℕ, ◌<◌, ◌++◌, List, length, get_or, ap, ◌∙◌, arith}
 use Rattle.std.proofs.lemmas.List.{take_more}
 use Rattle.charmlet_pup.specs.Fields.{number_bytes}
-use Rattle.charmlet_pup.proofs.WordLemmas.{flat_words-more}
+use Rattle.charmlet_pup.proofs.ListLemmas.{flat_words-more}
 use Rattle.charmlet_model.proofs.packed.push_numbers.Goals as goal
 
 pub loop-number-preserved : goal.loop-number-preserved

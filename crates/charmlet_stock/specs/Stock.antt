@@ -1,0 +1,24 @@
+-- The stock.
+use Rattle.std.specs.Prelude.{List}
+use Rattle.charmlet_model.specs.declared.kind.Kind.{Kind}
+use Rattle.charmlet_model.specs.declared.state.State.{State}
+use Rattle.charmlet_model.specs.Shelves.{count_of}
+use Rattle.charmlet_chare.specs.declared.chare.Chare.{Ghosts}
+use Rattle.charmlet_stock.specs.declared.by_kind.ByKind.{ByKind}
+use Rattle.charmlet_stock.specs.declared.pile.Tally.{Tally}
+use Rattle.charmlet_stock.specs.declared.pile.Pile.{Pile}
+use Rattle.charmlet_stock.specs.declared.stock.Stock.{Stock}
+use Rattle.charmlet_stock.specs.ByKind.{at, each_of}
+use Rattle.charmlet_stock.specs.Pile.{HasRoomFor, tally_of}
+
+-- what the census says of the stock: for each kind, how many objects were supplied, are in the stock and were retired
+abbrev pub census_of : {C : Type 0} {G : Ghosts C} → Stock C G → ByKind Tally
+census_of stock = each_of tally_of stock.piles
+
+-- the census of one kind
+abbrev pub tally_in : {C : Type 0} {G : Ghosts C} → Stock C G → Kind → Tally
+tally_in stock kind = at (census_of stock) kind
+
+-- room for these objects
+abbrev pub HasRoomForAll : {C : Type 0} {G : Ghosts C} → (C → State) → ByKind (Pile C G) → List C → Type 0
+HasRoomForAll state piles objects = (kind : Kind) → HasRoomFor (at piles kind) (count_of state objects kind)

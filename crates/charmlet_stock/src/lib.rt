@@ -1,0 +1,12 @@
+//! Blank objects, by kind, and the census of objects: how many were supplied, are in the stock, and were retired.
+#![tactic(auto)]
+
+mod by_kind;
+mod pile;
+mod stock;
+#[cfg(test)]
+mod tests;
+
+pub use crate::by_kind::ByKind;
+pub use crate::pile::Tally;
+pub use crate::stock::Stock;
