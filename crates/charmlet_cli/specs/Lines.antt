@@ -13,16 +13,17 @@ use Rattle.charmlet_script.specs.declared.script.Line.TheVariants.{Supply, Step}
 use Rattle.charmlet_script.specs.Script.{Contents, blanks_of, pairs_of, supplied_text}
 use Rattle.charmlet_model.specs.declared.state.State.{State}
 use Rattle.charmlet_model.specs.Shelves.{count_of}
-use Rattle.charmlet_small.specs.declared.stock.Stock.{Stock}
-use Rattle.charmlet_small.specs.Stock.{part_of}
+use Rattle.charmlet_chare.specs.declared.chare.Chare.{Ghosts}
+use Rattle.charmlet_stock.specs.declared.stock.Stock.{Stock}
+use Rattle.charmlet_stock.specs.Stock.{part_of, tally_in}
 
 -- there are as many objects of each kind as the lines supply
 abbrev pub AreEnough : {C : Type 0} → (C → State) → List C → List Line → Type 0
 AreEnough state objects lines = (kind : Kind) → blanks_of kind lines ≤ count_of state objects kind
 
 -- how many blanks of a kind are still to be supplied
-abbrev pub held_in : {C : Type 0} → (C → State) → Stock C → Kind → ℕ
-held_in state source = count_of state source.blanks.items
+abbrev pub held_in : {C : Type 0} {G : Ghosts C} → Stock C G → Kind → ℕ
+held_in source kind = (tally_in source kind).in_stock
 
 -- the store before the first line: one processor, the script's arrays, and nothing else
 abbrev pub opening_of : Contents → Store

@@ -7,8 +7,8 @@ ghost use Rattle.charmlet_model.specs.Run.{Store};
 ghost use Rattle.charmlet_model.specs.Shelves.{count_of};
 ghost use Rattle.charmlet_model.specs.Texts.{Text};
 ghost use Rattle.charmlet_script.specs.Script.{blanks_in};
-ghost use Rattle.charmlet_small.specs.Stock.{part_of};
 ghost use Rattle.charmlet_small.specs.Small.{StandsSo, store_in};
+ghost use Rattle.charmlet_stock.specs.Stock.{part_of};
 ghost use Rattle.charmlet_cli.specs.Lines.{AreEnough, Follows, Prints, Supplies, held_in, opening_of};
 ghost use Rattle.charmlet_cli.specs.RunError.{Leaves};
 ghost use Rattle.charmlet_cli.specs.declared.running.RunError.TheVariants as errors;
@@ -16,7 +16,8 @@ ghost use Rattle.charmlet_cli.specs.declared.running.RunError.TheVariants as err
 use charmlet_chare::Chare;
 use charmlet_model::{Answer, Kind, Refusal};
 use charmlet_script::{Line, Script, Supplied};
-use charmlet_small::{Small, Stock};
+use charmlet_small::Small;
+use charmlet_stock::Stock;
 use std::alloc::{AllocError, Global};
 use std::io::Write;
 use std::{fmt, io};
@@ -68,7 +69,10 @@ pub fn run_script<C: Chare, W: Write>(
         return Err(RunError::TooFewBlanks(blanks));
     }
     let manifest = script.manifest(alloc)?;
-    let mut source = Stock::of(blanks);
+    let mut source = Stock::new(alloc);
+    if source.supply(blanks).is_err() {
+        return Err(RunError::Memory);
+    }
     let mut store = Small::new(alloc, manifest);
     for line in script.lines() {
         run_line(&mut store, &mut source, line, writer)?;
@@ -84,10 +88,10 @@ fn run_line<C: Chare, W: Write>(
     writer: &mut W,
 ) -> io::Result<()>
     requires stands { StandsSo C.state store.old }
-    requires enough { (kind : Kind) → blanks_in kind line.now ≤ held_in C.state source.old kind }
+    requires enough { (kind : Kind) → blanks_in kind line.now ≤ held_in source.old kind }
     ensures stands { StandsSo C.state store.new }
-    ensures prints { OnOk result ((text : Text) × Follows (store_in C.state store.old) line.now text (store_in C.state store.new) × Appends (W.contents writer.old) (W.contents writer.new) (text ++ 10 ∷ [])) }
-    ensures left { OnOk result ((kind : Kind) → held_in C.state source.old kind ≤ held_in C.state source.new kind + blanks_in kind line.now) }
+    ensures prints { OnOk result ((text : Text) × Follows (store_in store.old) line.now text (store_in store.new) × Appends (W.contents writer.old) (W.contents writer.new) (text ++ 10 ∷ [])) }
+    ensures left { OnOk result ((kind : Kind) → held_in source.old kind ≤ held_in source.new kind + blanks_in kind line.now) }
 {
     let step = match line {
         Line::Supply { kind, count } => return supply_line(store, source, *kind, *count, writer),
@@ -105,10 +109,10 @@ fn supply_line<C: Chare, W: Write>(
     writer: &mut W,
 ) -> io::Result<()>
     requires stands { StandsSo C.state store.old }
-    requires enough { count ≤ held_in C.state source.old kind }
+    requires enough { count ≤ held_in source.old kind }
     ensures stands { StandsSo C.state store.new }
-    ensures prints { OnOk result ((text : Text) × Supplies (store_in C.state store.old) kind count text (store_in C.state store.new) × Appends (W.contents writer.old) (W.contents writer.new) (text ++ 10 ∷ [])) }
-    ensures left { OnOk result ((k : Kind) → held_in C.state source.old k ≤ held_in C.state source.new k + part_of kind count k) }
+    ensures prints { OnOk result ((text : Text) × Supplies (store_in store.old) kind count text (store_in store.new) × Appends (W.contents writer.old) (W.contents writer.new) (text ++ 10 ∷ [])) }
+    ensures left { OnOk result ((k : Kind) → held_in source.old k ≤ held_in source.new k + part_of kind count k) }
 {
     if store.draw(source, kind, count as usize).is_err() {
         return write_line(writer, &Answer::Refused(Refusal::Memory));

@@ -1,3 +1,4 @@
+mod census;
 mod probe;
 
 ghost use Rattle.std.specs.Prelude.{IfOk, IfSome};

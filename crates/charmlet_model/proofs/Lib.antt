@@ -19,4 +19,3 @@ pub mod SoundLemmas
 pub mod ToldLemmas
 pub mod OpenedLemmas
 pub mod RunTruths
-pub mod PlainWorlds

@@ -2,8 +2,9 @@ mod worlds;
 
 use charmlet_model::{
     CONSTRUCT, ClientRow, Elem, Half, Kind, Manifest, MsgId, Origin, Reaction, Refusal, Sends,
-    State, Words, react,
+    State, Words,
 };
+use charmlet_plain::{pack_state, react, read_state};
 use charmlet_pup::PupFault;
 use std::alloc::{AllocError, Global};
 use std::test::Fail;
@@ -62,11 +63,11 @@ fn absent_elements_do_not_react(rt: HostRuntime) -> Result<(), Fail> {
 #[test]
 fn tapes_are_packed_and_read(rt: HostRuntime) -> Result<(), Fail> {
     let items = Words::from_slice(rt.alloc(), &ITEMS)?;
-    let bytes = State::Tape { items }.pack(rt.alloc())?;
+    let bytes = pack_state(rt.alloc(), &State::Tape { items })?;
     assert_eq!(rt; bytes.as_slice(), TAPE.as_slice());
-    let read = State::read(rt.alloc(), Kind::Tape, &TAPE)?;
+    let read = read_state(rt.alloc(), Kind::Tape, &TAPE)?;
     assert!(rt; matches!(&read, State::Tape { items } if items.as_slice() == ITEMS.as_slice()));
-    let short = State::read(rt.alloc(), Kind::Tape, &TAPE[..19]);
+    let short = read_state(rt.alloc(), Kind::Tape, &TAPE[..19]);
     assert!(rt; matches!(short, Err(PupFault::Short)));
     Ok(())
 }

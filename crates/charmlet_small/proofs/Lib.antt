@@ -1,4 +1,4 @@
 pub mod Assigning
 pub mod Performing
 pub mod Showing
-pub mod Drawing
+pub mod Counting

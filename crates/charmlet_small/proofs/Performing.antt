@@ -1,6 +1,6 @@
 -- What the delivery of an assigned message makes of the world, and what objects show of it.
 use Rattle.std.proofs.Common.{◌≡◌, ℕ, ◌+◌, ◌≤◌, ◌==◌, Bool, true, false, cond, List, [], ◌∷◌, refl, sym, ap, subst, ◌∙◌}
-use Rattle.std.specs.Prelude.{Option, Some, None, IfSome, is_some, is_none, option_and_then, option_map, map, if◌then◌else◌}
+use Rattle.std.specs.Prelude.{Option, Some, None, IfSome, IsSome, is_some, is_none, option_and_then, option_map, map, if◌then◌else◌}
 use Rattle.std.specs.Ordering.{eq_by_cmp}
 use Rattle.std.specs.BTreeMap.{insert_entry, is_at}
 use Rattle.std.specs.Map.{lookup, set_value, remove_entry}
@@ -28,7 +28,8 @@ use Rattle.std.proofs.lemmas.Map.Made.{lookup-map_values}
 use Rattle.charmlet_model.proofs.Maps.{elem_total, both_parts, lookup-insert_entry, rising-insert_entry}
 use Rattle.charmlet_model.proofs.Histories.{record_at-insert, world-append}
 use Rattle.charmlet_model.proofs.Removals.{lookup-removed, rising-removed}
-use Rattle.charmlet_model.proofs.Fits.{found}
+use Rattle.charmlet_model.proofs.Fits.{found, reaction-good}
+use Rattle.charmlet_model.proofs.Reactions.{IsReaction}
 use Rattle.charmlet_model.proofs.SoundLemmas.{sound_fit}
 use Rattle.charmlet_chare.specs.declared.output.Output.{Output}
 use Rattle.charmlet_chare.specs.Output.{output_of}
@@ -105,6 +106,23 @@ module _ (k : Kept) (stands : Stands k) (m : Message) (here : option_and_then (p
             | false ↦ λ _ no. absurd (let never : ⊥ = cc in never)
           ] refl (sym (ap (λ (o : Option State). if is_some o then None else (if m.entry == CONSTRUCT then kind_of_array w m.to.array else None)) is) ∙ h)
 
+  -- what such a receiver becomes is of its kind
+  pub keeps_kind : (s t : State) → (record_of w m.to).state ≡ Some s → (if m.entry == CONSTRUCT then stays s else entered m.to s m.entry m.words).state ≡ Some t → kind_of t ≡ kind_of s
+  keeps_kind s t state becomes =
+      let fit = sound_fit core stands.sound in
+      let kind : kind_of_array w m.to.array ≡ Some (kind_of s) = (subst (λ o. IfSome o (λ s. (kind_of_array w m.to.array ≡ Some (kind_of s)) × IsState s)) state (fit.records m.to).state).0 in
+      let good = subst (λ o. IfSome o (λ r. (kind : Kind) × (kind_of_array w m.to.array ≡ Some kind) × IsReaction kind m.to r)) (reacts_there s state) (reaction-good w m fit is_fit) in
+      let is : kind_of t ≡ good.0 = (subst (λ o. IfSome o (λ s. (kind_of s ≡ good.0) × IsState s)) becomes good.2.state).0 in
+      let array : Some good.0 ≡ Some (kind_of s) = sym good.1 ∙ kind in
+      let same : good.0 ≡ kind_of s = cc in
+      is ∙ same
+
+-- an object is of its kind after a reaction that keeps the kind or destroys it
+pub kind_after : (old new : State) (becomes : Option State) → (IsSome becomes → Some new ≡ becomes) → (becomes ≡ None → new ≡ old) → ((t : State) → becomes ≡ Some t → kind_of t ≡ kind_of old) →
+    kind_of new ≡ kind_of old
+kind_after old new None advances stays keeps = ap kind_of (stays refl)
+kind_after old new (Some t) advances stays keeps = keeps new (sym (advances refl))
+
 -- a construction leaves an object
 pub constructed_stays : (kind : Kind) (me : Elem) (words : List ℕ) → false ≡ is_none (constructed kind me words).state
 constructed_stays kinds.Counter me words = refl
@@ -125,6 +143,17 @@ pub resident_is : {C : Type 0} (state : C → State) (entries : List (Elem × Re
 resident_is state entries w x resident shows is =
     there_is (record_of w x) (record_in state resident)
     (sym (shows.shown x) ∙ lookup-map_values (record_in state) (is_at (elem_cmp x)) entries ∙ ap (option_map (record_in state)) is)
+
+-- an element that isn't there has no object
+pub absent_is : {C : Type 0} (state : C → State) (entries : List (Elem × Resident C)) (w : World) (x : Elem) → ShowsAll (records_of state entries) w → (record_of w x).state ≡ None →
+    lookup (is_at (elem_cmp x)) entries ≡ None
+absent_is state entries w x shows none =
+    none_made (record_in state) (lookup (is_at (elem_cmp x)) entries)
+    (sym (lookup-map_values (record_in state) (is_at (elem_cmp x)) entries) ∙ shows.shown x ∙ ap (λ (o : Option State). cond (is_some o) (Some (record_of w x)) None) none)
+  where
+    none_made : {A B : Type 0} (f : A → B) (o : Option A) → option_map f o ≡ None → o ≡ None
+    none_made f None h = refl
+    none_made f (Some a) h = absurd (let never : ⊥ = cc in never)
 
 module _ (records : List (Elem × Record)) (w : World) (m : Message) (r : Reaction) (shows : ShowsAll records w) where
   abbrev next : Record

@@ -1,3 +1,4 @@
 -- The definitions that contracts cite.
-pub mod Stock
+pub mod Reaction
 pub mod Small
+pub mod Census

@@ -1,10 +1,10 @@
 //! Stores in memory, on one processor, with the plainest lists.
 #![tactic(auto)]
 
+mod census;
 mod delivery;
 mod object;
 mod small;
-mod stock;
 
+pub use crate::census::Census;
 pub use crate::small::Small;
-pub use crate::stock::Stock;

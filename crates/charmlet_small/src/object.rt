@@ -5,7 +5,7 @@ ghost use Rattle.charmlet_model.specs.Reaction.{constructed, greatest, kind_of, 
 ghost use Rattle.charmlet_model.specs.Shelves.{record_in};
 ghost use Rattle.charmlet_model.specs.World.{advanced};
 ghost use Rattle.charmlet_chare.specs.Output.{output_of, state_after};
-ghost use Rattle.charmlet_small.specs.Stock.{reaction_at};
+ghost use Rattle.charmlet_small.specs.Reaction.{reaction_at};
 
 use charmlet_chare::{Chare, Outbox, Output};
 use charmlet_model::{CONSTRUCT, Elem, Message, Resident};

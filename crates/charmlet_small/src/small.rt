@@ -7,19 +7,19 @@ ghost use Rattle.charmlet_model.specs.Run.{Does, Runs};
 ghost use Rattle.charmlet_model.specs.Shelves.{count_of};
 ghost use Rattle.charmlet_model.specs.Sound.{new_world, opened};
 ghost use Rattle.charmlet_model.specs.World.{oldest_deliverable};
-ghost use Rattle.charmlet_small.specs.Stock.{blanks_in, part_of};
+ghost use Rattle.charmlet_stock.specs.Stock.{blanks_in, census_of, part_of};
 ghost use Rattle.charmlet_small.specs.Small.{StandsSo, answer_in, store_in, world_in};
 
-use crate::stock::Stock;
 use charmlet_chare::Chare;
 use charmlet_history::{History, Request};
 use charmlet_model::{Answer, Elem, Kind, Manifest, MsgId, Refusal, Resident, Step, Told};
+use charmlet_stock::Stock;
 use std::alloc::{AllocError, Global};
 use std::collections::BTreeMap;
 
 /// A history, the objects that it made, and a stock of blank ones.
 #[derive(Drop)]
-pub struct Small<C> {
+pub struct Small<C: Chare> {
     pub(crate) alloc: Global,
     pub(crate) history: History,
     pub(crate) residents: BTreeMap<Elem, Resident<C>>,
@@ -29,8 +29,8 @@ pub struct Small<C> {
 impl<C: Chare> Small<C> {
     /// A store with these arrays, and nothing in it. It takes no memory.
     pub fn new(alloc: Global, manifest: Manifest) -> Self
-        ensures core { (store_in C.state result).core ≡ opened 1 (new_world manifest) 0 1 }
-        ensures blanks { (kind : kinds.Kind) → (store_in C.state result).blanks kind ≡ 0 }
+        ensures core { (store_in result).core ≡ opened 1 (new_world manifest) 0 1 }
+        ensures blanks { (kind : kinds.Kind) → (store_in result).blanks kind ≡ 0 }
         ensures stands { IsFit (new_world manifest) → StandsSo C.state result }
     {
         Small {
@@ -46,9 +46,9 @@ impl<C: Chare> Small<C> {
     pub fn supply(&mut self, blanks: Vec<C>) -> Result<(), Vec<C>>
         requires { StandsSo C.state self.old }
         ensures stands { StandsSo C.state self.new }
-        ensures core { (store_in C.state self.new).core ≡ (store_in C.state self.old).core }
-        ensures ok { OnOk result ((kind : kinds.Kind) → (store_in C.state self.new).blanks kind ≡ (store_in C.state self.old).blanks kind + count_of C.state blanks.items kind) }
-        ensures err { IfErr result (λ objects. (objects.items ≡ blanks.items) × ((store_in C.state self.new).blanks ≡ (store_in C.state self.old).blanks)) }
+        ensures core { (store_in self.new).core ≡ (store_in self.old).core }
+        ensures ok { OnOk result ((kind : kinds.Kind) → (store_in self.new).blanks kind ≡ (store_in self.old).blanks kind + count_of C.state blanks.items kind) }
+        ensures err { IfErr result (λ objects. (objects.items ≡ blanks.items) × ((store_in self.new).blanks ≡ (store_in self.old).blanks)) }
     {
         self.stock.supply(blanks)
     }
@@ -62,12 +62,12 @@ impl<C: Chare> Small<C> {
         count: usize,
     ) -> Result<(), AllocError>
         requires stands { StandsSo C.state self.old }
-        requires enough { count ≤ blanks_in C.state source.old kind }
+        requires enough { count ≤ blanks_in source.old kind }
         ensures stands { StandsSo C.state self.new }
-        ensures core { (store_in C.state self.new).core ≡ (store_in C.state self.old).core }
-        ensures drawn { OnOk result ((k : kinds.Kind) → (store_in C.state self.new).blanks k ≡ (store_in C.state self.old).blanks k + part_of kind count k) }
-        ensures left { OnOk result ((k : kinds.Kind) → blanks_in C.state source.old k ≡ blanks_in C.state source.new k + part_of kind count k) }
-        ensures err { OnErr result ((store_in C.state self.new ≡ store_in C.state self.old) × (source.new.blanks.items ≡ source.old.blanks.items)) }
+        ensures core { (store_in self.new).core ≡ (store_in self.old).core }
+        ensures drawn { OnOk result ((k : kinds.Kind) → (store_in self.new).blanks k ≡ (store_in self.old).blanks k + part_of kind count k) }
+        ensures left { OnOk result ((k : kinds.Kind) → blanks_in source.old k ≡ blanks_in source.new k + part_of kind count k) }
+        ensures err { OnErr result ((store_in self.new ≡ store_in self.old) × (census_of source.new ≡ census_of source.old)) }
     {
         self.stock.draw(source, kind, count)
     }
@@ -86,8 +86,8 @@ impl<C: Chare> Small<C> {
     pub fn run(&mut self, steps: &[Step]) -> Result<Vec<Answer>, AllocError>
         requires { StandsSo C.state self.old }
         ensures stands { StandsSo C.state self.new }
-        ensures ok { IfOk result (λ answers. Runs (store_in C.state self.old) steps.now answers.items (store_in C.state self.new)) }
-        ensures err { OnErr result (store_in C.state self.new ≡ store_in C.state self.old) }
+        ensures ok { IfOk result (λ answers. Runs (store_in self.old) steps.now answers.items (store_in self.new)) }
+        ensures err { OnErr result (store_in self.new ≡ store_in self.old) }
     {
         let mut answers = Vec::with_capacity(self.alloc, steps.len())?;
         for step in steps {
@@ -101,7 +101,7 @@ impl<C: Chare> Small<C> {
     pub fn step(&mut self, step: &Step) -> Answer
         requires { StandsSo C.state self.old }
         ensures stands { StandsSo C.state self.new }
-        ensures does { Does (store_in C.state self.old) step.now result (store_in C.state self.new) }
+        ensures does { Does (store_in self.old) step.now result (store_in self.new) }
     {
         match step {
             Step::Request {

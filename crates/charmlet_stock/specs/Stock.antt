@@ -1,7 +1,8 @@
 -- The stock.
-use Rattle.std.specs.Prelude.{List}
+use Rattle.std.specs.Prelude.{ℕ, ◌==◌, List, if◌then◌else◌}
 use Rattle.charmlet_model.specs.declared.kind.Kind.{Kind}
 use Rattle.charmlet_model.specs.declared.state.State.{State}
+use Rattle.charmlet_model.specs.Kind.{kind_number}
 use Rattle.charmlet_model.specs.Shelves.{count_of}
 use Rattle.charmlet_chare.specs.declared.chare.Chare.{Ghosts}
 use Rattle.charmlet_stock.specs.declared.by_kind.ByKind.{ByKind}
@@ -18,6 +19,14 @@ census_of stock = each_of tally_of stock.piles
 -- the census of one kind
 abbrev pub tally_in : {C : Type 0} {G : Ghosts C} → Stock C G → Kind → Tally
 tally_in stock kind = at (census_of stock) kind
+
+-- how many blanks of a kind there are
+abbrev pub blanks_in : {C : Type 0} {G : Ghosts C} → Stock C G → Kind → ℕ
+blanks_in stock kind = (tally_in stock kind).in_stock
+
+-- so many of one kind
+abbrev pub part_of : Kind → ℕ → Kind → ℕ
+part_of kind count k = if kind_number k == kind_number kind then count else 0
 
 -- room for these objects
 abbrev pub HasRoomForAll : {C : Type 0} {G : Ghosts C} → (C → State) → ByKind (Pile C G) → List C → Type 0

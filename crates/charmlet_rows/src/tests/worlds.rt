@@ -1,7 +1,8 @@
 //! Worked histories, run by the plain program of the world. A transcript has a line `> STEP` for each step,
 //! and behind it the step's answer, if it has one.
 
-use charmlet_model::{CONSTRUCT, Elem, Event, Kind, Manifest, MsgId, Origin, Words, World};
+use charmlet_model::{CONSTRUCT, Elem, Event, Kind, Manifest, MsgId, Origin, Words};
+use charmlet_plain::World;
 use std::alloc::{AllocError, Global};
 use std::process::Abort;
 use std::test::Fail;

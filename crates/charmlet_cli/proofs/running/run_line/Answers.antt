@@ -16,12 +16,12 @@ supply_line-requires-clause-enough g c κs within =
     let line : c.args.line.now ≡ Supply kind c.in-Supply.count = c.in-Supply.is in
     let part : blanks_in kind c.args.line.now ≡ c.in-Supply.count =
     ap (blanks_in kind) line ∙ ap (λ b. cond b c.in-Supply.count 0) (nat_eq_equiv.refl (kind_number kind)) in
-    subst (λ n. n ≤ held_in g.C.Chare.state c.args.source.now kind) part (c.requires.enough kind)
+    subst (λ n. n ≤ held_in c.args.source.now kind) part (c.requires.enough kind)
 
 pub returns-clause-prints : goal.returns-clause-prints
 returns-clause-prints g c =
-    let before = store_in g.C.Chare.state c.args.store.now in
-    let next = store_in g.C.Chare.state c.step.new.self in
+    let before = store_in c.args.store.now in
+    let next = store_in c.step.new.self in
     let text = answer_text c.step.result in
     let follows : Follows before c.args.line.now text next = subst (λ line. Follows before line text next) (sym c.in-Step.is) (c.step.result, c.step.ensures.does, refl) in
     line_written (λ text. Follows before c.args.line.now text next) (λ text. Appends (g.W.Write.contents c.args.writer.now) (g.W.Write.contents c.write_line.new.writer) (text ++ 10 ∷ []))

@@ -11,6 +11,10 @@ use Rattle.charmlet_model.specs.Texts.{Text}
 use Rattle.charmlet_script.specs.Script.{blanks_in, blanks_of, pairs_of}
 use Rattle.charmlet_small.specs.Small.{store_in}
 use Rattle.charmlet_cli.specs.Lines.{AreEnough, Prints, held_in, opening_of}
+use Rattle.charmlet_stock.specs.declared.pile.Tally.{Tally}
+use Rattle.charmlet_stock.specs.Pile.{supplied_more}
+use Rattle.charmlet_stock.specs.Stock.{tally_in}
+use Rattle.charmlet_small.proofs.Assigning.{when_ok}
 use Rattle.charmlet_cli.proofs.Endings.{memory_ends, output_ends}
 use Rattle.charmlet_cli.proofs.Printing.{appends_then, appends_nothing, prints_more}
 use Rattle.charmlet_cli.proofs.running.run_script.Goals as goal
@@ -19,11 +23,15 @@ pub loop-line-init : goal.loop-line-init
 loop-line-init g c =
     let is : c.has_enough.result ≡ true = search rules in
     let enough : (kind : Kind) → blanks_of kind c.args.script.now.lines ≤ count_of g.C.Chare.state c.as_slice.result.now kind = c.has_enough.ensures.0 is in
-    let items : c.as_slice.result.now ≡ c.of-source.result.blanks.items = c.as_slice.ensures.value ∙ sym c.of-source.ensures in (
+    let supplied : (kind : Kind) → tally_in c.supply.new.self kind ≡ supplied_more (tally_in c.new-source.result kind) (count_of g.C.Chare.state c.args.blanks.items kind) =
+    when_ok _ c.supply.result (sym c.is_err.ensures.value ∙ c.if-is_err.false) c.supply.ensures.ok in
+    let held : (kind : Kind) → held_in c.supply.new.self kind ≡ count_of g.C.Chare.state c.args.blanks.items kind =
+    λ kind. ap (λ (t : Tally). t.in_stock) (supplied kind ∙ ap (λ t. supplied_more t (count_of g.C.Chare.state c.args.blanks.items kind)) (c.new-source.ensures kind)) ∙ omega arith in (
       c.new-store.ensures.stands c.in_ok-manifest.ensures.fit,
       ([], (refl, refl), appends_nothing (g.W.Write.contents c.args.writer.now)),
-      λ kind. subst (λ lines. blanks_of kind lines ≤ held_in g.C.Chare.state c.of-source.result kind) (sym c.lines-line-items.ensures)
-          (subst (λ items. blanks_of kind c.args.script.now.lines ≤ count_of g.C.Chare.state items kind) items (enough kind)),
+      λ kind. subst (λ lines. blanks_of kind lines ≤ held_in c.supply.new.self kind) (sym c.lines-line-items.ensures)
+          (subst (λ n. blanks_of kind c.args.script.now.lines ≤ n) (sym (held kind))
+          (subst (λ items. blanks_of kind c.args.script.now.lines ≤ count_of g.C.Chare.state items kind) c.as_slice.ensures.value (enough kind))),
     )
 
 pub run_line-requires-clause-enough : goal.run_line-requires-clause-enough
@@ -32,16 +40,16 @@ run_line-requires-clause-enough g c κs within = λ kind.
     let split : blanks_of kind (drop c.loop-line.line-index lines) ≡ blanks_in kind (get_or lines c.loop-line.line-index c.line-item.result) + blanks_of kind (drop (c.loop-line.line-index + 1) lines) =
     sum_by-drop_more (blanks_in kind) lines c.loop-line.line-index c.line-item.result c.loop-line-test.true in
     let here : blanks_in kind c.line-item.result ≡ blanks_in kind (get_or lines c.loop-line.line-index c.line-item.result) = ap (blanks_in kind) c.line-item.is in
-    let enough : blanks_of kind (drop c.loop-line.line-index lines) ≤ held_in g.C.Chare.state c.loop-line.source kind = c.loop-line.invariant.2 kind in
+    let enough : blanks_of kind (drop c.loop-line.line-index lines) ≤ held_in c.loop-line.source kind = c.loop-line.invariant.2 kind in
     omega arith
 
 pub loop-line-preserved : goal.loop-line-preserved
 loop-line-preserved g c =
     let lines = c.lines-line-items.result.now in
     let at = c.loop-line.line-index in
-    let first = store_in g.C.Chare.state c.new-store.result in
-    let before = store_in g.C.Chare.state c.loop-line.store in
-    let next = store_in g.C.Chare.state c.run_line.new.store in
+    let first = store_in c.new-store.result in
+    let before = store_in c.loop-line.store in
+    let next = store_in c.run_line.new.store in
     let so_far = c.loop-line.invariant.1 in
     let printed = c.in_ok-run_line.ensures.prints in
     let more : take (at + 1) lines ≡ take at lines ++ c.line-item.result ∷ [] =
@@ -55,23 +63,23 @@ loop-line-preserved g c =
           let split : blanks_of kind (drop at lines) ≡ blanks_in kind (get_or lines at c.line-item.result) + blanks_of kind (drop (at + 1) lines) =
           sum_by-drop_more (blanks_in kind) lines at c.line-item.result c.loop-line-test.true in
           let here : blanks_in kind c.line-item.result ≡ blanks_in kind (get_or lines at c.line-item.result) = ap (blanks_in kind) c.line-item.is in
-          let enough : blanks_of kind (drop at lines) ≤ held_in g.C.Chare.state c.loop-line.source kind = c.loop-line.invariant.2 kind in
-          let left : held_in g.C.Chare.state c.loop-line.source kind ≤ held_in g.C.Chare.state c.run_line.new.source kind + blanks_in kind c.line-item.result = c.in_ok-run_line.ensures.left kind in
+          let enough : blanks_of kind (drop at lines) ≤ held_in c.loop-line.source kind = c.loop-line.invariant.2 kind in
+          let left : held_in c.loop-line.source kind ≤ held_in c.run_line.new.source kind + blanks_in kind c.line-item.result = c.in_ok-run_line.ensures.left kind in
           omega arith,
     )
 
 pub returns-clause-prints : goal.returns-clause-prints
 returns-clause-prints g c =
     let so_far = c.loop-line.invariant.1 in
-    let last = store_in g.C.Chare.state c.loop-line.store in
+    let last = store_in c.loop-line.store in
     let manifest : unwrap_or (manifest_of (pairs_of c.args.script.now.arrays)) [] ≡ c.in_ok-manifest.manifest = ap (λ o. unwrap_or o []) c.in_ok-manifest.ensures.manifest in
-    let opening : store_in g.C.Chare.state c.new-store.result ≡ opening_of c.args.script.now = λ i. record {
+    let opening : store_in c.new-store.result ≡ opening_of c.args.script.now = λ i. record {
       core = (c.new-store.ensures.core ∙ ap (λ m. opened 1 (new_world m) 0 1) (sym manifest)) i;
       blanks = λ kind. c.new-store.ensures.blanks kind i;
     } in
     let all : take c.loop-line.line-index c.lines-line-items.result.now ≡ c.args.script.now.lines =
     take_all c.loop-line.line-index c.lines-line-items.result.now c.loop-line-test.false ∙ c.lines-line-items.ensures in
-    (so_far.0, last, subst (λ store. Prints store c.args.script.now.lines so_far.0 last) opening (subst (λ lines. Prints (store_in g.C.Chare.state c.new-store.result) lines so_far.0 last) all so_far.1), so_far.2)
+    (so_far.0, last, subst (λ store. Prints store c.args.script.now.lines so_far.0 last) opening (subst (λ lines. Prints (store_in c.new-store.result) lines so_far.0 last) all so_far.1), so_far.2)
 
 pub returns-then-not-has_enough-clause-err : goal.returns-then-not-has_enough-clause-err
 returns-then-not-has_enough-clause-err g c =
@@ -96,5 +104,10 @@ returns-in_err-run_line-clause-err g c =
 
 pub returns-clause-enough : goal.returns-clause-enough
 returns-clause-enough g c =
+    let is : c.has_enough.result ≡ true = search rules in
+    subst (λ items. AreEnough g.C.Chare.state items c.args.script.now.lines) c.as_slice.ensures.value (c.has_enough.ensures.0 is)
+
+pub returns-then-is_err-clause-err : goal.returns-then-is_err-clause-err
+returns-then-is_err-clause-err g c =
     let is : c.has_enough.result ≡ true = search rules in
     subst (λ items. AreEnough g.C.Chare.state items c.args.script.now.lines) c.as_slice.ensures.value (c.has_enough.ensures.0 is)

@@ -11,6 +11,6 @@ use Rattle.charmlet_cli.proofs.running.run_script.Given as goal
 abbrev pub invariant-loop-line : goal.invariant-loop-line
 invariant-loop-line g l =
     StandsSo g.C.Chare.state l.store
-    × ((text : Text) × Prints (store_in g.C.Chare.state l.initial.store) (take l.line-index l.line-items) text (store_in g.C.Chare.state l.store)
+    × ((text : Text) × Prints (store_in l.initial.store) (take l.line-index l.line-items) text (store_in l.store)
     × Appends (g.W.Write.contents l.initial.writer) (g.W.Write.contents l.writer) text)
-    × ((kind : Kind) → blanks_of kind (drop l.line-index l.line-items) ≤ held_in g.C.Chare.state l.source kind)
+    × ((kind : Kind) → blanks_of kind (drop l.line-index l.line-items) ≤ held_in l.source kind)

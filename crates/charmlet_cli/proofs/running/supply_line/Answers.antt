@@ -14,7 +14,7 @@ pub returns-then-is_err-clause-prints : goal.returns-then-is_err-clause-prints
 returns-then-is_err-clause-prints g c =
     let is = sym c.is_err.ensures.value ∙ c.if-is_err.true in
     let same = (when_err _ c.draw.result is c.draw.ensures.err).0 in
-    line_written (λ text. Supplies (store_in g.C.Chare.state c.args.store.now) c.args.kind c.args.count text (store_in g.C.Chare.state c.draw.new.self))
+    line_written (λ text. Supplies (store_in c.args.store.now) c.args.kind c.args.count text (store_in c.draw.new.self))
     (λ text. Appends (g.W.Write.contents c.args.writer.now) (g.W.Write.contents c.write_line.new.writer) (text ++ 10 ∷ [])) (answer_text (Refused Memory)) c.write_line.result
     (inr (refl, same)) c.write_line.ensures
 
@@ -22,6 +22,6 @@ pub returns-clause-prints : goal.returns-clause-prints
 returns-clause-prints g c =
     let is = sym c.is_err.ensures.value ∙ c.if-is_err.false in
     let drawn = when_ok _ c.draw.result is c.draw.ensures.drawn in
-    line_written (λ text. Supplies (store_in g.C.Chare.state c.args.store.now) c.args.kind c.args.count text (store_in g.C.Chare.state c.draw.new.self))
+    line_written (λ text. Supplies (store_in c.args.store.now) c.args.kind c.args.count text (store_in c.draw.new.self))
     (λ text. Appends (g.W.Write.contents c.args.writer.now) (g.W.Write.contents c.write_line-2.new.writer) (text ++ 10 ∷ [])) (supplied_text (record { kind = c.args.kind; count = c.args.count })) c.write_line-2.result
     (inl (refl, c.draw.ensures.core, drawn)) c.write_line-2.ensures

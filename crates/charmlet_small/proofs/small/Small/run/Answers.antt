@@ -17,9 +17,9 @@ returns-in_err-push-clause-err g c =
 
 pub loop-step-preserved : goal.loop-step-preserved
 loop-step-preserved g c =
-    let first = store_in g.C.Chare.state c.args.self.now in
-    let before = store_in g.C.Chare.state c.loop-step.self in
-    let next = store_in g.C.Chare.state c.step-answer.new.self in
+    let first = store_in c.args.self.now in
+    let before = store_in c.loop-step.self in
+    let next = store_in c.step-answer.new.self in
     let step = c.step-item.result in
     let answer = c.step-answer.result in
     let steps = c.args.steps.now in

@@ -8,6 +8,6 @@ use Rattle.charmlet_small.proofs.small.Small.run.Given as goal
 abbrev pub invariant-loop-step : goal.invariant-loop-step
 invariant-loop-step g l =
     StandsSo g.C.Chare.state l.self
-    × Runs (store_in g.C.Chare.state l.fn.self) (take l.step-index l.steps) l.answers.items (store_in g.C.Chare.state l.self)
+    × Runs (store_in l.fn.self) (take l.step-index l.steps) l.answers.items (store_in l.self)
     × (vec_len l.answers ≡ l.step-index)
     × (length l.steps ≤ vec_capacity l.answers)

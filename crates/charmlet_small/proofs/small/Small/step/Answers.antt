@@ -13,6 +13,7 @@ returns-in-Request-clause-stands g c =
       history = c.request.ensures.stands;
       objects = request_shows records before (λ _. 0) r.client r.number r.to r.entry c.as_slice.result.now
           (record { answer = told_or_refused c.request.result; core = core_in c.request.new.self; blanks = λ _. 0 }) (c.request.ensures.steps (λ _. 0)) c.requires.objects;
+      census = c.requires.census;
     }
 
 pub returns-in-Flush-clause-stands : goal.returns-in-Flush-clause-stands
@@ -23,4 +24,5 @@ returns-in-Flush-clause-stands g c =
       history = c.flush.ensures.stands;
       objects = flush_shows records before (λ _. 0)
           (record { answer = core.Counts c.flush.result; core = core_in c.flush.new.self; blanks = λ _. 0 }) (c.flush.ensures.steps (λ _. 0)) c.requires.objects;
+      census = c.requires.census;
     }

@@ -1,0 +1,2 @@
+pub mod PlainWorlds
+pub mod Readings
