@@ -6,7 +6,7 @@ ghost use Rattle.charmlet_model.specs.Reaction.{kind_of, reaction_to};
 ghost use Rattle.charmlet_chare.specs.Output.{empty_output, output_of, state_after};
 
 use crate::outbox::Outbox;
-use charmlet_model::Elem;
+use charmlet_model::{Elem, Kind};
 use charmlet_pup::PupFault;
 use std::alloc::AllocError;
 
@@ -30,7 +30,9 @@ pub trait Chare: Send + Drop {
     fn pack(&mut self, into: &mut Vec<u8>) -> Result<(), AllocError>
         ensures ok { OnOk result (into.new.items ≡ into.old.items ++ pupped (state self.old)) }
         ensures err { OnErr result (into.new.items ≡ into.old.items) }
-        ensures same { state self.new ≡ state self.old };
+        ensures same { state self.new ≡ state self.old }
+        // So the bytes are read back as this state.
+        ensures is_state { IsState (state self.old) };
 
     /// Gives the object the state whose packed form the bytes are, all of them, of the same kind. An
     /// `Err` is their first fault, or `Memory` where memory was refused, and leaves the state.
@@ -88,5 +90,19 @@ impl Chare for Box<dyn Chare + Send> {
         out: &mut Outbox,
     ) -> Result<(), AllocError> {
         (**self).enter(me, entry, payload, out)
+    }
+}
+
+/// The object's kind.
+pub fn kind_of<C: Chare>(object: &C) -> Kind
+    ensures { result ≡ kind_of (C.state object.now) }
+{
+    match object.kind() {
+        1 => Kind::Counter,
+        2 => Kind::Ring,
+        3 => Kind::Account,
+        4 => Kind::Sum,
+        5 => Kind::Tree,
+        _ => Kind::Tape,
     }
 }

@@ -7,6 +7,6 @@ mod output;
 #[cfg(test)]
 mod tests;
 
-pub use crate::chare::Chare;
+pub use crate::chare::{Chare, kind_of};
 pub use crate::outbox::Outbox;
 pub use crate::output::Output;

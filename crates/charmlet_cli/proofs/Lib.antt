@@ -1,2 +1,4 @@
 pub mod Endings
 pub mod Printing
+pub mod Drains
+pub mod Showings

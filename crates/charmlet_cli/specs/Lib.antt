@@ -1,4 +1,6 @@
 -- The definitions that contracts cite.
+pub mod Drain
 pub mod Lines
 pub mod RunError
+pub mod Shown
 pub mod Stop

@@ -1,6 +1,10 @@
 -- What the lines of a script do to a store, and what they print.
-use Rattle.std.specs.Prelude.{◌≡◌, ◌⊎◌, ℕ, ◌+◌, ◌≤◌, List, [], ◌∷◌, ◌++◌, unwrap_or}
+use Rattle.std.specs.Prelude.{◌≡◌, ◌⊎◌, ℕ, ◌+◌, ◌≤◌, List, [], ◌∷◌, ◌++◌, map, Option, IsSome, unwrap_or}
+use Rattle.std.specs.Io.KnownBytes.{Appends}
+use Rattle.std.specs.List.{flat_map}
 use Rattle.charmlet_model.specs.declared.kind.Kind.{Kind}
+use Rattle.charmlet_model.specs.declared.names.Elem.{Elem}
+use Rattle.charmlet_model.specs.declared.refusal.Refusal.{Refusal}
 use Rattle.charmlet_model.specs.declared.refusal.Refusal.TheVariants.{Memory}
 use Rattle.charmlet_model.specs.declared.step.Answer.{Answer}
 use Rattle.charmlet_model.specs.declared.step.Answer.TheVariants.{Refused}
@@ -9,39 +13,95 @@ use Rattle.charmlet_model.specs.Texts.{Text, answer_text}
 use Rattle.charmlet_model.specs.Run.{Store, Does}
 use Rattle.charmlet_model.specs.Sound.{new_world, opened}
 use Rattle.charmlet_script.specs.declared.script.Line.{Line}
-use Rattle.charmlet_script.specs.declared.script.Line.TheVariants.{Supply, Step}
-use Rattle.charmlet_script.specs.Script.{Contents, blanks_of, pairs_of, supplied_text}
-use Rattle.charmlet_model.specs.declared.state.State.{State}
+use Rattle.charmlet_script.specs.declared.script.Line.TheVariants.{Supply, Drain, State, Pending, Census, Step}
+use Rattle.charmlet_script.specs.Printed.{pending_text, supplied_text}
+use Rattle.charmlet_script.specs.Script.{Contents, blanks_of, pairs_of}
+use Rattle.charmlet_model.specs.declared.state.State as states
+use Rattle.charmlet_model.specs.Core.{present}
 use Rattle.charmlet_model.specs.Shelves.{count_of}
+use Rattle.charmlet_model.specs.World.{record_of}
 use Rattle.charmlet_chare.specs.declared.chare.Chare.{Ghosts}
 use Rattle.charmlet_stock.specs.declared.stock.Stock.{Stock}
 use Rattle.charmlet_stock.specs.Stock.{part_of, tally_in}
+use Rattle.charmlet_small.specs.declared.small.Small.{Small}
+use Rattle.charmlet_small.specs.Small.{store_in, supplied_in}
+use Rattle.charmlet_cli.specs.Drain.{DrainsUpTo, drain_texts}
+use Rattle.charmlet_cli.specs.Shown.{IsWhole, all_kinds, counted_in, counted_texts, record_text}
 
 -- there are as many objects of each kind as the lines supply
-abbrev pub AreEnough : {C : Type 0} → (C → State) → List C → List Line → Type 0
+abbrev pub AreEnough : {C : Type 0} → (C → states.State) → List C → List Line → Type 0
 AreEnough state objects lines = (kind : Kind) → blanks_of kind lines ≤ count_of state objects kind
 
 -- how many blanks of a kind are still to be supplied
 abbrev pub held_in : {C : Type 0} {G : Ghosts C} → Stock C G → Kind → ℕ
 held_in source kind = (tally_in source kind).in_stock
 
--- the store before the first line: one processor, the script's arrays, and nothing else
-abbrev pub opening_of : Contents → Store
-opening_of script = record { core = opened 1 (new_world (unwrap_or (manifest_of (pairs_of script.arrays)) [])) 0 1; blanks = λ _. 0 }
+-- a store, and how many objects of each kind were supplied to it so far
+pub record Ledger : Type 0 where
+  pub store : Store
+  pub supplied : Kind → ℕ
 
--- a supply line adds its blanks to the stock, or is refused memory and changes nothing
-abbrev pub Supplies : Store → Kind → ℕ → Text → Store → Type 0
-Supplies store kind count text next =
-    ((text ≡ supplied_text (record { kind = kind; count = count })) × (next.core ≡ store.core) × ((k : Kind) → next.blanks k ≡ store.blanks k + part_of kind count k))
-    ⊎ ((text ≡ answer_text (Refused Memory)) × (next ≡ store))
+-- of a store that runs
+abbrev pub ledger_in : {C : Type 0} {G : Ghosts C} → Small C G → Ledger
+ledger_in small = record { store = store_in small; supplied = supplied_in small }
 
--- from one store a line prints this text and leads to another store
-abbrev pub Follows : Store → Line → Text → Store → Type 0
-Follows store (Supply kind count) text next = Supplies store kind count text next
-Follows store (Step step) text next = (answer : Answer) × Does store step answer next × (text ≡ answer_text answer)
+-- before the first line: one processor, the script's arrays, and nothing else
+abbrev pub opening_of : Contents → Ledger
+opening_of script = record {
+  store = record { core = opened 1 (new_world (unwrap_or (manifest_of (pairs_of script.arrays)) [])) 0 1; blanks = λ _. 0 };
+  supplied = λ _. 0;
+}
 
--- lines one after another print their texts, each with a line feed
-abbrev pub Prints : Store → List Line → Text → Store → Type 0
-Prints store [] text last = (text ≡ []) × (last ≡ store)
-Prints store (line ∷ lines) text last =
-    (next : Store) × (first : Text) × (rest : Text) × Follows store line first next × Prints next lines rest last × (text ≡ first ++ 10 ∷ rest)
+-- the texts as lines, each with its line feed
+abbrev pub in_lines : List Text → Text
+in_lines = flat_map (λ text. text ++ 10 ∷ [])
+
+-- the line where memory is refused
+abbrev pub memory_text : Text
+memory_text = answer_text (Refused Memory)
+
+-- so many blanks of a kind more, in the stock and in what was supplied
+pub record IsSupplied (kind : Kind) (count : ℕ) (old new : Ledger) : Type 0 where
+  pub core : new.store.core ≡ old.store.core
+  pub blanks : (k : Kind) → new.store.blanks k ≡ old.store.blanks k + part_of kind count k
+  pub supplied : (k : Kind) → new.supplied k ≡ old.supplied k + part_of kind count k
+
+-- a supply line adds its blanks, or is refused memory and changes nothing
+abbrev pub Supplies : Ledger → Kind → ℕ → Text → Ledger → Type 0
+Supplies old kind count text new = ((text ≡ supplied_text (record { kind = kind; count = count })) × IsSupplied kind count old new) ⊎ ((text ≡ memory_text) × (new ≡ old))
+
+-- a state line shows the element's record; memory may be refused where the element is there
+abbrev pub ShowsState : Store → Elem → Text → Type 0
+ShowsState store elem text =
+    (text ≡ record_text elem (record_of (present store.core) elem))
+    ⊎ (IsSome (record_of (present store.core) elem).state × (text ≡ memory_text))
+
+-- a pending line shows the ids of the pending messages, or memory is refused
+abbrev pub ShowsPending : Store → Text → Type 0
+ShowsPending store text = (text ≡ pending_text (map (λ m. m.id) (present store.core).pending)) ⊎ (text ≡ memory_text)
+
+-- a census shows, kind by kind, where the objects are that were supplied so far
+abbrev pub ShowsCensus : Ledger → List Text → Type 0
+ShowsCensus old texts =
+    (retired : Kind → ℕ) × ((kind : Kind) → IsWhole (counted_in old.store old.supplied retired kind))
+    × (texts ≡ flat_map (λ kind. counted_texts (counted_in old.store old.supplied retired kind)) all_kinds)
+
+-- from one store a line prints these texts and leads to another store
+abbrev pub Follows : Ledger → Line → List Text → Ledger → Type 0
+Follows old (Supply kind count) texts new = (text : Text) × Supplies old kind count text new × (texts ≡ text ∷ [])
+Follows old (Drain count) texts new =
+    (k : ℕ) × (refusal : Option Refusal) × DrainsUpTo old.store count k refusal new.store × (new.supplied ≡ old.supplied) × (texts ≡ drain_texts k new.store refusal)
+Follows old (State elem) texts new = (text : Text) × ShowsState old.store elem text × (texts ≡ text ∷ []) × (new ≡ old)
+Follows old Pending texts new = (text : Text) × ShowsPending old.store text × (texts ≡ text ∷ []) × (new ≡ old)
+Follows old Census texts new = ShowsCensus old texts × (new ≡ old)
+Follows old (Step step) texts new = (answer : Answer) × Does old.store step answer new.store × (new.supplied ≡ old.supplied) × (texts ≡ answer_text answer ∷ [])
+
+-- a line prints its texts behind what was printed before
+abbrev pub IsPrinted : Ledger → Line → Ledger → (before after : Option Text) → Type 0
+IsPrinted old line new before after = (texts : List Text) × Follows old line texts new × Appends before after (in_lines texts)
+
+-- lines one after another print their texts
+abbrev pub Prints : Ledger → List Line → List Text → Ledger → Type 0
+Prints first [] texts last = (texts ≡ []) × (last ≡ first)
+Prints first (line ∷ lines) texts last =
+    (next : Ledger) × (printed : List Text) × (rest : List Text) × Follows first line printed next × Prints next lines rest last × (texts ≡ printed ++ rest)

@@ -1,11 +1,14 @@
 //! Runs scripts over a store, line by line.
 #![tactic(auto)]
 
+mod draining;
 mod files;
 mod running;
+mod showing;
 mod stop;
 #[cfg(test)]
 mod tests;
+mod writing;
 
 pub use crate::files::open_script;
 pub use crate::running::{RunError, run_script};

@@ -1,26 +1,29 @@
 //! Runs of scripts.
 
-ghost use Rattle.std.specs.Prelude.{◌≡◌, ◌↔◌, ◌+◌, ◌≤◌, ◌++◌, ◌∷◌, [], true, Some, OnOk, IfErr};
+ghost use Rattle.std.specs.Prelude.{◌≡◌, ◌↔◌, ◌+◌, ◌≤◌, List, true, OnOk, IfErr};
 ghost use Rattle.std.specs.Io.KnownBytes.{Appends};
 ghost use Rattle.charmlet_model.specs.declared.kind.Kind.{Kind};
-ghost use Rattle.charmlet_model.specs.Run.{Store};
 ghost use Rattle.charmlet_model.specs.Shelves.{count_of};
 ghost use Rattle.charmlet_model.specs.Texts.{Text};
 ghost use Rattle.charmlet_script.specs.Script.{blanks_in};
-ghost use Rattle.charmlet_small.specs.Small.{StandsSo, store_in};
+ghost use Rattle.charmlet_script.specs.declared.script.Line.TheVariants as lines;
+ghost use Rattle.charmlet_small.specs.Small.{StandsSo};
 ghost use Rattle.charmlet_stock.specs.Stock.{part_of};
-ghost use Rattle.charmlet_cli.specs.Lines.{AreEnough, Follows, Prints, Supplies, held_in, opening_of};
+ghost use Rattle.charmlet_cli.specs.Lines.{AreEnough, IsPrinted, Ledger, Prints, held_in, in_lines, ledger_in, opening_of};
 ghost use Rattle.charmlet_cli.specs.RunError.{Leaves};
 ghost use Rattle.charmlet_cli.specs.declared.running.RunError.TheVariants as errors;
 
+use crate::draining::drain_line;
+use crate::showing::{census_line, pending_line, state_line};
+use crate::writing::{write_line, write_memory_refused};
 use charmlet_chare::Chare;
-use charmlet_model::{Answer, Kind, Refusal};
+use charmlet_model::Kind;
 use charmlet_script::{Line, Script, Supplied};
 use charmlet_small::Small;
 use charmlet_stock::Stock;
 use std::alloc::{AllocError, Global};
+use std::io;
 use std::io::Write;
-use std::{fmt, io};
 
 /// Why a run of a script ended before its last line.
 #[derive(Drop)]
@@ -50,8 +53,8 @@ impl<C: Chare> From<io::Error> for RunError<C> {
     }
 }
 
-/// Runs a script over a store in memory, and writes a line for each of its lines that answers: the
-/// answer of a line is written before the next line is run. `blanks` are the objects that the script's
+/// Runs a script over a store in memory, and writes what its lines print: all that a line prints is
+/// written before the next line is run. `blanks` are the objects that the script's
 /// lines supply; those beyond are dropped at the end. A refusal is an answer, and the run goes on.
 ///
 /// `RunError` says what each error means. What was written before it stays written.
@@ -62,7 +65,7 @@ pub fn run_script<C: Chare, W: Write>(
     writer: &mut W,
 ) -> Result<(), RunError<C>>
     ensures enough { OnOk result (AreEnough C.state blanks.items script.now.lines) }
-    ensures prints { OnOk result ((text : Text) × (last : Store) × Prints (opening_of script.now) script.now.lines text last × Appends (W.contents writer.old) (W.contents writer.new) text) }
+    ensures prints { OnOk result ((texts : List Text) × (last : Ledger) × Prints (opening_of script.now) script.now.lines texts last × Appends (W.contents writer.old) (W.contents writer.new) (in_lines texts)) }
     ensures err { IfErr result (Leaves C.state blanks.items script.now.lines writer.old writer.new) }
 {
     if !has_enough(script, blanks.as_slice()) {
@@ -75,26 +78,31 @@ pub fn run_script<C: Chare, W: Write>(
     }
     let mut store = Small::new(alloc, manifest);
     for line in script.lines() {
-        run_line(&mut store, &mut source, line, writer)?;
+        run_line(alloc, &mut store, &mut source, line, writer)?;
     }
     Ok(())
 }
 
 /// Runs one line, and writes what it answers.
 fn run_line<C: Chare, W: Write>(
+    alloc: Global,
     store: &mut Small<C>,
     source: &mut Stock<C>,
     line: &Line,
     writer: &mut W,
 ) -> io::Result<()>
-    requires stands { StandsSo C.state store.old }
+    requires stands { StandsSo store.old }
     requires enough { (kind : Kind) → blanks_in kind line.now ≤ held_in source.old kind }
-    ensures stands { StandsSo C.state store.new }
-    ensures prints { OnOk result ((text : Text) × Follows (store_in store.old) line.now text (store_in store.new) × Appends (W.contents writer.old) (W.contents writer.new) (text ++ 10 ∷ [])) }
+    ensures stands { StandsSo store.new }
+    ensures prints { OnOk result (IsPrinted (ledger_in store.old) line.now (ledger_in store.new) (W.contents writer.old) (W.contents writer.new)) }
     ensures left { OnOk result ((kind : Kind) → held_in source.old kind ≤ held_in source.new kind + blanks_in kind line.now) }
 {
     let step = match line {
         Line::Supply { kind, count } => return supply_line(store, source, *kind, *count, writer),
+        Line::Drain { count } => return drain_line(store, *count, writer),
+        Line::State(elem) => return state_line(alloc, store, *elem, writer),
+        Line::Pending => return pending_line(store, writer),
+        Line::Census => return census_line(store, writer),
         Line::Step(step) => step,
     };
     write_line(writer, &store.step(step))
@@ -108,24 +116,16 @@ fn supply_line<C: Chare, W: Write>(
     count: u32,
     writer: &mut W,
 ) -> io::Result<()>
-    requires stands { StandsSo C.state store.old }
+    requires stands { StandsSo store.old }
     requires enough { count ≤ held_in source.old kind }
-    ensures stands { StandsSo C.state store.new }
-    ensures prints { OnOk result ((text : Text) × Supplies (store_in store.old) kind count text (store_in store.new) × Appends (W.contents writer.old) (W.contents writer.new) (text ++ 10 ∷ [])) }
+    ensures stands { StandsSo store.new }
+    ensures prints { OnOk result (IsPrinted (ledger_in store.old) (lines.Supply kind count) (ledger_in store.new) (W.contents writer.old) (W.contents writer.new)) }
     ensures left { OnOk result ((k : Kind) → held_in source.old k ≤ held_in source.new k + part_of kind count k) }
 {
     if store.draw(source, kind, count as usize).is_err() {
-        return write_line(writer, &Answer::Refused(Refusal::Memory));
+        return write_memory_refused(writer);
     }
     write_line(writer, &Supplied { kind, count })
-}
-
-/// Writes a line and its line feed, and flushes, so that whoever reads the output has it at once.
-fn write_line<T: fmt::Display, W: Write>(writer: &mut W, line: &T) -> io::Result<()>
-    ensures { OnOk result ((text : Text) → T.output line.now ≡ Some text → Appends (W.contents writer.old) (W.contents writer.new) (text ++ 10 ∷ [])) }
-{
-    writeln!(writer, "{line}")?;
-    writer.flush()
 }
 
 /// Whether there are as many objects of each kind as the script supplies.

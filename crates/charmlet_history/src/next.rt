@@ -1,4 +1,4 @@
-//! Which message is delivered next.
+//! The pending messages, and which of them is delivered next.
 
 ghost use Rattle.std.specs.Prelude.{◌≡◌};
 ghost use Rattle.charmlet_model.specs.Core.{present};
@@ -9,6 +9,14 @@ use crate::history::History;
 use charmlet_model::{CONSTRUCT, Message, MsgId};
 
 impl History {
+    /// The pending messages, in order of birth.
+    pub fn pending(&self) -> &[Message]
+        requires { Stands (kept_in self.now) }
+        ensures { result.now ≡ (present (core_in self.now)).pending }
+    {
+        self.pending.as_slice()
+    }
+
     /// The oldest pending message that can be delivered, if there is one.
     pub fn next(&self) -> Option<MsgId>
         requires { Stands (kept_in self.now) }

@@ -9,7 +9,7 @@ use Rattle.charmlet_model.specs.declared.state.Resident.{Resident}
 use Rattle.charmlet_model.specs.declared.TheConstants.{CONSTRUCT}
 use Rattle.charmlet_model.specs.Kind.{kind_number}
 use Rattle.charmlet_model.specs.World.{World, world}
-use Rattle.charmlet_model.specs.Shelves.{Shows, AddsUp, records_of}
+use Rattle.charmlet_model.specs.Shelves.{Shows, AddsUp, on_shelves, records_of}
 use Rattle.charmlet_model.specs.Examples.{elem, world_of, requests}
 
 -- here an object is its state
@@ -30,4 +30,4 @@ counters n kind = if kind_number kind == 1 then n else 0
 
 -- two counters were supplied: the one that was constructed was moved into the other one, and is retired
 abbrev pub MovedCounterStandsOnce : Type 0
-MovedCounterStandsOnce = Shows (map (records_of itself) two_shelves) ((elem 0 0, 1) ∷ []) counter_world × AddsUp itself (counters 2) two_shelves (counters 0) (counters 1)
+MovedCounterStandsOnce = Shows (map (records_of itself) two_shelves) ((elem 0 0, 1) ∷ []) counter_world × AddsUp (counters 2) (on_shelves (map (records_of itself) two_shelves)) (counters 0) (counters 1)

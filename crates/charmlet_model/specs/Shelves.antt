@@ -1,9 +1,9 @@
 -- Objects on shelves: which world they show, and how many there are.
-use Rattle.std.specs.Prelude.{◌≡◌, ℕ, ◌+◌, ◌==◌, true, is_some, List, [], ◌∷◌, map, get_or, if◌then◌else◌, Option, Some, None, sum_by}
+use Rattle.std.specs.Prelude.{◌≡◌, ℕ, ◌+◌, ◌==◌, Bool, true, false, is_some, List, [], ◌∷◌, map, get_or, if◌then◌else◌, Option, Some, None, sum_by}
 use Rattle.std.specs.List.{AllByRecursion, count_by}
 use Rattle.std.specs.List.Sorted.{IsStrictlySortedBy}
 use Rattle.std.specs.BTreeMap.{is_at}
-use Rattle.std.specs.Map.{lookup, keys_of}
+use Rattle.std.specs.Map.{lookup, keys_of, values_of}
 use Rattle.charmlet_model.specs.declared.names.Elem.{Elem}
 use Rattle.charmlet_model.specs.declared.kind.Kind.{Kind}
 use Rattle.charmlet_model.specs.declared.state.State.{State}
@@ -60,13 +60,22 @@ count_of state objects kind = count_by (λ object. kind_number (kind_of (state o
 abbrev pub objects_of : {C : Type 0} → List (Elem × Resident C) → List C
 objects_of entries = map (λ e. e.1.object) entries
 
--- how many objects of the kind all shelves have
-abbrev pub on_shelves : {C : Type 0} → (C → State) → List (List (Elem × Resident C)) → Kind → ℕ
-on_shelves state shelves kind = sum_by (λ entries. count_of state (objects_of entries) kind) shelves
+-- it is there, and its state is of the kind
+abbrev pub is_there_as : Kind → Option State → Bool
+is_there_as kind None = false
+is_there_as kind (Some state) = kind_number (kind_of state) == kind_number kind
+
+-- how many of the elements are there with a state of the kind
+abbrev pub there_in : List (Elem × Record) → Kind → ℕ
+there_in records kind = count_by (λ (r : Record). is_there_as kind r.state) (values_of records)
+
+-- how many of them there are on all shelves
+abbrev pub on_shelves : List (List (Elem × Record)) → Kind → ℕ
+on_shelves shelves kind = sum_by (λ records. there_in records kind) shelves
 
 -- The census: of each kind, what was supplied is on the shelves, in the stock, or retired.
-abbrev pub AddsUp : {C : Type 0} → (C → State) → (supplied : Kind → ℕ) → List (List (Elem × Resident C)) → (in_stock retired : Kind → ℕ) → Type 0
-AddsUp state supplied shelves in_stock retired = (kind : Kind) → supplied kind ≡ on_shelves state shelves kind + in_stock kind + retired kind
+abbrev pub AddsUp : (supplied shelved in_stock retired : Kind → ℕ) → Type 0
+AddsUp supplied shelved in_stock retired = (kind : Kind) → supplied kind ≡ shelved kind + in_stock kind + retired kind
 
 -- ---- laws
 

@@ -1,3 +1,4 @@
 pub mod Script
+pub mod Printed
 pub mod Line
 pub mod Reading

@@ -48,11 +48,11 @@ numbers_of (word ∷ words) = do
   ns ← numbers_of words
   Some (n ∷ ns)
 
--- a number of blanks, at most 10,000
-unfoldable pub count_of : Text → Option ℕ
-count_of word = do
+-- a number of 32 bits that is at most so great
+unfoldable pub count_of : ℕ → Text → Option ℕ
+count_of most word = do
   n ← number_of 32 word
-  if nat_le n 10000 then Some n else None
+  if nat_le n most then Some n else None
 
 -- a kind, by its number
 unfoldable pub kind_of : Text → Option Kind
@@ -94,13 +94,38 @@ array_of (array ∷ kind ∷ []) = do
   Some (record { array = a; kind = k })
 array_of _ = None
 
--- what follows `supply`: K N
+-- what follows `supply`: K N, at most 10,000 blanks
 unfoldable pub supply_of : List Text → Option Line
 supply_of (kind ∷ count ∷ []) = do
   k ← kind_of kind
-  n ← count_of count
+  n ← count_of 10000 count
   Some (lines.Supply k n)
 supply_of _ = None
+
+-- what follows `drain`: N, at most 1,000,000 deliveries
+unfoldable pub drain_of : List Text → Option Line
+drain_of (count ∷ []) = do
+  n ← count_of 1000000 count
+  Some (lines.Drain n)
+drain_of _ = None
+
+-- what follows `state`: A I
+unfoldable pub state_of : List Text → Option Line
+state_of (array ∷ index ∷ []) = do
+  a ← number_of 16 array
+  i ← number_of 64 index
+  Some (lines.State (record { array = a; index = i }))
+state_of _ = None
+
+-- what follows `pending`: nothing
+unfoldable pub pending_of : List Text → Option Line
+pending_of [] = Some lines.Pending
+pending_of _ = None
+
+-- what follows `census`: nothing
+unfoldable pub census_of : List Text → Option Line
+census_of [] = Some lines.Census
+census_of _ = None
 
 -- what follows `req`: C N A I E W..
 unfoldable pub request_of : List Text → Option Step
@@ -143,13 +168,22 @@ step_of name words =
     else (if bytes_eq name (codes "deliver") then deliver_of words
     else (if bytes_eq name (codes "flush") then flush_of words else None)))
 
+-- the line behind the arrays that a first word and the words after it spell
+unfoldable pub line_of : Text → List Text → Option Line
+line_of name words =
+    if bytes_eq name (codes "supply") then supply_of words
+    else (if bytes_eq name (codes "drain") then drain_of words
+    else (if bytes_eq name (codes "state") then state_of words
+    else (if bytes_eq name (codes "pending") then pending_of words
+    else (if bytes_eq name (codes "census") then census_of words
+    else (step_of name words >>= λ step. Some (lines.Step step))))))
+
 -- what words spell
 unfoldable pub spelled_by : List Text → Option Item
 spelled_by [] = None
 spelled_by (name ∷ words) =
     if bytes_eq name (codes "array") then (array_of words >>= λ line. Some (items.Array line))
-    else (if bytes_eq name (codes "supply") then (supply_of words >>= λ line. Some (items.Line line))
-    else (step_of name words >>= λ step. Some (items.Line (lines.Step step))))
+    else (line_of name words >>= λ line. Some (items.Line line))
 
 -- an empty line and a comment are skipped
 abbrev pub is_skipped : Text → Bool

@@ -3,8 +3,9 @@
 //! A script is at most 1,048,576 bytes of ASCII. Its lines end with a line feed, which the last may
 //! lack; an empty line and one that begins with `#` are skipped. First stand 1 to 64 lines
 //! `array A K`, then any number of these: `supply K N`, `req C N A I E W..`, `status C N`,
-//! `deliver PE ID` and `flush`. Words are parted by spaces, numbers are decimal, and an ID is `cC.N`
-//! for message N of client C, or `eA.I.N` for that of the element (A, I).
+//! `deliver PE ID`, `drain N`, `flush`, `state A I`, `pending` and `census`. Words are parted by spaces,
+//! numbers are decimal, and an ID is `cC.N` for message N of client C, or `eA.I.N` for that of the
+//! element (A, I).
 #![tactic(auto)]
 
 mod draft;
@@ -12,14 +13,16 @@ mod error;
 mod id;
 mod line;
 mod number;
+mod printed;
 mod reading;
 mod script;
 mod split;
 
 pub use error::ReadError;
-pub use number::MAX_BLANKS;
+pub use number::{MAX_BLANKS, MAX_DELIVERIES};
+pub use printed::{Counted, Drained, PendingIds, Shown, Standing, Supplied};
 pub use reading::{MAX_LENGTH, read_script};
-pub use script::{ArrayLine, Line, Script, Supplied};
+pub use script::{ArrayLine, Line, Script};
 
 #[cfg(test)]
 mod tests;

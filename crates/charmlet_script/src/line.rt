@@ -2,12 +2,14 @@
 
 ghost use Rattle.std.specs.Prelude.{◌≡◌, map, nat_lt};
 ghost use Rattle.std.specs.List.{list_all};
-ghost use Rattle.charmlet_script.specs.Line.{array_of, deliver_of, flush_of, is_skipped, item_of, request_of, spelled_by, status_of, step_of, supply_of};
+ghost use Rattle.charmlet_script.specs.Line.{array_of, census_of, deliver_of, drain_of, flush_of, is_skipped, item_of, line_of, pending_of, request_of, spelled_by, state_of, status_of, step_of, supply_of};
 ghost use Rattle.charmlet_script.specs.Reading.{Spells};
 
 use crate::error::LineFault;
 use crate::id::id_of;
-use crate::number::{count_of, kind_of, numbers, u16_of, u32_of, u64_of};
+use crate::number::{
+    MAX_BLANKS, MAX_DELIVERIES, count_of, kind_of, numbers, u16_of, u32_of, u64_of,
+};
 use crate::script::{ArrayLine, Line};
 use crate::split::words;
 use charmlet_model::{Elem, Step};
@@ -44,8 +46,57 @@ fn supply_of(words: &[&[u8]]) -> Option<Line>
         return None;
     };
     let kind = kind_of(kind)?;
-    let count = count_of(count)?;
+    let count = count_of(MAX_BLANKS, count)?;
     Some(Line::Supply { kind, count })
+}
+
+/// What follows `drain`: `N`.
+#[tactic(auto, unfolding(crate::specs::Line::drain_of))]
+fn drain_of(words: &[&[u8]]) -> Option<Line>
+    ensures { result ≡ drain_of (map (λ word. word.now) words.now) }
+{
+    let [count] = words else {
+        return None;
+    };
+    let count = count_of(MAX_DELIVERIES, count)?;
+    Some(Line::Drain { count })
+}
+
+/// What follows `state`: `A I`.
+#[tactic(auto, unfolding(crate::specs::Line::state_of))]
+fn state_of(words: &[&[u8]]) -> Option<Line>
+    ensures { result ≡ state_of (map (λ word. word.now) words.now) }
+{
+    let [array, index] = words else {
+        return None;
+    };
+    let array = u16_of(array)?;
+    let index = u64_of(index)?;
+    Some(Line::State(Elem { array, index }))
+}
+
+/// What follows `pending`: nothing.
+#[tactic(auto, unfolding(crate::specs::Line::pending_of))]
+fn pending_of(words: &[&[u8]]) -> Option<Line>
+    ensures { result ≡ pending_of (map (λ word. word.now) words.now) }
+{
+    if words.is_empty() {
+        Some(Line::Pending)
+    } else {
+        None
+    }
+}
+
+/// What follows `census`: nothing.
+#[tactic(auto, unfolding(crate::specs::Line::census_of))]
+fn census_of(words: &[&[u8]]) -> Option<Line>
+    ensures { result ≡ census_of (map (λ word. word.now) words.now) }
+{
+    if words.is_empty() {
+        Some(Line::Census)
+    } else {
+        None
+    }
 }
 
 /// What follows `req`: `C N A I E W..`.
@@ -128,6 +179,27 @@ fn step_of(alloc: Global, name: &[u8], words: &[&[u8]]) -> Result<Step, LineFaul
     }
 }
 
+/// The line behind the arrays that a first word and the words after it spell.
+#[tactic(auto, unfolding(crate::specs::Line::line_of))]
+fn line_of(alloc: Global, name: &[u8], words: &[&[u8]]) -> Result<Line, LineFault>
+    ensures { Spells result (line_of name.now (map (λ word. word.now) words.now)) }
+{
+    if name == b"supply".as_slice() {
+        supply_of(words).ok_or(LineFault::Malformed)
+    } else if name == b"drain".as_slice() {
+        drain_of(words).ok_or(LineFault::Malformed)
+    } else if name == b"state".as_slice() {
+        state_of(words).ok_or(LineFault::Malformed)
+    } else if name == b"pending".as_slice() {
+        pending_of(words).ok_or(LineFault::Malformed)
+    } else if name == b"census".as_slice() {
+        census_of(words).ok_or(LineFault::Malformed)
+    } else {
+        let step = step_of(alloc, name, words)?;
+        Ok(Line::Step(step))
+    }
+}
+
 /// What words spell.
 #[tactic(auto, unfolding(crate::specs::Line::spelled_by))]
 fn spelled_by(alloc: Global, words: &[&[u8]]) -> Result<Item, LineFault>
@@ -139,12 +211,9 @@ fn spelled_by(alloc: Global, words: &[&[u8]]) -> Result<Item, LineFault>
     if *name == b"array".as_slice() {
         let line = array_of(words).ok_or(LineFault::Malformed)?;
         Ok(Item::Array(line))
-    } else if *name == b"supply".as_slice() {
-        let line = supply_of(words).ok_or(LineFault::Malformed)?;
-        Ok(Item::Line(line))
     } else {
-        let step = step_of(alloc, name, words)?;
-        Ok(Item::Line(Line::Step(step)))
+        let line = line_of(alloc, name, words)?;
+        Ok(Item::Line(line))
     }
 }
 

@@ -11,6 +11,9 @@ use std::alloc::Global;
 /// The most blanks that one line supplies.
 pub const MAX_BLANKS: u32 = 10_000;
 
+/// The most messages that one line delivers.
+pub const MAX_DELIVERIES: u32 = 1_000_000;
+
 /// A decimal number of 64 bits. `parse` alone would take a sign too.
 #[tactic(auto, unfolding(crate::specs::Line::number_of))]
 pub(crate) fn u64_of(word: &[u8]) -> Option<u64>
@@ -60,17 +63,13 @@ pub(crate) fn kind_of(word: &[u8]) -> Option<Kind>
     Kind::of_number(u16_of(word)?)
 }
 
-/// A number of blanks.
+/// A decimal number of 32 bits that is at most `most`.
 #[tactic(auto, unfolding(crate::specs::Line::count_of))]
-pub(crate) fn count_of(word: &[u8]) -> Option<u32>
-    ensures { result ≡ count_of word.now }
+pub(crate) fn count_of(most: u32, word: &[u8]) -> Option<u32>
+    ensures { result ≡ count_of most word.now }
 {
     let count = u32_of(word)?;
-    if count <= MAX_BLANKS {
-        Some(count)
-    } else {
-        None
-    }
+    if count <= most { Some(count) } else { None }
 }
 
 /// Each word as a number of 64 bits.

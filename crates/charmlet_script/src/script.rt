@@ -3,9 +3,8 @@
 ghost use Rattle.std.specs.Prelude.{◌≡◌, IfOk};
 ghost use Rattle.charmlet_script.specs.Script.{pairs_of};
 
-use charmlet_model::{Kind, Manifest, Step};
+use charmlet_model::{Elem, Kind, Manifest, Step};
 use std::alloc::{AllocError, Global};
-use std::fmt;
 use std::marker::Model;
 
 /// An array, by its number, and the kind of its elements.
@@ -20,6 +19,15 @@ pub struct ArrayLine {
 pub enum Line {
     /// `supply K N`: N blanks of kind K, at most 10,000, come to the stock.
     Supply { kind: Kind, count: u32 },
+    /// `drain N`: the oldest message that can be delivered is delivered, up to N times, at most
+    /// 1,000,000.
+    Drain { count: u32 },
+    /// `state A I`: the element is shown.
+    State(Elem),
+    /// `pending`: the ids of the pending messages are shown.
+    Pending,
+    /// `census`: it is shown of each kind where its objects are.
+    Census,
     /// A step of the run.
     Step(Step),
 }
@@ -36,27 +44,6 @@ impl Line {
             Line::Supply { kind: other, count } if *other == kind => *count,
             _ => 0,
         }
-    }
-}
-
-/// What a supply line answers.
-#[derive(Clone, Copy, Debug, PartialEq, Eq)]
-pub struct Supplied {
-    pub kind: Kind,
-    pub count: u32,
-}
-
-/// Writes `supplied K N`, without a line feed.
-impl fmt::Display for Supplied {
-    ghost use Rattle.std.specs.Prelude.{Some};
-    ghost use Rattle.charmlet_script.specs.Script.{supplied_text};
-
-    ghost output = { λ supplied. Some (supplied_text supplied) };
-
-    fn fmt<W: fmt::Write>(&self, f: &mut fmt::Formatter<W>) -> fmt::Result {
-        let kind = self.kind;
-        let count = self.count;
-        write!(f, "supplied {kind} {count}")
     }
 }
 

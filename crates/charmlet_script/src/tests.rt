@@ -1,4 +1,7 @@
-use crate::{ArrayLine, Line, MAX_LENGTH, ReadError, Script, Supplied, read_script};
+use crate::{
+    ArrayLine, Counted, Drained, Line, MAX_DELIVERIES, MAX_LENGTH, PendingIds, ReadError, Script,
+    Shown, Standing, Supplied, read_script,
+};
 use charmlet_model::{Elem, Kind, MsgId, Origin, Step};
 use std::alloc::Global;
 use std::io;
@@ -100,6 +103,44 @@ fn spaces_zeros_and_comments_are_allowed(rt: HostRuntime) -> Result<(), Fail> {
 }
 
 #[test]
+fn lines_that_show_and_drain_are_read(rt: HostRuntime) -> Result<(), Fail> {
+    let text = "array 0 1\ndrain 0\ndrain 1000000\nstate 7 0018446744073709551615\nstate 65535 3\n\
+        pending\n census \n";
+    let script = read(rt.alloc(), text.as_bytes())?;
+    let [
+        Line::Drain { count: 0 },
+        Line::Drain {
+            count: MAX_DELIVERIES,
+        },
+        Line::State(last),
+        Line::State(unnamed),
+        Line::Pending,
+        Line::Census,
+    ] = script.lines()
+    else {
+        panic!(rt; "other lines");
+    };
+    assert_eq!(rt;
+        *last,
+        Elem {
+            array: 7,
+            index: u64::MAX
+        }
+    );
+    assert_eq!(rt;
+        *unnamed,
+        Elem {
+            array: 65535,
+            index: 3
+        }
+    );
+    for kind in [Kind::Counter, Kind::Tape] {
+        assert_eq!(rt; script.blanks(kind), 0);
+    }
+    Ok(())
+}
+
+#[test]
 fn six_kinds_have_numbers(rt: HostRuntime) -> Result<(), Fail> {
     let text = "array 11 1\narray 12 2\narray 13 3\narray 14 4\narray 15 5\narray 16 6\n\
         supply 1 10\nsupply 2 20\nsupply 3 30\nsupply 4 40\nsupply 5 50\nsupply 6 60\n";
@@ -146,8 +187,23 @@ fn the_first_malformed_line_is_named(rt: HostRuntime) {
         ("array 0 1\nstatus 4294967296 1\n", 2),
         ("array 0 1\nstatus 1 18446744073709551616\n", 2),
         ("array 0 1\nstatus +5 1\n", 2),
+        ("array 0 1\ndrain 1000001\n", 2),
+        ("array 0 1\ndrain 4294967297\n", 2),
+        ("array 0 1\nstate 65536 0\n", 2),
+        ("array 0 1\nstate 0 18446744073709551616\n", 2),
         ("array 0 1\nreq 1 1 0 0 65536\n", 2),
         ("array 0 1\nreq 1 1 0 0 1 x\n", 2),
+        // missing and further words
+        ("array 0 1\ndrain\n", 2),
+        ("array 0 1\ndrain 1 2\n", 2),
+        ("array 0 1\nstate 0\n", 2),
+        ("array 0 1\nstate 0 1 2\n", 2),
+        ("array 0 1\npending 1\n", 2),
+        ("array 0 1\ncensus 1\n", 2),
+        ("array 0 1\nCENSUS\n", 2),
+        ("array 0 1\npendings\n", 2),
+        ("census\narray 0 1\n", 2),
+        // ids of messages
         ("array 0 1\ndeliver 0 c7\n", 2),
         ("array 0 1\ndeliver 0 e1.2\n", 2),
         ("array 0 1\ndeliver 0 c.1\n", 2),
@@ -229,5 +285,91 @@ fn texts_are_as_users_know_them(rt: HostRuntime) -> Result<(), Fail> {
     assert_eq!(rt; format!(in alloc; "{supplied}")?.as_str(), "supplied 6 40");
     let error = ReadError::Malformed(3);
     assert_eq!(rt; format!(in alloc; "{error}")?.as_str(), "script line 3");
+    Ok(())
+}
+
+#[test]
+fn drains_and_counts_are_printed(rt: HostRuntime) -> Result<(), Fail> {
+    let alloc = rt.alloc();
+    let drained = Drained {
+        delivered: 3,
+        left: u64::MAX,
+    };
+    assert_eq!(rt;
+        format!(in alloc; "{drained}")?.as_str(),
+        "drained 3 left 18446744073709551615"
+    );
+    let counted = Counted {
+        kind: Kind::Ring,
+        supplied: 10,
+        on_shelves: 4,
+        in_stock: 5,
+        retired: 1,
+    };
+    assert_eq!(rt;
+        format!(in alloc; "{counted}")?.as_str(),
+        "census 2 supplied 10 shelves 4 stock 5 retired 1"
+    );
+    Ok(())
+}
+
+#[test]
+fn elements_are_printed_there_and_absent(rt: HostRuntime) -> Result<(), Fail> {
+    let alloc = rt.alloc();
+    let elem = Elem {
+        array: 65535,
+        index: 8,
+    };
+    let packed = String::from_str(alloc, "0100ff")?;
+    let there = Shown {
+        elem,
+        standing: Some(Standing {
+            processor: 2,
+            packed,
+        }),
+        sent: 3,
+        received: 4,
+    };
+    assert_eq!(rt;
+        format!(in alloc; "{there}")?.as_str(),
+        "state 65535.8 pe 2 sent 3 received 4 0100ff"
+    );
+    let absent = Shown {
+        elem,
+        standing: None,
+        sent: 3,
+        received: 4,
+    };
+    assert_eq!(rt;
+        format!(in alloc; "{absent}")?.as_str(),
+        "state 65535.8 none sent 3 received 4"
+    );
+    Ok(())
+}
+
+#[test]
+fn pending_ids_are_printed_in_their_order(rt: HostRuntime) -> Result<(), Fail> {
+    let alloc = rt.alloc();
+    let client = MsgId {
+        origin: Origin::Client(7),
+        number: 2,
+    };
+    let element = MsgId {
+        origin: Origin::Element(Elem { array: 1, index: 5 }),
+        number: 9,
+    };
+    let later = MsgId {
+        origin: Origin::Client(0),
+        number: 1,
+    };
+    let none = PendingIds(&[]);
+    assert_eq!(rt; format!(in alloc; "{none}")?.as_str(), "pending 0");
+    let one = PendingIds(&[element]);
+    assert_eq!(rt; format!(in alloc; "{one}")?.as_str(), "pending 1 e1.5.9");
+    let three = PendingIds(&[client, element, later]);
+    assert_eq!(rt;
+        format!(in alloc; "{three}")?.as_str(),
+        "pending 3 c7.2 e1.5.9 c0.1"
+    );
     Ok(())
 }

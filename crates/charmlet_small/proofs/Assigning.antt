@@ -1,6 +1,6 @@
 -- How deliveries end, by the steps that they take.
 use Rattle.std.proofs.Common.{◌≡◌, inl, inr, ℕ, ◌+◌, ◌-◌, ◌<◌, ◌==◌, true, false, cond, not, ◌||◌, List, [], ◌∷◌, ◌++◌, refl, sym, ap, subst, ◌∙◌, arith}
-use Rattle.std.specs.Prelude.{Option, Some, None, is_some, nat_lt, option_and_then, Result, Ok, Err, OnOk, OnErr, IfErr, is_ok, is_err}
+use Rattle.std.specs.Prelude.{Option, Some, None, is_some, nat_lt, option_and_then, Result, Ok, Err, OnOk, OnErr, IfErr, is_err}
 use Rattle.std.specs.Ordering.{is_eq, nat_cmp}
 use Rattle.std.specs.Cmp.{nat_cmp_total}
 use Rattle.std.proofs.lemmas.Bool.{ltb-true}
@@ -16,7 +16,7 @@ use Rattle.charmlet_model.specs.declared.TheConstants.{CONSTRUCT}
 use Rattle.charmlet_model.specs.Kind.{kind_number, numbered_kind}
 use Rattle.charmlet_model.specs.World.{record_of}
 use Rattle.charmlet_model.specs.Core.{Core, present, Blanks, Gate, When, MayLackMemory, MayFail, CoreStep, Assign, Commit, Release, Done, gates, message_gates, lacks_blank, blank_for, blank_of_id, pending_message, assigned_to, first_refusal, may_lack_memory, next_core, next_blanks, with_taken, with_given, is_present, is_processor, stands_on, is_full, are_counts_full}
-use Rattle.charmlet_model.specs.Run.{Store, Goes, IsDelivered, IsNotDelivered}
+use Rattle.charmlet_model.specs.Run.{Store, Goes, IsNotDelivered}
 use Rattle.charmlet_small.specs.Small.{Ends}
 use Rattle.charmlet_model.proofs.Maps.{lookup-insert_entry}
 use Rattle.charmlet_model.proofs.CanLemmas.{Passes, all_pass, not_not}
@@ -196,21 +196,13 @@ module _ (core : Core) (blanks : Blanks) (processor : ℕ) (id : MsgId) where
     abbrev pub assigned_store : Store
     assigned_store = record { core = next_core core step; blanks = next_blanks core blanks step }
 
-    is_assigned : Has blanks (blank_of_id core (Some id)) → Goes store step Done assigned_store
+    pub is_assigned : Has blanks (blank_of_id core (Some id)) → Goes store step Done assigned_store
     is_assigned has = is_done core blanks step refl (can_be_assigned core processor id blanks can has)
 
     assigned_here : assigned_to (next_core core step) processor ≡ Some id
     assigned_here =
         lookup-insert_entry nat_cmp nat_cmp_total processor processor id core.assigned
         ∙ ap (λ b. cond b (Some id) (assigned_to core processor)) (ap is_eq (tied_itself nat_cmp_total processor))
-
-    pub is_delivered : core.halted ≡ false → Has blanks (blank_of_id core (Some id)) →
-        IsDelivered store processor id (record { core = next_core (next_core core step) (Commit processor); blanks = next_blanks core blanks step })
-    is_delivered running has = (
-      assigned_store,
-      is_assigned has,
-      is_done (next_core core step) (next_blanks core blanks step) (Commit processor) (ap is_some assigned_here) (ap (λ b. first_refusal (When b refusals.Halted ∷ MayLackMemory ∷ [])) running),
-    )
 
     -- the blank comes back
     given_back : Has blanks (blank_of_id core (Some id)) → next_blanks (next_core core step) (next_blanks core blanks step) (Release processor) ≡ blanks
@@ -229,6 +221,14 @@ module _ (core : Core) (blanks : Blanks) (processor : ℕ) (id : MsgId) where
             (is_done (next_core core step) (next_blanks core blanks step) (Release processor) (ap is_some assigned_here) refl),
       ),
     )
+
+-- a delivery that is committed or released
+module _ (core : Core) (blanks : Blanks) (some : is_some (assigned_to core 0) ≡ true) (running : core.halted ≡ false) where
+  pub is_committed : Goes (record { core = core; blanks = blanks }) (Commit 0) Done (record { core = next_core core (Commit 0); blanks = blanks })
+  is_committed = is_done core blanks (Commit 0) some (ap (λ b. first_refusal (When b refusals.Halted ∷ MayLackMemory ∷ [])) running)
+
+  pub goes_back : Goes (record { core = core; blanks = blanks }) (Release 0) Done (record { core = next_core core (Release 0); blanks = with_given (blank_of_id core (assigned_to core 0)) blanks })
+  goes_back = is_done core blanks (Release 0) some refl
 
 -- what can be assigned on one processor is assigned to processor 0
 pub only_processor : (core : Core) (processor : ℕ) (id : MsgId) → core.processors ≡ 1 → core.halted ≡ false → first_refusal (gates core plenty (Assign processor id)) ≡ None → processor ≡ 0
@@ -264,39 +264,9 @@ pub when_err : {T E : Type 0} (P : Type 0) (r : Result T E) → is_err r ≡ tru
 when_err P (Ok x) is h = absurd (let never : ⊥ = cc in never)
 when_err P (Err e) is h = h
 
--- of two results that are both well or both not
-pub ok_by : {T E U F : Type 0} (P : Type 0) (r : Result T E) (s : Result U F) → is_ok r ≡ is_ok s → OnOk s P → OnOk r P
-ok_by P (Ok x) (Ok y) same h = h
-ok_by P (Ok x) (Err e) same h = absurd (let never : ⊥ = cc in never)
-ok_by P (Err e) s same h = tt
-
-pub err_by : {T E U F : Type 0} (P : Type 0) (r : Result T E) (s : Result U F) → is_ok r ≡ is_ok s → OnErr s P → OnErr r P
-err_by P (Err e) (Err f) same h = h
-err_by P (Err e) (Ok y) same h = absurd (let never : ⊥ = cc in never)
-err_by P (Ok x) s same h = tt
-
 -- a delivery on the one processor that was assigned, and then committed or released
-module _ (core mid last : Core) (blanks left : Blanks) (processor : ℕ) (id : MsgId) (wanted : Option Kind)
-    (one : core.processors ≡ 1) (running : core.halted ≡ false) (can : first_refusal (gates core plenty (Assign processor id)) ≡ None)
-    (is : blank_of_id core (Some id) ≡ wanted) (has : Has blanks wanted) (assigned : mid ≡ next_core core (Assign processor id)) where
-  abbrev start_store : Store
-  start_store = record { core = core; blanks = blanks }
-
-  had : Has blanks (blank_of_id core (Some id))
-  had = subst (Has blanks) (sym is) has
-
-  zero_is : processor ≡ 0
-  zero_is = only_processor core processor id one running can
-
-  pub ends_so : {T : Type 0} (result : Result T Refusal) → OnOk result (last ≡ next_core mid (Commit 0)) → IfErr result (λ refusal. (refusal ≡ refusals.Memory) × (last ≡ next_core mid (Release 0))) →
-      OnOk result (left ≡ with_taken wanted blanks) → OnErr result (left ≡ blanks) → Ends start_store processor id result (record { core = last; blanks = left })
-  ends_so (Ok x) done none taken kept =
-      let ends : next_core (next_core core (Assign processor id)) (Commit processor) ≡ last =
-      ap (λ p. next_core (next_core core (Assign processor id)) (Commit p)) zero_is ∙ ap (λ c. next_core c (Commit 0)) (sym assigned) ∙ sym done in
-      let blanks_end : next_blanks core blanks (Assign processor id) ≡ left = ap (λ o. with_taken o blanks) is ∙ sym taken in
-      subst (IsDelivered start_store processor id) (λ i. record { core = ends i; blanks = blanks_end i }) (is_delivered core blanks processor id can running had)
-  ends_so (Err refusal) done none taken kept =
-      let ends : next_core (next_core core (Assign processor id)) (Release processor) ≡ last =
-      ap (λ p. next_core (next_core core (Assign processor id)) (Release p)) zero_is ∙ ap (λ c. next_core c (Release 0)) (sym assigned) ∙ sym none.1 in
-      subst (λ r. IsNotDelivered start_store processor id r (record { core = last; blanks = left })) (sym none.0)
-      (subst (IsNotDelivered start_store processor id refusals.Memory) (λ i. record { core = ends i; blanks = sym kept i }) (is_released core blanks processor id can had))
+pub ends_so : (first mid last : Store) (processor : ℕ) (id : MsgId) → processor ≡ 0 → Goes first (Assign processor id) Done mid → {T : Type 0} (result : Result T Refusal) →
+    OnOk result (Goes mid (Commit 0) Done last) → IfErr result (λ refusal. (refusal ≡ refusals.Memory) × Goes mid (Release 0) Done last) → Ends first processor id result last
+ends_so first mid last processor id zero goes (Ok x) done none = (mid, goes, subst (λ p. Goes mid (Commit p) Done last) (sym zero) done)
+ends_so first mid last processor id zero goes (Err refusal) done none =
+    subst (λ r. IsNotDelivered first processor id r last) (sym none.0) (inr (refl, (mid, goes, subst (λ p. Goes mid (Release p) Done last) (sym zero) none.1)))

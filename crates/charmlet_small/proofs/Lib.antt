@@ -1,4 +1,6 @@
 pub mod Assigning
-pub mod Performing
+pub mod Delivering
 pub mod Showing
 pub mod Counting
+pub mod Theres
+pub mod Looks

@@ -1,4 +1,6 @@
 -- The definitions that contracts cite.
-pub mod Reaction
 pub mod Small
+pub mod UnderWay
 pub mod Census
+pub mod Look
+pub mod There

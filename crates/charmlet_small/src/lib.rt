@@ -3,8 +3,9 @@
 
 mod census;
 mod delivery;
-mod object;
+mod look;
 mod small;
 
 pub use crate::census::Census;
+pub use crate::look::{Look, Standing};
 pub use crate::small::Small;

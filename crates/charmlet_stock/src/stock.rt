@@ -7,7 +7,7 @@ ghost use Rattle.charmlet_model.specs.declared.kind.Kind.TheVariants as kinds;
 
 use crate::by_kind::ByKind;
 use crate::pile::{Pile, Tally};
-use charmlet_chare::Chare;
+use charmlet_chare::{Chare, kind_of};
 use charmlet_model::Kind;
 use std::alloc::{AllocError, Global};
 
@@ -193,20 +193,6 @@ impl<C: Chare> Stock<C> {
             Kind::Tree => self.piles.trees.add(object),
             Kind::Tape => self.piles.tapes.add(object),
         }
-    }
-}
-
-/// The object's kind.
-fn kind_of<C: Chare>(object: &C) -> Kind
-    ensures { result ≡ kind_of (C.state object.now) }
-{
-    match object.kind() {
-        1 => Kind::Counter,
-        2 => Kind::Ring,
-        3 => Kind::Account,
-        4 => Kind::Sum,
-        5 => Kind::Tree,
-        _ => Kind::Tape,
     }
 }
 

@@ -1,14 +1,15 @@
-//! A counter that notes what is done with it.
+//! Objects that note what is done with them.
 
-ghost use Rattle.charmlet_kinds.specs.Counter.{state_of};
+ghost use Rattle.charmlet_small.specs.Small.{StandsSo};
 
-use super::parts;
+use super::{parts, request};
 use crate::run_script;
 use charmlet_chare::{Chare, Outbox};
-use charmlet_kinds::Counter;
-use charmlet_model::Elem;
+use charmlet_kinds::{Counter, Tree};
+use charmlet_model::{CONSTRUCT, Elem, Kind, Manifest, MsgId, Origin, Step};
 use charmlet_pup::PupFault;
 use charmlet_script::read_script;
+use charmlet_small::Small;
 use std::alloc::{AllocError, Global};
 use std::sync::Arc;
 use std::sync::atomic::{AtomicU64, Ordering};
@@ -34,36 +35,36 @@ impl Notes {
     }
 }
 
-struct Probe {
-    counter: Counter,
+struct Probe<C: Chare> {
+    object: C,
     notes: Arc<Notes>,
 }
 
-impl Drop for Probe {
+impl<C: Chare> Drop for Probe<C> {
     fn drop(self) {
-        let Probe { counter: _, notes } = self;
+        let Probe { object: _, notes } = self;
         notes.drops.fetch_add(1, Ordering::SeqCst);
     }
 }
 
-impl Chare for Probe {
-    ghost state = { λ probe. state_of probe.counter };
+impl<C: Chare> Chare for Probe<C> {
+    ghost state = { λ probe. C.state probe.object };
 
     fn kind(&self) -> u16 {
-        self.counter.kind()
+        self.object.kind()
     }
 
     fn size(&mut self) -> usize {
-        self.counter.size()
+        self.object.size()
     }
 
     fn pack(&mut self, into: &mut Vec<u8>) -> Result<(), AllocError> {
-        self.counter.pack(into)
+        self.object.pack(into)
     }
 
     fn unpack(&mut self, bytes: &[u8]) -> Result<(), PupFault> {
         self.notes.unpacked.fetch_add(1, Ordering::SeqCst);
-        self.counter.unpack(bytes)
+        self.object.unpack(bytes)
     }
 
     fn enter(
@@ -74,7 +75,7 @@ impl Chare for Probe {
         out: &mut Outbox,
     ) -> Result<(), AllocError> {
         self.notes.entries.fetch_add(1, Ordering::SeqCst);
-        self.counter.enter(me, entry, payload, out)?;
+        self.object.enter(me, entry, payload, out)?;
         if let Some(word) = out.reply_words().first() {
             self.notes.replied.store(*word, Ordering::SeqCst);
         }
@@ -119,16 +120,39 @@ told replied
 told replied 8
 ";
 
-fn probes(alloc: Global, notes: &Arc<Notes>, count: usize) -> Result<Vec<Probe>, AllocError> {
+fn probes(
+    alloc: Global,
+    notes: &Arc<Notes>,
+    count: usize,
+) -> Result<Vec<Probe<Counter>>, AllocError> {
     let mut probes = Vec::new(alloc);
     for _ in 0..count {
         probes.push(Probe {
-            counter: Counter::blank(),
+            object: Counter::blank(),
             notes: notes.clone()?,
         })?;
     }
     Ok(probes)
 }
+
+// Two of the three deliveries enter the object; that of client 8 finds it present, and doesn't.
+const DRAINED: &str = "\
+> array 0 1
+> supply 1 1
+supplied 1 1
+> req 7 1 0 0 65535 5
+told unknown
+> req 8 1 0 0 65535 9
+told unknown
+> req 9 1 0 0 0 3
+told unknown
+> drain 9
+drained 3 left 0
+> flush
+flushed 6
+> status 9 1
+told replied 8
+";
 
 #[test]
 fn each_delivery_enters_its_object_once(rt: HostRuntime) -> Result<(), Fail> {
@@ -146,5 +170,53 @@ fn each_delivery_enters_its_object_once(rt: HostRuntime) -> Result<(), Fail> {
     let last = notes.replied.load(Ordering::SeqCst);
     let told = format!(in alloc; "told replied {last}\n")?;
     assert!(rt; output.ends_with(told.as_bytes()));
+    Ok(())
+}
+
+#[test]
+fn each_drained_delivery_enters_its_object_once(rt: HostRuntime) -> Result<(), Fail> {
+    let alloc = rt.alloc();
+    let notes = Arc::new(alloc, Notes::new())?;
+    let (text, wanted) = parts(alloc, DRAINED)?;
+    let script = read_script(alloc, &mut text.as_bytes())?;
+    let mut output = Vec::new(alloc);
+    let ran = run_script(alloc, &script, probes(alloc, &notes, 1)?, &mut output);
+    assert!(rt; ran.is_ok());
+    assert_eq!(rt; output.as_slice(), wanted.as_bytes());
+    assert_eq!(rt; notes.entries.load(Ordering::SeqCst), 2);
+    assert_eq!(rt; notes.replied.load(Ordering::SeqCst), 8);
+    Ok(())
+}
+
+// A request of the client is delivered.
+fn deliver<C: Chare>(alloc: Global, store: &mut Small<C>, client: u32, entry: u16)
+    requires { StandsSo store.old }
+    ensures { StandsSo store.new }
+{
+    let _ = store.step(&request(alloc, client, 0, entry));
+    let id = MsgId {
+        origin: Origin::Client(client),
+        number: 1,
+    };
+    let _ = store.step(&Step::Deliver { processor: 0, id });
+}
+
+#[test]
+fn destroyed_objects_are_dropped_at_once(rt: HostRuntime) -> Result<(), Fail> {
+    let alloc = rt.alloc();
+    let notes = Arc::new(alloc, Notes::new())?;
+    let manifest = Manifest::of(alloc, &[(0, Kind::Tree.number())])?.ok_or("there is none")?;
+    let mut store = Small::new(alloc, manifest);
+    let mut blanks = Vec::new(alloc);
+    blanks.push(Probe {
+        object: Tree::blank(),
+        notes: notes.clone()?,
+    })?;
+    assert!(rt; store.supply(blanks).is_ok());
+    deliver(alloc, &mut store, 7, CONSTRUCT);
+    assert_eq!(rt; notes.drops.load(Ordering::SeqCst), 0);
+    deliver(alloc, &mut store, 8, 0);
+    assert_eq!(rt; notes.drops.load(Ordering::SeqCst), 1);
+    assert_eq!(rt; notes.entries.load(Ordering::SeqCst), 2);
     Ok(())
 }

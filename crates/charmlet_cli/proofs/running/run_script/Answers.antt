@@ -1,4 +1,4 @@
-use Rattle.std.proofs.Common.{rules, ◌≡◌, ◌+◌, ◌≤◌, true, false, [], ◌∷◌, ◌++◌, refl, sym, ap, subst, ◌∙◌, arith}
+use Rattle.std.proofs.Common.{rules, ◌≡◌, ◌+◌, ◌≤◌, true, false, List, [], ◌∷◌, ◌++◌, refl, sym, ap, subst, ◌∙◌, arith}
 use Rattle.std.specs.Prelude.{drop, take, get_or, unwrap_or}
 use Rattle.std.proofs.lemmas.Bool.{iff_false}
 use Rattle.std.proofs.lemmas.List.{take_more, take_all}
@@ -9,14 +9,13 @@ use Rattle.charmlet_model.specs.Sound.{new_world, opened}
 use Rattle.charmlet_model.specs.Shelves.{count_of}
 use Rattle.charmlet_model.specs.Texts.{Text}
 use Rattle.charmlet_script.specs.Script.{blanks_in, blanks_of, pairs_of}
-use Rattle.charmlet_small.specs.Small.{store_in}
-use Rattle.charmlet_cli.specs.Lines.{AreEnough, Prints, held_in, opening_of}
+use Rattle.charmlet_cli.specs.Lines.{AreEnough, Prints, held_in, ledger_in, opening_of}
 use Rattle.charmlet_stock.specs.declared.pile.Tally.{Tally}
 use Rattle.charmlet_stock.specs.Pile.{supplied_more}
 use Rattle.charmlet_stock.specs.Stock.{tally_in}
 use Rattle.charmlet_small.proofs.Assigning.{when_ok}
 use Rattle.charmlet_cli.proofs.Endings.{memory_ends, output_ends}
-use Rattle.charmlet_cli.proofs.Printing.{appends_then, appends_nothing, prints_more}
+use Rattle.charmlet_cli.proofs.Printing.{appends_nothing, lines_then, prints_more}
 use Rattle.charmlet_cli.proofs.running.run_script.Goals as goal
 
 pub loop-line-init : goal.loop-line-init
@@ -47,18 +46,18 @@ pub loop-line-preserved : goal.loop-line-preserved
 loop-line-preserved g c =
     let lines = c.lines-line-items.result.now in
     let at = c.loop-line.line-index in
-    let first = store_in c.new-store.result in
-    let before = store_in c.loop-line.store in
-    let next = store_in c.run_line.new.store in
+    let first = ledger_in c.new-store.result in
+    let before = ledger_in c.loop-line.store in
+    let next = ledger_in c.run_line.new.store in
     let so_far = c.loop-line.invariant.1 in
     let printed = c.in_ok-run_line.ensures.prints in
     let more : take (at + 1) lines ≡ take at lines ++ c.line-item.result ∷ [] =
     take_more lines at c.line-item.result c.loop-line-test.true ∙ ap (λ line. take at lines ++ line ∷ []) (sym c.line-item.is) in
-    let text : Text = so_far.0 ++ (printed.0 ++ 10 ∷ []) in
-    let prints : Prints first (take (at + 1) lines) text next =
-    subst (λ lines. Prints first lines text next) (sym more) (prints_more first before next (take at lines) c.line-item.result so_far.0 printed.0 so_far.1 printed.1) in (
+    let texts : List Text = so_far.0 ++ printed.0 in
+    let prints : Prints first (take (at + 1) lines) texts next =
+    subst (λ lines. Prints first lines texts next) (sym more) (prints_more first before next (take at lines) c.line-item.result so_far.0 printed.0 so_far.1 printed.1) in (
       c.run_line.ensures.stands,
-      (text, prints, appends_then _ _ _ so_far.0 (printed.0 ++ 10 ∷ []) so_far.2 printed.2),
+      (texts, prints, lines_then _ _ _ so_far.0 printed.0 so_far.2 printed.2),
       λ kind.
           let split : blanks_of kind (drop at lines) ≡ blanks_in kind (get_or lines at c.line-item.result) + blanks_of kind (drop (at + 1) lines) =
           sum_by-drop_more (blanks_in kind) lines at c.line-item.result c.loop-line-test.true in
@@ -71,15 +70,18 @@ loop-line-preserved g c =
 pub returns-clause-prints : goal.returns-clause-prints
 returns-clause-prints g c =
     let so_far = c.loop-line.invariant.1 in
-    let last = store_in c.loop-line.store in
+    let last = ledger_in c.loop-line.store in
     let manifest : unwrap_or (manifest_of (pairs_of c.args.script.now.arrays)) [] ≡ c.in_ok-manifest.manifest = ap (λ o. unwrap_or o []) c.in_ok-manifest.ensures.manifest in
-    let opening : store_in c.new-store.result ≡ opening_of c.args.script.now = λ i. record {
-      core = (c.new-store.ensures.core ∙ ap (λ m. opened 1 (new_world m) 0 1) (sym manifest)) i;
-      blanks = λ kind. c.new-store.ensures.blanks kind i;
+    let opening : ledger_in c.new-store.result ≡ opening_of c.args.script.now = λ i. record {
+      store = record {
+        core = (c.new-store.ensures.core ∙ ap (λ m. opened 1 (new_world m) 0 1) (sym manifest)) i;
+        blanks = λ kind. c.new-store.ensures.blanks kind i;
+      };
+      supplied = λ kind. c.new-store.ensures.supplied kind i;
     } in
     let all : take c.loop-line.line-index c.lines-line-items.result.now ≡ c.args.script.now.lines =
     take_all c.loop-line.line-index c.lines-line-items.result.now c.loop-line-test.false ∙ c.lines-line-items.ensures in
-    (so_far.0, last, subst (λ store. Prints store c.args.script.now.lines so_far.0 last) opening (subst (λ lines. Prints (store_in c.new-store.result) lines so_far.0 last) all so_far.1), so_far.2)
+    (so_far.0, last, subst (λ ledger. Prints ledger c.args.script.now.lines so_far.0 last) opening (subst (λ lines. Prints (ledger_in c.new-store.result) lines so_far.0 last) all so_far.1), so_far.2)
 
 pub returns-then-not-has_enough-clause-err : goal.returns-then-not-has_enough-clause-err
 returns-then-not-has_enough-clause-err g c =

@@ -10,7 +10,7 @@ use Rattle.charmlet_model.specs.declared.state.Record.{Record}
 use Rattle.charmlet_model.specs.Names.{elem_cmp}
 use Rattle.charmlet_model.specs.World.{record_of, no_record}
 use Rattle.charmlet_model.specs.Examples.{elem, kept}
-use Rattle.charmlet_model.specs.Shelves.{AddsUp, records_of, shelf_of, if_here}
+use Rattle.charmlet_model.specs.Shelves.{AddsUp, on_shelves, records_of, shelf_of, if_here}
 use Rattle.charmlet_model.specs.ShelfExamples.{two_shelves, itself, counter_world, counters}
 use Rattle.charmlet_model.proofs.Fits.{apart-numbers}
 use Rattle.charmlet_model.proofs.examples.moved_counter_stands_once.Goals as goal
@@ -37,7 +37,7 @@ shown (suc (suc p)) x = elim (here x) as (λ b. None ≡ if_here (place b) (suc 
   | false ↦ refl
 ]
 
-adds_up : AddsUp itself (counters 2) two_shelves (counters 0) (counters 1)
+adds_up : AddsUp (counters 2) (on_shelves (map (records_of itself) two_shelves)) (counters 0) (counters 1)
 adds_up kinds.Counter = refl
 adds_up kinds.Ring = refl
 adds_up kinds.Account = refl

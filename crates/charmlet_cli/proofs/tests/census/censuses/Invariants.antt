@@ -3,4 +3,4 @@ use Rattle.charmlet_cli.proofs.tests.census.censuses.Given as goal
 
 -- what the store is stands
 abbrev pub invariant-loop-client : goal.invariant-loop-client
-invariant-loop-client g l = StandsSo g.C.Chare.state l.store
+invariant-loop-client g l = StandsSo l.store

@@ -10,20 +10,21 @@ use Rattle.charmlet_small.proofs.small.Small.draw.Goals as goal
 
 pub returns-clause-stands : goal.returns-clause-stands
 returns-clause-stands g c =
-    let state = g.C.Chare.state in
     let stands = c.requires.stands in
-    let entries = c.args.self.now.residents.entries in
+    let shelf = c.args.self.now.shelf in
     let old = c.args.self.now.stock in
     let new = c.draw.new.self in
     record {
       history = stands.history;
+      number = stands.number;
+      idle = stands.idle;
       objects = stands.objects;
-      census = of_both _ _ (IsCounted state entries new) c.draw.result c.draw.ensures.drawn c.draw.ensures.err
-          (λ drawn. drawn_counts old new c.args.kind c.args.count state entries drawn stands.census)
-          (λ same. same_counts state entries old new same.0 stands.census);
+      census = of_both _ _ (IsCounted shelf new) c.draw.result c.draw.ensures.drawn c.draw.ensures.err
+          (λ drawn. drawn_counts old new c.args.kind c.args.count shelf drawn stands.census)
+          (λ same. same_counts shelf old new same.0 stands.census);
     }
 
 pub returns-clause-err : goal.returns-clause-err
 returns-clause-err g c =
     let core = core_in c.args.self.now.history in
-    map_err _ _ c.draw.result (λ same. (ap (λ (v : ByKind Tally). record { core = core; blanks = λ kind. (at v kind).in_stock }) same.0, same.1)) c.draw.ensures.err
+    map_err _ _ c.draw.result (λ same. (ap (λ (v : ByKind Tally). record { core = core; blanks = λ kind. (at v kind).in_stock }) same.0, ap (λ (v : ByKind Tally). λ kind. (at v kind).supplied) same.0, same.1)) c.draw.ensures.err

@@ -35,4 +35,5 @@ loop-step-preserved g c =
       subst (λ steps. Runs first steps c.push.new.self.items next) (sym more) (subst (λ answers. Runs first (take c.loop-step.step-index steps ++ step ∷ []) answers next) (sym pushed) runs),
       count,
       room,
+      c.step-answer.ensures.supplied ∙ c.loop-step.invariant.4,
     )

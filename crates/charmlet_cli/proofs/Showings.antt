@@ -1,0 +1,35 @@
+-- What is shown of a store.
+use Rattle.std.proofs.Common.{◌≡◌, [], ◌∷◌, refl, arith}
+use Rattle.std.specs.Prelude.{Option, Some, None, IsSome}
+use Rattle.std.specs.List.{flat_map}
+use Rattle.charmlet_chare.specs.declared.chare.Chare.{Ghosts}
+use Rattle.charmlet_shelf.specs.Count.{objects_on}
+use Rattle.charmlet_stock.specs.Stock.{blanks_in, tally_in}
+use Rattle.charmlet_small.specs.declared.small.Small.{Small}
+use Rattle.charmlet_small.specs.Small.{StandsSo, world_in}
+use Rattle.charmlet_small.specs.There.{there_of}
+use Rattle.charmlet_small.proofs.Theres.{shelf_counts_there}
+use Rattle.charmlet_cli.specs.Lines.{ShowsCensus, ledger_in}
+use Rattle.charmlet_cli.specs.Shown.{all_kinds, counted_of, counted_texts}
+
+pub is_some_unless : {A : Type 0} (o : Option A) → (o ≡ None → ⊥) → IsSome o
+is_some_unless None there = absurd (there refl)
+is_some_unless (Some x) there = refl
+
+-- what a store counts is a census
+pub census_shown : {C : Type 0} {G : Ghosts C} (small : Small C G) → StandsSo small →
+    ShowsCensus (ledger_in small) (flat_map (λ kind. counted_texts (counted_of small kind)) all_kinds)
+census_shown small stands = (
+  λ kind. (tally_in small.stock kind).retired,
+  λ kind.
+      let there : objects_on small.shelf kind ≡ there_of (world_in small) kind = shelf_counts_there kind small stands in
+      let whole = stands.census kind in
+      omega arith,
+  λ i. flat_map (λ kind. counted_texts (record {
+    kind = kind;
+    supplied = (tally_in small.stock kind).supplied;
+    on_shelves = shelf_counts_there kind small stands i;
+    in_stock = blanks_in small.stock kind;
+    retired = (tally_in small.stock kind).retired;
+  })) all_kinds,
+)

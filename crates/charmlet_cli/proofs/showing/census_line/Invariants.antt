@@ -1,0 +1,12 @@
+use Rattle.std.proofs.Common.{take}
+use Rattle.std.specs.Io.KnownBytes.{Appends}
+use Rattle.std.specs.List.{flat_map}
+use Rattle.charmlet_cli.specs.Lines.{in_lines}
+use Rattle.charmlet_cli.specs.Shown.{counted_of, counted_texts}
+use Rattle.charmlet_cli.proofs.showing.census_line.Given as goal
+
+-- the kinds so far are printed
+abbrev pub invariant-loop-kind : goal.invariant-loop-kind
+invariant-loop-kind g l =
+    Appends (g.W.Write.contents l.initial.writer) (g.W.Write.contents l.writer)
+    (in_lines (flat_map (λ kind. counted_texts (counted_of l.store kind)) (take l.kind-index l.kind-items)))

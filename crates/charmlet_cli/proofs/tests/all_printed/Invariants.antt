@@ -1,6 +1,0 @@
-use Rattle.charmlet_small.specs.Small.{StandsSo}
-use Rattle.charmlet_cli.proofs.tests.all_printed.Given as goal
-
--- what the store is stands
-abbrev pub invariant-loop-line : goal.invariant-loop-line
-invariant-loop-line g l = StandsSo g.C.Chare.state l.store

@@ -1,0 +1,44 @@
+-- What a drain does to a store, and what it prints.
+use Rattle.std.specs.Prelude.{◌≡◌, ◌⊎◌, ℕ, zero, suc, ◌<◌, ◌≤◌, Bool, true, false, List, [], ◌∷◌, length, Option, Some, None, Result, Ok, Err}
+use Rattle.charmlet_model.specs.declared.names.MsgId.{MsgId}
+use Rattle.charmlet_model.specs.declared.refusal.Refusal.{Refusal}
+use Rattle.charmlet_model.specs.declared.step.Answer.TheVariants.{Refused}
+use Rattle.charmlet_model.specs.Core.{present}
+use Rattle.charmlet_model.specs.Run.{Store, IsDelivered, IsNotDelivered}
+use Rattle.charmlet_model.specs.Texts.{Text, answer_text}
+use Rattle.charmlet_model.specs.World.{oldest_deliverable}
+use Rattle.charmlet_script.specs.Printed.{drained_text}
+
+-- the oldest message that can be delivered
+abbrev pub next_in : Store → Option MsgId
+next_in store = oldest_deliverable (present store.core) (present store.core).pending
+
+-- it is delivered, or there is none, or its delivery is refused
+abbrev pub DeliversNext : Store → Result Bool Refusal → Store → Type 0
+DeliversNext store (Ok true) last = (id : MsgId) × (next_in store ≡ Some id) × IsDelivered store 0 id last
+DeliversNext store (Ok false) last = (next_in store ≡ None) × (last ≡ store)
+DeliversNext store (Err refusal) last = (id : MsgId) × (next_in store ≡ Some id) × IsNotDelivered store 0 id refusal last
+
+-- so many deliveries one after another, each of the oldest message that can be delivered
+abbrev pub Drains : Store → ℕ → Store → Type 0
+Drains store zero last = last ≡ store
+Drains store (suc k) last = (mid : Store) × Drains store k mid × DeliversNext mid (Ok true) last
+
+-- A drain of up to n deliveries stops after k of them: these were all, or no message can be delivered any more, or the next
+-- delivery is refused.
+abbrev pub Stops : (n k : ℕ) → Store → Option Refusal → Store → Type 0
+Stops n k store None last = ((k ≡ n) ⊎ (next_in store ≡ None)) × (last ≡ store)
+Stops n k store (Some refusal) last = (k < n) × DeliversNext store (Err refusal) last
+
+-- a drain of up to n deliveries makes k of them and stops
+abbrev pub DrainsUpTo : Store → (n k : ℕ) → Option Refusal → Store → Type 0
+DrainsUpTo store n k refusal last = (k ≤ n) × ((mid : Store) × Drains store k mid × Stops n k mid refusal last)
+
+-- how many messages it delivered, and how many are pending then
+abbrev pub drain_text : ℕ → Store → Text
+drain_text k last = drained_text (record { delivered = k; left = length (present last.core).pending })
+
+-- what it prints: that, and the refusal that stopped it
+abbrev pub drain_texts : ℕ → Store → Option Refusal → List Text
+drain_texts k last None = drain_text k last ∷ []
+drain_texts k last (Some refusal) = drain_text k last ∷ answer_text (Refused refusal) ∷ []

@@ -1,0 +1,59 @@
+-- What lines show of a store.
+use Rattle.std.specs.Prelude.{◌≡◌, ℕ, ◌+◌, List, [], ◌∷◌, nat_lt, if◌then◌else◌, Option, Some, None}
+use Rattle.hex.specs.Hex.{encode_lower}
+use Rattle.charmlet_model.specs.declared.kind.Kind.{Kind}
+use Rattle.charmlet_model.specs.declared.kind.Kind.TheVariants as kinds
+use Rattle.charmlet_model.specs.declared.names.Elem.{Elem}
+use Rattle.charmlet_model.specs.declared.state.Record.{Record}
+use Rattle.charmlet_model.specs.declared.state.State.{State}
+use Rattle.charmlet_model.specs.Core.{present}
+use Rattle.charmlet_model.specs.Packed.{pupped}
+use Rattle.charmlet_model.specs.Run.{Store}
+use Rattle.charmlet_model.specs.Texts.{Text}
+use Rattle.charmlet_script.specs.declared.printed.Counted.{Counted}
+use Rattle.charmlet_script.specs.Printed.{absent_text, counted_text, standing_text}
+use Rattle.charmlet_chare.specs.declared.chare.Chare.{Ghosts}
+use Rattle.charmlet_small.specs.declared.small.Small.{Small}
+use Rattle.charmlet_small.specs.Census.{census_in}
+use Rattle.charmlet_small.specs.There.{there_of}
+
+-- an element with this state and these counts; the digits are those of its packed state
+abbrev pub state_text : Elem → Option State → (sent received : ℕ) → Text
+state_text elem None sent received = absent_text elem sent received
+state_text elem (Some state) sent received = standing_text elem 0 sent received (encode_lower (pupped state))
+
+-- an element with this record
+abbrev pub record_text : Elem → Record → Text
+record_text elem r = state_text elem r.state r.sent r.received
+
+-- the kinds, rising
+abbrev pub all_kinds : List Kind
+all_kinds = kinds.Counter ∷ kinds.Ring ∷ kinds.Account ∷ kinds.Sum ∷ kinds.Tree ∷ kinds.Tape ∷ []
+
+-- the numbers of a kind: those on shelves are the elements that are there, and those in the stock its blanks
+abbrev pub counted_in : Store → (supplied retired : Kind → ℕ) → Kind → Counted
+counted_in store supplied retired kind = record {
+  kind = kind;
+  supplied = supplied kind;
+  on_shelves = there_of (present store.core) kind;
+  in_stock = store.blanks kind;
+  retired = retired kind;
+}
+
+-- the numbers of a kind that a store counts
+abbrev pub counted_of : {C : Type 0} {G : Ghosts C} → Small C G → Kind → Counted
+counted_of small kind = record {
+  kind = kind;
+  supplied = (census_in small kind).supplied;
+  on_shelves = (census_in small kind).on_shelves;
+  in_stock = (census_in small kind).in_stock;
+  retired = (census_in small kind).retired;
+}
+
+-- what was supplied is on shelves, in the stock, or retired
+abbrev pub IsWhole : Counted → Type 0
+IsWhole counted = counted.supplied ≡ counted.on_shelves + counted.in_stock + counted.retired
+
+-- the line of a kind, if objects of it were supplied
+abbrev pub counted_texts : Counted → List Text
+counted_texts counted = if nat_lt 0 counted.supplied then counted_text counted ∷ [] else []

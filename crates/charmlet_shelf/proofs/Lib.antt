@@ -1,0 +1,6 @@
+pub mod Becoming
+pub mod Records
+pub mod Holding
+pub mod Idle
+pub mod Images
+pub mod Counts

@@ -1,0 +1,99 @@
+use Rattle.std.proofs.Common.{◌≡◌, refl, sym, ap, subst, ◌∙◌}
+use Rattle.std.specs.Prelude.{Some}
+use Rattle.std.specs.Option.{option_copied_mut}
+use Rattle.std.specs.BTreeMap.{is_at}
+use Rattle.std.specs.Map.{set_value}
+use Rattle.charmlet_model.specs.declared.message.Message.{Message}
+use Rattle.charmlet_model.specs.declared.state.Resident.{Resident}
+use Rattle.charmlet_model.specs.Names.{elem_cmp}
+use Rattle.charmlet_model.specs.Reaction.{kind_of, react}
+use Rattle.charmlet_model.specs.Shelves.{records_of}
+use Rattle.charmlet_shelf.specs.Due.{reaction_in, record_after}
+use Rattle.charmlet_shelf.specs.Outcome.{Performed}
+use Rattle.charmlet_shelf.specs.Receiving.{Becomes, state_if}
+use Rattle.charmlet_shelf.specs.Shelf.{Holds, before_due, without_newcomer}
+use Rattle.charmlet_shelf.specs.declared.phase.Phase.TheVariants.{Done}
+use Rattle.charmlet_shelf.proofs.Holding.{before_is, before_stays, rising_written, written_here, done_is, holds_written, reacts_as, receiver_after, receiver_is, receiver_same}
+use Rattle.charmlet_shelf.proofs.Records.{Rising, at}
+use Rattle.charmlet_shelf.proofs.delivering.react.Goals as goal
+
+pub new-requires-clause-made : goal.new-requires-clause-made
+new-requires-clause-made g c =
+    let state = g.C.Chare.state in
+    let es = c.args.residents.now.entries in
+    let due = c.args.delivery in
+    let old = c.in-Some.resident.now in
+    let here : at es due.message.to ≡ Some old = ap (λ (m : Message). at es m.to) (sym c.message-message.ensures) ∙ sym c.get_mut.ensures.value ∙ ap option_copied_mut c.in-Some.is in
+    let reacts = reacts_as state due old c.is_there-is_there.result (receiver_is state es due old here due.receiver.state c.requires) c.is_there-is_there.ensures.there in
+    let made = subst (λ (m : Message). Becomes (react (kind_of (state old.object)) m.to (state_if c.is_there-is_there.result (state old.object)) m.entry m.words) c.in-Ok.output (state c.receive.new.object)) c.message-message.ensures c.in-Ok.ensures.ok in
+    (made.0, sym reacts ∙ made.1, made.2)
+
+pub returns-in-Ok-clause-ok : goal.returns-in-Ok-clause-ok
+returns-in-Ok-clause-ok g c =
+    let state = g.C.Chare.state in
+    let es = c.args.residents.now.entries in
+    let due = c.args.delivery in
+    let old = c.in-Some.resident.now in
+    let new : Resident g.row.C.Denot = record { object = c.receive.new.object; sent = old.sent; received = old.received } in
+    let here : at es due.message.to ≡ Some old = ap (λ (m : Message). at es m.to) (sym c.message-message.ensures) ∙ sym c.get_mut.ensures.value ∙ ap option_copied_mut c.in-Some.is in
+    let receiver = receiver_is state es due old here due.receiver.state c.requires in
+    let reacts = reacts_as state due old c.is_there-is_there.result receiver c.is_there-is_there.ensures.there in
+    let made : Becomes (reaction_in due) c.in-Ok.output (state c.receive.new.object) =
+    subst (λ o. Becomes o c.in-Ok.output (state c.receive.new.object)) reacts
+    (subst (λ (m : Message). Becomes (react (kind_of (state old.object)) m.to (state_if c.is_there-is_there.result (state old.object)) m.entry m.words) c.in-Ok.output (state c.receive.new.object)) c.message-message.ensures c.in-Ok.ensures.ok) in
+    let written : (c.get_mut.follows.lender new).entries ≡ set_value (is_at (elem_cmp due.message.to)) es new =
+    (c.get_mut.follows.holds new).0 ∙ ap (λ (m : Message). set_value (is_at (elem_cmp m.to)) es new) c.message-message.ensures in (
+      ap (λ (p : Performed). p.due) c.new.ensures,
+      ap Done c.new.ensures ∙ done_is due c.in-Ok.output (state c.receive.new.object) made,
+      subst (λ entries. Holds state entries due (record_after due).state) (sym written)
+          (holds_written state es due old here new (record_after due).state
+          (receiver_after state es due old here new c.in-Ok.output receiver c.in-Ok.ensures.kind refl refl made)),
+    )
+
+pub returns-in-Ok-clause-done : goal.returns-in-Ok-clause-done
+returns-in-Ok-clause-done g c =
+    let state = g.C.Chare.state in
+    let es = c.args.residents.now.entries in
+    let due = c.args.delivery in
+    let old = c.in-Some.resident.now in
+    let new : Resident g.row.C.Denot = record { object = c.receive.new.object; sent = old.sent; received = old.received } in
+    let here : at es due.message.to ≡ Some old = ap (λ (m : Message). at es m.to) (sym c.message-message.ensures) ∙ sym c.get_mut.ensures.value ∙ ap option_copied_mut c.in-Some.is in
+    let receiver = receiver_is state es due old here due.receiver.state c.requires in
+    let written : (c.get_mut.follows.lender new).entries ≡ set_value (is_at (elem_cmp due.message.to)) es new =
+    (c.get_mut.follows.holds new).0 ∙ ap (λ (m : Message). set_value (is_at (elem_cmp m.to)) es new) c.message-message.ensures in
+    let rising : Rising es = c.get_mut.ensures.ordered in
+    ap (λ entries. before_due (records_of state entries) due) written ∙ before_stays state es due old here new rising ∙ sym (before_is state es due old here rising receiver)
+
+pub returns-in-Err-clause-err : goal.returns-in-Err-clause-err
+returns-in-Err-clause-err g c =
+    let state = g.C.Chare.state in
+    let es = c.args.residents.now.entries in
+    let due = c.args.delivery in
+    let old = c.in-Some.resident.now in
+    let new : Resident g.row.C.Denot = record { object = c.receive.new.object; sent = old.sent; received = old.received } in
+    let here : at es due.message.to ≡ Some old = ap (λ (m : Message). at es m.to) (sym c.message-message.ensures) ∙ sym c.get_mut.ensures.value ∙ ap option_copied_mut c.in-Some.is in
+    let receiver = receiver_is state es due old here due.receiver.state c.requires in
+    let written : (c.get_mut.follows.lender new).entries ≡ set_value (is_at (elem_cmp due.message.to)) es new =
+    (c.get_mut.follows.holds new).0 ∙ ap (λ (m : Message). set_value (is_at (elem_cmp m.to)) es new) c.message-message.ensures in (
+      refl,
+      subst (λ entries. Holds state entries due due.receiver.state) (sym written)
+          (holds_written state es due old here new due.receiver.state (receiver_same state es due old here new due.receiver.state receiver c.in-Err.ensures.err refl refl)),
+    )
+
+pub returns-in-Err-clause-same : goal.returns-in-Err-clause-same
+returns-in-Err-clause-same g c =
+    let state = g.C.Chare.state in
+    let es = c.args.residents.now.entries in
+    let due = c.args.delivery in
+    let old = c.in-Some.resident.now in
+    let new : Resident g.row.C.Denot = record { object = c.receive.new.object; sent = old.sent; received = old.received } in
+    let here : at es due.message.to ≡ Some old = ap (λ (m : Message). at es m.to) (sym c.message-message.ensures) ∙ sym c.get_mut.ensures.value ∙ ap option_copied_mut c.in-Some.is in
+    let receiver = receiver_is state es due old here due.receiver.state c.requires in
+    let written : (c.get_mut.follows.lender new).entries ≡ set_value (is_at (elem_cmp due.message.to)) es new =
+    (c.get_mut.follows.holds new).0 ∙ ap (λ (m : Message). set_value (is_at (elem_cmp m.to)) es new) c.message-message.ensures in
+    let rising : Rising es = c.get_mut.ensures.ordered in
+    let same = receiver_same state es due old here new due.receiver.state receiver c.in-Err.ensures.err refl refl in
+    let es' = set_value (is_at (elem_cmp due.message.to)) es new in
+    ap (λ entries. without_newcomer (records_of state entries) due) written
+    ∙ before_is state es' due new (written_here state es due old here new) (rising_written state es due old here new rising) same
+    ∙ before_stays state es due old here new rising ∙ sym (before_is state es due old here rising receiver)

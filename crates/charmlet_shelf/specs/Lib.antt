@@ -1,0 +1,7 @@
+-- The definitions that contracts cite.
+pub mod Due
+pub mod Outcome
+pub mod Shelf
+pub mod Receiving
+pub mod Image
+pub mod Count

@@ -1,0 +1,25 @@
+//! How many objects there are.
+
+ghost use Rattle.std.specs.Prelude.{◌≡◌};
+ghost use Rattle.std.specs.List.Sorted.{IsStrictlySortedBy};
+ghost use Rattle.std.specs.Map.{keys_of};
+ghost use Rattle.charmlet_model.specs.Names.{elem_cmp};
+ghost use Rattle.charmlet_model.specs.Shelves.{count_of, objects_of};
+
+use charmlet_chare::Chare;
+use charmlet_model::{Elem, Kind, Resident};
+use std::collections::BTreeMap;
+
+/// How many of the residents' objects are of the kind.
+pub(crate) fn count_of<C: Chare>(residents: &BTreeMap<Elem, Resident<C>>, kind: Kind) -> u64
+    ensures count { result ≡ count_of C.state (objects_of residents.now.entries) kind }
+    ensures ordered { IsStrictlySortedBy elem_cmp (keys_of residents.now.entries) }
+{
+    let mut count = 0;
+    for resident in residents.values() {
+        if resident.object.kind() == kind.number() {
+            count += 1;
+        }
+    }
+    count
+}

@@ -1,0 +1,19 @@
+//! One processor's objects, and the delivery that is under way there.
+#![tactic(auto)]
+
+mod counting;
+mod delivering;
+mod delivery;
+mod image;
+mod outcome;
+mod phase;
+mod receiving;
+mod shelf;
+#[cfg(test)]
+mod tests;
+
+pub use crate::delivery::Delivery;
+pub use crate::image::Image;
+pub use crate::outcome::Outcome;
+pub use crate::phase::Phase;
+pub use crate::shelf::Shelf;

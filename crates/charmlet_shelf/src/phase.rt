@@ -1,0 +1,15 @@
+//! What a shelf is about.
+
+use crate::delivery::Delivery;
+use crate::outcome::Outcome;
+
+/// What a shelf is about.
+#[derive(Drop)]
+pub enum Phase {
+    /// It waits for a message.
+    Idle,
+    /// A message is assigned, and its receiver has not reacted yet.
+    Assigned(Delivery),
+    /// The receiver has reacted, and the delivery isn't settled yet.
+    Done(Outcome),
+}

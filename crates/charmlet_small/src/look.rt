@@ -1,0 +1,85 @@
+//! What is seen of a store: its pending messages and its elements.
+
+ghost use Rattle.std.specs.Prelude.{◌≡◌, None, length, map, IfOk, IsOk};
+ghost use Rattle.charmlet_model.specs.World.{record_of};
+ghost use Rattle.charmlet_small.specs.Look.{IsLook, StandsWith};
+ghost use Rattle.charmlet_small.specs.Small.{StandsSo, world_in};
+
+use crate::small::Small;
+use charmlet_chare::Chare;
+use charmlet_model::{Elem, MsgId};
+use std::alloc::AllocError;
+
+/// What is seen of an element: where it stands, if it is there, and how many messages it sent and
+/// received in its whole life.
+#[derive(Debug, Drop)]
+pub struct Look {
+    pub standing: Option<Standing>,
+    pub sent: u64,
+    pub received: u64,
+}
+
+/// The processor of an element that is there, and its packed state.
+#[derive(Debug, Drop)]
+pub struct Standing {
+    pub processor: u16,
+    pub packed: Vec<u8>,
+}
+
+impl<C: Chare> Small<C> {
+    /// How many messages are pending.
+    pub fn pending_count(&self) -> usize
+        requires { StandsSo self.now }
+        ensures { result ≡ length (world_in self.now).pending }
+    {
+        self.history.pending().len()
+    }
+
+    /// The ids of the pending messages, in order of birth.
+    pub fn pending(&self) -> Result<Vec<MsgId>, AllocError>
+        requires { StandsSo self.now }
+        ensures { IfOk result (λ ids. ids.items ≡ map (λ m. m.id) (world_in self.now).pending) }
+    {
+        let messages = self.history.pending();
+        messages
+            .iter()
+            .map(|message| message.id)
+            .collect(self.alloc)
+    }
+
+    /// What is seen of an element. It fails only for want of memory, which the packed state takes, and
+    /// so not where the element isn't there. Nothing changes.
+    pub fn look(&mut self, elem: Elem) -> Result<Look, AllocError>
+        requires { StandsSo self.old }
+        ensures same { self.new ≡ self.old }
+        ensures ok { IfOk result (IsLook (record_of (world_in self.old) elem)) }
+        ensures absent { (record_of (world_in self.old) elem).state ≡ None → IsOk result }
+    {
+        let counts = self.history.element(elem);
+        let standing = self.standing_of(elem)?;
+        Ok(Look {
+            standing,
+            sent: counts.sent,
+            received: counts.received,
+        })
+    }
+
+    /// Where an element stands, if it is there. It fails only for want of memory. Nothing changes.
+    fn standing_of(&mut self, elem: Elem) -> Result<Option<Standing>, AllocError>
+        requires { StandsSo self.old }
+        ensures same { self.new ≡ self.old }
+        ensures ok { IfOk result (StandsWith (record_of (world_in self.old) elem).state) }
+        ensures absent { (record_of (world_in self.old) elem).state ≡ None → IsOk result }
+    {
+        let Ok(image) = self.shelf.image(elem) else {
+            return Err(AllocError);
+        };
+        let Some(image) = image else {
+            return Ok(None);
+        };
+        Ok(Some(Standing {
+            processor: self.shelf.number(),
+            packed: image.packed,
+        }))
+    }
+}
