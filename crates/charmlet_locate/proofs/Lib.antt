@@ -1,0 +1,3 @@
+pub mod AtHome
+pub mod Entries
+pub mod Sums
