@@ -32,9 +32,12 @@ fn run<R: Runtime + AllocGlobal>(rt: &R, path: &str) -> Result<(), Stop> {
         }
     }
     let mut writer = BufWriter::new(alloc, io::writer(rt))?;
-    run_script(alloc, &script, blanks, &mut writer)?;
+    let ran = run_script(alloc, &script, blanks, &mut writer)?;
     writer.flush()?;
-    Ok(())
+    match ran.stop() {
+        Some(stop) => Err(stop),
+        None => Ok(()),
+    }
 }
 
 /// Does what the command line asks for, says on standard error why it stops, and gives the exit status.

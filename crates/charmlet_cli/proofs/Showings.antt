@@ -1,14 +1,14 @@
 -- What is shown of a store.
-use Rattle.std.proofs.Common.{◌≡◌, [], ◌∷◌, refl, arith}
+use Rattle.std.proofs.Common.{◌≡◌, refl, arith}
 use Rattle.std.specs.Prelude.{Option, Some, None, IsSome}
 use Rattle.std.specs.List.{flat_map}
 use Rattle.charmlet_chare.specs.declared.chare.Chare.{Ghosts}
-use Rattle.charmlet_shelf.specs.Count.{objects_on}
+use Rattle.charmlet_migrate.specs.Moving.{objects_among}
 use Rattle.charmlet_stock.specs.Stock.{blanks_in, tally_in}
 use Rattle.charmlet_small.specs.declared.small.Small.{Small}
 use Rattle.charmlet_small.specs.Small.{StandsSo, world_in}
 use Rattle.charmlet_small.specs.There.{there_of}
-use Rattle.charmlet_small.proofs.Theres.{shelf_counts_there}
+use Rattle.charmlet_small.proofs.Theres.{shelves_count_there}
 use Rattle.charmlet_cli.specs.Lines.{ShowsCensus, ledger_in}
 use Rattle.charmlet_cli.specs.Shown.{all_kinds, counted_of, counted_texts}
 
@@ -22,13 +22,13 @@ pub census_shown : {C : Type 0} {G : Ghosts C} (small : Small C G) → StandsSo 
 census_shown small stands = (
   λ kind. (tally_in small.stock kind).retired,
   λ kind.
-      let there : objects_on small.shelf kind ≡ there_of (world_in small) kind = shelf_counts_there kind small stands in
+      let there : objects_among small.shelves.items kind ≡ there_of (world_in small) kind = shelves_count_there small stands kind in
       let whole = stands.census kind in
       omega arith,
   λ i. flat_map (λ kind. counted_texts (record {
     kind = kind;
     supplied = (tally_in small.stock kind).supplied;
-    on_shelves = shelf_counts_there kind small stands i;
+    on_shelves = shelves_count_there small stands kind i;
     in_stock = blanks_in small.stock kind;
     retired = (tally_in small.stock kind).retired;
   })) all_kinds,

@@ -6,18 +6,14 @@ use Rattle.charmlet_model.specs.declared.step.Answer.TheVariants.{Refused}
 use Rattle.charmlet_model.specs.Core.{present}
 use Rattle.charmlet_model.specs.Run.{Store, IsDelivered, IsNotDelivered}
 use Rattle.charmlet_model.specs.Texts.{Text, answer_text}
-use Rattle.charmlet_model.specs.World.{oldest_deliverable}
+use Rattle.charmlet_history.specs.Kept.{next_in}
 use Rattle.charmlet_script.specs.Printed.{drained_text}
 
--- the oldest message that can be delivered
-abbrev pub next_in : Store → Option MsgId
-next_in store = oldest_deliverable (present store.core) (present store.core).pending
-
--- it is delivered, or there is none, or its delivery is refused
+-- the oldest message that can be delivered is delivered on its processor, or there is none, or its delivery is refused
 abbrev pub DeliversNext : Store → Result Bool Refusal → Store → Type 0
-DeliversNext store (Ok true) last = (id : MsgId) × (next_in store ≡ Some id) × IsDelivered store 0 id last
-DeliversNext store (Ok false) last = (next_in store ≡ None) × (last ≡ store)
-DeliversNext store (Err refusal) last = (id : MsgId) × (next_in store ≡ Some id) × IsNotDelivered store 0 id refusal last
+DeliversNext store (Ok true) last = (processor : ℕ) × (id : MsgId) × (next_in store.core ≡ Some (processor, id)) × IsDelivered store processor id last
+DeliversNext store (Ok false) last = (next_in store.core ≡ None) × (last ≡ store)
+DeliversNext store (Err refusal) last = (processor : ℕ) × (id : MsgId) × (next_in store.core ≡ Some (processor, id)) × IsNotDelivered store processor id refusal last
 
 -- so many deliveries one after another, each of the oldest message that can be delivered
 abbrev pub Drains : Store → ℕ → Store → Type 0
@@ -27,7 +23,7 @@ Drains store (suc k) last = (mid : Store) × Drains store k mid × DeliversNext 
 -- A drain of up to n deliveries stops after k of them: these were all, or no message can be delivered any more, or the next
 -- delivery is refused.
 abbrev pub Stops : (n k : ℕ) → Store → Option Refusal → Store → Type 0
-Stops n k store None last = ((k ≡ n) ⊎ (next_in store ≡ None)) × (last ≡ store)
+Stops n k store None last = ((k ≡ n) ⊎ (next_in store.core ≡ None)) × (last ≡ store)
 Stops n k store (Some refusal) last = (k < n) × DeliversNext store (Err refusal) last
 
 -- a drain of up to n deliveries makes k of them and stops

@@ -1,6 +1,7 @@
 -- The definitions that contracts cite.
 pub mod Drain
 pub mod Lines
+pub mod Ran
 pub mod RunError
 pub mod Shown
 pub mod Stop

@@ -15,9 +15,9 @@ use Rattle.charmlet_model.specs.Sound.{new_world, opened}
 use Rattle.charmlet_script.specs.declared.script.Line.{Line}
 use Rattle.charmlet_script.specs.declared.script.Line.TheVariants.{Supply, Drain, State, Pending, Census, Step}
 use Rattle.charmlet_script.specs.Printed.{pending_text, supplied_text}
-use Rattle.charmlet_script.specs.Script.{Contents, blanks_of, pairs_of}
+use Rattle.charmlet_script.specs.Script.{Contents, blanks_of, pairs_of, processors_of}
 use Rattle.charmlet_model.specs.declared.state.State as states
-use Rattle.charmlet_model.specs.Core.{present}
+use Rattle.charmlet_model.specs.Core.{present, stands_on}
 use Rattle.charmlet_model.specs.Shelves.{count_of}
 use Rattle.charmlet_model.specs.World.{record_of}
 use Rattle.charmlet_chare.specs.declared.chare.Chare.{Ghosts}
@@ -45,10 +45,10 @@ pub record Ledger : Type 0 where
 abbrev pub ledger_in : {C : Type 0} {G : Ghosts C} → Small C G → Ledger
 ledger_in small = record { store = store_in small; supplied = supplied_in small }
 
--- before the first line: one processor, the script's arrays, and nothing else
+-- before the first line: the script's processors and arrays, and nothing else
 abbrev pub opening_of : Contents → Ledger
 opening_of script = record {
-  store = record { core = opened 1 (new_world (unwrap_or (manifest_of (pairs_of script.arrays)) [])) 0 1; blanks = λ _. 0 };
+  store = record { core = opened (processors_of script) (new_world (unwrap_or (manifest_of (pairs_of script.arrays)) [])) 0 1; blanks = λ _. 0 };
   supplied = λ _. 0;
 }
 
@@ -70,10 +70,10 @@ pub record IsSupplied (kind : Kind) (count : ℕ) (old new : Ledger) : Type 0 wh
 abbrev pub Supplies : Ledger → Kind → ℕ → Text → Ledger → Type 0
 Supplies old kind count text new = ((text ≡ supplied_text (record { kind = kind; count = count })) × IsSupplied kind count old new) ⊎ ((text ≡ memory_text) × (new ≡ old))
 
--- a state line shows the element's record; memory may be refused where the element is there
+-- a state line shows the element's processor and record; memory may be refused where the element is there
 abbrev pub ShowsState : Store → Elem → Text → Type 0
 ShowsState store elem text =
-    (text ≡ record_text elem (record_of (present store.core) elem))
+    (text ≡ record_text elem (stands_on store.core elem) (record_of (present store.core) elem))
     ⊎ (IsSome (record_of (present store.core) elem).state × (text ≡ memory_text))
 
 -- a pending line shows the ids of the pending messages, or memory is refused

@@ -17,14 +17,14 @@ use Rattle.charmlet_small.specs.declared.small.Small.{Small}
 use Rattle.charmlet_small.specs.Census.{census_in}
 use Rattle.charmlet_small.specs.There.{there_of}
 
--- an element with this state and these counts; the digits are those of its packed state
-abbrev pub state_text : Elem → Option State → (sent received : ℕ) → Text
-state_text elem None sent received = absent_text elem sent received
-state_text elem (Some state) sent received = standing_text elem 0 sent received (encode_lower (pupped state))
+-- an element on this processor, if it is there, with this state and these counts; the digits are those of its packed state
+abbrev pub state_text : Elem → (processor : ℕ) → Option State → (sent received : ℕ) → Text
+state_text elem processor None sent received = absent_text elem sent received
+state_text elem processor (Some state) sent received = standing_text elem processor sent received (encode_lower (pupped state))
 
--- an element with this record
-abbrev pub record_text : Elem → Record → Text
-record_text elem r = state_text elem r.state r.sent r.received
+-- an element on this processor, if it is there, with this record
+abbrev pub record_text : Elem → (processor : ℕ) → Record → Text
+record_text elem processor r = state_text elem processor r.state r.sent r.received
 
 -- the kinds, rising
 abbrev pub all_kinds : List Kind

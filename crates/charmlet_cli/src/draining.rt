@@ -52,7 +52,7 @@ fn drain<C: Chare>(store: &mut Small<C>, most: u32) -> (u32, Option<Refusal>)
     (most, None)
 }
 
-/// Delivers the oldest message that can be delivered, if there is one.
+/// Delivers the oldest message that can be delivered, if there is one, on the processor of its receiver.
 fn deliver_next<C: Chare>(store: &mut Small<C>) -> Result<bool, Refusal>
     requires { StandsSo store.old }
     ensures stands { StandsSo store.new }

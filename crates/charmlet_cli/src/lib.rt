@@ -11,5 +11,5 @@ mod tests;
 mod writing;
 
 pub use crate::files::open_script;
-pub use crate::running::{RunError, run_script};
+pub use crate::running::{Ran, RunError, run_script};
 pub use crate::stop::Stop;

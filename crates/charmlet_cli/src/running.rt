@@ -1,29 +1,55 @@
 //! Runs of scripts.
 
-ghost use Rattle.std.specs.Prelude.{◌≡◌, ◌↔◌, ◌+◌, ◌≤◌, List, true, OnOk, IfErr};
+ghost use Rattle.std.specs.Prelude.{◌≡◌, ◌↔◌, ◌+◌, ◌≤◌, List, Some, true, OnOk, IfErr, IfOk};
 ghost use Rattle.std.specs.Io.KnownBytes.{Appends};
 ghost use Rattle.charmlet_model.specs.declared.kind.Kind.{Kind};
+ghost use Rattle.charmlet_model.specs.Fit.{IsFit};
+ghost use Rattle.charmlet_model.specs.Manifest.{manifest_of};
 ghost use Rattle.charmlet_model.specs.Shelves.{count_of};
+ghost use Rattle.charmlet_model.specs.Sound.{new_world};
 ghost use Rattle.charmlet_model.specs.Texts.{Text};
-ghost use Rattle.charmlet_script.specs.Script.{blanks_in};
+ghost use Rattle.charmlet_script.specs.Script.{blanks_in, blanks_of, pairs_of};
 ghost use Rattle.charmlet_script.specs.declared.script.Line.TheVariants as lines;
 ghost use Rattle.charmlet_small.specs.Small.{StandsSo};
 ghost use Rattle.charmlet_stock.specs.Stock.{part_of};
-ghost use Rattle.charmlet_cli.specs.Lines.{AreEnough, IsPrinted, Ledger, Prints, held_in, in_lines, ledger_in, opening_of};
+ghost use Rattle.charmlet_cli.specs.Lines.{AreEnough, IsPrinted, Prints, held_in, in_lines, ledger_in};
+ghost use Rattle.charmlet_cli.specs.Ran.{RunsTo, stop_after};
 ghost use Rattle.charmlet_cli.specs.RunError.{Leaves};
 ghost use Rattle.charmlet_cli.specs.declared.running.RunError.TheVariants as errors;
 
 use crate::draining::drain_line;
 use crate::showing::{census_line, pending_line, state_line};
+use crate::stop::Stop;
 use crate::writing::{write_line, write_memory_refused};
 use charmlet_chare::Chare;
-use charmlet_model::Kind;
+use charmlet_model::{Answer, Kind, Manifest, Refusal};
 use charmlet_script::{Line, Script, Supplied};
 use charmlet_small::Small;
 use charmlet_stock::Stock;
 use std::alloc::{AllocError, Global};
 use std::io;
 use std::io::Write;
+
+/// How far a script was run, where neither memory nor the output ended the run.
+#[derive(Clone, Copy, Debug, PartialEq, Eq)]
+pub enum Ran {
+    /// All its lines were run.
+    Whole,
+    /// The store wasn't created, for this reason, which is all that was written. No line was run.
+    NotCreated(Refusal),
+}
+
+impl Ran {
+    /// Why the program stops after the run, if it does: `Stop::NotCreated` where there was no store.
+    pub fn stop(&self) -> Option<Stop>
+        ensures { result ≡ stop_after self.now }
+    {
+        match self {
+            Ran::Whole => None,
+            Ran::NotCreated(_) => Some(Stop::NotCreated),
+        }
+    }
+}
 
 /// Why a run of a script ended before its last line.
 #[derive(Drop)]
@@ -57,28 +83,80 @@ impl<C: Chare> From<io::Error> for RunError<C> {
 /// written before the next line is run. `blanks` are the objects that the script's
 /// lines supply; those beyond are dropped at the end. A refusal is an answer, and the run goes on.
 ///
-/// `RunError` says what each error means. What was written before it stays written.
+/// There is no store where the script's number of processors is outside 1 to 64, `BadPes`, or memory for its
+/// shelves is refused, `Memory`. Then the refusal is written, no line is run, and all objects are dropped.
+///
+/// `RunError` says what each error means; where there are too few objects, it comes before the test of the
+/// number of processors. What was written before an error stays written.
 pub fn run_script<C: Chare, W: Write>(
     alloc: Global,
     script: &Script,
     blanks: Vec<C>,
     writer: &mut W,
-) -> Result<(), RunError<C>>
+) -> Result<Ran, RunError<C>>
     ensures enough { OnOk result (AreEnough C.state blanks.items script.now.lines) }
-    ensures prints { OnOk result ((texts : List Text) × (last : Ledger) × Prints (opening_of script.now) script.now.lines texts last × Appends (W.contents writer.old) (W.contents writer.new) (in_lines texts)) }
+    ensures ran { IfOk result (RunsTo script.now (W.contents writer.old) (W.contents writer.new)) }
     ensures err { IfErr result (Leaves C.state blanks.items script.now.lines writer.old writer.new) }
 {
     if !has_enough(script, blanks.as_slice()) {
         return Err(RunError::TooFewBlanks(blanks));
     }
     let manifest = script.manifest(alloc)?;
-    let mut source = Stock::new(alloc);
-    if source.supply(blanks).is_err() {
-        return Err(RunError::Memory);
+    let mut source = stock_of(alloc, blanks)?;
+    let ran = run_in_new_store(alloc, script, manifest, &mut source, writer)?;
+    Ok(ran)
+}
+
+/// A stock with these objects. It fails only for want of memory.
+fn stock_of<C: Chare>(alloc: Global, objects: Vec<C>) -> Result<Stock<C>, AllocError>
+    ensures { IfOk result (λ stock. (kind : Kind) → held_in stock kind ≡ count_of C.state objects.items kind) }
+{
+    let mut stock = Stock::new(alloc);
+    if stock.supply(objects).is_err() {
+        return Err(AllocError);
     }
-    let mut store = Small::new(alloc, manifest);
-    for line in script.lines() {
-        run_line(alloc, &mut store, &mut source, line, writer)?;
+    Ok(stock)
+}
+
+/// Creates the script's store and runs its lines there, or writes why there is no store.
+fn run_in_new_store<C: Chare, W: Write>(
+    alloc: Global,
+    script: &Script,
+    manifest: Manifest,
+    source: &mut Stock<C>,
+    writer: &mut W,
+) -> io::Result<Ran>
+    requires manifest { manifest_of (pairs_of script.now.arrays) ≡ Some manifest }
+    requires fit { IsFit (new_world manifest) }
+    requires enough { (kind : Kind) → blanks_of kind script.now.lines ≤ held_in source.old kind }
+    ensures { IfOk result (RunsTo script.now (W.contents writer.old) (W.contents writer.new)) }
+{
+    match Small::new(alloc, manifest, script.processors()) {
+        Ok(mut store) => {
+            run_lines(alloc, &mut store, source, script.lines(), writer)?;
+            Ok(Ran::Whole)
+        }
+        Err(refusal) => {
+            write_line(writer, &Answer::Refused(refusal))?;
+            Ok(Ran::NotCreated(refusal))
+        }
+    }
+}
+
+/// Runs lines one after another.
+fn run_lines<C: Chare, W: Write>(
+    alloc: Global,
+    store: &mut Small<C>,
+    source: &mut Stock<C>,
+    lines: &[Line],
+    writer: &mut W,
+) -> io::Result<()>
+    requires stands { StandsSo store.old }
+    requires enough { (kind : Kind) → blanks_of kind lines.now ≤ held_in source.old kind }
+    ensures prints { OnOk result ((texts : List Text) × Prints (ledger_in store.old) lines.now texts (ledger_in store.new) × Appends (W.contents writer.old) (W.contents writer.new) (in_lines texts)) }
+{
+    for line in lines {
+        run_line(alloc, store, source, line, writer)?;
     }
     Ok(())
 }

@@ -2,11 +2,12 @@
 
 ghost use Rattle.std.specs.Prelude.{◌≡◌, IfOk, IsOk, None, OnOk};
 ghost use Rattle.std.specs.Io.KnownBytes.{Appends};
+ghost use Rattle.charmlet_model.specs.Core.{stands_on};
 ghost use Rattle.charmlet_model.specs.World.{record_of};
 ghost use Rattle.charmlet_script.specs.Printed.{shown_text};
 ghost use Rattle.charmlet_script.specs.declared.script.Line.TheVariants as lines;
 ghost use Rattle.charmlet_small.specs.Census.{census_in};
-ghost use Rattle.charmlet_small.specs.Small.{StandsSo, world_in};
+ghost use Rattle.charmlet_small.specs.Small.{StandsSo, store_in, world_in};
 ghost use Rattle.charmlet_cli.specs.Lines.{IsPrinted, in_lines, ledger_in};
 ghost use Rattle.charmlet_cli.specs.Shown.{counted_of, counted_texts, record_text};
 
@@ -41,7 +42,7 @@ pub fn state_line<C: Chare, W: Write>(
 fn shown<C: Chare>(alloc: Global, store: &mut Small<C>, elem: Elem) -> Result<Shown, AllocError>
     requires { StandsSo store.old }
     ensures same { store.new ≡ store.old }
-    ensures ok { IfOk result (λ shown. shown_text shown ≡ record_text elem (record_of (world_in store.old) elem)) }
+    ensures ok { IfOk result (λ shown. shown_text shown ≡ record_text elem (stands_on (store_in store.old).core elem) (record_of (world_in store.old) elem)) }
     ensures absent { (record_of (world_in store.old) elem).state ≡ None → IsOk result }
 {
     let look = store.look(elem)?;

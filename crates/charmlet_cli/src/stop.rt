@@ -13,6 +13,9 @@ pub enum Stop {
     /// Memory or the output failed outside a step.
     #[error("cannot go on")]
     CannotGoOn,
+    /// The store wasn't created, and no line was run. The output says why.
+    #[error("cannot create store")]
+    NotCreated,
     /// The script isn't there, is a folder, or a read of it failed.
     #[error("cannot read script")]
     UnreadableScript,
@@ -25,12 +28,13 @@ impl Stop {
     ghost use Rattle.std.specs.Prelude.{◌≡◌};
     ghost use Rattle.charmlet_cli.specs.Stop.{status_of};
 
-    /// The program's exit status: 1 where it can't go on, and 2 for a script that can't be run.
+    /// The program's exit status: 1 where it can't go on or has no store, and 2 for a script that can't
+    /// be run.
     pub fn status(&self) -> u8
         ensures { result ≡ status_of self.now }
     {
         match self {
-            Stop::CannotGoOn => 1,
+            Stop::CannotGoOn | Stop::NotCreated => 1,
             Stop::UnreadableScript | Stop::MalformedLine(_) => 2,
         }
     }

@@ -1,4 +1,5 @@
 mod census;
+mod moving;
 mod probe;
 mod showing;
 mod steps;
@@ -506,7 +507,7 @@ fn failed_output_ends_the_run(rt: HostRuntime) -> Result<(), Fail> {
     assert!(rt; wanted.as_bytes().starts_with(output.taken.as_slice()));
     assert!(rt; output.taken.starts_with(b"supplied 1 1\ntold unknown\n"));
     let stop = match ran {
-        Ok(()) => panic!(rt; "the output failed"),
+        Ok(_) => panic!(rt; "the output failed"),
         Err(error) => Stop::from(error),
     };
     assert_eq!(rt; stop.status(), 1);
@@ -550,7 +551,7 @@ fn small<C: Chare>(alloc: Global) -> Result<Option<Small<C>>, AllocError>
     ensures { IfOk result (λ store. IfSome store (StandsSo)) }
 {
     match Manifest::of(alloc, &[(0, 1)])? {
-        Some(manifest) => Ok(Some(Small::new(alloc, manifest))),
+        Some(manifest) => Ok(Small::new(alloc, manifest, 1).ok()),
         None => Ok(None),
     }
 }

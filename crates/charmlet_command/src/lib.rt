@@ -53,7 +53,7 @@ impl From<clap::Error> for CommandError {
     }
 }
 
-const RUN_ABOUT: &str = "Run a script on one processor, and print a line for each of its steps";
+const RUN_ABOUT: &str = "Run a script, and print what each of its lines answers";
 
 const STATUSES: &str = "\
 Exit status:

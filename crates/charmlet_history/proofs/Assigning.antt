@@ -1,11 +1,11 @@
 -- What a test and an assignment make of what is kept.
-use Rattle.std.proofs.Common.{◌≡◌, ℕ, ◌+◌, ◌<◌, ◌≤◌, ◌^◌, ◌==◌, Bool, true, false, cond, not, ◌||◌, List, [], ◌∷◌, ◌++◌, length, refl, sym, ap, subst, ◌∙◌, arith, if◌then◌else◌}
-use Rattle.std.proofs.Math.Nat.{mod-lt}
-use Rattle.std.proofs.lemmas.Bool.{ltb-true}
+use Rattle.std.proofs.Common.{◌≡◌, ℕ, ◌+◌, ◌<◌, ◌^◌, ◌==◌, Bool, true, false, cond, not, ◌&&◌, ◌||◌, List, [], ◌∷◌, ◌++◌, length, refl, sym, ap, subst, ◌∙◌, arith, if◌then◌else◌}
+use Rattle.std.proofs.lemmas.Bool.{lt-ltb}
 use Rattle.std.specs.Prelude.{Option, Some, None, IfSome, is_some, nat_le, nat_lt, unwrap_or, option_and_then, Result, Ok, Err, IfOk, IfErr}
 use Rattle.std.specs.Ordering.{is_eq, eq_by_cmp, nat_cmp}
 use Rattle.std.specs.BTreeMap.{insert_entry, is_at}
-use Rattle.std.specs.Map.{lookup}
+use Rattle.std.specs.List.Sorted.{IsStrictlySortedBy}
+use Rattle.std.specs.Map.{lookup, keys_of, remove_entry}
 use Rattle.std.proofs.lemmas.Cmp.{tied_itself}
 use Rattle.std.proofs.lemmas.Map.Views.{tells_apart}
 use Rattle.charmlet_model.specs.declared.names.Elem.{Elem}
@@ -16,37 +16,25 @@ use Rattle.charmlet_model.specs.declared.refusal.Refusal.{Refusal}
 use Rattle.charmlet_model.specs.declared.refusal.Refusal.TheVariants as refusals
 use Rattle.charmlet_model.specs.declared.TheConstants.{CONSTRUCT}
 use Rattle.charmlet_model.specs.Names.{elem_cmp}
-use Rattle.charmlet_model.specs.World.{message_among, record_of, no_record}
+use Rattle.charmlet_model.specs.Reaction.{greatest}
+use Rattle.charmlet_model.specs.World.{message_among, record_of}
 use Rattle.charmlet_model.specs.Core as model
-use Rattle.charmlet_model.specs.Core.{Core, Gate, When, MayLackMemory, present, home, place_of, stands_on, is_present, assigned_to, pending_message, gates, message_gates, lacks_blank, are_counts_full, blank_for, blank_of_id, first_refusal, next_core, Assign}
+use Rattle.charmlet_model.specs.Core.{Core, Gate, When, MayLackMemory, present, home, place_of, stands_on, is_present, assigned_to, pending_message, gates, message_gates, lacks_blank, are_counts_full, blank_for, blank_of_id, first_refusal, next_core, Assign, Release}
 use Rattle.charmlet_model.specs.Sound.{IsSound}
-use Rattle.charmlet_model.proofs.Maps.{elem_total, elem_exact, lookup-insert_entry}
-use Rattle.charmlet_model.proofs.CanLemmas.{all_pass, not_not}
+use Rattle.charmlet_model.proofs.Maps.{elem_total, elem_exact, lookup-insert_entry, rising-insert_entry}
 use Rattle.charmlet_model.proofs.SoundLemmas.{step_sound}
 use Rattle.charmlet_history.specs.declared.element.Element.{Element}
-use Rattle.charmlet_history.specs.Kept.{Kept, Stands, core_of, kept_of, element_at, assigned_list, is_full, plenty, refusal_in}
+use Rattle.charmlet_history.specs.Kept.{Kept, Stands, IsCountedBy, core_of, element_at, places_of, stands_in, is_full, plenty, refusal_in}
 use Rattle.charmlet_history.specs.Delivered.{lacks_count, receiver_gates, blank_of, with_entry, with_receiver, with_room}
 use Rattle.charmlet_history.proofs.Standing.{manifest_is}
 use Rattle.charmlet_history.proofs.Orders.{is_done}
+use Rattle.charmlet_history.proofs.Places.{element_at-insert, places_stay, seen_place}
 
 -- a message is assigned, and there is room for its delivery
-abbrev pub assigned_in : Kept → MsgId → Kept
-assigned_in k id = record (with_room k id) { assigned = Some id }
-
--- the one processor has what is assigned
-pub assigned_is : (o : Option MsgId) → lookup (is_at (nat_cmp 0)) (assigned_list o) ≡ o
-assigned_is None = refl
-assigned_is (Some id) = refl
+abbrev pub assigned_in : Kept → ℕ → MsgId → Kept
+assigned_in k processor id = record (with_room k id) { assigned = insert_entry nat_cmp k.assigned processor id }
 
 -- ---- entries of elements
-
-unwrapped : {X : Type 0} (b : Bool) (x d : X) (o : Option X) → unwrap_or (cond b (Some x) o) d ≡ cond b x (unwrap_or o d)
-unwrapped true x d o = refl
-unwrapped false x d o = refl
-
-pub element_at-insert : (es : List (Elem × Element)) (y : Elem) (e : Element) (x : Elem) → element_at (insert_entry elem_cmp es y e) x ≡ cond (eq_by_cmp elem_cmp x y) e (element_at es x)
-element_at-insert es y e x =
-    ap (λ o. unwrap_or o (kept_of no_record)) (lookup-insert_entry elem_cmp elem_total x y e es) ∙ unwrapped (eq_by_cmp elem_cmp x y) e (kept_of no_record) (lookup (is_at (elem_cmp x)) es)
 
 -- an entry is made, and not seen
 entry_unseen : (es : List (Elem × Element)) (y x : Elem) → element_at (with_entry es y) x ≡ element_at es x
@@ -61,145 +49,171 @@ receiver_unseen : (es : List (Elem × Element)) (o : Option Message) (x : Elem) 
 receiver_unseen es None x = refl
 receiver_unseen es (Some m) x = entry_unseen es m.to x
 
-receiver_there : (es : List (Elem × Element)) (o : Option Message) → IfSome o (λ m. is_some (lookup (is_at (elem_cmp m.to)) (with_receiver es o)) ≡ true)
+receiver_rising : (es : List (Elem × Element)) (o : Option Message) → IsStrictlySortedBy elem_cmp (keys_of es) → IsStrictlySortedBy elem_cmp (keys_of (with_receiver es o))
+receiver_rising es None rising = rising
+receiver_rising es (Some m) rising = rising-insert_entry elem_cmp elem_total m.to (element_at es m.to) es rising
+
+receiver_places : (es : List (Elem × Element)) (o : Option Message) → IsStrictlySortedBy elem_cmp (keys_of es) → places_of (with_receiver es o) ≡ places_of es
+receiver_places es None rising = refl
+receiver_places es (Some m) rising = places_stay es rising m.to (element_at es m.to) refl
+
+pub receiver_there : (es : List (Elem × Element)) (o : Option Message) → IfSome o (λ m. is_some (lookup (is_at (elem_cmp m.to)) (with_receiver es o)) ≡ true)
 receiver_there es None = tt
 receiver_there es (Some m) =
     ap is_some (lookup-insert_entry elem_cmp elem_total m.to m.to (element_at es m.to) es
     ∙ ap (λ b. cond b (Some (element_at es m.to)) (lookup (is_at (elem_cmp m.to)) es)) (ap is_eq (tied_itself elem_total m.to)))
 
+-- nothing is removed where there is nothing
+none_removed : {K X : Type 0} (test : K → Bool) (es : List (K × X)) → lookup test es ≡ None → remove_entry test es ≡ es
+none_removed test [] none = refl
+none_removed test (e ∷ es) none = elim (test e.0) as (λ b. cond b (Some e.1) (lookup test es) ≡ None → cond b es (e ∷ remove_entry test es) ≡ e ∷ es) [
+  | true ↦ λ some. absurd (let never : ⊥ = cc in never)
+  | false ↦ λ none. ap (λ fs. e ∷ fs) (none_removed test es none)
+] none
+
 -- ---- the order of an assignment
 
 -- of a message that may be pending
-abbrev pending_gates : Kept → Option Message → List Gate
-pending_gates k None = When true refusals.NoMessage ∷ []
-pending_gates k (Some m) = receiver_gates k m
+abbrev pending_gates : Kept → ℕ → Option Message → List Gate
+pending_gates k processor None = When true refusals.NoMessage ∷ []
+pending_gates k processor (Some m) = receiver_gates k processor m
 
 -- of a message to be assigned to a processor
 abbrev delivery_gates : Kept → ℕ → MsgId → List Gate
 delivery_gates k processor id =
-    When (not (nat_lt processor 1)) refusals.BadPes
-    ∷ When (is_some k.assigned) refusals.Uncommitted
-    ∷ pending_gates k (message_among id k.pending)
+    When (not (nat_lt processor k.processors)) refusals.BadPes
+    ∷ When (is_some (lookup (is_at (nat_cmp processor)) k.assigned)) refusals.Uncommitted
+    ∷ pending_gates k processor (message_among id k.pending)
 
--- where each element stands here and the stock lacks nothing
-short_order : (absent full : Bool) (wanted : Option Kind) →
-    first_refusal (When absent refusals.Absent ∷ When false (refusals.Elsewhere 0) ∷ When full refusals.HistoryFull ∷ (lacks_blank plenty wanted ++ MayLackMemory ∷ []))
-    ≡ first_refusal (When absent refusals.Absent ∷ When full refusals.HistoryFull ∷ [])
-short_order true full wanted = refl
-short_order false true wanted = refl
-short_order false false None = refl
-short_order false false (Some kind) = refl
+-- where the stock lacks nothing
+short_order : (absent away full : Bool) (place : ℕ) (wanted : Option Kind) →
+    first_refusal (When absent refusals.Absent ∷ When away (refusals.Elsewhere place) ∷ When full refusals.HistoryFull ∷ (lacks_blank plenty wanted ++ MayLackMemory ∷ []))
+    ≡ first_refusal (When absent refusals.Absent ∷ When away (refusals.Elsewhere place) ∷ When full refusals.HistoryFull ∷ [])
+short_order true away full place wanted = refl
+short_order false true full place wanted = refl
+short_order false false true place wanted = refl
+short_order false false false place None = refl
+short_order false false false place (Some kind) = refl
+
+-- what comes first is the same
+behind : (away busy : Bool) (a b : List Gate) → first_refusal a ≡ first_refusal b →
+    first_refusal (When away refusals.BadPes ∷ When busy refusals.Uncommitted ∷ a) ≡ first_refusal (When away refusals.BadPes ∷ When busy refusals.Uncommitted ∷ b)
+behind true busy a b h = refl
+behind false true a b h = refl
+behind false false a b h = h
 
 module _ (k : Kept) (stands : Stands k) where
   abbrev core : Core
   core = core_of k
 
-  stands_here : (x : Elem) → stands_on core x ≡ 0
-  stands_here x = elim (place_of core x) as (λ o. IfSome o (λ p. p < 1) → unwrap_or o (home x 1) ≡ 0) [
-    | None ↦ λ _. let below : home x 1 < 1 = mod-lt (x.array + x.index) (omega arith) in omega arith
-    | Some p ↦ λ below. omega arith
-  ] (stands.sound.placed x).on_processor
+  pub stands_is : (x : Elem) → stands_on core x ≡ stands_in k x
+  stands_is x = ap (λ o. unwrap_or o (home x k.processors)) (seen_place x k.elements stands.rising)
 
-  there_is : (x : Elem) → is_present core x ≡ (element_at k.elements x).is_there
-  there_is x = ap (λ (e : Element). e.is_there) (sym (stands.elements x))
+  pub there_is : (x : Elem) → is_present core x ≡ is_some (element_at k.elements x).place
+  there_is x = sym (stands.sound.placed x).there ∙ ap is_some (seen_place x k.elements stands.rising)
 
   full_is : (x : Elem) → (model.is_full core || are_counts_full (record_of (present core) x)) ≡ (is_full k || lacks_count (element_at k.elements x))
   full_is x =
       let events : 0 + length k.events ≡ length k.events = omega arith in
-      λ i. nat_le (2 ^ 40) (events i + length core.assigned) || lacks_count (sym (stands.elements x) i)
+      let counts = stands.counts x in
+      λ i. nat_le (2 ^ 40) (events i + length k.assigned) || not (nat_le (sym counts.received i + 1) greatest && nat_le (sym counts.sent i + 16) greatest)
 
-  abbrev order : Message → Bool → ℕ → Bool → List Gate
-  order m there place full =
-      When (not (there || (m.entry == CONSTRUCT))) refusals.Absent
-      ∷ When (not (place == 0)) (refusals.Elsewhere place)
-      ∷ When full refusals.HistoryFull
-      ∷ (lacks_blank plenty (blank_for core m) ++ MayLackMemory ∷ [])
+  module _ (processor : ℕ) where
+    abbrev order : Message → Bool → ℕ → Bool → List Gate
+    order m there place full =
+        When (not (there || (m.entry == CONSTRUCT))) refusals.Absent
+        ∷ When (not (place == processor)) (refusals.Elsewhere place)
+        ∷ When full refusals.HistoryFull
+        ∷ (lacks_blank plenty (blank_for core m) ++ MayLackMemory ∷ [])
 
-  message_order : (m : Message) → first_refusal (message_gates core plenty 0 (Some m)) ≡ first_refusal (receiver_gates k m)
-  message_order m =
-      let there = (element_at k.elements m.to).is_there in
-      (λ i. first_refusal (order m (there_is m.to i) (stands_here m.to i) (full_is m.to i)))
-      ∙ short_order (not (there || (m.entry == CONSTRUCT))) (is_full k || lacks_count (element_at k.elements m.to)) (blank_for core m)
+    message_order : (m : Message) → first_refusal (message_gates core plenty processor (Some m)) ≡ first_refusal (receiver_gates k processor m)
+    message_order m =
+        let there = is_some (element_at k.elements m.to).place in
+        (λ i. first_refusal (order m (there_is m.to i) (stands_is m.to i) (full_is m.to i)))
+        ∙ short_order (not (there || (m.entry == CONSTRUCT))) (not (stands_in k m.to == processor)) (is_full k || lacks_count (element_at k.elements m.to)) (stands_in k m.to) (blank_for core m)
 
-  pending_order : (o : Option Message) → first_refusal (message_gates core plenty 0 o) ≡ first_refusal (pending_gates k o)
-  pending_order None = refl
-  pending_order (Some m) = message_order m
+    pending_order : (o : Option Message) → first_refusal (message_gates core plenty processor o) ≡ first_refusal (pending_gates k processor o)
+    pending_order None = refl
+    pending_order (Some m) = message_order m
 
-  -- of the one processor
-  abbrev rest : Bool → List Gate → List Gate
-  rest busy more = When busy refusals.Uncommitted ∷ more
+    -- a test by what is kept
+    order_is : (id : MsgId) → first_refusal (gates core plenty (Assign processor id)) ≡ first_refusal (delivery_gates k processor id)
+    order_is id =
+        behind (not (nat_lt processor k.processors)) (is_some (lookup (is_at (nat_cmp processor)) k.assigned)) (message_gates core plenty processor (pending_message core id))
+        (pending_gates k processor (message_among id k.pending))
+        (pending_order (pending_message core id) ∙ ap (λ ms. first_refusal (pending_gates k processor (message_among id ms))) (sym stands.pending))
 
-  none_before : (busy : Bool) (a b : List Gate) → first_refusal a ≡ first_refusal b → first_refusal (rest busy a) ≡ first_refusal (rest busy b)
-  none_before true a b h = refl
-  none_before false a b h = h
+    blank_is : (m : Message) → blank_for core m ≡ blank_of k m
+    blank_is m = λ i. if there_is m.to i then None else (if m.entry == CONSTRUCT then lookup (is_at (nat_cmp m.to.array)) (manifest_is k i) else None)
 
-  here_order : (id : MsgId) → first_refusal (gates core plenty (Assign 0 id)) ≡ first_refusal (delivery_gates k 0 id)
-  here_order id =
-      ap (λ o. first_refusal (rest (is_some o) (message_gates core plenty 0 (pending_message core id)))) (assigned_is k.assigned)
-      ∙ none_before (is_some k.assigned) (message_gates core plenty 0 (pending_message core id)) (pending_gates k (message_among id k.pending))
-      (pending_order (pending_message core id) ∙ ap (λ ms. first_refusal (pending_gates k (message_among id ms))) (sym stands.pending))
+    -- the receiver's test is the whole one, where nothing else refuses
+    pub tested : (id : MsgId) (m : Message) (result : Result (Option Kind) Refusal) →
+        processor < k.processors → is_some (lookup (is_at (nat_cmp processor)) k.assigned) ≡ false → message_among id k.pending ≡ Some m →
+        refusal_in result ≡ first_refusal (receiver_gates k processor m) → IfOk result (λ kind. kind ≡ blank_of k m) →
+        IfOk result (λ kind. (kind ≡ blank_of_id core (Some id)) × (first_refusal (gates core plenty (Assign processor id)) ≡ None))
+        × IfErr result (λ refusal. first_refusal (gates core plenty (Assign processor id)) ≡ Some refusal)
+    tested id m result below free is by_receiver by_blank =
+        let whole : first_refusal (gates core plenty (Assign processor id)) ≡ first_refusal (receiver_gates k processor m) =
+        order_is id ∙ (λ i. first_refusal (When (not (lt-ltb processor k.processors below i)) refusals.BadPes ∷ When (free i) refusals.Uncommitted ∷ pending_gates k processor (is i))) in
+        let blank : blank_of_id core (Some id) ≡ blank_of k m =
+        ap (λ ms. option_and_then (blank_for core) (message_among id ms)) (sym stands.pending) ∙ ap (option_and_then (blank_for core)) is ∙ blank_is m in
+        elim result as (λ r. refusal_in r ≡ first_refusal (receiver_gates k processor m) → IfOk r (λ kind. kind ≡ blank_of k m) →
+        IfOk r (λ kind. (kind ≡ blank_of_id core (Some id)) × (first_refusal (gates core plenty (Assign processor id)) ≡ None))
+        × IfErr r (λ refusal. first_refusal (gates core plenty (Assign processor id)) ≡ Some refusal)) [
+          | Ok kind ↦ λ none same. ((same ∙ sym blank, whole ∙ sym none), tt)
+          | Err refusal ↦ λ some _. (tt, whole ∙ sym some)
+        ] by_receiver by_blank
 
-  none_there : (here : Bool) → here ≡ false → (a b : List Gate) → first_refusal (When (not here) refusals.BadPes ∷ a) ≡ first_refusal (When (not here) refusals.BadPes ∷ b)
-  none_there true h a b = cc
-  none_there false h a b = refl
+  -- ---- room for a delivery, which isn't seen
 
-  -- a test by what is kept
-  order_is : (processor : ℕ) (id : MsgId) → first_refusal (gates core plenty (Assign processor id)) ≡ first_refusal (delivery_gates k processor id)
-  order_is processor id =
-      elim (nat_lt processor 1) as (λ b. nat_lt processor 1 ≡ b → first_refusal (gates core plenty (Assign processor id)) ≡ first_refusal (delivery_gates k processor id)) [
-        | true ↦ λ here.
-            let below = ltb-true processor 1 here in
-            subst (λ p. first_refusal (gates core plenty (Assign p id)) ≡ first_refusal (delivery_gates k p id)) (let zero : 0 ≡ processor = omega arith in zero) (here_order id)
-        | false ↦ λ away. none_there (nat_lt processor 1) away (When (is_some (assigned_to core processor)) refusals.Uncommitted ∷ message_gates core plenty processor (pending_message core id))
-            (When (is_some k.assigned) refusals.Uncommitted ∷ pending_gates k (message_among id k.pending))
-      ] refl
+  module _ (id : MsgId) where
+    pub room_core : core_of (with_room k id) ≡ core
+    room_core = λ i. record core { places = receiver_places k.elements (message_among id k.pending) stands.rising i }
 
-  blank_is : (m : Message) → blank_for core m ≡ blank_of k m
-  blank_is m = λ i. if there_is m.to i then None else (if m.entry == CONSTRUCT then lookup (is_at (nat_cmp m.to.array)) (manifest_is k i) else None)
-
-  -- the receiver's test is the whole one, where nothing else refuses
-  pub tested : (processor : ℕ) (id : MsgId) (m : Message) (result : Result (Option Kind) Refusal) → processor ≤ 0 → is_some k.assigned ≡ false → message_among id k.pending ≡ Some m →
-      refusal_in result ≡ first_refusal (receiver_gates k m) → IfOk result (λ kind. kind ≡ blank_of k m) →
-      IfOk result (λ kind. (kind ≡ blank_of_id core (Some id)) × (first_refusal (gates core plenty (Assign processor id)) ≡ None))
-      × IfErr result (λ refusal. first_refusal (gates core plenty (Assign processor id)) ≡ Some refusal)
-  tested processor id m result here free is by_receiver by_blank =
-      let whole : first_refusal (gates core plenty (Assign processor id)) ≡ first_refusal (receiver_gates k m) =
-      order_is processor id
-      ∙ (let zero : processor ≡ 0 = omega arith in ap (λ p. first_refusal (delivery_gates k p id)) zero)
-      ∙ (λ i. first_refusal (rest (free i) (pending_gates k (is i)))) in
-      let blank : blank_of_id core (Some id) ≡ blank_of k m =
-      ap (λ ms. option_and_then (blank_for core) (message_among id ms)) (sym stands.pending) ∙ ap (option_and_then (blank_for core)) is ∙ blank_is m in
-      elim result as (λ r. refusal_in r ≡ first_refusal (receiver_gates k m) → IfOk r (λ kind. kind ≡ blank_of k m) →
-      IfOk r (λ kind. (kind ≡ blank_of_id core (Some id)) × (first_refusal (gates core plenty (Assign processor id)) ≡ None))
-      × IfErr r (λ refusal. first_refusal (gates core plenty (Assign processor id)) ≡ Some refusal)) [
-        | Ok kind ↦ λ none same. ((same ∙ sym blank, whole ∙ sym none), tt)
-        | Err refusal ↦ λ some _. (tt, whole ∙ sym some)
-      ] by_receiver by_blank
+    pub room_stands : Stands (with_room k id)
+    room_stands = record {
+      sound = subst IsSound (sym room_core) stands.sound;
+      rising = receiver_rising k.elements (message_among id k.pending) stands.rising;
+      counts = λ x. subst (IsCountedBy (record_of (present core) x)) (sym (receiver_unseen k.elements (message_among id k.pending) x)) (stands.counts x);
+      pending = stands.pending;
+      clients = stands.clients;
+      durable_rows = stands.durable_rows;
+    }
 
   -- ---- an assignment
 
   module _ (processor : ℕ) (id : MsgId) (can : first_refusal (gates core plenty (Assign processor id)) ≡ None) where
-    passed : (processor ≡ 0) × (is_some k.assigned ≡ false)
-    passed =
-        let p = all_pass (delivery_gates k processor id) (sym (order_is processor id) ∙ can) in
-        let below = ltb-true processor 1 (not_not (nat_lt processor 1) p.0) in
-        (omega arith, p.1.0)
+    pub assigned_core : core_of (assigned_in k processor id) ≡ next_core core (Assign processor id)
+    assigned_core = ap (λ (c : Core). record c { assigned = insert_entry nat_cmp k.assigned processor id }) (room_core id)
 
-    assigned_core : core_of (assigned_in k id) ≡ next_core core (Assign processor id)
-    assigned_core =
-        let none : k.assigned ≡ None = empty k.assigned passed.1 in
-        λ i. record core { assigned = insert_entry nat_cmp (assigned_list (sym none i)) (sym passed.0 i) id }
-      where
-        empty : (o : Option MsgId) → is_some o ≡ false → o ≡ None
-        empty None h = refl
-        empty (Some id) h = cc
+    pub assigned_stands : Stands (assigned_in k processor id)
+    assigned_stands =
+        let room = room_stands id in
+        record {
+          sound = subst IsSound (sym assigned_core) (step_sound core plenty (Assign processor id) _ stands.sound tt (is_done core plenty (Assign processor id) refl can));
+          rising = room.rising;
+          counts = room.counts;
+          pending = room.pending;
+          clients = room.clients;
+          durable_rows = room.durable_rows;
+        }
 
-    pub assigned_stands : Stands (assigned_in k id)
-    assigned_stands = record {
-      sound = subst IsSound (sym assigned_core) (step_sound core plenty (Assign processor id) _ stands.sound tt (is_done core plenty (Assign processor id) refl can));
-      elements = λ x. receiver_unseen k.elements (message_among id k.pending) x ∙ stands.elements x;
+  -- ---- a release
+
+  module _ (processor : ℕ) where
+    abbrev released : Kept
+    released = record k { assigned = remove_entry (is_at (nat_cmp processor)) k.assigned }
+
+    released_sound : (o : Option MsgId) → assigned_to core processor ≡ o → IsSound (core_of released)
+    released_sound None none = subst (λ assigned. IsSound (record core { assigned = assigned })) (sym (none_removed (is_at (nat_cmp processor)) k.assigned none)) stands.sound
+    released_sound (Some id) is = step_sound core plenty (Release processor) _ stands.sound tt (is_done core plenty (Release processor) (ap is_some is) refl)
+
+    pub released_stands : Stands released
+    released_stands = record {
+      sound = released_sound (assigned_to core processor) refl;
+      rising = stands.rising;
+      counts = stands.counts;
       pending = stands.pending;
       clients = stands.clients;
       durable_rows = stands.durable_rows;
-      receiver = receiver_there k.elements (message_among id k.pending);
     }

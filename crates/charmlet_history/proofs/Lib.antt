@@ -5,6 +5,7 @@ pub mod Requests
 pub mod Flushes
 pub mod Nexts
 pub mod MessagePlaces
-pub mod Homes
+pub mod Places
 pub mod Assigning
 pub mod Delivering
+pub mod Moves

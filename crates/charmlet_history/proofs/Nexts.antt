@@ -1,6 +1,6 @@
 -- The oldest message that can be delivered.
-use Rattle.std.proofs.Common.{◌≡◌, ◌+◌, ◌==◌, ◌&&◌, ◌||◌, true, false, cond, List, [], ◌∷◌, refl, sym, ap, ◌∙◌}
-use Rattle.std.specs.Prelude.{Some, nat_le}
+use Rattle.std.proofs.Common.{◌≡◌, ◌+◌, ◌==◌, ◌&&◌, ◌||◌, true, false, cond, List, [], ◌∷◌, refl, sym, ap, subst, ◌∙◌}
+use Rattle.std.specs.Prelude.{Some, None, nat_le, option_and_then, option_map}
 use Rattle.std.specs.Cmp.{nat_eq_equiv}
 use Rattle.std.specs.Cmp.Derive.{both_true}
 use Rattle.std.specs.List.{AllByRecursion}
@@ -14,11 +14,12 @@ use Rattle.charmlet_model.specs.Names.{same_origin, same_id}
 use Rattle.charmlet_model.specs.Reaction.{greatest}
 use Rattle.charmlet_model.specs.World.{World, can, can_deliver, message_among, oldest_deliverable}
 use Rattle.charmlet_model.specs.Fit.{AreDistinct, AreApart}
-use Rattle.charmlet_model.specs.Core.{present}
+use Rattle.charmlet_model.specs.Core.{present, stands_on}
+use Rattle.charmlet_model.proofs.Deliveries.{message_of}
 use Rattle.charmlet_model.proofs.Fits.{same_id-is}
 use Rattle.charmlet_model.proofs.SoundLemmas.{sound_fit}
-use Rattle.charmlet_history.specs.declared.element.Element as kept
-use Rattle.charmlet_history.specs.Kept.{Kept, Stands, core_of, is_deliverable, oldest}
+use Rattle.charmlet_history.specs.Kept.{Kept, Stands, core_of, due_on, is_deliverable, next_in, oldest, stands_in}
+use Rattle.charmlet_history.proofs.Assigning.{stands_is, there_is}
 
 -- ---- ids
 
@@ -53,7 +54,9 @@ module _ (k : Kept) (stands : Stands k) where
   w = present (core_of k)
 
   deliverable_is : (m : Message) → is_deliverable k m ≡ can_deliver w (Some m)
-  deliverable_is m = ap (λ (e : kept.Element). (e.is_there || (m.entry == CONSTRUCT)) && nat_le (e.received + 1) greatest && nat_le (e.sent + 16) greatest) (stands.elements m.to)
+  deliverable_is m =
+      let counts = stands.counts m.to in
+      λ i. (sym (there_is k stands m.to) i || (m.entry == CONSTRUCT)) && nat_le (counts.received i + 1) greatest && nat_le (counts.sent i + 16) greatest
 
   same_oldest : (ms : List Message) → AllByRecursion (λ m. message_among m.id w.pending ≡ Some m) ms → oldest k ms ≡ oldest_deliverable w ms
   same_oldest [] named = refl
@@ -63,3 +66,28 @@ module _ (k : Kept) (stands : Stands k) where
 
   pub oldest_is : oldest k k.pending ≡ oldest_deliverable w w.pending
   oldest_is = ap (oldest k) stands.pending ∙ same_oldest w.pending (all_named w.pending (sound_fit (core_of k) stands.sound).distinct)
+
+  -- and its processor by what is kept
+  pub next_is : (id : MsgId) (m : Message) → oldest k k.pending ≡ Some id → message_among id k.pending ≡ Some m → Some (stands_in k m.to, id) ≡ next_in (core_of k)
+  next_is id m first found =
+      sym (ap (option_and_then (due_on (core_of k))) (sym oldest_is ∙ first)
+      ∙ ap (option_map (λ n. (stands_on (core_of k) n.to, id))) (ap (message_among id) (sym stands.pending) ∙ found)
+      ∙ ap (λ p. Some (p, id)) (stands_is k stands m.to))
+
+  pub none_is_next : oldest k k.pending ≡ None → next_in (core_of k) ≡ None
+  none_is_next none = ap (option_and_then (due_on (core_of k))) (sym oldest_is ∙ none)
+
+  -- the oldest one is pending
+  pub oldest_found : (id : MsgId) → oldest k k.pending ≡ Some id → message_among id k.pending ≡ None → ⊥
+  oldest_found id first none =
+      let can_be = oldest_can w.pending (sym oldest_is ∙ first) in
+      let some = message_of w id can_be in
+      let both : Some some.0 ≡ None = sym some.1 ∙ ap (message_among id) (sym stands.pending) ∙ none in
+      let never : ⊥ = cc in never
+    where
+      oldest_can : (ms : List Message) → oldest_deliverable w ms ≡ Some id → can w (Deliver id) ≡ true
+      oldest_can [] h = absurd (let never : ⊥ = cc in never)
+      oldest_can (m ∷ ms) h = elim (can w (Deliver m.id)) as (λ b. can w (Deliver m.id) ≡ b → cond b (Some m.id) (oldest_deliverable w ms) ≡ Some id → can w (Deliver id) ≡ true) [
+        | true ↦ λ yes_it h. subst (λ i. can w (Deliver i) ≡ true) (let same : m.id ≡ id = cc in same) yes_it
+        | false ↦ λ _ h. oldest_can ms h
+      ] refl h

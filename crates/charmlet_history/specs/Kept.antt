@@ -1,8 +1,9 @@
 -- What a history keeps, and the core that it is.
-use Rattle.std.specs.Prelude.{◌≡◌, ℕ, ◌+◌, Bool, true, false, not, ◌&&◌, ◌||◌, IfSome, is_some, option_and_then, ◌<◌, ◌≤◌, is_none, nat_le, nat_lt, ◌^◌, ◌==◌, List, [], ◌∷◌, ◌++◌, length, map, if◌then◌else◌, Option, Some, None, unwrap_or, Result, Ok, Err}
+use Rattle.std.specs.Prelude.{◌≡◌, ℕ, ◌+◌, Bool, true, false, not, ◌&&◌, ◌||◌, IfSome, is_some, option_and_then, option_map, ◌<◌, ◌≤◌, is_none, nat_le, nat_lt, ◌^◌, ◌==◌, List, [], ◌∷◌, ◌++◌, length, map, if◌then◌else◌, Option, Some, None, unwrap_or, Result, Ok, Err}
 use Rattle.std.specs.Ordering.{nat_cmp}
 use Rattle.std.specs.BTreeMap.{insert_entry, is_at}
-use Rattle.std.specs.Map.{lookup}
+use Rattle.std.specs.List.Sorted.{IsStrictlySortedBy}
+use Rattle.std.specs.Map.{keys_of, lookup}
 use Rattle.charmlet_model.specs.declared.names.Elem.{Elem}
 use Rattle.charmlet_model.specs.declared.names.MsgId.{MsgId}
 use Rattle.charmlet_model.specs.declared.message.Message.{Message}
@@ -15,13 +16,13 @@ use Rattle.charmlet_model.specs.declared.refusal.Refusal.{Refusal}
 use Rattle.charmlet_model.specs.declared.told.Told.{Told}
 use Rattle.charmlet_model.specs.Names.{elem_cmp}
 use Rattle.charmlet_model.specs.declared.reaction.Reaction.{Reaction}
-use Rattle.charmlet_model.specs.World.{world, no_record, record_of, client_of, message_among, request, reaction_of}
+use Rattle.charmlet_model.specs.World.{record_of, client_of, message_among, request, reaction_of, kind_of_array, oldest_deliverable}
 use Rattle.charmlet_model.specs.declared.refusal.Refusal.TheVariants as refusals
 use Rattle.charmlet_model.specs.declared.TheConstants.{CONSTRUCT}
 use Rattle.charmlet_model.specs.Reaction.{capped, greatest}
-use Rattle.charmlet_model.specs.Core.{Core, present, durable_world, pending_message, assigned_to, Blanks, is_out_of_turn, is_waiting, Gate, When, CoreAnswer, Tells, Refuses}
+use Rattle.charmlet_model.specs.Core.{Core, present, durable_world, pending_message, assigned_to, home, stands_on, Blanks, is_out_of_turn, is_waiting, Gate, When, CoreAnswer, Tells, Refuses}
 use Rattle.charmlet_model.specs.Told.{told_of}
-use Rattle.charmlet_model.specs.Sound.{IsSound, homes, new_world}
+use Rattle.charmlet_model.specs.Sound.{IsSound, new_world}
 use Rattle.std.specs.Vec.{vec_len, vec_capacity}
 use Rattle.charmlet_chare.specs.declared.output.Output.{Output}
 use Rattle.charmlet_chare.specs.Output.{output_of}
@@ -30,12 +31,26 @@ use Rattle.charmlet_history.specs.declared.element.Element.{Element}
 use Rattle.charmlet_history.specs.declared.history.History.{History}
 use Rattle.charmlet_history.specs.Client.{durable_row, new_client, with_present}
 
--- an element: whether it is there, and its counts
-abbrev pub kept_of : Record → Element
-kept_of r = record { is_there = is_some r.state; sent = r.sent; received = r.received }
+-- an element that was never constructed
+abbrev pub no_element : Element
+no_element = record { place = None; sent = 0; received = 0 }
 
 abbrev pub element_at : List (Elem × Element) → Elem → Element
-element_at elements x = unwrap_or (lookup (is_at (elem_cmp x)) elements) (kept_of no_record)
+element_at elements x = unwrap_or (lookup (is_at (elem_cmp x)) elements) no_element
+
+-- its two counts are those of the record
+pub record IsCountedBy (r : Record) (e : Element) : Type 0 where
+  pub sent : e.sent ≡ r.sent
+  pub received : e.received ≡ r.received
+
+-- the elements that have a place, each with its place
+abbrev pub with_place : Elem → Option ℕ → List (Elem × ℕ) → List (Elem × ℕ)
+with_place x None places = places
+with_place x (Some place) places = (x, place) ∷ places
+
+abbrev pub places_of : List (Elem × Element) → List (Elem × ℕ)
+places_of [] = []
+places_of (e ∷ es) = with_place e.0 e.1.place (places_of es)
 
 abbrev pub client_at : List (ℕ × Client) → ℕ → Client
 client_at clients c = unwrap_or (lookup (is_at (nat_cmp c)) clients) new_client
@@ -47,40 +62,37 @@ present_rows = map (λ e. (e.0, e.1.present))
 -- what a history keeps, its room aside
 pub record Kept : Type 0 where
   pub manifest : List (ℕ × Kind)
+  pub processors : ℕ
   pub elements : List (Elem × Element)
   pub pending : List Message
   pub clients : List (ℕ × Client)
   pub events : List Event
   pub durable : ℕ
-  pub assigned : Option MsgId
+  pub assigned : List (ℕ × MsgId)
 
 abbrev pub kept_in : History → Kept
 kept_in h = record {
   manifest = h.manifest;
+  processors = h.processors;
   elements = h.elements.entries;
   pending = h.pending.items;
   clients = h.clients.entries;
   events = h.events.items;
   durable = h.durable;
-  assigned = h.assigned;
+  assigned = h.assigned.entries;
 }
 
--- the assigned messages of the one processor
-abbrev pub assigned_list : Option MsgId → List (ℕ × MsgId)
-assigned_list None = []
-assigned_list (Some id) = (0, id) ∷ []
-
--- the core of a store with one processor, on which each element that is there stands
+-- the core of a store that opened with a new world and keeps this
 abbrev pub core_of : Kept → Core
 core_of k = record {
-  processors = 1;
+  processors = k.processors;
   opening = new_world k.manifest;
   before = 0;
   history = k.events;
   durable = k.durable;
   generation = 1;
-  places = homes 1 (world (new_world k.manifest) k.events).records;
-  assigned = assigned_list k.assigned;
+  places = places_of k.elements;
+  assigned = k.assigned;
   halted = false;
   busy = false;
 }
@@ -88,14 +100,14 @@ core_of k = record {
 abbrev pub core_in : History → Core
 core_in h = core_of (kept_in h)
 
--- what is kept is the present world, the durable rows of its clients, and room for what an assigned delivery makes
+-- what is kept is the present world, the places of its elements, and the durable rows of its clients
 pub record Stands (k : Kept) : Type 0 where
   pub sound : IsSound (core_of k)
-  pub elements : (x : Elem) → element_at k.elements x ≡ kept_of (record_of (present (core_of k)) x)
+  pub rising : IsStrictlySortedBy elem_cmp (keys_of k.elements)
+  pub counts : (x : Elem) → IsCountedBy (record_of (present (core_of k)) x) (element_at k.elements x)
   pub pending : k.pending ≡ (present (core_of k)).pending
   pub clients : present_rows k.clients ≡ (present (core_of k)).clients
   pub durable_rows : (c : ℕ) → durable_row (client_at k.clients c) ≡ client_of (durable_world (core_of k)) c
-  pub receiver : IfSome k.assigned (λ id. IfSome (message_among id k.pending) (λ m. is_some (lookup (is_at (elem_cmp m.to)) k.elements) ≡ true))
 
 -- the refusal, if there is one
 abbrev pub refusal_in : {T : Type 0} → Result T Refusal → Option Refusal
@@ -113,9 +125,9 @@ told_or_refused (Err refusal) = Refuses refusal
 abbrev pub turn_gates : ClientRow → ℕ → List Gate
 turn_gates row number = When (is_out_of_turn row number) (refusals.OutOfTurn (capped row.last 1)) ∷ When (is_waiting row) refusals.Waiting ∷ []
 
--- events and the assigned delivery would pass 2^40
+-- events and assigned deliveries would pass 2^40
 abbrev pub is_full : Kept → Bool
-is_full k = nat_le (2 ^ 40) (length k.events + length (assigned_list k.assigned))
+is_full k = nat_le (2 ^ 40) (length k.events + length k.assigned)
 
 -- of a request for which there is no array or no room
 abbrev pub limit_gates : Kept → ℕ → ℕ → List ℕ → List Gate
@@ -149,10 +161,14 @@ accepted k client number to entry words = record k {
 
 -- ---- deliveries
 
+-- an element's place, or its home
+abbrev pub stands_in : Kept → Elem → ℕ
+stands_in k x = unwrap_or (element_at k.elements x).place (home x k.processors)
+
 -- the receiver is there or is constructed, and its counts have room
 abbrev pub is_deliverable : Kept → Message → Bool
 is_deliverable k m =
-    ((element_at k.elements m.to).is_there || (m.entry == CONSTRUCT))
+    (is_some (element_at k.elements m.to).place || (m.entry == CONSTRUCT))
     && nat_le ((element_at k.elements m.to).received + 1) greatest && nat_le ((element_at k.elements m.to).sent + 16) greatest
 
 -- the oldest of the messages that can be delivered
@@ -160,18 +176,45 @@ abbrev pub oldest : Kept → List Message → Option MsgId
 oldest k [] = None
 oldest k (m ∷ ms) = if is_deliverable k m then Some m.id else oldest k ms
 
+-- the processor on which the receiver of a pending message stands, and the message
+abbrev pub due_on : Core → MsgId → Option (ℕ × MsgId)
+due_on core id = option_map (λ m. (stands_on core m.to, id)) (pending_message core id)
+
+-- the oldest message that can be delivered, with its processor
+abbrev pub next_in : Core → Option (ℕ × MsgId)
+next_in core = option_and_then (due_on core) (oldest_deliverable (present core) (present core).pending)
+
 -- a stock that lacks nothing
 abbrev pub plenty : Blanks
 plenty kind = 1
 
--- the reaction of the assigned message's receiver
-abbrev pub assigned_reaction : Core → Option Reaction
-assigned_reaction core = option_and_then (reaction_of (present core)) (option_and_then (pending_message core) (assigned_to core 0))
+-- the processor's assigned message
+abbrev pub assigned_message : Core → ℕ → Option Message
+assigned_message core processor = option_and_then (pending_message core) (assigned_to core processor)
 
--- what an object sent and replied is what the table says of the assigned message
-abbrev pub IsOutcome : Core → Output → Type 0
-IsOutcome core output = (r : Reaction) × (assigned_reaction core ≡ Some r) × (output ≡ output_of r)
+-- the reaction of its receiver
+abbrev pub assigned_reaction : Core → ℕ → Option Reaction
+assigned_reaction core processor = option_and_then (reaction_of (present core)) (assigned_message core processor)
+
+-- what an object sent and replied is what the table says of the processor's assigned message
+abbrev pub IsOutcome : Core → ℕ → Output → Type 0
+IsOutcome core processor output = (r : Reaction) × (assigned_reaction core processor ≡ Some r) × (output ≡ output_of r)
 
 -- room for the event of a delivery and for all that it may send
-abbrev pub HasRoom : History → Type 0
-HasRoom h = (vec_len h.events < vec_capacity h.events) × (vec_len h.pending + 16 ≤ vec_capacity h.pending)
+abbrev pub HasSpace : History → Type 0
+HasSpace h = (vec_len h.events < vec_capacity h.events) × (vec_len h.pending + 16 ≤ vec_capacity h.pending)
+
+-- and for its receiver
+pub record HasRoomFor (h : History) (id : MsgId) : Type 0 where
+  pub space : HasSpace h
+  pub receiver : IfSome (message_among id h.pending.items) (λ m. is_some (lookup (is_at (elem_cmp m.to)) h.elements.entries) ≡ true)
+
+-- for what is assigned to the processor
+abbrev pub HasRoom : History → ℕ → Type 0
+HasRoom h processor = IfSome (lookup (is_at (nat_cmp processor)) h.assigned.entries) (HasRoomFor h)
+
+-- ---- moves
+
+-- the kind of the blank that a move to another processor takes
+abbrev pub blank_of_move : Core → Elem → ℕ → Option Kind
+blank_of_move core x processor = if stands_on core x == processor then None else kind_of_array (present core) x.array

@@ -6,10 +6,11 @@ ghost use Rattle.charmlet_history.specs.Delivered.{counted, lacks_count};
 
 use charmlet_model::MAX_SENDS;
 
-/// Whether an element is there, and how many messages it sent and received in its whole life.
+/// The processor of an element, if it is there, and how many messages it sent and received in its whole
+/// life.
 #[derive(Clone, Copy, Debug, PartialEq, Eq)]
 pub struct Element {
-    pub is_there: bool,
+    pub place: Option<u16>,
     pub sent: u64,
     pub received: u64,
 }
@@ -22,13 +23,14 @@ impl Element {
         self.received < u64::MAX && self.sent <= u64::MAX - MAX_SENDS as u64
     }
 
-    /// Counts one more delivery, by which it sent so many messages and is there or not.
-    pub fn advance(&mut self, is_there: bool, sends: u64)
+    /// Counts one more delivery, by which it sent so many messages and after which it stands here, or
+    /// nowhere.
+    pub fn advance(&mut self, place: Option<u16>, sends: u64)
         requires sent { self.old.sent + sends ≤ greatest }
         requires received { self.old.received + 1 ≤ greatest }
-        ensures { self.new ≡ counted self.old is_there sends }
+        ensures { self.new ≡ counted self.old place sends }
     {
-        self.is_there = is_there;
+        self.place = place;
         self.sent += sends;
         self.received += 1;
     }

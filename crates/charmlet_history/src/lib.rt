@@ -6,6 +6,7 @@ mod delivery;
 mod element;
 mod flush;
 mod history;
+mod moving;
 mod next;
 mod request;
 

@@ -2,8 +2,7 @@
 
 ghost use Rattle.std.specs.Prelude.{◌≡◌};
 ghost use Rattle.charmlet_model.specs.Core.{present};
-ghost use Rattle.charmlet_model.specs.World.{oldest_deliverable};
-ghost use Rattle.charmlet_history.specs.Kept.{Stands, core_in, is_deliverable, kept_in, oldest};
+ghost use Rattle.charmlet_history.specs.Kept.{Stands, core_in, is_deliverable, kept_in, next_in, oldest};
 
 use crate::history::History;
 use charmlet_model::{CONSTRUCT, Message, MsgId};
@@ -17,12 +16,17 @@ impl History {
         self.pending.as_slice()
     }
 
-    /// The oldest pending message that can be delivered, if there is one.
-    pub fn next(&self) -> Option<MsgId>
+    /// The oldest pending message that can be delivered, if there is one, and before it the processor
+    /// that is to deliver it: the place of its receiver, or the home of one that isn't there.
+    pub fn next(&self) -> Option<(u16, MsgId)>
         requires { Stands (kept_in self.now) }
-        ensures { result ≡ oldest_deliverable (present (core_in self.now)) (present (core_in self.now)).pending }
+        ensures { result ≡ next_in (core_in self.now) }
     {
-        self.oldest()
+        let id = self.oldest()?;
+        let Some(message) = self.find(id) else {
+            unreachable!()
+        };
+        Some((self.stands_on(message.to), id))
     }
 
     /// The oldest pending message that can be delivered by the counts that are kept.
@@ -42,6 +46,6 @@ impl History {
         ensures { result ≡ is_deliverable (kept_in self.now) message.now }
     {
         let element = self.element(message.to);
-        (element.is_there || message.entry == CONSTRUCT) && element.has_room()
+        (element.place.is_some() || message.entry == CONSTRUCT) && element.has_room()
     }
 }

@@ -1,3 +1,2 @@
 pub mod AtHome
-pub mod Entries
 pub mod Sums

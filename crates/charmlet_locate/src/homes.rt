@@ -25,7 +25,7 @@ pub fn home(elem: Elem, processors: u16) -> Result<u16, Refusal>
 }
 
 /// Whether a store can have so many processors: 1 to 64.
-pub(crate) fn is_processor_count(processors: u16) -> bool
+pub fn is_processor_count(processors: u16) -> bool
     ensures { result ≡ is_processor_count processors }
 {
     (1..=MAX_PROCESSORS).contains(&processors)

@@ -1,4 +1,4 @@
-//! Where the elements of a store stand: the processor of each element that is there, and the home of each.
+//! Where the elements of a store stand: the home of each, and the places after a restart.
 #![tactic(auto)]
 
 mod homes;
@@ -7,6 +7,6 @@ mod restart;
 #[cfg(test)]
 mod tests;
 
-pub use crate::homes::{MAX_PROCESSORS, home};
+pub use crate::homes::{MAX_PROCESSORS, home, is_processor_count};
 pub use crate::locations::Locations;
 pub use crate::restart::restart_map;

@@ -27,6 +27,9 @@ fn homes_are_by_array_and_index(rt: HostRuntime) {
     has_homes(&rt, ME, [0, 1, 0, 9]);
     has_homes(&rt, OTHER, [0, 1, 1, 1]);
     has_homes(&rt, LAST, [0, 0, 0, 62]);
+    let early = Elem { array: 3, index: 5 };
+    has_homes(&rt, early, [0, 0, 2, 8]);
+    assert_eq!(rt; home(early, 4), Ok(0));
 }
 
 #[test]
@@ -39,29 +42,24 @@ fn processors_are_1_to_64(rt: HostRuntime) {
 }
 
 #[test]
-fn elements_come_move_and_go(rt: HostRuntime) -> Result<(), Fail> {
+fn elements_come_to_processors(rt: HostRuntime) -> Result<(), Fail> {
     let mut locations = Locations::new(rt.alloc());
-    assert!(rt; !locations.relocate(ME, 3));
     assert_eq!(rt; locations.where_is(ME), None);
     locations.place(ME, 3)?;
     locations.place(LAST, 65535)?;
-    assert!(rt; locations.relocate(ME, 4));
-    assert_eq!(rt; locations.where_is(ME), Some(4));
     locations.place(ME, 5)?;
-    assert_eq!(rt; locations.remove(ME), Some(5));
-    assert_eq!(rt; locations.remove(ME), None);
-    assert_eq!(rt; locations.where_is(ME), None);
+    assert_eq!(rt; locations.where_is(ME), Some(5));
+    assert_eq!(rt; locations.where_is(OTHER), None);
     assert_eq!(rt; locations.where_is(LAST), Some(65535));
     Ok(())
 }
 
 #[test]
 fn elements_restart_at_their_homes(rt: HostRuntime) -> Result<(), Fail> {
-    let mut locations = restart_map(rt.alloc(), &[LAST, ME, LAST], 64)?;
+    let locations = restart_map(rt.alloc(), &[LAST, ME, LAST], 64)?;
     assert_eq!(rt; locations.where_is(ME), Some(9));
     assert_eq!(rt; locations.where_is(OTHER), None);
-    assert_eq!(rt; locations.remove(LAST), Some(62));
-    assert_eq!(rt; locations.where_is(LAST), None);
+    assert_eq!(rt; locations.where_is(LAST), Some(62));
     Ok(())
 }
 

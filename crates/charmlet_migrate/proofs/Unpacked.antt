@@ -8,7 +8,7 @@ use Rattle.charmlet_model.specs.declared.state.State.{State}
 use Rattle.charmlet_model.specs.Packed.{IsState, Unpacks, pupped}
 use Rattle.charmlet_model.specs.Reaction.{kind_of}
 use Rattle.charmlet_model.proofs.Bytes.{packed_front}
-use Rattle.charmlet_shelf.specs.Image.{IsImage, IsImageIf}
+use Rattle.charmlet_shelf.specs.Image.{IsImage}
 use Rattle.charmlet_shelf.specs.declared.image.Image.{Image}
 
 -- it has the state that was packed

@@ -1,2 +1,3 @@
 -- The definitions that contracts cite.
 pub mod Carrying
+pub mod Moving

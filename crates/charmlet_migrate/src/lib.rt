@@ -2,7 +2,8 @@
 #![tactic(auto)]
 
 mod carrying;
+mod moving;
 #[cfg(test)]
 mod tests;
 
-pub use crate::carrying::carry;
+pub use crate::moving::move_to;

@@ -5,16 +5,23 @@ use Rattle.std.proofs.lemmas.List.{drop_more, at_drop_all}
 use Rattle.charmlet_model.specs.Texts.{Text}
 use Rattle.charmlet_script.specs.Script.{Contents}
 use Rattle.charmlet_script.specs.Line.{◌>>=◌, item_of}
-use Rattle.charmlet_script.specs.Reading.{is_array_line, may_add, with_array, with_item, with_line, with_lines}
+use Rattle.charmlet_script.specs.Reading.{is_array_line, may_add, may_declare, with_array, with_item, with_line, with_lines, with_processors}
 use Rattle.charmlet_script.specs.declared.line.Item.{Item}
 use Rattle.charmlet_script.specs.declared.line.Item.TheVariants as items
 
 -- an item adds one line at most
 length-with_item : (script next : Contents) (item : Item) → with_item script item ≡ Some next → length next.lines ≤ length script.lines + 1
-unfolding with_item with_array
+unfolding with_item with_array with_processors
 length-with_item script next items.Skipped e =
     let same : script ≡ next = cc in
     rw (← same) (omega arith)
+length-with_item script next (items.Processors processors) e = if_declared (may_declare script) e
+  where
+    if_declared : (may : Bool) → if may then Some (record script { declared_processors = Some processors }) else None ≡ Some next → length next.lines ≤ length script.lines + 1
+    if_declared true declared =
+        let same : record script { declared_processors = Some processors } ≡ next = cc in
+        rw (← same) (omega arith)
+    if_declared false none = absurd (cc)
 length-with_item script next (items.Array line) e = if_added (may_add script line) e
   where
     if_added : (may : Bool) → if may then Some (record script { arrays = script.arrays ++ line ∷ [] }) else None ≡ Some next → length next.lines ≤ length script.lines + 1

@@ -21,7 +21,7 @@ use Rattle.charmlet_script.specs.declared.line.Item.{Item}
 use Rattle.charmlet_script.specs.declared.line.Item.TheVariants as items
 use Rattle.charmlet_script.specs.Script.{Contents, no_lines, pairs_of}
 use Rattle.charmlet_script.specs.Line.{◌>>=◌, is_empty, item_of}
-use Rattle.charmlet_script.specs.Reading.{has_array, is_array, is_array_line, may_add, with_array, with_item, with_line, with_lines}
+use Rattle.charmlet_script.specs.Reading.{has_array, is_array, is_array_line, may_add, may_declare, with_array, with_item, with_line, with_lines, with_processors}
 
 -- a kind's number names it
 numbered-number : (kind : Kind) → Some kind ≡ numbered_kind (kind_number kind)
@@ -142,11 +142,27 @@ with_array-goes_on script next line so_far e = if_added (may_add script line) re
           gets = λ is. omega arith;
         })
 
+with_processors-goes_on : (script next : Contents) (processors : ℕ) → IsDeclared script → with_processors script processors ≡ Some next → GoesOn script (items.Processors processors) next
+unfolding with_processors
+with_processors-goes_on script next processors so_far e = if_declared (may_declare script) e
+  where
+    if_declared : (may : Bool) → (if may then Some (record script { declared_processors = Some processors }) else None) ≡ Some next
+        → GoesOn script (items.Processors processors) next
+    if_declared false none = absurd (cc)
+    if_declared true declared =
+        let same : record script { declared_processors = Some processors } ≡ next = cc in
+        subst (GoesOn script (items.Processors processors)) same (record {
+          declared = record { entries = so_far.entries; are = so_far.are; few = so_far.few };
+          keeps = λ some. some;
+          gets = λ is. absurd (cc);
+        })
+
 with_item-goes_on : (script next : Contents) (item : Item) → IsDeclared script → with_item script item ≡ Some next → GoesOn script item next
 unfolding with_item
 with_item-goes_on script next items.Skipped so_far e =
     let same : script ≡ next = cc in
     subst (GoesOn script items.Skipped) same (record { declared = so_far; keeps = λ some. some; gets = λ is. absurd (cc) })
+with_item-goes_on script next (items.Processors processors) so_far e = with_processors-goes_on script next processors so_far e
 with_item-goes_on script next (items.Array line) so_far e = with_array-goes_on script next line so_far e
 with_item-goes_on script next (items.Line line) so_far e =
     let same : record script { lines = script.lines ++ line ∷ [] } ≡ next = cc in

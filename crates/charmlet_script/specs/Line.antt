@@ -8,7 +8,7 @@ use Rattle.charmlet_model.specs.declared.kind.Kind.{Kind}
 use Rattle.charmlet_model.specs.declared.names.MsgId.{MsgId}
 use Rattle.charmlet_model.specs.declared.names.Origin.TheVariants.{Client, Element}
 use Rattle.charmlet_model.specs.declared.step.Step.{Step}
-use Rattle.charmlet_model.specs.declared.step.Step.TheVariants.{Request, Status, Deliver, Flush}
+use Rattle.charmlet_model.specs.declared.step.Step.TheVariants.{Request, Status, Deliver, Move, Flush}
 use Rattle.charmlet_model.specs.Kind.{numbered_kind}
 use Rattle.charmlet_model.specs.Texts.{Text}
 use Rattle.charmlet_script.specs.declared.script.ArrayLine.{ArrayLine}
@@ -94,6 +94,11 @@ array_of (array ∷ kind ∷ []) = do
   Some (record { array = a; kind = k })
 array_of _ = None
 
+-- what follows `pes`: N
+unfoldable pub pes_of : List Text → Option ℕ
+pes_of (processors ∷ []) = number_of 16 processors
+pes_of _ = None
+
 -- what follows `supply`: K N, at most 10,000 blanks
 unfoldable pub supply_of : List Text → Option Line
 supply_of (kind ∷ count ∷ []) = do
@@ -155,6 +160,15 @@ deliver_of (processor ∷ id ∷ []) = do
   Some (Deliver p m)
 deliver_of _ = None
 
+-- what follows `move`: A I PE
+unfoldable pub move_of : List Text → Option Step
+move_of (array ∷ index ∷ processor ∷ []) = do
+  a ← number_of 16 array
+  i ← number_of 64 index
+  p ← number_of 16 processor
+  Some (Move (record { array = a; index = i }) p)
+move_of _ = None
+
 -- what follows `flush`: nothing
 unfoldable pub flush_of : List Text → Option Step
 flush_of [] = Some Flush
@@ -166,9 +180,10 @@ step_of name words =
     if bytes_eq name (codes "req") then request_of words
     else (if bytes_eq name (codes "status") then status_of words
     else (if bytes_eq name (codes "deliver") then deliver_of words
-    else (if bytes_eq name (codes "flush") then flush_of words else None)))
+    else (if bytes_eq name (codes "move") then move_of words
+    else (if bytes_eq name (codes "flush") then flush_of words else None))))
 
--- the line behind the arrays that a first word and the words after it spell
+-- the line behind the header that a first word and the words after it spell
 unfoldable pub line_of : Text → List Text → Option Line
 line_of name words =
     if bytes_eq name (codes "supply") then supply_of words
@@ -183,7 +198,8 @@ unfoldable pub spelled_by : List Text → Option Item
 spelled_by [] = None
 spelled_by (name ∷ words) =
     if bytes_eq name (codes "array") then (array_of words >>= λ line. Some (items.Array line))
-    else (line_of name words >>= λ line. Some (items.Line line))
+    else (if bytes_eq name (codes "pes") then (pes_of words >>= λ processors. Some (items.Processors processors))
+    else (line_of name words >>= λ line. Some (items.Line line)))
 
 -- an empty line and a comment are skipped
 abbrev pub is_skipped : Text → Bool

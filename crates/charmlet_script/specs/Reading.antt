@@ -1,5 +1,5 @@
 -- A whole script, line by line, up to its first malformed line; and what its reader answers.
-use Rattle.std.specs.Prelude.{◌≡◌, ◌≢◌, ℕ, Bool, false, true, ◌+◌, ◌==◌, ◌&&◌, not, List, [], ◌∷◌, ◌++◌, length, take, Option, Some, None, Result, Ok, Err, if◌then◌else◌, nat_lt, nat_le}
+use Rattle.std.specs.Prelude.{◌≡◌, ◌≢◌, ℕ, Bool, false, true, ◌+◌, ◌==◌, ◌&&◌, not, List, [], ◌∷◌, ◌++◌, length, take, is_none, Option, Some, None, Result, Ok, Err, if◌then◌else◌, nat_lt, nat_le}
 use Rattle.std.specs.List.{list_any}
 use Rattle.std.specs.Option.{option_map_or}
 use Rattle.std.specs.IoError.{error_kind}
@@ -51,7 +51,7 @@ lines_of = parts_of 10
 abbrev pub has_array : ℕ → List ArrayLine → Bool
 has_array array = list_any (λ other. other.array == array)
 
--- an array line stands before the other lines, once for an array, and at most 64 times
+-- an array line stands before the lines behind the header, once for an array, and at most 64 times
 abbrev pub may_add : Contents → ArrayLine → Bool
 may_add script line = is_empty script.lines && (nat_lt (length script.arrays) 64 && not (has_array line.array script.arrays))
 
@@ -60,9 +60,19 @@ unfoldable pub with_array : Contents → ArrayLine → Option Contents
 with_array script line =
     if may_add script line then Some (record script { arrays = script.arrays ++ line ∷ [] }) else None
 
+-- a line of the number of processors stands before the lines behind the header, once
+abbrev pub may_declare : Contents → Bool
+may_declare script = is_empty script.lines && is_none script.declared_processors
+
+-- the script with its number of processors, if that may stand there
+unfoldable pub with_processors : Contents → ℕ → Option Contents
+with_processors script processors =
+    if may_declare script then Some (record script { declared_processors = Some processors }) else None
+
 -- the script with what a line spells, if it may stand there
 unfoldable pub with_item : Contents → Item → Option Contents
 with_item script items.Skipped = Some script
+with_item script (items.Processors processors) = with_processors script processors
 with_item script (items.Array line) = with_array script line
 with_item script (items.Line line) = Some (record script { lines = script.lines ++ line ∷ [] })
 

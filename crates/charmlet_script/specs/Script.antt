@@ -1,5 +1,5 @@
 -- What a script holds, and what its supply lines come to.
-use Rattle.std.specs.Prelude.{◌≡◌, ◌≤◌, ℕ, true, is_some, length, map, ◌==◌, ◌-◌, ◌^◌, List, [], if◌then◌else◌, sum_by}
+use Rattle.std.specs.Prelude.{◌≡◌, ◌≤◌, ℕ, true, is_some, length, map, ◌==◌, ◌-◌, ◌^◌, List, [], Option, None, unwrap_or, if◌then◌else◌, sum_by}
 use Rattle.charmlet_model.specs.declared.kind.Kind.{Kind}
 use Rattle.charmlet_model.specs.Kind.{kind_number}
 use Rattle.charmlet_model.specs.Manifest.{manifest_of}
@@ -7,14 +7,19 @@ use Rattle.charmlet_script.specs.declared.script.ArrayLine.{ArrayLine}
 use Rattle.charmlet_script.specs.declared.script.Line.{Line}
 use Rattle.charmlet_script.specs.declared.script.Line.TheVariants as lines
 
--- the arrays of a script, and the lines behind them
+-- the header of a script, which is how many processors it declares, if it does, and its arrays; and the lines behind it
 pub record Contents : Type 0 where
+  pub declared_processors : Option ℕ
   pub arrays : List ArrayLine
   pub lines : List Line
 
 -- an empty script
 abbrev pub no_lines : Contents
-no_lines = record { arrays = []; lines = [] }
+no_lines = record { declared_processors = None; arrays = []; lines = [] }
+
+-- how many processors a script has, 1 where it declares none
+abbrev pub processors_of : Contents → ℕ
+processors_of script = unwrap_or script.declared_processors 1
 
 -- no script has more lines than this
 abbrev pub most_lines : ℕ

@@ -4,9 +4,11 @@ use crate::script::{ArrayLine, Line, Script};
 use std::alloc::{AllocFailed, Global};
 use std::marker::Model;
 
-/// The lines of a script so far. A contract sees the two lists.
+/// The lines of a script so far. A contract sees the number of processors, if one is declared, and the
+/// two lists.
 #[derive(Drop)]
 pub(crate) struct Draft {
+    processors: Option<u16>,
     arrays: Vec<ArrayLine>,
     lines: Vec<Line>,
 }
@@ -16,20 +18,27 @@ impl Model for Draft {
 
     ghost Value = { Contents };
 
-    ghost view = { λ draft. record { arrays = draft.arrays.items; lines = draft.lines.items } };
+    ghost view = { λ draft. record { declared_processors = draft.processors; arrays = draft.arrays.items; lines = draft.lines.items } };
 }
 
 impl Draft {
-    ghost use Rattle.std.specs.Prelude.{◌≡◌, ◌++◌, ◌∷◌, [], OnOk, OnErr};
+    ghost use Rattle.std.specs.Prelude.{◌≡◌, ◌++◌, ◌∷◌, [], Some, OnOk, OnErr};
     ghost use Rattle.charmlet_script.specs.Script.{IsScript, no_lines};
 
     pub(crate) fn new(alloc: Global) -> Self
         ensures { result ≡ no_lines }
     {
         Draft {
+            processors: None,
             arrays: Vec::new(alloc),
             lines: Vec::new(alloc),
         }
+    }
+
+    pub(crate) fn declared_processors(&self) -> Option<u16>
+        ensures { result ≡ self.now.declared_processors }
+    {
+        self.processors
     }
 
     pub(crate) fn arrays(&self) -> &[ArrayLine]
@@ -42,6 +51,12 @@ impl Draft {
         ensures { result.now ≡ self.now.lines }
     {
         self.lines.as_slice()
+    }
+
+    pub(crate) fn declare_processors(&mut self, processors: u16)
+        ensures { self.new ≡ record self.old { declared_processors = Some processors } }
+    {
+        self.processors = Some(processors);
     }
 
     pub(crate) fn push_array(&mut self, line: ArrayLine) -> Result<(), AllocFailed<ArrayLine>>
@@ -63,7 +78,11 @@ impl Draft {
         requires { IsScript self.arrays self.lines }
         ensures { result ≡ self }
     {
-        let Draft { arrays, lines } = self;
-        Script::new(arrays, lines)
+        let Draft {
+            processors,
+            arrays,
+            lines,
+        } = self;
+        Script::new(processors, arrays, lines)
     }
 }

@@ -2,7 +2,7 @@
 
 ghost use Rattle.std.specs.Prelude.{◌≡◌, map, nat_lt};
 ghost use Rattle.std.specs.List.{list_all};
-ghost use Rattle.charmlet_script.specs.Line.{array_of, census_of, deliver_of, drain_of, flush_of, is_skipped, item_of, line_of, pending_of, request_of, spelled_by, state_of, status_of, step_of, supply_of};
+ghost use Rattle.charmlet_script.specs.Line.{array_of, census_of, deliver_of, drain_of, flush_of, is_skipped, item_of, line_of, move_of, pending_of, pes_of, request_of, spelled_by, state_of, status_of, step_of, supply_of};
 ghost use Rattle.charmlet_script.specs.Reading.{Spells};
 
 use crate::error::LineFault;
@@ -20,6 +20,8 @@ use std::alloc::Global;
 pub(crate) enum Item {
     /// An empty line or a comment.
     Skipped,
+    /// A number of processors.
+    Processors(u16),
     Array(ArrayLine),
     Line(Line),
 }
@@ -35,6 +37,17 @@ fn array_of(words: &[&[u8]]) -> Option<ArrayLine>
     let array = u16_of(array)?;
     let kind = kind_of(kind)?;
     Some(ArrayLine { array, kind })
+}
+
+/// What follows `pes`: `N`.
+#[tactic(auto, unfolding(crate::specs::Line::pes_of))]
+fn pes_of(words: &[&[u8]]) -> Option<u16>
+    ensures { result ≡ pes_of (map (λ word. word.now) words.now) }
+{
+    let [processors] = words else {
+        return None;
+    };
+    u16_of(processors)
 }
 
 /// What follows `supply`: `K N`.
@@ -149,6 +162,21 @@ fn deliver_of(alloc: Global, words: &[&[u8]]) -> Result<Step, LineFault>
     Ok(Step::Deliver { processor, id })
 }
 
+/// What follows `move`: `A I PE`.
+#[tactic(auto, unfolding(crate::specs::Line::move_of))]
+fn move_of(words: &[&[u8]]) -> Option<Step>
+    ensures { result ≡ move_of (map (λ word. word.now) words.now) }
+{
+    let [array, index, processor] = words else {
+        return None;
+    };
+    let array = u16_of(array)?;
+    let index = u64_of(index)?;
+    let processor = u16_of(processor)?;
+    let elem = Elem { array, index };
+    Some(Step::Move { elem, processor })
+}
+
 /// What follows `flush`: nothing.
 #[tactic(auto, unfolding(crate::specs::Line::flush_of))]
 fn flush_of(words: &[&[u8]]) -> Option<Step>
@@ -172,6 +200,8 @@ fn step_of(alloc: Global, name: &[u8], words: &[&[u8]]) -> Result<Step, LineFaul
         status_of(words).ok_or(LineFault::Malformed)
     } else if name == b"deliver".as_slice() {
         deliver_of(alloc, words)
+    } else if name == b"move".as_slice() {
+        move_of(words).ok_or(LineFault::Malformed)
     } else if name == b"flush".as_slice() {
         flush_of(words).ok_or(LineFault::Malformed)
     } else {
@@ -179,7 +209,7 @@ fn step_of(alloc: Global, name: &[u8], words: &[&[u8]]) -> Result<Step, LineFaul
     }
 }
 
-/// The line behind the arrays that a first word and the words after it spell.
+/// The line behind the header that a first word and the words after it spell.
 #[tactic(auto, unfolding(crate::specs::Line::line_of))]
 fn line_of(alloc: Global, name: &[u8], words: &[&[u8]]) -> Result<Line, LineFault>
     ensures { Spells result (line_of name.now (map (λ word. word.now) words.now)) }
@@ -211,6 +241,9 @@ fn spelled_by(alloc: Global, words: &[&[u8]]) -> Result<Item, LineFault>
     if *name == b"array".as_slice() {
         let line = array_of(words).ok_or(LineFault::Malformed)?;
         Ok(Item::Array(line))
+    } else if *name == b"pes".as_slice() {
+        let processors = pes_of(words).ok_or(LineFault::Malformed)?;
+        Ok(Item::Processors(processors))
     } else {
         let line = line_of(alloc, name, words)?;
         Ok(Item::Line(line))

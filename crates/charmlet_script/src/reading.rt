@@ -3,7 +3,7 @@
 ghost use Rattle.std.specs.Prelude.{◌≡◌, ◌+◌, ◌<◌, ◌≤◌, ◌==◌, IfErr, IfOk, IfSome, OnOk, length, map, take};
 ghost use Rattle.std.specs.List.{list_any};
 ghost use Rattle.charmlet_script.specs.Script.{most_lines, no_lines};
-ghost use Rattle.charmlet_script.specs.Reading.{Answers, TellsWantOfMemory, LeavesLines, has_array, is_array_line, lines_spell, may_add, script_of, with_array, with_item, with_line, with_lines, within};
+ghost use Rattle.charmlet_script.specs.Reading.{Answers, TellsWantOfMemory, LeavesLines, has_array, is_array_line, lines_spell, may_add, may_declare, script_of, with_array, with_item, with_line, with_lines, with_processors, within};
 
 use crate::draft::Draft;
 use crate::error::{LineFault, ReadError};
@@ -27,8 +27,8 @@ fn has_array(arrays: &[ArrayLine], array: u16) -> bool
     arrays.iter().any(|other| other.array == array)
 }
 
-/// Whether an array line may stand here: before the other lines, once for an array, and at most 64
-/// times.
+/// Whether an array line may stand here: before the lines behind the header, once for an array, and at
+/// most 64 times.
 fn may_add(script: &Draft, line: ArrayLine) -> bool
     ensures { result ≡ may_add script.now line }
 {
@@ -50,6 +50,24 @@ fn add_array(script: &mut Draft, line: ArrayLine) -> Result<(), LineFault>
     Ok(())
 }
 
+/// Whether a line of the number of processors may stand here: before the lines behind the header, once.
+fn may_declare(script: &Draft) -> bool
+    ensures { result ≡ may_declare script.now }
+{
+    script.lines().is_empty() && script.declared_processors().is_none()
+}
+
+#[tactic(auto, unfolding(crate::specs::Reading::with_processors))]
+fn add_processors(script: &mut Draft, processors: u16) -> Result<(), LineFault>
+    ensures { LeavesLines result script.new (with_processors script.old processors) }
+{
+    if !may_declare(script) {
+        return Err(LineFault::Malformed);
+    }
+    script.declare_processors(processors);
+    Ok(())
+}
+
 /// Adds what a line spells, where it may stand there.
 #[tactic(auto, unfolding(crate::specs::Reading::with_item))]
 fn add_item(script: &mut Draft, item: Item) -> Result<(), LineFault>
@@ -57,6 +75,7 @@ fn add_item(script: &mut Draft, item: Item) -> Result<(), LineFault>
 {
     match item {
         Item::Skipped => Ok(()),
+        Item::Processors(processors) => add_processors(script, processors),
         Item::Array(line) => add_array(script, line),
         Item::Line(line) => {
             script.push_line(line)?;

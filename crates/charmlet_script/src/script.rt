@@ -14,7 +14,7 @@ pub struct ArrayLine {
     pub kind: Kind,
 }
 
-/// A line behind the arrays.
+/// A line behind the header.
 #[derive(Debug, Drop)]
 pub enum Line {
     /// `supply K N`: N blanks of kind K, at most 10,000, come to the stock.
@@ -57,10 +57,12 @@ fn pairs_of(alloc: Global, arrays: &[ArrayLine]) -> Result<Vec<(u16, u16)>, Allo
         .collect(alloc)
 }
 
-/// A script that was read: its arrays, which make a manifest, and the lines behind them in order. A
-/// contract sees the two lists.
+/// A script that was read: its header, which is a number of processors and arrays that make a manifest,
+/// and the lines behind it in order. A contract sees the number, if a line declares it, and the two
+/// lists.
 #[derive(Debug, Drop)]
 pub struct Script {
+    processors: Option<u16>,
     arrays: Vec<ArrayLine>,
     lines: Vec<Line>,
 }
@@ -70,7 +72,7 @@ impl Model for Script {
 
     ghost Value = { Contents };
 
-    ghost view = { λ script. record { arrays = script.arrays.items; lines = script.lines.items } };
+    ghost view = { λ script. record { declared_processors = script.processors; arrays = script.arrays.items; lines = script.lines.items } };
 
     ghost invariant = { λ script. IsScript script.arrays.items script.lines.items };
 }
@@ -80,13 +82,25 @@ impl Script {
     ghost use Rattle.charmlet_model.specs.Fit.{IsFit};
     ghost use Rattle.charmlet_model.specs.Manifest.{manifest_of};
     ghost use Rattle.charmlet_model.specs.Sound.{new_world};
-    ghost use Rattle.charmlet_script.specs.Script.{IsScript, blanks_of, pairs_of};
+    ghost use Rattle.charmlet_script.specs.Script.{IsScript, blanks_of, pairs_of, processors_of};
 
-    pub(crate) fn new(arrays: Vec<ArrayLine>, lines: Vec<Line>) -> Self
+    pub(crate) fn new(processors: Option<u16>, arrays: Vec<ArrayLine>, lines: Vec<Line>) -> Self
         requires { IsScript arrays.items lines.items }
-        ensures { result ≡ record { arrays = arrays.items; lines = lines.items } }
+        ensures { result ≡ record { declared_processors = processors; arrays = arrays.items; lines = lines.items } }
     {
-        Script { arrays, lines }
+        Script {
+            processors,
+            arrays,
+            lines,
+        }
+    }
+
+    /// How many processors there are, 1 where no line says it. It may be any number of 16 bits: whether
+    /// there can be a store with so many, the script doesn't know.
+    pub fn processors(&self) -> u16
+        ensures { result ≡ processors_of self.now }
+    {
+        self.processors.unwrap_or(1)
     }
 
     /// The arrays, in the order of their lines.
@@ -96,7 +110,7 @@ impl Script {
         self.arrays.as_slice()
     }
 
-    /// The lines behind the arrays, in order.
+    /// The lines behind the header, in order.
     pub fn lines(&self) -> &[Line]
         ensures { result.now ≡ self.now.lines }
     {

@@ -141,6 +141,59 @@ fn lines_that_show_and_drain_are_read(rt: HostRuntime) -> Result<(), Fail> {
 }
 
 #[test]
+fn processors_are_declared_among_the_arrays(rt: HostRuntime) -> Result<(), Fail> {
+    for (text, processors) in [
+        ("array 0 1\n", 1),
+        ("pes 4\narray 0 1\n", 4),
+        ("array 0 1\npes 64", 64),
+        ("array 0 1\npes 2\narray 1 1\n", 2),
+        ("array 0 1\n# four of them\n\n pes  0004 \nsupply 1 1\n", 4),
+        ("pes 0\narray 0 1\n", 0),
+        ("pes 65535\narray 0 1\n", 65535),
+    ] {
+        let script = read(rt.alloc(), text.as_bytes())?;
+        assert_eq!(rt; script.processors(), processors, "{text:?}");
+    }
+    let script = read(rt.alloc(), b"array 0 1\npes 2\narray 1 6\nflush\n")?;
+    assert!(rt; matches!(script.arrays(), [first, last] if first.array == 0 && last.array == 1));
+    assert!(rt; matches!(script.lines(), [Line::Step(Step::Flush)]));
+    Ok(())
+}
+
+#[test]
+fn moves_are_read(rt: HostRuntime) -> Result<(), Fail> {
+    let text = "array 0 1\nmove 1 2 3\n move  65535 18446744073709551615 0065535 \n";
+    let script = read(rt.alloc(), text.as_bytes())?;
+    let [
+        Line::Step(
+            Step::Move {
+                elem: near,
+                processor: 3,
+            },
+        ),
+        Line::Step(
+            Step::Move {
+                elem: far,
+                processor: 65535,
+            },
+        ),
+    ] = script.lines()
+    else {
+        panic!(rt; "other lines");
+    };
+    assert_eq!(rt; *near, Elem { array: 1, index: 2 });
+    assert_eq!(rt;
+        *far,
+        Elem {
+            array: 65535,
+            index: u64::MAX
+        }
+    );
+    assert_eq!(rt; script.blanks(Kind::Counter), 0);
+    Ok(())
+}
+
+#[test]
 fn six_kinds_have_numbers(rt: HostRuntime) -> Result<(), Fail> {
     let text = "array 11 1\narray 12 2\narray 13 3\narray 14 4\narray 15 5\narray 16 6\n\
         supply 1 10\nsupply 2 20\nsupply 3 30\nsupply 4 40\nsupply 5 50\nsupply 6 60\n";
@@ -170,9 +223,18 @@ fn the_first_malformed_line_is_named(rt: HostRuntime) {
         ("array 0 7\n", 1),
         ("array 65536 1\n", 1),
         ("array 0 1\r\n", 1),
+        ("pes 2\n", 1),
+        ("pes 2\nmove 0 0 1\n", 1),
         // an array line that may not stand there
         ("array 0 1\narray 0 1\n", 2),
         ("array 0 1\nflush\narray 1 1\n", 3),
+        // a line of processors that may not stand there
+        ("pes 2\narray 0 1\npes 2\n", 3),
+        ("pes 1\npes 1\narray 0 1\n", 2),
+        ("pes 0\narray 0 1\npes 4\n", 3),
+        ("array 0 1\nsupply 1 1\npes 2\n", 3),
+        ("array 0 1\npending\npes 1\n", 3),
+        ("array 0 1\nflush\npes 2\n", 3),
         // no line of the language
         ("bad\narray 0 1\n", 1),
         ("array 0 1\n   \n", 2),
@@ -192,12 +254,22 @@ fn the_first_malformed_line_is_named(rt: HostRuntime) {
         ("array 0 1\nstate 65536 0\n", 2),
         ("array 0 1\nstate 0 18446744073709551616\n", 2),
         ("array 0 1\nreq 1 1 0 0 65536\n", 2),
+        ("array 0 1\npes 65536\n", 2),
+        ("array 0 1\npes -1\n", 2),
+        ("array 0 1\nmove 65536 0 0\n", 2),
+        ("array 0 1\nmove 0 18446744073709551616 0\n", 2),
+        ("array 0 1\nmove 0 0 65536\n", 2),
+        ("array 0 1\nmove 0 0 x\n", 2),
         ("array 0 1\nreq 1 1 0 0 1 x\n", 2),
         // missing and further words
         ("array 0 1\ndrain\n", 2),
         ("array 0 1\ndrain 1 2\n", 2),
         ("array 0 1\nstate 0\n", 2),
         ("array 0 1\nstate 0 1 2\n", 2),
+        ("array 0 1\npes\n", 2),
+        ("array 0 1\npes 1 2\n", 2),
+        ("array 0 1\nmove 0 0\n", 2),
+        ("array 0 1\nmove 0 0 1 2\n", 2),
         ("array 0 1\npending 1\n", 2),
         ("array 0 1\ncensus 1\n", 2),
         ("array 0 1\nCENSUS\n", 2),

@@ -1,9 +1,8 @@
 -- How deliveries end, by the steps that they take.
 use Rattle.std.proofs.Common.{◌≡◌, inl, inr, ℕ, ◌+◌, ◌-◌, ◌<◌, ◌==◌, true, false, cond, not, ◌||◌, List, [], ◌∷◌, ◌++◌, refl, sym, ap, subst, ◌∙◌, arith}
-use Rattle.std.specs.Prelude.{Option, Some, None, is_some, nat_lt, option_and_then, Result, Ok, Err, OnOk, OnErr, IfErr, is_err}
+use Rattle.std.specs.Prelude.{Option, Some, None, is_some, option_and_then, Result, Ok, Err, OnOk, OnErr, IfErr, is_err}
 use Rattle.std.specs.Ordering.{is_eq, nat_cmp}
 use Rattle.std.specs.Cmp.{nat_cmp_total}
-use Rattle.std.proofs.lemmas.Bool.{ltb-true}
 use Rattle.std.proofs.lemmas.Cmp.{tied_itself}
 use Rattle.std.proofs.lemmas.Map.Views.{exact_unsigned_eq}
 use Rattle.charmlet_model.specs.declared.names.MsgId.{MsgId}
@@ -17,9 +16,8 @@ use Rattle.charmlet_model.specs.Kind.{kind_number, numbered_kind}
 use Rattle.charmlet_model.specs.World.{record_of}
 use Rattle.charmlet_model.specs.Core.{Core, present, Blanks, Gate, When, MayLackMemory, MayFail, CoreStep, Assign, Commit, Release, Done, gates, message_gates, lacks_blank, blank_for, blank_of_id, pending_message, assigned_to, first_refusal, may_lack_memory, next_core, next_blanks, with_taken, with_given, is_present, is_processor, stands_on, is_full, are_counts_full}
 use Rattle.charmlet_model.specs.Run.{Store, Goes, IsNotDelivered}
-use Rattle.charmlet_small.specs.Small.{Ends}
+use Rattle.charmlet_small.specs.UnderWay.{Ends}
 use Rattle.charmlet_model.proofs.Maps.{lookup-insert_entry}
-use Rattle.charmlet_model.proofs.CanLemmas.{Passes, all_pass, not_not}
 use Rattle.charmlet_history.specs.Kept.{plenty}
 use Rattle.charmlet_history.proofs.Orders.{none_of_both, some_of_first, is_refused, lacks_memory, is_done}
 
@@ -199,7 +197,7 @@ module _ (core : Core) (blanks : Blanks) (processor : ℕ) (id : MsgId) where
     pub is_assigned : Has blanks (blank_of_id core (Some id)) → Goes store step Done assigned_store
     is_assigned has = is_done core blanks step refl (can_be_assigned core processor id blanks can has)
 
-    assigned_here : assigned_to (next_core core step) processor ≡ Some id
+    pub assigned_here : assigned_to (next_core core step) processor ≡ Some id
     assigned_here =
         lookup-insert_entry nat_cmp nat_cmp_total processor processor id core.assigned
         ∙ ap (λ b. cond b (Some id) (assigned_to core processor)) (ap is_eq (tied_itself nat_cmp_total processor))
@@ -223,20 +221,12 @@ module _ (core : Core) (blanks : Blanks) (processor : ℕ) (id : MsgId) where
     )
 
 -- a delivery that is committed or released
-module _ (core : Core) (blanks : Blanks) (some : is_some (assigned_to core 0) ≡ true) (running : core.halted ≡ false) where
-  pub is_committed : Goes (record { core = core; blanks = blanks }) (Commit 0) Done (record { core = next_core core (Commit 0); blanks = blanks })
-  is_committed = is_done core blanks (Commit 0) some (ap (λ b. first_refusal (When b refusals.Halted ∷ MayLackMemory ∷ [])) running)
+module _ (core : Core) (blanks : Blanks) (processor : ℕ) (some : is_some (assigned_to core processor) ≡ true) (running : core.halted ≡ false) where
+  pub is_committed : Goes (record { core = core; blanks = blanks }) (Commit processor) Done (record { core = next_core core (Commit processor); blanks = blanks })
+  is_committed = is_done core blanks (Commit processor) some (ap (λ b. first_refusal (When b refusals.Halted ∷ MayLackMemory ∷ [])) running)
 
-  pub goes_back : Goes (record { core = core; blanks = blanks }) (Release 0) Done (record { core = next_core core (Release 0); blanks = with_given (blank_of_id core (assigned_to core 0)) blanks })
-  goes_back = is_done core blanks (Release 0) some refl
-
--- what can be assigned on one processor is assigned to processor 0
-pub only_processor : (core : Core) (processor : ℕ) (id : MsgId) → core.processors ≡ 1 → core.halted ≡ false → first_refusal (gates core plenty (Assign processor id)) ≡ None → processor ≡ 0
-only_processor core processor id one running can =
-    let passes : Passes (gates core plenty (Assign processor id)) = all_pass (gates core plenty (Assign processor id)) can in
-    let below : nat_lt processor core.processors ≡ true = not_not (nat_lt processor core.processors) passes.1.0 in
-    let less = ltb-true processor core.processors below in
-    omega arith
+  pub goes_back : Goes (record { core = core; blanks = blanks }) (Release processor) Done (record { core = next_core core (Release processor); blanks = with_given (blank_of_id core (assigned_to core processor)) blanks })
+  goes_back = is_done core blanks (Release processor) some refl
 
 -- ---- clauses on results
 
@@ -264,9 +254,9 @@ pub when_err : {T E : Type 0} (P : Type 0) (r : Result T E) → is_err r ≡ tru
 when_err P (Ok x) is h = absurd (let never : ⊥ = cc in never)
 when_err P (Err e) is h = h
 
--- a delivery on the one processor that was assigned, and then committed or released
-pub ends_so : (first mid last : Store) (processor : ℕ) (id : MsgId) → processor ≡ 0 → Goes first (Assign processor id) Done mid → {T : Type 0} (result : Result T Refusal) →
-    OnOk result (Goes mid (Commit 0) Done last) → IfErr result (λ refusal. (refusal ≡ refusals.Memory) × Goes mid (Release 0) Done last) → Ends first processor id result last
-ends_so first mid last processor id zero goes (Ok x) done none = (mid, goes, subst (λ p. Goes mid (Commit p) Done last) (sym zero) done)
-ends_so first mid last processor id zero goes (Err refusal) done none =
-    subst (λ r. IsNotDelivered first processor id r last) (sym none.0) (inr (refl, (mid, goes, subst (λ p. Goes mid (Release p) Done last) (sym zero) none.1)))
+-- a delivery that was assigned, and then committed or released
+pub ends_so : (first mid last : Store) (processor place : ℕ) (id : MsgId) → place ≡ processor → Goes first (Assign processor id) Done mid → {T : Type 0} (result : Result T Refusal) →
+    OnOk result (Goes mid (Commit place) Done last) → IfErr result (λ refusal. (refusal ≡ refusals.Memory) × Goes mid (Release place) Done last) → Ends first processor id result last
+ends_so first mid last processor place id same goes (Ok x) done none = (mid, goes, subst (λ p. Goes mid (Commit p) Done last) same done)
+ends_so first mid last processor place id same goes (Err refusal) done none =
+    subst (λ r. IsNotDelivered first processor id r last) (sym none.0) (inr (refl, (mid, goes, subst (λ p. Goes mid (Release p) Done last) same none.1)))

@@ -1,6 +1,8 @@
 pub mod Assigning
+pub mod Places
 pub mod Delivering
-pub mod Showing
 pub mod Counting
-pub mod Theres
+pub mod Shelved
+pub mod Showing
 pub mod Looks
+pub mod Theres

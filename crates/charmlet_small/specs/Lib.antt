@@ -1,6 +1,7 @@
 -- The definitions that contracts cite.
-pub mod Small
+pub mod Desk
 pub mod UnderWay
+pub mod Small
 pub mod Census
 pub mod Look
 pub mod There

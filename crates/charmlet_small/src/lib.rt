@@ -1,4 +1,4 @@
-//! Stores in memory, on one processor, with the plainest lists.
+//! Stores in memory, on 1 to 64 processors, with the plainest lists.
 #![tactic(auto)]
 
 mod census;

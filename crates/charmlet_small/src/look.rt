@@ -1,7 +1,9 @@
 //! What is seen of a store: its pending messages and its elements.
 
 ghost use Rattle.std.specs.Prelude.{◌≡◌, None, length, map, IfOk, IsOk};
+ghost use Rattle.charmlet_model.specs.Core.{place_of};
 ghost use Rattle.charmlet_model.specs.World.{record_of};
+ghost use Rattle.charmlet_history.specs.Kept.{core_in};
 ghost use Rattle.charmlet_small.specs.Look.{IsLook, StandsWith};
 ghost use Rattle.charmlet_small.specs.Small.{StandsSo, world_in};
 
@@ -52,7 +54,7 @@ impl<C: Chare> Small<C> {
     pub fn look(&mut self, elem: Elem) -> Result<Look, AllocError>
         requires { StandsSo self.old }
         ensures same { self.new ≡ self.old }
-        ensures ok { IfOk result (IsLook (record_of (world_in self.old) elem)) }
+        ensures ok { IfOk result (IsLook (place_of (core_in self.old.history) elem) (record_of (world_in self.old) elem)) }
         ensures absent { (record_of (world_in self.old) elem).state ≡ None → IsOk result }
     {
         let counts = self.history.element(elem);
@@ -68,17 +70,21 @@ impl<C: Chare> Small<C> {
     fn standing_of(&mut self, elem: Elem) -> Result<Option<Standing>, AllocError>
         requires { StandsSo self.old }
         ensures same { self.new ≡ self.old }
-        ensures ok { IfOk result (StandsWith (record_of (world_in self.old) elem).state) }
+        ensures ok { IfOk result (StandsWith (place_of (core_in self.old.history) elem) (record_of (world_in self.old) elem).state) }
         ensures absent { (record_of (world_in self.old) elem).state ≡ None → IsOk result }
     {
-        let Ok(image) = self.shelf.image(elem) else {
-            return Err(AllocError);
-        };
-        let Some(image) = image else {
+        let Some(processor) = self.history.where_is(elem) else {
             return Ok(None);
         };
+        let Some(shelf) = self.shelves.get_mut(usize::from(processor)) else {
+            unreachable!()
+        };
+        let Ok(image) = shelf.image(elem) else {
+            return Err(AllocError);
+        };
+        let Some(image) = image else { unreachable!() };
         Ok(Some(Standing {
-            processor: self.shelf.number(),
+            processor,
             packed: image.packed,
         }))
     }

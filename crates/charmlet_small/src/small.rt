@@ -1,45 +1,58 @@
-//! A store in memory, on one processor, whose lists are the plainest ones.
+//! A store in memory, on 1 to 64 processors, whose lists are the plainest ones.
 
-ghost use Rattle.std.specs.Prelude.{◌≡◌, ◌+◌, ◌≤◌, ℕ, IfErr, IfOk, OnErr, OnOk, option_map};
+ghost use Rattle.std.specs.Prelude.{◌≡◌, ◌+◌, ◌≤◌, ℕ, true, if◌then◌else◌, IfErr, IfOk, OnErr, OnOk};
 ghost use Rattle.charmlet_model.specs.declared.kind.Kind as kinds;
+ghost use Rattle.charmlet_model.specs.declared.refusal.Refusal.TheVariants as refusals;
 ghost use Rattle.charmlet_model.specs.Fit.{IsFit};
-ghost use Rattle.charmlet_model.specs.Run.{Does, Runs};
+ghost use Rattle.charmlet_model.specs.Core as core;
+ghost use Rattle.charmlet_model.specs.Run.{Does, Goes, Runs};
 ghost use Rattle.charmlet_model.specs.Shelves.{count_of};
 ghost use Rattle.charmlet_model.specs.Sound.{new_world, opened};
-ghost use Rattle.charmlet_model.specs.World.{oldest_deliverable};
+ghost use Rattle.charmlet_locate.specs.Locations.{is_processor_count};
+ghost use Rattle.charmlet_history.specs.Kept.{core_in, next_in};
+ghost use Rattle.charmlet_migrate.specs.Moving.{answer_in as done_or_refused};
 ghost use Rattle.charmlet_stock.specs.Stock.{blanks_in, census_of, part_of};
-ghost use Rattle.charmlet_small.specs.Small.{StandsSo, answer_in, store_in, supplied_in, world_in};
+ghost use Rattle.charmlet_small.specs.Small.{AreEmpty, StandsSo, answer_in, store_in, supplied_in};
+ghost use Rattle.charmlet_small.specs.UnderWay.{Ends};
 
+use crate::delivery::deliver_on;
 use charmlet_chare::Chare;
 use charmlet_history::{History, Request};
-use charmlet_model::{Answer, Kind, Manifest, MsgId, Refusal, Step, Told};
+use charmlet_migrate::move_to;
+use charmlet_model::{Answer, Elem, Kind, Manifest, MsgId, Refusal, Step, Told};
 use charmlet_shelf::Shelf;
 use charmlet_stock::Stock;
 use std::alloc::{AllocError, Global};
 
-/// A history, a shelf with the objects that it made, and a stock of blank ones.
+/// A history, a shelf for each processor with the objects that it made, and a stock of blank ones.
 #[derive(Drop)]
 pub struct Small<C: Chare> {
     pub(crate) alloc: Global,
     pub(crate) history: History,
-    pub(crate) shelf: Shelf<C>,
+    /// The shelf of each processor. They count from 0.
+    pub(crate) shelves: Vec<Shelf<C>>,
     pub(crate) stock: Stock<C>,
 }
 
 impl<C: Chare> Small<C> {
-    /// A store with these arrays, and nothing in it. It takes no memory.
-    pub fn new(alloc: Global, manifest: Manifest) -> Self
-        ensures core { (store_in result).core ≡ opened 1 (new_world manifest) 0 1 }
-        ensures blanks { (kind : kinds.Kind) → (store_in result).blanks kind ≡ 0 }
-        ensures supplied { (kind : kinds.Kind) → supplied_in result kind ≡ 0 }
-        ensures stands { IsFit (new_world manifest) → StandsSo result }
+    /// A store with these arrays, so many processors, and nothing in it. `BadPes` where there aren't 1 to
+    /// 64 of them, and else `Memory`.
+    pub fn new(alloc: Global, manifest: Manifest, processors: u16) -> Result<Self, Refusal>
+        ensures core { IfOk result (λ small. (store_in small).core ≡ opened processors (new_world manifest) 0 1) }
+        ensures blanks { IfOk result (λ small. (kind : kinds.Kind) → (store_in small).blanks kind ≡ 0) }
+        ensures supplied { IfOk result (λ small. (kind : kinds.Kind) → supplied_in small kind ≡ 0) }
+        ensures stands { IsFit (new_world manifest) → IfOk result (λ small. StandsSo small) }
+        ensures ok { IfOk result (λ _. is_processor_count processors ≡ true) }
+        ensures err { IfErr result (λ refusal. refusal ≡ (if is_processor_count processors then refusals.Memory else refusals.BadPes)) }
     {
-        Small {
+        let history = History::new(alloc, manifest, processors)?;
+        let shelves = empty_shelves(alloc, processors)?;
+        Ok(Small {
             alloc,
-            history: History::new(alloc, manifest),
-            shelf: Shelf::new(alloc, 0),
+            history,
+            shelves,
             stock: Stock::new(alloc),
-        }
+        })
     }
 
     /// Takes blank objects into the stock. Where memory is refused it hands all of them back, and nothing
@@ -75,13 +88,13 @@ impl<C: Chare> Small<C> {
         self.stock.draw(source, kind, count)
     }
 
-    /// The oldest message that can be delivered, and its processor.
+    /// The oldest message that can be delivered, and before it the processor that is to deliver it: the
+    /// place of its receiver, or the home of one that isn't there.
     pub fn next(&self) -> Option<(u16, MsgId)>
         requires { StandsSo self.now }
-        ensures { result ≡ option_map (λ id. (0, id)) (oldest_deliverable (world_in self.now) (world_in self.now).pending) }
+        ensures { result ≡ next_in (core_in self.now.history) }
     {
-        let id = self.history.next()?;
-        Some((self.shelf.number(), id))
+        self.history.next()
     }
 
     /// Runs the steps one after another, and gives an answer for each. Room for all answers is made
@@ -130,9 +143,56 @@ impl<C: Chare> Small<C> {
                 Ok(()) => Answer::Delivered(*id),
                 Err(refusal) => Answer::Refused(refusal),
             },
+            Step::Move { elem, processor } => match self.relocate(*elem, *processor) {
+                Ok(()) => Answer::Moved {
+                    elem: *elem,
+                    processor: *processor,
+                },
+                Err(refusal) => Answer::Refused(refusal),
+            },
             Step::Flush => Answer::Flushed(self.history.flush()),
         }
     }
+
+    /// Delivers a pending message on a processor. Where it is refused, all is as before.
+    fn deliver(&mut self, processor: u16, id: MsgId) -> Result<(), Refusal>
+        requires { StandsSo self.old }
+        ensures stands { StandsSo self.new }
+        ensures ends { Ends (store_in self.old) processor id result (store_in self.new) }
+        ensures supplied { supplied_in self.new ≡ supplied_in self.old }
+    {
+        let Some(shelf) = self.shelves.get_mut(usize::from(processor)) else {
+            return Err(Refusal::BadPes);
+        };
+        deliver_on(self.alloc, &mut self.history, shelf, &mut self.stock, id)
+    }
+
+    /// Moves an element to a processor. Where it is refused, all is as before.
+    fn relocate(&mut self, elem: Elem, processor: u16) -> Result<(), Refusal>
+        requires { StandsSo self.old }
+        ensures stands { StandsSo self.new }
+        ensures goes { Goes (store_in self.old) (core.Move elem processor) (done_or_refused result) (store_in self.new) }
+        ensures supplied { supplied_in self.new ≡ supplied_in self.old }
+    {
+        move_to(
+            &mut self.history,
+            self.shelves.as_mut_slice(),
+            &mut self.stock,
+            elem,
+            processor,
+        )
+    }
+}
+
+/// The shelves of so many processors, with nothing on them. It fails only for want of memory.
+fn empty_shelves<C: Chare>(alloc: Global, processors: u16) -> Result<Vec<Shelf<C>>, AllocError>
+    ensures { IfOk result (λ shelves. AreEmpty processors shelves.items) }
+{
+    let mut shelves = Vec::with_capacity(alloc, usize::from(processors))?;
+    for processor in 0..processors {
+        shelves.push(Shelf::new(alloc, processor))?;
+    }
+    Ok(shelves)
 }
 
 fn answer_of(told: Result<Told, Refusal>) -> Answer

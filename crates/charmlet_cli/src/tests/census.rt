@@ -27,7 +27,9 @@ fn censuses<C: Chare>(
     let Some(manifest) = Manifest::of(alloc, &[(0, kind.number())])? else {
         return Ok(censuses);
     };
-    let mut store = Small::new(alloc, manifest);
+    let Ok(mut store) = Small::new(alloc, manifest, 1) else {
+        return Ok(censuses);
+    };
     let _ = store.supply(blanks);
     censuses.push(store.census(kind))?;
     for (client, entry) in [(7, CONSTRUCT), (8, 0)] {

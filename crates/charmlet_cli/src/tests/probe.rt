@@ -188,6 +188,57 @@ fn each_drained_delivery_enters_its_object_once(rt: HostRuntime) -> Result<(), F
     Ok(())
 }
 
+// One delivery enters the object that is constructed, and one that to which the element was moved.
+const MOVED: &str = "\
+> pes 2
+> array 0 1
+> supply 1 2
+supplied 1 2
+> req 7 1 0 0 65535 5
+told unknown
+> drain 1
+drained 1 left 0
+> move 0 0 1
+moved 0.0 to 1
+> req 7 2 0 0 0 3
+told unknown
+> drain 1
+drained 1 left 0
+> flush
+flushed 4
+> status 7 2
+told replied 8
+";
+
+#[test]
+fn each_move_unpacks_its_object_once(rt: HostRuntime) -> Result<(), Fail> {
+    let alloc = rt.alloc();
+    let notes = Arc::new(alloc, Notes::new())?;
+    let (text, wanted) = parts(alloc, MOVED)?;
+    let script = read_script(alloc, &mut text.as_bytes())?;
+    let mut output = Vec::new(alloc);
+    let ran = run_script(alloc, &script, probes(alloc, &notes, 2)?, &mut output);
+    assert!(rt; ran.is_ok());
+    assert_eq!(rt; output.as_slice(), wanted.as_bytes());
+    assert_eq!(rt; notes.entries.load(Ordering::SeqCst), 2);
+    assert_eq!(rt; notes.unpacked.load(Ordering::SeqCst), 1);
+    assert_eq!(rt; notes.drops.load(Ordering::SeqCst), 2);
+    Ok(())
+}
+
+#[test]
+fn objects_are_dropped_where_there_is_no_store(rt: HostRuntime) -> Result<(), Fail> {
+    let alloc = rt.alloc();
+    let notes = Arc::new(alloc, Notes::new())?;
+    let script = read_script(alloc, &mut "pes 65\narray 0 1\nsupply 1 2\n".as_bytes())?;
+    let mut output = Vec::new(alloc);
+    let ran = run_script(alloc, &script, probes(alloc, &notes, 3)?, &mut output);
+    assert!(rt; ran.is_ok());
+    assert_eq!(rt; notes.entries.load(Ordering::SeqCst), 0);
+    assert_eq!(rt; notes.drops.load(Ordering::SeqCst), 3);
+    Ok(())
+}
+
 // A request of the client is delivered.
 fn deliver<C: Chare>(alloc: Global, store: &mut Small<C>, client: u32, entry: u16)
     requires { StandsSo store.old }
@@ -206,7 +257,7 @@ fn destroyed_objects_are_dropped_at_once(rt: HostRuntime) -> Result<(), Fail> {
     let alloc = rt.alloc();
     let notes = Arc::new(alloc, Notes::new())?;
     let manifest = Manifest::of(alloc, &[(0, Kind::Tree.number())])?.ok_or("there is none")?;
-    let mut store = Small::new(alloc, manifest);
+    let mut store = Small::new(alloc, manifest, 1)?;
     let mut blanks = Vec::new(alloc);
     blanks.push(Probe {
         object: Tree::blank(),

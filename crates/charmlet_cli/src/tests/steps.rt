@@ -2,13 +2,14 @@
 
 ghost use Rattle.charmlet_small.specs.Small.{StandsSo};
 
+use super::moving::{MOVE, MOVED_RING};
 use super::showing::{RING_OF_THREE, WHOLE_TREE};
 use super::{FIRST_RUN, one_counter, parts};
 use crate::Stop;
 use crate::showing::{census_line, pending_line, state_line};
 use crate::writing::{write_line, write_memory_refused};
 use charmlet_chare::Chare;
-use charmlet_kinds::{Ring, Tree};
+use charmlet_kinds::{Counter, Ring, Tree};
 use charmlet_model::{Answer, Kind, Refusal, Step};
 use charmlet_script::{Drained, Line, Supplied, read_script};
 use charmlet_small::Small;
@@ -161,7 +162,10 @@ fn printed<C: Chare>(
     tries: usize,
 ) -> Result<Vec<u8>, Stop> {
     let script = read_script(alloc, &mut text.as_bytes())?;
-    let mut store = Small::new(alloc, script.manifest(alloc)?);
+    let manifest = script.manifest(alloc)?;
+    let Ok(mut store) = Small::new(alloc, manifest, script.processors()) else {
+        return Err(Stop::NotCreated);
+    };
     let mut output = Vec::with_capacity(alloc, 4096)?;
     for line in script.lines() {
         run(alloc, &mut store, &mut blanks, line, tries, &mut output)?;
@@ -184,6 +188,12 @@ fn is_as_wanted<C: Chare>(
     Ok(output.as_slice() == wanted.as_bytes())
 }
 
+fn two_counters(alloc: Global) -> Result<Vec<Counter>, AllocError> {
+    let mut counters = one_counter(alloc)?;
+    counters.push(Counter::blank())?;
+    Ok(counters)
+}
+
 fn rings(alloc: Global, count: usize) -> Result<Vec<Ring>, AllocError> {
     let mut rings = Vec::new(alloc);
     for _ in 0..count {
@@ -200,12 +210,14 @@ fn trees(alloc: Global, count: usize) -> Result<Vec<Tree>, AllocError> {
     Ok(trees)
 }
 
-// Whether runs of three kinds print what they have to.
+// Whether runs of three kinds, and two in which an element moves, print what they have to.
 fn are_as_wanted(alloc: Global, tries: usize) -> Result<bool, Stop> {
+    let moved = is_as_wanted(alloc, MOVED_RING, rings(alloc, 4)?, tries)?
+        && is_as_wanted(alloc, MOVE, two_counters(alloc)?, tries)?;
     let counters = is_as_wanted(alloc, FIRST_RUN, one_counter(alloc)?, tries)?;
     let rings = is_as_wanted(alloc, RING_OF_THREE, rings(alloc, 3)?, tries)?;
     let trees = is_as_wanted(alloc, WHOLE_TREE, trees(alloc, 8)?, tries)?;
-    Ok(counters && rings && trees)
+    Ok(moved && counters && rings && trees)
 }
 
 #[test]

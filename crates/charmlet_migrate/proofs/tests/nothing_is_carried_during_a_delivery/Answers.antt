@@ -11,8 +11,8 @@ use Rattle.charmlet_migrate.proofs.tests.nothing_is_carried_during_a_delivery.Go
 abbrev me : Elem
 me = record { array = 2; index = 7 }
 
-pub carry-carried-requires-clause-here : goal.carry-carried-requires-clause-here
-carry-carried-requires-clause-here g c κs =
+pub carry_between-carried-requires-clause-here : goal.carry_between-carried-requires-clause-here
+carry_between-carried-requires-clause-here g c κs =
     let s = state_of c.unpacked-ring.result in
     let r : Record = record { state = Some s; sent = 4; received = 5 } in
     let here : lookup (is_at (elem_cmp me)) c.busy_source_with-source.result.records ≡ Some r = ap (λ records. lookup (is_at (elem_cmp me)) records) c.busy_source_with-source.ensures in

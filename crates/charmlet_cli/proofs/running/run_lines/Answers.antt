@@ -1,0 +1,34 @@
+use Rattle.std.proofs.Common.{◌≡◌, ◌+◌, ◌≤◌, List, [], ◌∷◌, ◌++◌, sym, ap, subst, ◌∙◌, arith}
+use Rattle.std.specs.Prelude.{drop, take, get_or}
+use Rattle.std.proofs.lemmas.List.{take_more}
+use Rattle.std.proofs.lemmas.List.Sums.{sum_by-drop_more}
+use Rattle.charmlet_model.specs.Texts.{Text}
+use Rattle.charmlet_script.specs.Script.{blanks_in, blanks_of}
+use Rattle.charmlet_cli.specs.Lines.{Prints, held_in, ledger_in}
+use Rattle.charmlet_cli.proofs.Printing.{lines_then, prints_more}
+use Rattle.charmlet_cli.proofs.running.run_lines.Goals as goal
+
+pub loop-line-preserved : goal.loop-line-preserved
+loop-line-preserved g c =
+    let lines = c.args.lines.now in
+    let at = c.loop-line.line-index in
+    let first = ledger_in c.args.store.now in
+    let before = ledger_in c.loop-line.store in
+    let next = ledger_in c.run_line.new.store in
+    let so_far = c.loop-line.invariant.1 in
+    let printed = c.in_ok-run_line.ensures.prints in
+    let more : take (at + 1) lines ≡ take at lines ++ c.line-item.result ∷ [] =
+    take_more lines at c.line-item.result c.loop-line-test.true ∙ ap (λ line. take at lines ++ line ∷ []) (sym c.line-item.is) in
+    let texts : List Text = so_far.0 ++ printed.0 in
+    let prints : Prints first (take (at + 1) lines) texts next =
+    subst (λ lines. Prints first lines texts next) (sym more) (prints_more first before next (take at lines) c.line-item.result so_far.0 printed.0 so_far.1 printed.1) in (
+      c.run_line.ensures.stands,
+      (texts, prints, lines_then _ _ _ so_far.0 printed.0 so_far.2 printed.2),
+      λ kind.
+          let split : blanks_of kind (drop at lines) ≡ blanks_in kind (get_or lines at c.line-item.result) + blanks_of kind (drop (at + 1) lines) =
+          sum_by-drop_more (blanks_in kind) lines at c.line-item.result c.loop-line-test.true in
+          let here : blanks_in kind c.line-item.result ≡ blanks_in kind (get_or lines at c.line-item.result) = ap (blanks_in kind) c.line-item.is in
+          let enough : blanks_of kind (drop at lines) ≤ held_in c.loop-line.source kind = c.loop-line.invariant.2 kind in
+          let left : held_in c.loop-line.source kind ≤ held_in c.run_line.new.source kind + blanks_in kind c.line-item.result = c.in_ok-run_line.ensures.left kind in
+          omega arith,
+    )

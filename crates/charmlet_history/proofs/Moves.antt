@@ -1,0 +1,139 @@
+-- What a move makes of what is kept.
+use Rattle.std.proofs.Common.{◌≡◌, ℕ, ◌<◌, ◌==◌, Bool, true, false, cond, not, ◌||◌, List, [], ◌∷◌, ◌++◌, refl, sym, ap, subst, ◌∙◌}
+use Rattle.std.proofs.lemmas.Bool.{lt-ltb}
+use Rattle.std.specs.Prelude.{Option, Some, None, is_some, nat_lt, unwrap_or}
+use Rattle.std.specs.Ordering.{eq_by_cmp, nat_cmp}
+use Rattle.std.specs.BTreeMap.{insert_entry, is_at}
+use Rattle.std.specs.Map.{lookup}
+use Rattle.std.proofs.lemmas.Map.Views.{tells_apart}
+use Rattle.charmlet_model.specs.declared.names.Elem.{Elem}
+use Rattle.charmlet_model.specs.declared.kind.Kind.{Kind}
+use Rattle.charmlet_model.specs.declared.refusal.Refusal.TheVariants as refusals
+use Rattle.charmlet_model.specs.Names.{elem_cmp}
+use Rattle.charmlet_model.specs.World.{kind_of_array, record_of}
+use Rattle.charmlet_model.specs.Core.{Core, Gate, When, MayLackMemory, Move, home, present, lacks_blank, gates, first_refusal, next_core}
+use Rattle.charmlet_model.specs.Sound.{IsSound}
+use Rattle.charmlet_model.proofs.Maps.{elem_total, elem_exact, rising-insert_entry}
+use Rattle.charmlet_model.proofs.SoundLemmas.{step_sound}
+use Rattle.charmlet_history.specs.declared.element.Element.{Element}
+use Rattle.charmlet_history.specs.Kept.{Kept, Stands, IsCountedBy, core_of, blank_of_move, element_at, stands_in, plenty}
+use Rattle.charmlet_history.specs.Delivered.{relocated}
+use Rattle.charmlet_history.proofs.Assigning.{stands_is, there_is}
+use Rattle.charmlet_history.proofs.Orders.{is_done}
+use Rattle.charmlet_history.proofs.Standing.{manifest_is}
+use Rattle.charmlet_history.proofs.Places.{element_at-insert, places_moved}
+
+-- of a move to another processor, where the stock lacks nothing
+abbrev pub away_order : Kept → ℕ → ℕ → List Gate
+away_order k place processor =
+    When (is_some (lookup (is_at (nat_cmp place)) k.assigned) || is_some (lookup (is_at (nat_cmp processor)) k.assigned)) refusals.Uncommitted ∷ []
+
+-- of a move, by what is kept
+abbrev pub move_order : Kept → Elem → ℕ → List Gate
+move_order k x processor =
+    When (not (nat_lt processor k.processors)) refusals.BadPes
+    ∷ When (not (is_some (element_at k.elements x).place)) refusals.Absent
+    ∷ cond (stands_in k x == processor) [] (away_order k (stands_in k x) processor)
+
+away_passes : (busy : Bool) (wanted : Option Kind) →
+    first_refusal (When busy refusals.Uncommitted ∷ (lacks_blank plenty wanted ++ MayLackMemory ∷ [])) ≡ first_refusal (When busy refusals.Uncommitted ∷ [])
+away_passes true wanted = refl
+away_passes false None = refl
+away_passes false (Some kind) = refl
+
+-- what comes first is the same
+behind : (away absent own : Bool) (a b : List Gate) → first_refusal a ≡ first_refusal b →
+    first_refusal (When away refusals.BadPes ∷ When absent refusals.Absent ∷ cond own [] a) ≡ first_refusal (When away refusals.BadPes ∷ When absent refusals.Absent ∷ cond own [] b)
+behind true absent own a b h = refl
+behind false true own a b h = refl
+behind false false true a b h = refl
+behind false false false a b h = h
+
+module _ (k : Kept) (stands : Stands k) (x : Elem) (processor : ℕ) where
+  abbrev core : Core
+  core = core_of k
+
+  abbrev order : Bool → ℕ → List Gate
+  order there place =
+      When (not (nat_lt processor k.processors)) refusals.BadPes
+      ∷ When (not there) refusals.Absent
+      ∷ cond (place == processor) [] (When (is_some (lookup (is_at (nat_cmp place)) k.assigned) || is_some (lookup (is_at (nat_cmp processor)) k.assigned)) refusals.Uncommitted
+      ∷ (lacks_blank plenty (kind_of_array (present core) x.array) ++ MayLackMemory ∷ []))
+
+  pub move_order_is : first_refusal (gates core plenty (Move x processor)) ≡ first_refusal (move_order k x processor)
+  move_order_is =
+      (λ i. first_refusal (order (there_is k stands x i) (stands_is k stands x i)))
+      ∙ behind (not (nat_lt processor k.processors)) (not (is_some (element_at k.elements x).place)) (stands_in k x == processor) _ (away_order k (stands_in k x) processor)
+      (away_passes (is_some (lookup (is_at (nat_cmp (stands_in k x))) k.assigned) || is_some (lookup (is_at (nat_cmp processor)) k.assigned)) (kind_of_array (present core) x.array))
+
+  -- ---- a move that can be
+
+  module _ (can : first_refusal (gates core plenty (Move x processor)) ≡ None) where
+    -- to its own processor
+    pub stays_there : (stands_in k x == processor) ≡ true → core ≡ next_core core (Move x processor)
+    stays_there own = sym (ap (λ b. cond b core (record core { places = insert_entry elem_cmp core.places x processor })) (ap (λ p. p == processor) (stands_is k stands x) ∙ own))
+
+    -- to another one
+    module _ (away : (stands_in k x == processor) ≡ false) where
+      abbrev e : Element
+      e = record (element_at k.elements x) { place = Some processor }
+
+      abbrev new : Kept
+      new = relocated k x processor
+
+      pub moved_core : core_of new ≡ next_core core (Move x processor)
+      moved_core =
+          (λ i. record core { places = places_moved k.elements stands.rising x e processor refl i })
+          ∙ sym (ap (λ b. cond b core (record core { places = insert_entry elem_cmp core.places x processor })) (ap (λ p. p == processor) (stands_is k stands x) ∙ away))
+
+      counts_stay : (y : Elem) → IsCountedBy (record_of (present core) y) (element_at new.elements y)
+      counts_stay y =
+          subst (IsCountedBy (record_of (present core) y)) (sym (element_at-insert k.elements x e y))
+          (elim (eq_by_cmp elem_cmp y x) as (λ b. eq_by_cmp elem_cmp y x ≡ b → IsCountedBy (record_of (present core) y) (cond b e (element_at k.elements y))) [
+            | true ↦ λ same.
+                let counts = stands.counts x in
+                subst (λ z. IsCountedBy (record_of (present core) z) e) (sym (tells_apart elem_exact y x same)) (record { sent = counts.sent; received = counts.received })
+            | false ↦ λ _. stands.counts y
+          ] refl)
+
+      pub moved_stands : Stands new
+      moved_stands = record {
+        sound = subst IsSound (sym moved_core) (step_sound core plenty (Move x processor) _ stands.sound tt (is_done core plenty (Move x processor) refl can));
+        rising = rising-insert_entry elem_cmp elem_total x e k.elements stands.rising;
+        counts = counts_stay;
+        pending = stands.pending;
+        clients = stands.clients;
+        durable_rows = stands.durable_rows;
+      }
+
+    -- it is there
+    pub moves_there : is_some (element_at k.elements x).place ≡ true
+    moves_there =
+        there (nat_lt processor k.processors) (is_some (element_at k.elements x).place) (cond (stands_in k x == processor) [] (away_order k (stands_in k x) processor)) (sym move_order_is ∙ can)
+      where
+        there : (below it_is : Bool) (more : List Gate) → first_refusal (When (not below) refusals.BadPes ∷ When (not it_is) refusals.Absent ∷ more) ≡ None → it_is ≡ true
+        there true true more h = refl
+        there true false more h = absurd (let never : ⊥ = cc in never)
+        there false it_is more h = absurd (let never : ⊥ = cc in never)
+
+  -- ---- a test of a move
+
+  module _ (below : processor < k.processors) where
+    abbrev tested : Bool → Bool → List Gate → List Gate
+    tested here there more = When (not here) refusals.BadPes ∷ When (not there) refusals.Absent ∷ more
+
+    pub absent_refused : (element_at k.elements x).place ≡ None → first_refusal (gates core plenty (Move x processor)) ≡ Some refusals.Absent
+    absent_refused none =
+        move_order_is ∙ (λ i. first_refusal (tested (lt-ltb processor k.processors below i) (is_some (none i)) (cond (stands_in k x == processor) [] (away_order k (stands_in k x) processor))))
+
+    module _ (place : ℕ) (is : (element_at k.elements x).place ≡ Some place) where
+      it_stands : stands_in k x ≡ place
+      it_stands = ap (λ o. unwrap_or o (home x k.processors)) is
+
+      pub order_there : first_refusal (gates core plenty (Move x processor)) ≡ first_refusal (cond (place == processor) [] (away_order k place processor))
+      order_there =
+          move_order_is
+          ∙ (λ i. first_refusal (tested (lt-ltb processor k.processors below i) (is_some (is i)) (cond (it_stands i == processor) [] (away_order k (it_stands i) processor))))
+
+      pub blank_there : blank_of_move core x processor ≡ cond (place == processor) None (lookup (is_at (nat_cmp x.array)) k.manifest)
+      blank_there = λ i. cond ((stands_is k stands x ∙ it_stands) i == processor) None (lookup (is_at (nat_cmp x.array)) (manifest_is k i))

@@ -1,0 +1,137 @@
+-- The refusals of moves, with a stock of any size.
+use Rattle.std.proofs.Common.{◌≡◌, ℕ, ◌<◌, ◌==◌, Bool, true, false, cond, not, ◌||◌, List, [], ◌∷◌, ◌++◌, refl, sym, ap, subst, ◌∙◌, arith}
+use Rattle.std.specs.Prelude.{Option, Some, None, is_some}
+use Rattle.std.specs.BTreeMap.{insert_entry}
+use Rattle.std.proofs.lemmas.Map.Views.{exact_unsigned_eq}
+use Rattle.charmlet_model.specs.declared.names.Elem.{Elem}
+use Rattle.charmlet_model.specs.declared.kind.Kind.{Kind}
+use Rattle.charmlet_model.specs.declared.refusal.Refusal.{Refusal}
+use Rattle.charmlet_model.specs.declared.refusal.Refusal.TheVariants as refusals
+use Rattle.charmlet_model.specs.Names.{elem_cmp}
+use Rattle.charmlet_model.specs.World.{kind_of_array}
+use Rattle.charmlet_model.specs.Core.{Core, present, Blanks, Gate, When, MayLackMemory, MayFail, CoreStep, Move, Done, Refuses, gates, away_gates, lacks_blank, assigned_to, first_refusal, may_lack_memory, next_core, with_taken, is_present, is_processor, stands_on}
+use Rattle.charmlet_model.specs.Run.{Store, Goes}
+use Rattle.charmlet_history.specs.Kept.{plenty}
+use Rattle.charmlet_history.proofs.Orders.{none_of_both, some_of_first, is_refused, lacks_memory, is_done}
+
+-- ---- orders
+
+-- a refusal stands in the front of an order whose rest refuses nothing
+in_front : (order more : List Gate) (refusal : Refusal) → first_refusal more ≡ None → first_refusal (order ++ more) ≡ Some refusal → first_refusal order ≡ Some refusal
+in_front [] more refusal none h = absurd (let no : None ≡ Some refusal = sym none ∙ h in let never : ⊥ = cc in never)
+in_front (When true other ∷ order) more refusal none h = h
+in_front (When false other ∷ order) more refusal none h = in_front order more refusal none h
+in_front (MayLackMemory ∷ order) more refusal none h = in_front order more refusal none h
+in_front (MayFail ∷ order) more refusal none h = in_front order more refusal none h
+
+none_in_front : (order more : List Gate) → first_refusal (order ++ more) ≡ None → first_refusal order ≡ None
+none_in_front [] more h = refl
+none_in_front (When true other ∷ order) more h = absurd (let no : ⊥ = cc in no)
+none_in_front (When false other ∷ order) more h = none_in_front order more h
+none_in_front (MayLackMemory ∷ order) more h = none_in_front order more h
+none_in_front (MayFail ∷ order) more h = none_in_front order more h
+
+memory_after : (order more : List Gate) → first_refusal order ≡ None → may_lack_memory more ≡ true → may_lack_memory (order ++ more) ≡ true
+memory_after [] more none h = h
+memory_after (When true other ∷ order) more none h = absurd (let no : ⊥ = cc in no)
+memory_after (When false other ∷ order) more none h = memory_after order more none h
+memory_after (MayLackMemory ∷ order) more none h = refl
+memory_after (MayFail ∷ order) more none h = memory_after order more none h
+
+-- ---- the blank
+
+not_zero : (n : ℕ) → 0 < n → (n == 0) ≡ false
+not_zero n above = elim (n == 0) as (λ b. (n == 0) ≡ b → b ≡ false) [ true ↦ λ h. let zero = exact_unsigned_eq n 0 h in absurd (omega arith) | false ↦ λ _. refl ] refl
+
+abbrev rest : Blanks → Option Kind → List Gate
+rest blanks wanted = lacks_blank blanks wanted ++ MayLackMemory ∷ []
+
+rest_passes : (blanks : Blanks) (kind : Kind) → 0 < blanks kind → first_refusal (rest blanks (Some kind)) ≡ None
+rest_passes blanks kind has = ap (λ b. first_refusal (When b (refusals.NoBlank kind) ∷ MayLackMemory ∷ [])) (not_zero (blanks kind) has)
+
+rest_may_lack : (blanks : Blanks) (kind : Kind) → 0 < blanks kind → may_lack_memory (rest blanks (Some kind)) ≡ true
+rest_may_lack blanks kind has = ap (λ b. may_lack_memory (When b (refusals.NoBlank kind) ∷ MayLackMemory ∷ [])) (not_zero (blanks kind) has)
+
+rest_lacks : (blanks : Blanks) (kind : Kind) → blanks kind ≡ 0 → first_refusal (rest blanks (Some kind)) ≡ Some (refusals.NoBlank kind)
+rest_lacks blanks kind none = ap (λ n. first_refusal (When (n == 0) (refusals.NoBlank kind) ∷ MayLackMemory ∷ [])) none
+
+plenty_passes : (wanted : Option Kind) → first_refusal (rest plenty wanted) ≡ None
+plenty_passes None = refl
+plenty_passes (Some kind) = rest_passes plenty kind (omega arith)
+
+-- ---- a move, up to the blank and from it on
+
+module _ (core : Core) (x : Elem) (processor : ℕ) where
+  abbrev step : CoreStep
+  step = Move x processor
+
+  -- the element is there already
+  abbrev stays : Bool
+  stays = stands_on core x == processor
+
+  -- the kind of the blank that is wanted for a move elsewhere
+  abbrev wanted : Option Kind
+  wanted = kind_of_array (present core) x.array
+
+  abbrev start : List Gate
+  start =
+      When core.halted refusals.Halted
+      ∷ When core.busy refusals.Checkpointing
+      ∷ When (not (is_processor core processor)) refusals.BadPes
+      ∷ When (not (is_present core x)) refusals.Absent ∷ []
+
+  abbrev front : List Gate
+  front = start ++ When (is_some (assigned_to core (stands_on core x)) || is_some (assigned_to core processor)) refusals.Uncommitted ∷ []
+
+  -- by whether it is there already
+  abbrev order : Bool → Blanks → List Gate
+  order here blanks = start ++ cond here [] (away_gates core blanks x processor)
+
+  refused_by : (here : Bool) (blanks : Blanks) (refusal : Refusal) → first_refusal (order here plenty) ≡ Some refusal → first_refusal (order here blanks) ≡ Some refusal
+  refused_by true blanks refusal h = h
+  refused_by false blanks refusal h = some_of_first front (rest blanks wanted) refusal (in_front front (rest plenty wanted) refusal (plenty_passes wanted) h)
+
+  -- what is refused where blanks are plenty is refused with any stock
+  pub refused_so : (blanks : Blanks) (refusal : Refusal) → first_refusal (gates core plenty step) ≡ Some refusal → Goes (record { core = core; blanks = blanks }) step (Refuses refusal) (record { core = core; blanks = blanks })
+  refused_so blanks refusal h = is_refused core blanks step refl refusal (refused_by stays blanks refusal h)
+
+  module _ (can : first_refusal (gates core plenty step) ≡ None) (blanks : Blanks) where
+    abbrev store : Store
+    store = record { core = core; blanks = blanks }
+
+    passes_there : (here : Bool) → here ≡ true → first_refusal (order here plenty) ≡ None → first_refusal (order here blanks) ≡ None
+    passes_there true is h = h
+    passes_there false is h = absurd (let never : ⊥ = cc in never)
+
+    -- a move to the own processor changes nothing
+    pub stays_there : stays ≡ true → Goes store step Done store
+    stays_there here =
+        subst (λ (s : Store). Goes store step Done s)
+        (ap (λ b. record { core = cond b core (record core { places = insert_entry elem_cmp core.places x processor }); blanks = cond b blanks (with_taken wanted blanks) }) here)
+        (is_done core blanks step refl (passes_there stays here can))
+
+    module _ (kind : Kind) where
+      passes_front : first_refusal (order false plenty) ≡ None → first_refusal front ≡ None
+      passes_front h = none_in_front front (rest plenty wanted) h
+
+      -- from the blank on the order is that of the rest
+      behind : (here : Bool) → here ≡ false → first_refusal (order here plenty) ≡ None → (o : Option Refusal) → wanted ≡ Some kind → first_refusal (rest blanks (Some kind)) ≡ o → first_refusal (order here blanks) ≡ o
+      behind true is h o of then = absurd (let never : ⊥ = cc in never)
+      behind false is h o of then = none_of_both front (rest blanks wanted) (passes_front h) ∙ ap (λ k. first_refusal (rest blanks k)) of ∙ then
+
+      may_lack : (here : Bool) → here ≡ false → first_refusal (order here plenty) ≡ None → wanted ≡ Some kind → 0 < blanks kind → may_lack_memory (order here blanks) ≡ true
+      may_lack true is h of has = absurd (let never : ⊥ = cc in never)
+      may_lack false is h of has = memory_after front (rest blanks wanted) (passes_front h) (ap (λ k. may_lack_memory (rest blanks k)) of ∙ rest_may_lack blanks kind has)
+
+      module _ (elsewhere : stays ≡ false) (of : wanted ≡ Some kind) where
+        pub lacks_blank_for : blanks kind ≡ 0 → Goes store step (Refuses (refusals.NoBlank kind)) store
+        lacks_blank_for none = is_refused core blanks step refl (refusals.NoBlank kind) (behind stays elsewhere can (Some (refusals.NoBlank kind)) of (rest_lacks blanks kind none))
+
+        pub lacks_memory_for : 0 < blanks kind → Goes store step (Refuses refusals.Memory) store
+        lacks_memory_for has = lacks_memory core blanks step refl (may_lack stays elsewhere can of has)
+
+        pub goes_away : 0 < blanks kind → Goes store step Done (record { core = next_core core step; blanks = with_taken (Some kind) blanks })
+        goes_away has =
+            subst (λ (b : Blanks). Goes store step Done (record { core = next_core core step; blanks = b }))
+            (ap (λ b. cond b blanks (with_taken wanted blanks)) elsewhere ∙ ap (λ k. with_taken k blanks) of)
+            (is_done core blanks step refl (behind stays elsewhere can None of (rest_passes blanks kind has)))

@@ -1,0 +1,54 @@
+-- Elements that move between processors.
+use Rattle.std.specs.Prelude.{◌≡◌, ℕ, List, Result, Ok, Err, map, sum_by}
+use Rattle.charmlet_model.specs.declared.kind.Kind.{Kind}
+use Rattle.charmlet_model.specs.declared.names.Elem.{Elem}
+use Rattle.charmlet_model.specs.declared.refusal.Refusal.{Refusal}
+use Rattle.charmlet_model.specs.declared.state.Record.{Record}
+use Rattle.charmlet_model.specs.Core.{CoreAnswer, Done, Refuses, present}
+use Rattle.charmlet_model.specs.Run.{Store}
+use Rattle.charmlet_model.specs.Shelves.{AddsUp, Shows}
+use Rattle.charmlet_chare.specs.declared.chare.Chare.{Ghosts}
+use Rattle.charmlet_history.specs.declared.history.History.{History}
+use Rattle.charmlet_history.specs.Kept.{core_in}
+use Rattle.charmlet_shelf.specs.Count.{objects_on}
+use Rattle.charmlet_shelf.specs.Shelf.{View}
+use Rattle.charmlet_shelf.specs.declared.phase.Phase.TheVariants.{Idle}
+use Rattle.charmlet_stock.specs.declared.stock.Stock.{Stock}
+use Rattle.charmlet_stock.specs.Stock.{blanks_in, tally_in}
+
+-- the records on each shelf
+abbrev pub records_on : List View → List (List (Elem × Record))
+records_on = map (λ (shelf : View). shelf.records)
+
+-- the processors of the shelves
+abbrev pub numbers_of : List View → List ℕ
+numbers_of = map (λ (shelf : View). shelf.number)
+
+-- no delivery is under way on the shelf
+abbrev pub IsIdle : View → Type 0
+IsIdle shelf = shelf.phase ≡ Idle
+
+-- how many objects of a kind are on all shelves
+abbrev pub objects_among : List View → Kind → ℕ
+objects_among shelves kind = sum_by (λ shelf. objects_on shelf kind) shelves
+
+-- a history and a stock as a core and blanks
+abbrev pub store_with : {C : Type 0} {G : Ghosts C} → History → Stock C G → Store
+store_with history stock = record { core = core_in history; blanks = blanks_in stock }
+
+-- the shelves show the present world, each element on the shelf of its place
+abbrev pub ShowsPresent : List View → History → Type 0
+ShowsPresent shelves history = Shows (records_on shelves) (core_in history).places (present (core_in history))
+
+-- how many objects of each kind were supplied
+abbrev pub supplied_to : {C : Type 0} {G : Ghosts C} → Stock C G → Kind → ℕ
+supplied_to stock kind = (tally_in stock kind).supplied
+
+-- of each kind, what was supplied is on the shelves, in the stock, or retired
+abbrev pub IsCountedAmong : {C : Type 0} {G : Ghosts C} → List View → Stock C G → Type 0
+IsCountedAmong shelves stock = AddsUp (supplied_to stock) (objects_among shelves) (blanks_in stock) (λ kind. (tally_in stock kind).retired)
+
+-- the answer to a move
+abbrev pub answer_in : {T : Type 0} → Result T Refusal → CoreAnswer
+answer_in (Ok x) = Done
+answer_in (Err refusal) = Refuses refusal
