@@ -2,8 +2,8 @@
 #![tactic(auto)]
 
 use charmlet_chare::Chare;
-use charmlet_cli::{Stop, open_script, run_script};
-use charmlet_command::{Command, CommandError, command_of};
+use charmlet_cli::{Failure, Stop, end_program, open_script, run_script};
+use charmlet_command::{Command, command_of};
 use charmlet_kinds::{Account, Counter, Ring, Sum, Tape, Tree};
 use charmlet_model::Kind;
 use charmlet_script::read_script;
@@ -40,27 +40,19 @@ fn run<R: Runtime + AllocGlobal>(rt: &R, path: &str) -> Result<(), Stop> {
     }
 }
 
-/// Does what the command line asks for, says on standard error why it stops, and gives the exit status.
-fn charmlet<R: Runtime + AllocGlobal>(rt: &R) -> io::Result<u8> {
-    let words: Vec<String> = env::args(rt)?.collect(rt.alloc())?;
-    let stop = match command_of(rt.alloc(), words.as_slice()) {
-        Ok(Command::Run { script }) => match run(rt, script) {
-            Ok(()) => return Ok(0),
-            Err(stop) => stop,
-        },
-        Err(CommandError::Line(error)) => {
-            eprint!(rt; "{error}")?;
-            return Ok(2);
-        }
-        Err(CommandError::Memory) => Stop::CannotGoOn,
-    };
-    eprintln!(rt; "{stop}")?;
-    Ok(stop.status())
+/// The words of the command line, the first of which is the program's name.
+fn words<R: Runtime + AllocGlobal>(rt: &R) -> io::Result<Vec<String>> {
+    Ok(env::args(rt)?.collect(rt.alloc())?)
+}
+
+/// Does what the command line asks for.
+fn charmlet<R: Runtime + AllocGlobal>(rt: &R) -> Result<(), Failure> {
+    let words = words(rt)?;
+    let Command::Run { script } = command_of(rt.alloc(), words.as_slice())?;
+    run(rt, script)?;
+    Ok(())
 }
 
 fn main(rt: HostRuntime) -> ExitCode {
-    match charmlet(&rt) {
-        Ok(status) => ExitCode::from(status),
-        Err(_) => ExitCode::from(1),
-    }
+    ExitCode::from(end_program(&charmlet(&rt), &mut rt.stderr()))
 }

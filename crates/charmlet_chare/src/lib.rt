@@ -4,8 +4,6 @@
 mod chare;
 mod outbox;
 mod output;
-#[cfg(test)]
-mod tests;
 
 pub use crate::chare::{Chare, kind_of};
 pub use crate::outbox::Outbox;

@@ -1,4 +1,3 @@
 pub mod Endings
 pub mod Printing
-pub mod Drains
 pub mod Showings

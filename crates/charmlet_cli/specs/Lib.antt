@@ -1,5 +1,6 @@
 -- The definitions that contracts cite.
 pub mod Drain
+pub mod Failure
 pub mod Lines
 pub mod Ran
 pub mod RunError

@@ -22,7 +22,7 @@ use Rattle.charmlet_model.specs.Shelves.{count_of}
 use Rattle.charmlet_model.specs.World.{record_of}
 use Rattle.charmlet_chare.specs.declared.chare.Chare.{Ghosts}
 use Rattle.charmlet_stock.specs.declared.stock.Stock.{Stock}
-use Rattle.charmlet_stock.specs.Stock.{part_of, tally_in}
+use Rattle.charmlet_stock.specs.Stock.{blanks_in, part_of}
 use Rattle.charmlet_small.specs.declared.small.Small.{Small}
 use Rattle.charmlet_small.specs.Small.{store_in, supplied_in}
 use Rattle.charmlet_cli.specs.Drain.{DrainsUpTo, drain_texts}
@@ -34,7 +34,7 @@ AreEnough state objects lines = (kind : Kind) → blanks_of kind lines ≤ count
 
 -- how many blanks of a kind are still to be supplied
 abbrev pub held_in : {C : Type 0} {G : Ghosts C} → Stock C G → Kind → ℕ
-held_in source kind = (tally_in source kind).in_stock
+held_in source kind = blanks_in source kind
 
 -- a store, and how many objects of each kind were supplied to it so far
 pub record Ledger : Type 0 where

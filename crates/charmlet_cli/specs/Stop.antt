@@ -1,5 +1,7 @@
--- Why the program stops, and with which exit status.
-use Rattle.std.specs.Prelude.{ℕ}
+-- Why the program stops, with which exit status, and what it says.
+use Rattle.std.specs.Prelude.{ℕ, ◌++◌, codes}
+use Rattle.std.specs.Fmt.{decimal}
+use Rattle.charmlet_model.specs.Texts.{Text}
 use Rattle.charmlet_script.specs.declared.error.ReadError.{ReadError}
 use Rattle.charmlet_script.specs.declared.error.ReadError.TheVariants.{Memory, Failed, Malformed}
 use Rattle.charmlet_cli.specs.declared.stop.Stop.{Stop}
@@ -11,6 +13,13 @@ status_of CannotGoOn = 1
 status_of NotCreated = 1
 status_of UnreadableScript = 2
 status_of (MalformedLine line) = 2
+
+-- what is said on standard error, without a line feed
+abbrev pub stop_text : Stop → Text
+stop_text CannotGoOn = codes "cannot go on"
+stop_text NotCreated = codes "cannot create store"
+stop_text UnreadableScript = codes "cannot read script"
+stop_text (MalformedLine line) = codes "script line " ++ decimal line
 
 -- what a script that isn't read stops
 abbrev pub stop_of : ReadError → Stop

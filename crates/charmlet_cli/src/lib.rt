@@ -1,15 +1,17 @@
-//! Runs scripts over a store, line by line.
+//! Runs scripts over a store, line by line, and says how the program ends.
 #![tactic(auto)]
 
 mod draining;
+mod ending;
 mod files;
 mod running;
 mod showing;
 mod stop;
-#[cfg(test)]
-mod tests;
 mod writing;
 
+pub use crate::ending::{Failure, end_program};
 pub use crate::files::open_script;
 pub use crate::running::{Ran, RunError, run_script};
+pub use crate::showing::{census_line, pending_line, state_line};
 pub use crate::stop::Stop;
+pub use crate::writing::{write_line, write_memory_refused};

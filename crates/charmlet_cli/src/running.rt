@@ -25,7 +25,7 @@ use charmlet_chare::Chare;
 use charmlet_model::{Answer, Kind, Manifest, Refusal};
 use charmlet_script::{Line, Script, Supplied};
 use charmlet_small::Small;
-use charmlet_stock::Stock;
+use charmlet_stock::{Stock, count_of};
 use std::alloc::{AllocError, Global};
 use std::io;
 use std::io::Write;
@@ -211,22 +211,9 @@ fn has_enough<C: Chare>(script: &Script, blanks: &[C]) -> bool
     ensures { (result ≡ true) ↔ AreEnough C.state blanks.now script.now.lines }
 {
     for kind in &Kind::ALL {
-        if (count_kind(blanks, *kind) as u64) < script.blanks(*kind) {
+        if (count_of(blanks, *kind) as u64) < script.blanks(*kind) {
             return false;
         }
     }
     true
-}
-
-/// How many of the objects are of the kind.
-fn count_kind<C: Chare>(objects: &[C], kind: Kind) -> usize
-    ensures { result ≡ count_of C.state objects.now kind }
-{
-    let mut count = 0;
-    for object in objects {
-        if object.kind() == kind.number() {
-            count += 1;
-        }
-    }
-    count
 }

@@ -20,7 +20,7 @@ use std::alloc::{AllocError, Global};
 use std::io;
 use std::io::Write;
 
-/// Writes where the element stands and its state, or that memory was refused.
+/// Writes where the element stands and its state, or that memory was refused. An error is the writer's.
 pub fn state_line<C: Chare, W: Write>(
     alloc: Global,
     store: &mut Small<C>,
@@ -67,7 +67,7 @@ fn shown<C: Chare>(alloc: Global, store: &mut Small<C>, elem: Elem) -> Result<Sh
     })
 }
 
-/// Writes the ids of the pending messages, or that memory was refused.
+/// Writes the ids of the pending messages, or that memory was refused. An error is the writer's.
 pub fn pending_line<C: Chare, W: Write>(store: &Small<C>, writer: &mut W) -> io::Result<()>
     requires { StandsSo store.now }
     ensures { OnOk result (IsPrinted (ledger_in store.now) lines.Pending (ledger_in store.now) (W.contents writer.old) (W.contents writer.new)) }
@@ -78,7 +78,7 @@ pub fn pending_line<C: Chare, W: Write>(store: &Small<C>, writer: &mut W) -> io:
     write_line(writer, &PendingIds(ids.as_slice()))
 }
 
-/// Writes, for each kind of which objects were supplied, where they are.
+/// Writes, for each kind of which objects were supplied, where they are. An error is the writer's.
 pub fn census_line<C: Chare, W: Write>(store: &Small<C>, writer: &mut W) -> io::Result<()>
     requires { StandsSo store.now }
     ensures { OnOk result (IsPrinted (ledger_in store.now) lines.Census (ledger_in store.now) (W.contents writer.old) (W.contents writer.new)) }

@@ -4,23 +4,19 @@ use crate::running::RunError;
 use charmlet_chare::Chare;
 use charmlet_script::ReadError;
 use std::alloc::{AllocError, AllocFailed};
-use std::io;
-use thiserror::Error;
+use std::error::Error;
+use std::{fmt, io};
 
-/// Why the program stops, with the text for standard error.
-#[derive(Clone, Copy, Debug, PartialEq, Eq, Error)]
+/// Why the program stops.
+#[derive(Clone, Copy, Debug, PartialEq, Eq)]
 pub enum Stop {
     /// Memory or the output failed outside a step.
-    #[error("cannot go on")]
     CannotGoOn,
     /// The store wasn't created, and no line was run. The output says why.
-    #[error("cannot create store")]
     NotCreated,
     /// The script isn't there, is a folder, or a read of it failed.
-    #[error("cannot read script")]
     UnreadableScript,
     /// The script's first malformed line. Lines count from 1.
-    #[error("script line {0}")]
     MalformedLine(u64),
 }
 
@@ -39,6 +35,25 @@ impl Stop {
         }
     }
 }
+
+/// Writes what is said on standard error, without a line feed.
+impl fmt::Display for Stop {
+    ghost use Rattle.std.specs.Prelude.{Some};
+    ghost use Rattle.charmlet_cli.specs.Stop.{stop_text};
+
+    ghost output = { λ stop. Some (stop_text stop) };
+
+    fn fmt<W: fmt::Write>(&self, f: &mut fmt::Formatter<W>) -> fmt::Result {
+        match self {
+            Stop::CannotGoOn => write!(f, "cannot go on"),
+            Stop::NotCreated => write!(f, "cannot create store"),
+            Stop::UnreadableScript => write!(f, "cannot read script"),
+            Stop::MalformedLine(line) => write!(f, "script line {line}"),
+        }
+    }
+}
+
+impl Error for Stop {}
 
 impl From<ReadError> for Stop {
     ghost use Rattle.std.specs.Prelude.{◌≡◌};

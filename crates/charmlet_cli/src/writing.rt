@@ -9,7 +9,8 @@ use charmlet_model::{Answer, Refusal};
 use std::io::Write;
 use std::{fmt, io};
 
-/// Writes a line and its line feed, and flushes, so that whoever reads the output has it at once.
+/// Writes a line and its line feed, and flushes, so that whoever reads the output has it at once. An error is
+/// the writer's, or says that the line couldn't be formatted.
 pub fn write_line<T: fmt::Display, W: Write>(writer: &mut W, line: &T) -> io::Result<()>
     ensures { OnOk result ((text : Text) → T.output line.now ≡ Some text → Appends (W.contents writer.old) (W.contents writer.new) (in_lines (text ∷ []))) }
 {
@@ -17,7 +18,7 @@ pub fn write_line<T: fmt::Display, W: Write>(writer: &mut W, line: &T) -> io::Re
     writer.flush()
 }
 
-/// Writes that memory was refused.
+/// Writes that memory was refused. An error is the writer's.
 pub fn write_memory_refused<W: Write>(writer: &mut W) -> io::Result<()>
     ensures { OnOk result (Appends (W.contents writer.old) (W.contents writer.new) (in_lines (memory_text ∷ []))) }
 {

@@ -53,12 +53,45 @@ impl From<clap::Error> for CommandError {
     }
 }
 
-const RUN_ABOUT: &str = "Run a script, and print what each of its lines answers";
+const ABOUT: &str = "A runtime of migratable objects, driven by scripts";
+
+const LONG_ABOUT: &str = "\
+A runtime of migratable objects, driven by scripts.
+
+A script says which objects there are, and on how many processors; what clients ask
+of them; when messages are delivered; and where elements move. 'charmlet help run'
+says what its lines do, and docs/SCRIPT.md the whole.";
+
+const RUN_ABOUT: &str = "Run a script, and print what each line answers before the next one runs";
+
+const RUN_LONG_ABOUT: &str = "\
+Run a script, and print what each line answers before the next one runs.
+
+Lines, of which 'array' and 'pes' come first:
+  array A K          there is an array A of objects of kind K, 1 to 6; at most 64 arrays
+  pes N              there are N processors, 1 to 64, numbered from 0; without it 1
+  supply K N         N blank objects of kind K, at most 10000, come to the stock
+  req C N A I E W..  client C's request N: entry E of element I of array A, with words W..
+  status C N         client C asks what became of its request N
+  deliver PE ID      processor PE delivers the pending message ID
+  drain N            delivers what can be delivered, oldest first, at most N messages
+  move A I PE        element I of array A goes to processor PE
+  flush              makes all events durable
+  state A I          shows where element I of array A stands, and its state
+  pending            shows the pending messages
+  census             shows where the objects of each kind are
+
+Message cC.N is number N of client C, and eA.I.N number N of element I of array A.
+Kinds are 1 counter, 2 ring, 3 account, 4 sum, 5 tree and 6 tape; entry 65535 constructs
+an element, and docs/MODEL.md says what the other entries do. Empty lines and those that
+begin with # are skipped.
+A refused line prints 'refused', the refusal's number, its name and its values; it
+changes nothing, and the run goes on. A malformed line is named, and no line is run.";
 
 const STATUSES: &str = "\
 Exit status:
-  0  the script ran to its end; a refused step is an answer like any other
-  1  memory or the output failed
+  0  the script ran to its end; a refused line is an answer like any other
+  1  there can't be so many processors, or memory or the output failed
   2  a bad command line, a call for help, or a script that is malformed or can't be read";
 
 /// `run SCRIPT`.
@@ -73,6 +106,7 @@ fn run_parser<'a>(alloc: Global) -> Result<clap::Command<'a>, AllocError>
         .action(ArgAction::Set);
     clap::Command::new(alloc, "run")
         .about(RUN_ABOUT)
+        .long_about(RUN_LONG_ABOUT)
         .after_help(STATUSES)
         .arg(script)
 }
@@ -82,7 +116,8 @@ fn parser<'a>(alloc: Global) -> Result<clap::Command<'a>, AllocError>
     ensures { IfOk result (λ parser. app_of parser ≡ charmlet_line) }
 {
     clap::Command::new(alloc, "charmlet")
-        .about("A runtime of migratable objects, driven by scripts")
+        .about(ABOUT)
+        .long_about(LONG_ABOUT)
         .after_help(STATUSES)
         .subcommand_required(true)
         .subcommand(run_parser(alloc)?)
@@ -115,66 +150,5 @@ pub fn command_of<'a, S: AsStr>(alloc: Global, words: &'a [S]) -> Result<Command
             let error = parser.error(ErrorKind::MissingSubcommand, "no script to run")?;
             Err(CommandError::Line(error))
         }
-    }
-}
-
-#[cfg(test)]
-mod tests {
-    use super::*;
-    use std::process::Abort;
-    use std::test::Fail;
-
-    /// The text of the line that the words make, which has to be refused.
-    fn refused(rt: &impl Abort, alloc: Global, words: &[&str]) -> Result<String, Fail> {
-        match command_of(alloc, words) {
-            Err(CommandError::Line(error)) => Ok(format!(in alloc; "{error}")?),
-            _ => panic!(rt; "{words:?} is no bad line"),
-        }
-    }
-
-    #[test]
-    fn run_names_its_script(rt: HostRuntime) -> Result<(), Fail> {
-        let words = ["charmlet", "run", "a.charmlet"];
-        let script = "a.charmlet";
-        assert_eq!(rt; command_of(rt.alloc(), &words)?, Command::Run { script });
-        Ok(())
-    }
-
-    #[test]
-    fn other_lines_are_refused(rt: HostRuntime) -> Result<(), Fail> {
-        let alloc = rt.alloc();
-        for (words, says) in [
-            (["charmlet"].as_slice(), "requires a subcommand"),
-            (
-                ["charmlet", "restart", "a"].as_slice(),
-                "unrecognized subcommand 'restart'",
-            ),
-            (["charmlet", "run"].as_slice(), "<SCRIPT>"),
-            (
-                ["charmlet", "run", "a", "b"].as_slice(),
-                "unexpected argument 'b'",
-            ),
-            (
-                ["charmlet", "run", "a", "--workers"].as_slice(),
-                "unexpected argument '--workers'",
-            ),
-        ] {
-            let text = refused(&rt, alloc, words)?;
-            assert!(rt; text.contains(says), "{words:?}: {text}");
-        }
-        Ok(())
-    }
-
-    #[test]
-    fn help_names_the_command(rt: HostRuntime) -> Result<(), Fail> {
-        let alloc = rt.alloc();
-        let text = refused(&rt, alloc, &["charmlet", "--help"])?;
-        assert!(rt;
-            text.contains("run") && text.contains("Exit status"),
-            "{text}"
-        );
-        let text = refused(&rt, alloc, &["charmlet", "run", "--help"])?;
-        assert!(rt; text.contains("charmlet run <SCRIPT>"), "{text}");
-        Ok(())
     }
 }

@@ -1,12 +1,11 @@
 -- What a test and an assignment make of what is kept.
 use Rattle.std.proofs.Common.{◌≡◌, ℕ, ◌+◌, ◌<◌, ◌^◌, ◌==◌, Bool, true, false, cond, not, ◌&&◌, ◌||◌, List, [], ◌∷◌, ◌++◌, length, refl, sym, ap, subst, ◌∙◌, arith, if◌then◌else◌}
 use Rattle.std.proofs.lemmas.Bool.{lt-ltb}
-use Rattle.std.specs.Prelude.{Option, Some, None, IfSome, is_some, nat_le, nat_lt, unwrap_or, option_and_then, Result, Ok, Err, IfOk, IfErr}
-use Rattle.std.specs.Ordering.{is_eq, eq_by_cmp, nat_cmp}
+use Rattle.std.specs.Prelude.{Option, Some, None, is_some, nat_le, nat_lt, unwrap_or, option_and_then, Result, Ok, Err, IfOk, IfErr}
+use Rattle.std.specs.Ordering.{eq_by_cmp, nat_cmp}
 use Rattle.std.specs.BTreeMap.{insert_entry, is_at}
 use Rattle.std.specs.List.Sorted.{IsStrictlySortedBy}
 use Rattle.std.specs.Map.{lookup, keys_of, remove_entry}
-use Rattle.std.proofs.lemmas.Cmp.{tied_itself}
 use Rattle.std.proofs.lemmas.Map.Views.{tells_apart}
 use Rattle.charmlet_model.specs.declared.names.Elem.{Elem}
 use Rattle.charmlet_model.specs.declared.names.MsgId.{MsgId}
@@ -21,7 +20,7 @@ use Rattle.charmlet_model.specs.World.{message_among, record_of}
 use Rattle.charmlet_model.specs.Core as model
 use Rattle.charmlet_model.specs.Core.{Core, Gate, When, MayLackMemory, present, home, place_of, stands_on, is_present, assigned_to, pending_message, gates, message_gates, lacks_blank, are_counts_full, blank_for, blank_of_id, first_refusal, next_core, Assign, Release}
 use Rattle.charmlet_model.specs.Sound.{IsSound}
-use Rattle.charmlet_model.proofs.Maps.{elem_total, elem_exact, lookup-insert_entry, rising-insert_entry}
+use Rattle.charmlet_model.proofs.Maps.{elem_total, elem_exact, rising-insert_entry}
 use Rattle.charmlet_model.proofs.SoundLemmas.{step_sound}
 use Rattle.charmlet_history.specs.declared.element.Element.{Element}
 use Rattle.charmlet_history.specs.Kept.{Kept, Stands, IsCountedBy, core_of, element_at, places_of, stands_in, is_full, plenty, refusal_in}
@@ -56,12 +55,6 @@ receiver_rising es (Some m) rising = rising-insert_entry elem_cmp elem_total m.t
 receiver_places : (es : List (Elem × Element)) (o : Option Message) → IsStrictlySortedBy elem_cmp (keys_of es) → places_of (with_receiver es o) ≡ places_of es
 receiver_places es None rising = refl
 receiver_places es (Some m) rising = places_stay es rising m.to (element_at es m.to) refl
-
-pub receiver_there : (es : List (Elem × Element)) (o : Option Message) → IfSome o (λ m. is_some (lookup (is_at (elem_cmp m.to)) (with_receiver es o)) ≡ true)
-receiver_there es None = tt
-receiver_there es (Some m) =
-    ap is_some (lookup-insert_entry elem_cmp elem_total m.to m.to (element_at es m.to) es
-    ∙ ap (λ b. cond b (Some (element_at es m.to)) (lookup (is_at (elem_cmp m.to)) es)) (ap is_eq (tied_itself elem_total m.to)))
 
 -- nothing is removed where there is nothing
 none_removed : {K X : Type 0} (test : K → Bool) (es : List (K × X)) → lookup test es ≡ None → remove_entry test es ≡ es
@@ -207,13 +200,3 @@ module _ (k : Kept) (stands : Stands k) where
     released_sound : (o : Option MsgId) → assigned_to core processor ≡ o → IsSound (core_of released)
     released_sound None none = subst (λ assigned. IsSound (record core { assigned = assigned })) (sym (none_removed (is_at (nat_cmp processor)) k.assigned none)) stands.sound
     released_sound (Some id) is = step_sound core plenty (Release processor) _ stands.sound tt (is_done core plenty (Release processor) (ap is_some is) refl)
-
-    pub released_stands : Stands released
-    released_stands = record {
-      sound = released_sound (assigned_to core processor) refl;
-      rising = stands.rising;
-      counts = stands.counts;
-      pending = stands.pending;
-      clients = stands.clients;
-      durable_rows = stands.durable_rows;
-    }

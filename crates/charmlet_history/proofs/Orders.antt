@@ -1,5 +1,5 @@
 -- Steps by their orders.
-use Rattle.std.proofs.Common.{◌≡◌, inl, inr, true, false, List, [], ◌∷◌, ◌++◌, refl, sym, ap}
+use Rattle.std.proofs.Common.{◌≡◌, inl, inr, true, false, List, [], ◌∷◌, ◌++◌, refl, sym, ap, ◌∙◌}
 use Rattle.std.specs.Prelude.{Some, None}
 use Rattle.charmlet_model.specs.declared.refusal.Refusal.{Refusal}
 use Rattle.charmlet_model.specs.declared.refusal.Refusal.TheVariants.{Memory}
@@ -21,12 +21,27 @@ some_of_first (When false other ∷ order) more refusal h = some_of_first order 
 some_of_first (MayLackMemory ∷ order) more refusal h = some_of_first order more refusal h
 some_of_first (MayFail ∷ order) more refusal h = some_of_first order more refusal h
 
-pub memory_behind : (order : List Gate) → first_refusal order ≡ None → may_lack_memory (order ++ MayLackMemory ∷ []) ≡ true
-memory_behind [] h = refl
-memory_behind (When true refusal ∷ order) h = absurd (let no : ⊥ = cc in no)
-memory_behind (When false refusal ∷ order) h = memory_behind order h
-memory_behind (MayLackMemory ∷ order) h = refl
-memory_behind (MayFail ∷ order) h = memory_behind order h
+-- a refusal stands in the front of an order whose rest refuses nothing
+pub in_front : (order more : List Gate) (refusal : Refusal) → first_refusal more ≡ None → first_refusal (order ++ more) ≡ Some refusal → first_refusal order ≡ Some refusal
+in_front [] more refusal none h = absurd (let no : None ≡ Some refusal = sym none ∙ h in let never : ⊥ = cc in never)
+in_front (When true other ∷ order) more refusal none h = h
+in_front (When false other ∷ order) more refusal none h = in_front order more refusal none h
+in_front (MayLackMemory ∷ order) more refusal none h = in_front order more refusal none h
+in_front (MayFail ∷ order) more refusal none h = in_front order more refusal none h
+
+pub none_in_front : (order more : List Gate) → first_refusal (order ++ more) ≡ None → first_refusal order ≡ None
+none_in_front [] more h = refl
+none_in_front (When true other ∷ order) more h = absurd (let no : ⊥ = cc in no)
+none_in_front (When false other ∷ order) more h = none_in_front order more h
+none_in_front (MayLackMemory ∷ order) more h = none_in_front order more h
+none_in_front (MayFail ∷ order) more h = none_in_front order more h
+
+pub memory_after : (order more : List Gate) → first_refusal order ≡ None → may_lack_memory more ≡ true → may_lack_memory (order ++ more) ≡ true
+memory_after [] more none h = h
+memory_after (When true other ∷ order) more none h = absurd (let no : ⊥ = cc in no)
+memory_after (When false other ∷ order) more none h = memory_after order more none h
+memory_after (MayLackMemory ∷ order) more none h = refl
+memory_after (MayFail ∷ order) more none h = memory_after order more none h
 
 -- ---- what a step answers by its order
 

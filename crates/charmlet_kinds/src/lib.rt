@@ -7,8 +7,6 @@ mod payload;
 mod ring;
 mod sum;
 mod tape;
-#[cfg(test)]
-mod tests;
 mod tree;
 
 pub use crate::account::Account;

@@ -29,7 +29,7 @@ pub struct Tape {
 }
 
 impl Tape {
-    ghost use Rattle.std.specs.Prelude.{[], OnOk, OnErr};
+    ghost use Rattle.std.specs.Prelude.{◌<◌, [], OnOk, OnErr};
     ghost use Rattle.charmlet_model.specs.Reaction.{pushed};
     ghost use Rattle.charmlet_kinds.specs.Tape.{state_of};
 
@@ -47,6 +47,7 @@ impl Tape {
     fn push(&mut self, item: u64) -> Result<(), AllocError>
         ensures ok { OnOk result (state_of self.new ≡ states.Tape (pushed self.old.items.items item)) }
         ensures err { OnErr result (state_of self.new ≡ state_of self.old) }
+        ensures room { OnErr result (vec_len self.old.items < 64) }
     {
         if self.items.len() < MAX_ITEMS as usize {
             self.items.reserve(1)?;

@@ -4,8 +4,6 @@
 mod homes;
 mod locations;
 mod restart;
-#[cfg(test)]
-mod tests;
 
 pub use crate::homes::{MAX_PROCESSORS, home, is_processor_count};
 pub use crate::locations::Locations;

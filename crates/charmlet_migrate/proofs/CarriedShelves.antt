@@ -6,8 +6,7 @@ use Rattle.std.specs.BTreeMap.{insert_entry, is_at}
 use Rattle.std.specs.List.{All}
 use Rattle.std.specs.List.Sorted.{IsStrictlySortedBy}
 use Rattle.std.specs.Map.{lookup, keys_of, remove_entry}
-use Rattle.std.specs.Ordering.{eq_by_cmp, is_eq}
-use Rattle.std.proofs.lemmas.Cmp.{tied_itself}
+use Rattle.std.specs.Ordering.{eq_by_cmp}
 use Rattle.std.proofs.Math.ListN.{get_or-map}
 use Rattle.std.proofs.Math.Seq.{map-set_same}
 use Rattle.std.proofs.lemmas.List.{get_or-set_same, get_or-set_other, length-set, length-map, map-set}
@@ -21,13 +20,13 @@ use Rattle.charmlet_model.specs.declared.state.Record.{Record}
 use Rattle.charmlet_model.specs.Names.{elem_cmp}
 use Rattle.charmlet_model.specs.World.{World, record_of}
 use Rattle.charmlet_model.specs.Shelves.{Shows, if_here, is_there_as, shelf_of, there_in}
-use Rattle.charmlet_model.proofs.Maps.{elem_total, lookup-insert_entry, rising-insert_entry, same_elem-is, same_from_test}
+use Rattle.charmlet_model.proofs.Maps.{elem_total, lookup-insert_entry, rising-insert_entry, same_elem-is, same_from_test, tied_elem}
 use Rattle.charmlet_model.proofs.Removals.{lookup-removed, rising-removed}
 use Rattle.charmlet_shelf.specs.Count.{objects_on}
 use Rattle.charmlet_shelf.specs.Shelf.{View}
-use Rattle.charmlet_shelf.specs.declared.phase.Phase.TheVariants.{Idle}
-use Rattle.charmlet_migrate.specs.Carrying.{carried, empty_shelf, shelf_at, with_records}
+use Rattle.charmlet_migrate.specs.Copying.{empty_shelf, shelf_at, with_copy, with_records}
 use Rattle.charmlet_migrate.specs.Moving.{numbers_of, objects_among, records_on}
+use Rattle.std.proofs.lemmas.Bool.{eqb-false, ne_eqb}
 
 abbrev Rising : List (Elem × Record) → Type 0
 Rising records = IsStrictlySortedBy elem_cmp (keys_of records)
@@ -36,17 +35,14 @@ Rising records = IsStrictlySortedBy elem_cmp (keys_of records)
 abbrev on_shelf : View → Elem → Option Record
 on_shelf shelf x = lookup (is_at (elem_cmp x)) shelf.records
 
-apart_from_test : (a b : ℕ) → (a == b) ≡ false → a ≡ b → ⊥
-apart_from_test a b apart same = let itself : (a == a) ≡ false = subst (λ n. (a == n) ≡ false) (sym same) apart in let equal = nat_eq_equiv.refl a in cc
+-- an element has left a shelf
+abbrev pub lifted : List View → Elem → ℕ → List View
+lifted shelves x source = with_records shelves source (remove_entry (is_at (elem_cmp x)) (shelf_at shelves source).records)
 
-test_from_apart : (a b : ℕ) → (a ≡ b → ⊥) → (a == b) ≡ false
-test_from_apart a b apart = elim (a == b) as (λ t. (a == b) ≡ t → t ≡ false) [
-  | true ↦ λ same. absurd (apart (exact_unsigned_eq a b same))
-  | false ↦ λ _. refl
-] refl
-
-tied_elem : (a : Elem) → eq_by_cmp elem_cmp a a ≡ true
-tied_elem a = ap is_eq (tied_itself elem_total a)
+-- the element's record leaves the one shelf and comes to the other, and stays what it was; the other shelves stay
+abbrev pub Carries : Elem → (source destination : ℕ) → (shelves next : List View) → Type 0
+Carries x source destination shelves next =
+    (r : Record) × (lookup (is_at (elem_cmp x)) (shelf_at shelves source).records ≡ Some r) × (next ≡ lifted (with_copy shelves x destination r) x source)
 
 -- a place is one of two, or another
 by_place : (P : ℕ → Type 0) (p q k : ℕ) → P p → P q → ((k ≡ p → ⊥) → (k ≡ q → ⊥) → P k) → P k
@@ -55,13 +51,13 @@ by_place P p q k at_p at_q other =
       | true ↦ λ same. subst P (sym (exact_unsigned_eq k p same)) at_p
       | false ↦ λ not_p. elim (k == q) as (λ b. (k == q) ≡ b → P k) [
         | true ↦ λ same. subst P (sym (exact_unsigned_eq k q same)) at_q
-        | false ↦ λ not_q. other (apart_from_test k p not_p) (apart_from_test k q not_q)
+        | false ↦ λ not_q. other (eqb-false k p not_p) (eqb-false k q not_q)
       ] refl
     ] refl
 
 -- the shelves' records by processor
 pub records_at : (shelves : List View) (k : ℕ) → shelf_of (records_on shelves) k ≡ (shelf_at shelves k).records
-records_at shelves k = get_or-map (λ (v : View). v.records) shelves k empty_shelf
+records_at shelves k = get_or-map (λ (v : View). v.records) shelves k (empty_shelf 0)
 
 module _ (shelves : List View) (places : List (Elem × ℕ)) (w : World) (shows : Shows (records_on shelves) places w) where
   pub rising_at : (k : ℕ) → k < length shelves → Rising (shelf_at shelves k).records
@@ -79,57 +75,52 @@ module _ (shelves : List View) (places : List (Elem × ℕ)) (w : World) (shows 
     stands_here = shown_at p x ∙ ap (λ o. if_here o p (record_of w x)) place ∙ ap (λ b. cond b (Some (record_of w x)) None) (nat_eq_equiv.refl p)
 
     pub stands_not_here : (k : ℕ) → (p ≡ k → ⊥) → on_shelf (shelf_at shelves k) x ≡ None
-    stands_not_here k apart = shown_at k x ∙ ap (λ o. if_here o k (record_of w x)) place ∙ ap (λ b. cond b (Some (record_of w x)) None) (test_from_apart p k apart)
+    stands_not_here k apart = shown_at k x ∙ ap (λ o. if_here o k (record_of w x)) place ∙ ap (λ b. cond b (Some (record_of w x)) None) (ne_eqb p k apart)
 
 module _ (shelves : List View) (x : Elem) (p q : ℕ) (r : Record) (apart : p ≡ q → ⊥) (in_p : p < length shelves) (in_q : q < length shelves) where
-  abbrev left : List (Elem × Record)
-  left = remove_entry (is_at (elem_cmp x)) (shelf_at shelves p).records
-
   abbrev come : List (Elem × Record)
   come = insert_entry elem_cmp (shelf_at shelves q).records x r
 
   -- the shelves once it has come, and before it leaves
   abbrev mid : List View
-  mid = with_records shelves q come
+  mid = with_copy shelves x q r
+
+  -- the shelf that it leaves is as before until then
+  pub mid_p : shelf_at mid p ≡ shelf_at shelves p
+  mid_p = get_or-set_other shelves q p (record (shelf_at shelves q) { records = come }) (empty_shelf 0) apart
+
+  abbrev left : List (Elem × Record)
+  left = remove_entry (is_at (elem_cmp x)) (shelf_at mid p).records
+
+  left_is : left ≡ remove_entry (is_at (elem_cmp x)) (shelf_at shelves p).records
+  left_is = ap (λ (v : View). remove_entry (is_at (elem_cmp x)) v.records) mid_p
 
   abbrev next : List View
-  next = carried shelves x p q r
+  next = lifted mid x p
 
-  mid_p : shelf_at mid p ≡ shelf_at shelves p
-  mid_p = get_or-set_other shelves q p (record (shelf_at shelves q) { records = come }) empty_shelf apart
-
-  next_p : (shelf_at next p).records ≡ left
+  next_p : (shelf_at next p).records ≡ remove_entry (is_at (elem_cmp x)) (shelf_at shelves p).records
   next_p =
       ap (λ (v : View). v.records)
-      (get_or-set_same mid p (record (shelf_at mid p) { records = left }) empty_shelf (let same = length-set shelves q (record (shelf_at shelves q) { records = come }) in omega arith))
+      (get_or-set_same mid p (record (shelf_at mid p) { records = left }) (empty_shelf 0) (let same = length-set shelves q (record (shelf_at shelves q) { records = come }) in omega arith))
+      ∙ left_is
 
   next_q : (shelf_at next q).records ≡ come
   next_q =
       ap (λ (v : View). v.records)
-      (get_or-set_other mid p q (record (shelf_at mid p) { records = left }) empty_shelf (λ same. apart (sym same))
-      ∙ get_or-set_same shelves q (record (shelf_at shelves q) { records = come }) empty_shelf in_q)
+      (get_or-set_other mid p q (record (shelf_at mid p) { records = left }) (empty_shelf 0) (λ same. apart (sym same))
+      ∙ get_or-set_same shelves q (record (shelf_at shelves q) { records = come }) (empty_shelf 0) in_q)
 
   next_other : (k : ℕ) → (k ≡ p → ⊥) → (k ≡ q → ⊥) → shelf_at next k ≡ shelf_at shelves k
   next_other k not_p not_q =
-      get_or-set_other mid p k (record (shelf_at mid p) { records = left }) empty_shelf not_p
-      ∙ get_or-set_other shelves q k (record (shelf_at shelves q) { records = come }) empty_shelf not_q
+      get_or-set_other mid p k (record (shelf_at mid p) { records = left }) (empty_shelf 0) not_p
+      ∙ get_or-set_other shelves q k (record (shelf_at shelves q) { records = come }) (empty_shelf 0) not_q
 
   -- ---- the shelves but for their records
 
-  pub same_length : length next ≡ length shelves
-  same_length = length-set mid p (record (shelf_at mid p) { records = left }) ∙ length-set shelves q (record (shelf_at shelves q) { records = come })
-
   pub same_numbers : numbers_of next ≡ numbers_of shelves
   same_numbers =
-      map-set_same (λ (v : View). v.number) mid p (record (shelf_at mid p) { records = left }) empty_shelf refl
-      ∙ map-set_same (λ (v : View). v.number) shelves q (record (shelf_at shelves q) { records = come }) empty_shelf refl
-
-  pub still_idle : All (λ (v : View). v.phase ≡ Idle) shelves → All (λ (v : View). v.phase ≡ Idle) next
-  still_idle idle =
-      let first : All (λ (v : View). v.phase ≡ Idle) mid =
-      All-set (λ (v : View). v.phase ≡ Idle) shelves q (record (shelf_at shelves q) { records = come }) (All-get_or (λ (v : View). v.phase ≡ Idle) shelves q empty_shelf in_q idle) idle in
-      All-set (λ (v : View). v.phase ≡ Idle) mid p (record (shelf_at mid p) { records = left })
-      (All-get_or (λ (v : View). v.phase ≡ Idle) mid p empty_shelf (let same = length-set shelves q (record (shelf_at shelves q) { records = come }) in omega arith) first) first
+      map-set_same (λ (v : View). v.number) mid p (record (shelf_at mid p) { records = left }) (empty_shelf 0) refl
+      ∙ map-set_same (λ (v : View). v.number) shelves q (record (shelf_at shelves q) { records = come }) (empty_shelf 0) refl
 
   module _ (places : List (Elem × ℕ)) (w : World) (shows : Shows (records_on shelves) places w) (place : lookup (is_at (elem_cmp x)) places ≡ Some p) (here : on_shelf (shelf_at shelves p) x ≡ Some r) where
     -- ---- what they show
@@ -155,7 +146,7 @@ module _ (shelves : List View) (x : Elem) (p q : ℕ) (r : Record) (apart : p �
         (ap (lookup (is_at (elem_cmp x))) next_p
         ∙ lookup-removed elem_total x x (shelf_at shelves p).records (rising_at shelves places w shows p in_p)
         ∙ ap (λ b. cond b None (on_shelf (shelf_at shelves p) x)) (tied_elem x)
-        ∙ sym (ap (λ b. cond b (Some (record_of w x)) None) (test_from_apart q p (λ same. apart (sym same)))))
+        ∙ sym (ap (λ b. cond b (Some (record_of w x)) None) (ne_eqb q p (λ same. apart (sym same)))))
         (ap (lookup (is_at (elem_cmp x))) next_q
         ∙ lookup-insert_entry elem_cmp elem_total x x r (shelf_at shelves q).records
         ∙ ap (λ b. cond b (Some r) (on_shelf (shelf_at shelves q) x)) (tied_elem x)
@@ -163,7 +154,7 @@ module _ (shelves : List View) (x : Elem) (p q : ℕ) (r : Record) (apart : p �
         ∙ sym (ap (λ b. cond b (Some (record_of w x)) None) (nat_eq_equiv.refl q)))
         (λ not_p not_q. ap (λ (v : View). on_shelf v x) (next_other k not_p not_q)
         ∙ stands_not_here shelves places w shows x p place k (λ same. not_p (sym same))
-        ∙ sym (ap (λ b. cond b (Some (record_of w x)) None) (test_from_apart q k (λ same. not_q (sym same)))))
+        ∙ sym (ap (λ b. cond b (Some (record_of w x)) None) (ne_eqb q k (λ same. not_q (sym same)))))
 
     abbrev moved : List (Elem × ℕ)
     moved = insert_entry elem_cmp places x q
@@ -208,7 +199,7 @@ module _ (shelves : List View) (x : Elem) (p q : ℕ) (r : Record) (apart : p �
 
     all_rising : All Rising (records_on next)
     all_rising = All-same Rising (records_on next) (slice_set (slice_set (records_on shelves) q come) p left) records_are
-        (All-set Rising (slice_set (records_on shelves) q come) p left (rising-removed elem_cmp (is_at (elem_cmp x)) (shelf_at shelves p).records (rising_at shelves places w shows p in_p))
+        (All-set Rising (slice_set (records_on shelves) q come) p left (subst Rising (sym left_is) (rising-removed elem_cmp (is_at (elem_cmp x)) (shelf_at shelves p).records (rising_at shelves places w shows p in_p)))
         (All-set Rising (records_on shelves) q come (rising-insert_entry elem_cmp elem_total x r (shelf_at shelves q).records (rising_at shelves places w shows q in_q))
         (All-from_recursion Rising (records_on shelves) shows.rising)))
 
@@ -238,13 +229,14 @@ module _ (shelves : List View) (x : Elem) (p q : ℕ) (r : Record) (apart : p �
       one_fewer : there_in left kind + weight r ≡ there_in (shelf_at shelves p).records kind
       one_fewer =
           let taken = sum_by-remove_entry weight (is_at (elem_cmp x)) (shelf_at shelves p).records in
+          let same : there_in left kind ≡ there_in (remove_entry (is_at (elem_cmp x)) (shelf_at shelves p).records) kind = ap (λ records. there_in records kind) left_is in
           let found : found_weight (on_shelf (shelf_at shelves p) x) ≡ weight r = ap found_weight here in
           omega arith
 
       pub same_count : objects_among next kind ≡ objects_among shelves kind
       same_count =
-          let first = sum_by-set (λ shelf. objects_on shelf kind) shelves q (record (shelf_at shelves q) { records = come }) empty_shelf in_q in
-          let second = sum_by-set (λ shelf. objects_on shelf kind) mid p (record (shelf_at mid p) { records = left }) empty_shelf
+          let first = sum_by-set (λ shelf. objects_on shelf kind) shelves q (record (shelf_at shelves q) { records = come }) (empty_shelf 0) in_q in
+          let second = sum_by-set (λ shelf. objects_on shelf kind) mid p (record (shelf_at mid p) { records = left }) (empty_shelf 0)
           (let same = length-set shelves q (record (shelf_at shelves q) { records = come }) in omega arith) in
           let before : there_in (shelf_at mid p).records kind ≡ there_in (shelf_at shelves p).records kind = ap (λ (v : View). there_in v.records kind) mid_p in
           let more = one_more in

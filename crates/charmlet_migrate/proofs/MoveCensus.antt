@@ -1,11 +1,6 @@
 -- The census of a stock once a blank was taken for a move.
-use Rattle.std.proofs.Common.{◌≡◌, inl, inr, ℕ, ◌+◌, ◌-◌, ◌<◌, ◌==◌, true, false, cond, List, refl, sym, ap, subst, ◌∙◌, arith}
-use Rattle.std.specs.Prelude.{Some}
-use Rattle.std.specs.Cmp.{nat_eq_equiv}
-use Rattle.std.proofs.lemmas.Map.Views.{exact_unsigned_eq}
+use Rattle.std.proofs.Common.{◌≡◌, ◌+◌, ◌-◌, ◌<◌, List, sym, ap, ◌∙◌, arith}
 use Rattle.charmlet_model.specs.declared.kind.Kind.{Kind}
-use Rattle.charmlet_model.specs.Kind.{kind_number}
-use Rattle.charmlet_model.specs.Core.{with_taken}
 use Rattle.charmlet_chare.specs.declared.chare.Chare.{Ghosts}
 use Rattle.charmlet_shelf.specs.Shelf.{View}
 use Rattle.charmlet_stock.specs.declared.by_kind.ByKind.{ByKind}
@@ -14,24 +9,8 @@ use Rattle.charmlet_stock.specs.declared.stock.Stock.{Stock}
 use Rattle.charmlet_stock.specs.ByKind.{at, with_at}
 use Rattle.charmlet_stock.specs.Pile.{with_one_back, with_one_retired, with_out}
 use Rattle.charmlet_stock.specs.Stock.{blanks_in, census_of, tally_in}
-use Rattle.charmlet_stock.proofs.Room.{at_again, at_with, changed_again, with_same}
+use Rattle.charmlet_stock.proofs.Room.{at_again, by_kind, changed_again, with_same}
 use Rattle.charmlet_migrate.specs.Moving.{IsCountedAmong, objects_among}
-
--- what holds of the kind that has changed, and of those that stay, holds of all
-by_kind : {T : Type 0} (values next : ByKind T) (k : Kind) (x : T) → next ≡ with_at values k x → (P : Kind → T → Type 0) → P k x →
-    ((j : Kind) → (kind_number k == kind_number j) ≡ false → P j (at values j)) → (j : Kind) → P j (at next j)
-by_kind {T = T} values next k x is P own others j =
-    subst (λ (v : ByKind T). P j (at v j)) (sym is)
-    (elim (at_with values k x j) [
-      | inl same ↦ subst (λ i. P i (at (with_at values k x) j)) (sym same.0) (subst (P k) (sym same.1) own)
-      | inr other ↦ subst (P j) (sym other.1) (others j other.0)
-    ])
-
-other_number : (a b : ℕ) → (a == b) ≡ false → (b == a) ≡ false
-other_number a b apart = elim (b == a) as (λ t. (b == a) ≡ t → t ≡ false) [
-  | true ↦ λ same. absurd (let swapped : (a == a) ≡ false = subst (λ n. (a == n) ≡ false) (exact_unsigned_eq b a same) apart in let itself = nat_eq_equiv.refl a in let never : ⊥ = cc in never)
-  | false ↦ λ _. refl
-] refl
 
 -- the blank that was taken comes back
 back_again : (t : Tally) → 0 < t.in_stock → with_one_back (with_out t 1) ≡ t
@@ -60,22 +39,8 @@ module _ {C : Type 0} {G : Ghosts C} (first mid last : Stock C G) (kind : Kind) 
       ∙ ap (with_at (census_of first) kind) (back_again (tally_in first kind) some)
       ∙ sym (with_same (census_of first) kind)
 
-pub same_blanks : {C : Type 0} {G : Ghosts C} (first last : Stock C G) → census_of last ≡ census_of first → blanks_in last ≡ blanks_in first
-same_blanks first last same = ap (λ (v : ByKind Tally). λ j. (at v j).in_stock) same
-
 module _ {C : Type 0} {G : Ghosts C} (first last : Stock C G) (kind : Kind) (moved : census_of last ≡ with_at (census_of first) kind (moved_tally (tally_in first kind))) where
-  -- a blank of the kind is gone from the stock
-  pub moved_blanks : blanks_in last ≡ with_taken (Some kind) (blanks_in first)
-  moved_blanks = λ i j. each j i
-    where
-      each : (j : Kind) → blanks_in last j ≡ with_taken (Some kind) (blanks_in first) j
-      each =
-          by_kind (census_of first) (census_of last) kind (moved_tally (tally_in first kind)) moved
-          (λ j t. t.in_stock ≡ with_taken (Some kind) (blanks_in first) j)
-          (sym (ap (λ b. cond b (blanks_in first kind - 1) (blanks_in first kind)) (nat_eq_equiv.refl (kind_number kind))))
-          (λ j apart. sym (ap (λ b. cond b (blanks_in first j - 1) (blanks_in first j)) (other_number (kind_number kind) (kind_number j) apart)))
-
-  -- and an object of the kind is retired, so that the census adds up as before
+  -- a blank of the kind is gone, and an object of the kind is retired, so that the census adds up as before
   pub moved_counts : (shelves next : List View) → ((j : Kind) → objects_among next j ≡ objects_among shelves j) → 0 < blanks_in first kind → IsCountedAmong shelves first → IsCountedAmong next last
   moved_counts shelves next as_many some counted =
       by_kind (census_of first) (census_of last) kind (moved_tally (tally_in first kind)) moved

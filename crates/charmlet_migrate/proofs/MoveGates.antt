@@ -1,56 +1,29 @@
 -- The refusals of moves, with a stock of any size.
-use Rattle.std.proofs.Common.{◌≡◌, ℕ, ◌<◌, ◌==◌, Bool, true, false, cond, not, ◌||◌, List, [], ◌∷◌, ◌++◌, refl, sym, ap, subst, ◌∙◌, arith}
+use Rattle.std.proofs.Common.{◌≡◌, ℕ, ◌<◌, ◌==◌, Bool, true, false, cond, not, ◌||◌, List, [], ◌∷◌, ◌++◌, refl, ap, subst, ◌∙◌, arith}
 use Rattle.std.specs.Prelude.{Option, Some, None, is_some}
 use Rattle.std.specs.BTreeMap.{insert_entry}
-use Rattle.std.proofs.lemmas.Map.Views.{exact_unsigned_eq}
 use Rattle.charmlet_model.specs.declared.names.Elem.{Elem}
 use Rattle.charmlet_model.specs.declared.kind.Kind.{Kind}
 use Rattle.charmlet_model.specs.declared.refusal.Refusal.{Refusal}
 use Rattle.charmlet_model.specs.declared.refusal.Refusal.TheVariants as refusals
 use Rattle.charmlet_model.specs.Names.{elem_cmp}
 use Rattle.charmlet_model.specs.World.{kind_of_array}
-use Rattle.charmlet_model.specs.Core.{Core, present, Blanks, Gate, When, MayLackMemory, MayFail, CoreStep, Move, Done, Refuses, gates, away_gates, lacks_blank, assigned_to, first_refusal, may_lack_memory, next_core, with_taken, is_present, is_processor, stands_on}
+use Rattle.charmlet_model.specs.Core.{Core, present, Blanks, Gate, When, MayLackMemory, CoreStep, Move, Done, Refuses, gates, away_gates, lacks_blank, assigned_to, first_refusal, may_lack_memory, next_core, with_taken, is_present, is_processor, stands_on}
 use Rattle.charmlet_model.specs.Run.{Store, Goes}
 use Rattle.charmlet_history.specs.Kept.{plenty}
-use Rattle.charmlet_history.proofs.Orders.{none_of_both, some_of_first, is_refused, lacks_memory, is_done}
-
--- ---- orders
-
--- a refusal stands in the front of an order whose rest refuses nothing
-in_front : (order more : List Gate) (refusal : Refusal) → first_refusal more ≡ None → first_refusal (order ++ more) ≡ Some refusal → first_refusal order ≡ Some refusal
-in_front [] more refusal none h = absurd (let no : None ≡ Some refusal = sym none ∙ h in let never : ⊥ = cc in never)
-in_front (When true other ∷ order) more refusal none h = h
-in_front (When false other ∷ order) more refusal none h = in_front order more refusal none h
-in_front (MayLackMemory ∷ order) more refusal none h = in_front order more refusal none h
-in_front (MayFail ∷ order) more refusal none h = in_front order more refusal none h
-
-none_in_front : (order more : List Gate) → first_refusal (order ++ more) ≡ None → first_refusal order ≡ None
-none_in_front [] more h = refl
-none_in_front (When true other ∷ order) more h = absurd (let no : ⊥ = cc in no)
-none_in_front (When false other ∷ order) more h = none_in_front order more h
-none_in_front (MayLackMemory ∷ order) more h = none_in_front order more h
-none_in_front (MayFail ∷ order) more h = none_in_front order more h
-
-memory_after : (order more : List Gate) → first_refusal order ≡ None → may_lack_memory more ≡ true → may_lack_memory (order ++ more) ≡ true
-memory_after [] more none h = h
-memory_after (When true other ∷ order) more none h = absurd (let no : ⊥ = cc in no)
-memory_after (When false other ∷ order) more none h = memory_after order more none h
-memory_after (MayLackMemory ∷ order) more none h = refl
-memory_after (MayFail ∷ order) more none h = memory_after order more none h
+use Rattle.charmlet_history.proofs.Orders.{none_of_both, some_of_first, in_front, none_in_front, memory_after, is_refused, lacks_memory, is_done}
+use Rattle.std.proofs.lemmas.Bool.{ne_eqb}
 
 -- ---- the blank
-
-not_zero : (n : ℕ) → 0 < n → (n == 0) ≡ false
-not_zero n above = elim (n == 0) as (λ b. (n == 0) ≡ b → b ≡ false) [ true ↦ λ h. let zero = exact_unsigned_eq n 0 h in absurd (omega arith) | false ↦ λ _. refl ] refl
 
 abbrev rest : Blanks → Option Kind → List Gate
 rest blanks wanted = lacks_blank blanks wanted ++ MayLackMemory ∷ []
 
 rest_passes : (blanks : Blanks) (kind : Kind) → 0 < blanks kind → first_refusal (rest blanks (Some kind)) ≡ None
-rest_passes blanks kind has = ap (λ b. first_refusal (When b (refusals.NoBlank kind) ∷ MayLackMemory ∷ [])) (not_zero (blanks kind) has)
+rest_passes blanks kind has = ap (λ b. first_refusal (When b (refusals.NoBlank kind) ∷ MayLackMemory ∷ [])) (ne_eqb (blanks kind) 0 (λ none. omega arith))
 
 rest_may_lack : (blanks : Blanks) (kind : Kind) → 0 < blanks kind → may_lack_memory (rest blanks (Some kind)) ≡ true
-rest_may_lack blanks kind has = ap (λ b. may_lack_memory (When b (refusals.NoBlank kind) ∷ MayLackMemory ∷ [])) (not_zero (blanks kind) has)
+rest_may_lack blanks kind has = ap (λ b. may_lack_memory (When b (refusals.NoBlank kind) ∷ MayLackMemory ∷ [])) (ne_eqb (blanks kind) 0 (λ none. omega arith))
 
 rest_lacks : (blanks : Blanks) (kind : Kind) → blanks kind ≡ 0 → first_refusal (rest blanks (Some kind)) ≡ Some (refusals.NoBlank kind)
 rest_lacks blanks kind none = ap (λ n. first_refusal (When (n == 0) (refusals.NoBlank kind) ∷ MayLackMemory ∷ [])) none

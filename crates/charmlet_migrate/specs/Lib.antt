@@ -1,3 +1,3 @@
 -- The definitions that contracts cite.
-pub mod Carrying
+pub mod Copying
 pub mod Moving

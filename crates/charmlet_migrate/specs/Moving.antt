@@ -14,7 +14,7 @@ use Rattle.charmlet_shelf.specs.Count.{objects_on}
 use Rattle.charmlet_shelf.specs.Shelf.{View}
 use Rattle.charmlet_shelf.specs.declared.phase.Phase.TheVariants.{Idle}
 use Rattle.charmlet_stock.specs.declared.stock.Stock.{Stock}
-use Rattle.charmlet_stock.specs.Stock.{blanks_in, tally_in}
+use Rattle.charmlet_stock.specs.Stock.{blanks_in, supplied_to, tally_in}
 
 -- the records on each shelf
 abbrev pub records_on : List View → List (List (Elem × Record))
@@ -39,10 +39,6 @@ store_with history stock = record { core = core_in history; blanks = blanks_in s
 -- the shelves show the present world, each element on the shelf of its place
 abbrev pub ShowsPresent : List View → History → Type 0
 ShowsPresent shelves history = Shows (records_on shelves) (core_in history).places (present (core_in history))
-
--- how many objects of each kind were supplied
-abbrev pub supplied_to : {C : Type 0} {G : Ghosts C} → Stock C G → Kind → ℕ
-supplied_to stock kind = (tally_in stock kind).supplied
 
 -- of each kind, what was supplied is on the shelves, in the stock, or retired
 abbrev pub IsCountedAmong : {C : Type 0} {G : Ghosts C} → List View → Stock C G → Type 0

@@ -1,9 +1,8 @@
 //! Moves of elements between processors.
 #![tactic(auto)]
 
-mod carrying;
+mod copying;
 mod moving;
-#[cfg(test)]
-mod tests;
 
+pub use crate::copying::place_copy;
 pub use crate::moving::move_to;

@@ -6,10 +6,10 @@ ghost use Rattle.charmlet_model.specs.Core as core;
 ghost use Rattle.charmlet_model.specs.Core.{first_refusal, gates, place_of};
 ghost use Rattle.charmlet_model.specs.Run.{Goes};
 ghost use Rattle.charmlet_history.specs.Kept.{Stands, blank_of_move, core_in, kept_in, plenty};
-ghost use Rattle.charmlet_stock.specs.Stock.{census_of};
-ghost use Rattle.charmlet_migrate.specs.Moving.{IsCountedAmong, IsIdle, ShowsPresent, answer_in, numbers_of, store_with, supplied_to};
+ghost use Rattle.charmlet_stock.specs.Stock.{census_of, supplied_to};
+ghost use Rattle.charmlet_migrate.specs.Moving.{IsCountedAmong, IsIdle, ShowsPresent, answer_in, numbers_of, store_with};
 
-use crate::carrying::carry_between;
+use crate::copying::place_copy;
 use charmlet_chare::Chare;
 use charmlet_history::History;
 use charmlet_model::{Elem, Kind, Refusal};
@@ -17,8 +17,8 @@ use charmlet_shelf::Shelf;
 use charmlet_stock::Stock;
 
 /// Moves an element to a processor. A blank of its kind is taken from the stock, gets its state, and stands on the
-/// processor's shelf, with the element's two counts; only then the element's place changes, and its old object is
-/// retired. Where the element is there already, no blank is taken and nothing changes.
+/// processor's shelf, with the element's two counts; then the element's place changes; only then its old object leaves
+/// its shelf and is retired. Where the element is there already, no blank is taken and nothing changes.
 ///
 /// `BadPes` where there is no such processor, else `Absent` where the element isn't there. For a move to another
 /// processor also `Uncommitted` where one of the two has an assigned message, else `NoBlank` where the stock lacks a
@@ -83,14 +83,15 @@ fn move_away<C: Chare>(
     let Some(blank) = stock.take(kind) else {
         return Err(Refusal::NoBlank(kind));
     };
-    let old = match carry_between(shelves, place, processor, elem, blank) {
-        Ok(old) => old,
-        Err((refusal, blank)) => {
-            stock.give_back(blank);
-            return Err(refusal);
-        }
-    };
+    if let Err((refusal, blank)) = place_copy(shelves, place, processor, elem, blank) {
+        stock.give_back(blank);
+        return Err(refusal);
+    }
     history.relocate(elem, processor);
-    stock.retire(old);
+    let source = place as usize;
+    let Ok(old) = shelves[source].lift(elem) else {
+        unreachable!()
+    };
+    stock.retire(old.object);
     Ok(())
 }

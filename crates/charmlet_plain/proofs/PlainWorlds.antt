@@ -2,8 +2,6 @@
 use Rattle.std.proofs.Common.{◌≡◌, ℕ, ◌+◌, ◌*◌, ◌≤◌, Bool, true, false, cond, ◌&&◌, List, [], ◌∷◌, ◌++◌, length, length-append, refl, sym, ap, subst, ◌∙◌, arith}
 use borrow.Author.Tests.{leb-true}
 use Rattle.std.specs.Prelude.{Option, Some, None, IfSome, IsSome, is_some, if◌then◌else◌, ◌==◌, ◌||◌, nat_le, option_and_then}
-use Rattle.std.specs.declared.cmp.Ordering.{Ordering}
-use Rattle.std.specs.declared.cmp.Ordering.TheVariants.{Less, Equal, Greater}
 use Rattle.std.specs.Ordering.{is_eq, eq_by_cmp, nat_cmp}
 use Rattle.std.specs.Cmp.{nat_cmp_total}
 use Rattle.std.specs.List.Sorted.{IsStrictlySortedBy}
@@ -27,16 +25,13 @@ use Rattle.charmlet_model.specs.Reaction.{greatest, add, counter, token, ring, p
 use Rattle.charmlet_model.specs.World.{World, advanced, answered, can_deliver, delivered, kind_of_array, message_among, numbered, performed, reaction_of, record_of, without}
 use Rattle.charmlet_model.proofs.Maps.{both_parts, lookup-insert_entry, same_maps}
 use Rattle.charmlet_model.proofs.Fits.{found-id}
+use Rattle.charmlet_model.proofs.Reactions.{either}
+use Rattle.std.proofs.lemmas.Map.Views.{tells_apart}
 
 -- ---- how many messages a reaction sends
 
 abbrev IsShort : Reaction → Type 0
 IsShort o = length o.sends ≤ 16
-
--- whichever way a test goes
-either : {A : Type 0} (P : A → Type 0) (b : Bool) (x y : A) → P x → P y → P (if b then x else y)
-either P true x y p q = p
-either P false x y p q = q
 
 short-counter : (n entry : ℕ) (words : List ℕ) → IsShort (counter n entry words)
 short-counter n entry words = either IsShort (entry == 0) _ _ (adds words) (either IsShort (entry == 1) _ _ (omega arith) (omega arith))
@@ -157,11 +152,6 @@ delivered_none w id m here none = ap (delivered w) here ∙ ap (performed w m) n
 
 -- ---- a client's row, and the one before put back
 
-equal_from_test : (r : Ordering) → is_eq r ≡ true → r ≡ Equal
-equal_from_test Less h = cc
-equal_from_test Equal h = refl
-equal_from_test Greater h = cc
-
 pub row_is_there : (clients : List (ℕ × ClientRow)) (client : ℕ) (row : ClientRow) → IsSome (lookup (is_at (nat_cmp client)) (insert_entry nat_cmp clients client row))
 row_is_there clients client row =
     let here = lookup-insert_entry nat_cmp nat_cmp_total client client row clients
@@ -180,6 +170,6 @@ put_back_same clients new client row before rising_old rising_new was each =
         let inserted = lookup-insert_entry nat_cmp nat_cmp_total other client row clients in
         elim (eq_by_cmp nat_cmp other client) as (λ b. eq_by_cmp nat_cmp other client ≡ b →
         (if b then before else lookup (is_at (nat_cmp other)) (insert_entry nat_cmp clients client row)) ≡ lookup (is_at (nat_cmp other)) clients) [
-          | true ↦ λ is. was ∙ ap (λ k. lookup (is_at (nat_cmp k)) clients) (sym (exact_unsigned other client (equal_from_test (nat_cmp other client) is)))
+          | true ↦ λ is. was ∙ ap (λ k. lookup (is_at (nat_cmp k)) clients) (sym (tells_apart exact_unsigned other client is))
           | false ↦ λ apart. inserted ∙ ap (λ b. cond b (Some row) (lookup (is_at (nat_cmp other)) clients)) apart
         ] refl

@@ -23,6 +23,3 @@ pub use number::{MAX_BLANKS, MAX_DELIVERIES};
 pub use printed::{Counted, Drained, PendingIds, Shown, Standing, Supplied};
 pub use reading::{MAX_LENGTH, read_script};
 pub use script::{ArrayLine, Line, Script};
-
-#[cfg(test)]
-mod tests;

@@ -1,12 +1,10 @@
 -- How many objects a shelf has, by what they show.
-use Rattle.std.proofs.Common.{◌≡◌, ℕ, ◌+◌, ◌==◌, ◌&&◌, true, false, cond, List, [], ◌∷◌, refl, sym, ap, subst, ◌∙◌, arith}
+use Rattle.std.proofs.Common.{◌≡◌, ℕ, ◌+◌, ◌==◌, ◌&&◌, true, false, cond, List, [], ◌∷◌, refl, sym, ap, ◌∙◌, arith}
 use Rattle.std.specs.Prelude.{Option, Some, None, IfSome, is_none, is_some, not, option_map, unwrap_or}
-use Rattle.std.specs.Cmp.{nat_eq_equiv}
 use Rattle.std.specs.BTreeMap.{insert_entry, is_at}
 use Rattle.std.specs.Map.{remove_entry, values_of}
 use Rattle.std.proofs.lemmas.List.Sums.{sum_by-cons}
 use Rattle.std.proofs.lemmas.Map.Entries.{sum_by-insert_entry, sum_by-remove_entry}
-use Rattle.std.proofs.lemmas.Map.Views.{exact_unsigned_eq}
 use Rattle.charmlet_model.specs.declared.names.Elem.{Elem}
 use Rattle.charmlet_model.specs.declared.kind.Kind.{Kind}
 use Rattle.charmlet_model.specs.declared.state.Record.{Record}
@@ -16,25 +14,15 @@ use Rattle.charmlet_model.specs.Names.{elem_cmp}
 use Rattle.charmlet_model.specs.Kind.{kind_number}
 use Rattle.charmlet_model.specs.Reaction.{kind_of}
 use Rattle.charmlet_model.specs.Shelves.{count_of, if_there, is_there_as, objects_of, record_in, records_of, there_in}
-use Rattle.charmlet_model.proofs.Maps.{elem_total}
+use Rattle.charmlet_model.proofs.Maps.{elem_total, tied_elem}
 use Rattle.charmlet_shelf.specs.Count.{came_out, comes_as, is_newcomer_of}
 use Rattle.charmlet_shelf.specs.Due.{Due, record_after}
 use Rattle.charmlet_shelf.specs.Shelf.{Holds, ShowsPhase, before_due, records_before, with_record}
 use Rattle.charmlet_shelf.specs.declared.phase.Phase.{Phase}
 use Rattle.charmlet_shelf.specs.declared.phase.Phase.TheVariants.{Idle, Assigned, Done}
 use Rattle.charmlet_shelf.proofs.Holding.{before_is}
-use Rattle.charmlet_shelf.proofs.Records.{Rising, at, found_with, itself, rising_shown, rising_with, shown_there}
-
--- ---- kinds' numbers
-
-pub equal_numbers : (a b : ℕ) → a ≡ b → (a == b) ≡ true
-equal_numbers a b same = subst (λ n. (a == n) ≡ true) same (nat_eq_equiv.refl a)
-
-pub apart_numbers : (a b : ℕ) → (a ≡ b → ⊥) → (a == b) ≡ false
-apart_numbers a b apart = elim (a == b) as (λ t. (a == b) ≡ t → t ≡ false) [
-  | true ↦ λ same. absurd (apart (exact_unsigned_eq a b same))
-  | false ↦ λ _. refl
-] refl
+use Rattle.charmlet_shelf.proofs.Records.{Rising, at, found_with, rising_shown, rising_with, shown_there}
+use Rattle.charmlet_model.proofs.ShelfCounts.{absent_weighs_nothing}
 
 pub is_none_not : {A : Type 0} (o : Option A) → is_none o ≡ not (is_some o)
 is_none_not None = refl
@@ -53,15 +41,11 @@ module _ (kind : Kind) where
   abbrev of_kind : Kind → ℕ
   of_kind k = cond (kind_number k == kind_number kind) 1 0
 
-  absent_weighs_nothing : (o : Option State) → is_some o ≡ false → ◌≡◌ {A = ℕ} (cond (is_there_as kind o) 1 0) 0
-  absent_weighs_nothing None h = refl
-  absent_weighs_nothing (Some s) h = cc
-
   -- what is found weighs as what was written
   found_weighs : (r : Record) → found_weight (if_there r) ≡ weight r
   found_weighs r = elim (is_some r.state) as (λ b. is_some r.state ≡ b → found_weight (cond b (Some r) None) ≡ weight r) [
     | true ↦ λ _. refl
-    | false ↦ λ absent. sym (absent_weighs_nothing r.state absent)
+    | false ↦ λ absent. sym (absent_weighs_nothing kind r.state absent)
   ] refl
 
   -- one record over the others counts instead of what was there
@@ -70,7 +54,7 @@ module _ (kind : Kind) where
       elim (is_some r.state) as (λ b. is_some r.state ≡ b →
       there_in (cond b (insert_entry elem_cmp rs x r) (remove_entry (is_at (elem_cmp x)) rs)) kind + found_weight (at rs x) ≡ there_in rs kind + weight r) [
         | true ↦ λ _. sum_by-insert_entry weight elem_total rs x r rising
-        | false ↦ λ gone. let others = sum_by-remove_entry weight (is_at (elem_cmp x)) rs in let none = absent_weighs_nothing r.state gone in omega arith
+        | false ↦ λ gone. let others = sum_by-remove_entry weight (is_at (elem_cmp x)) rs in let none = absent_weighs_nothing kind r.state gone in omega arith
       ] refl
 
   -- a receiver counts for its kind, there or yet to come
@@ -130,7 +114,7 @@ module _ (kind : Kind) where
           let rising_rs = rising_shown state es rising in
           let x = due.message.to in
           let written = counts_with (before_due rs due) (rising_with rs rising_rs x due.receiver) x (record_after due) in
-          let there : at (before_due rs due) x ≡ if_there due.receiver = found_with rs rising_rs x x due.receiver ∙ ap (λ b. cond b (if_there due.receiver) (at rs x)) (itself x) in
+          let there : at (before_due rs due) x ≡ if_there due.receiver = found_with rs rising_rs x x due.receiver ∙ ap (λ b. cond b (if_there due.receiver) (at rs x)) (tied_elem x) in
           let found : found_weight (at (before_due rs due) x) ≡ weight due.receiver = ap found_weight there ∙ found_weighs due.receiver in
           let receiver = receiver_counts due holds.2.before in
           let left = leaves due (record_after due).state holds result gone kinds in

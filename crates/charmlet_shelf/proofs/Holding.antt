@@ -14,13 +14,14 @@ use Rattle.charmlet_model.specs.declared.state.State.{State}
 use Rattle.charmlet_model.specs.Names.{elem_cmp}
 use Rattle.charmlet_model.specs.Reaction.{kind_of, react}
 use Rattle.charmlet_model.specs.Shelves.{if_there, record_in, records_of}
-use Rattle.charmlet_model.proofs.Maps.{elem_total, lookup-insert_entry}
+use Rattle.charmlet_model.proofs.Maps.{elem_total, lookup-insert_entry, tied_elem}
 use Rattle.charmlet_chare.specs.declared.output.Output.{Output}
-use Rattle.charmlet_shelf.specs.Due.{Due, advanced_if, newcomer_due, reaction_in, record_after}
+use Rattle.charmlet_shelf.specs.Due.{Due, newcomer_due, reaction_in, record_after}
 use Rattle.charmlet_shelf.specs.Receiving.{Becomes, state_if}
 use Rattle.charmlet_shelf.specs.Shelf.{Holds, IsDueAt, IsReceiver, before_due, done_by, with_record, without_newcomer}
 use Rattle.charmlet_shelf.specs.declared.phase.Phase.TheVariants.{Done}
-use Rattle.charmlet_shelf.proofs.Records.{Rising, at, itself, rising_shown, shown_at, shown_removed, shown_there, shown_written, written_over, written_same}
+use Rattle.charmlet_shelf.proofs.Records.{Rising, at, rising_shown, shown_at, shown_removed, shown_there, shown_written, written_over, written_same}
+use Rattle.charmlet_model.specs.Own.{advanced_if}
 
 -- ---- a message and what it makes
 
@@ -96,7 +97,7 @@ module _ {C : Type 0} (state : C → State) where
       written_here =
           let laws = eq_by_cmp_equiv elem_total in
           lookup-set_value laws (is_at (elem_cmp due.message.to)) (λ a b h. laws.congr due.message.to a b h) due.message.to new es found
-          ∙ ap (λ b. cond b (Some new) (at es due.message.to)) (itself due.message.to)
+          ∙ ap (λ b. cond b (Some new) (at es due.message.to)) (tied_elem due.message.to)
 
       pub rising_written : Rising es → Rising written
       rising_written rising = subst (IsStrictlySortedBy elem_cmp) (sym (keys-set_value (is_at (elem_cmp due.message.to)) es new)) rising
@@ -174,6 +175,6 @@ pub newcomer_holds : {C : Type 0} (state : C → State) (es : List (Elem × Resi
     Holds state (insert_entry elem_cmp es m.to newcomer) (newcomer_due m (kind_of (state newcomer.object)) newcomer.sent newcomer.received) None
 newcomer_holds state es m newcomer = (
   newcomer,
-  lookup-insert_entry elem_cmp elem_total m.to m.to newcomer es ∙ ap (λ b. cond b (Some newcomer) (at es m.to)) (itself m.to),
+  lookup-insert_entry elem_cmp elem_total m.to m.to newcomer es ∙ ap (λ b. cond b (Some newcomer) (at es m.to)) (tied_elem m.to),
   record { kind = refl; before = tt; state = tt; sent = refl; received = refl },
 )

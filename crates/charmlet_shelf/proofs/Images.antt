@@ -9,12 +9,13 @@ use Rattle.charmlet_model.specs.declared.state.Record.{Record}
 use Rattle.charmlet_model.specs.Names.{elem_cmp}
 use Rattle.charmlet_shelf.specs.Image.{AreImages, IsImage, IsImageIf}
 use Rattle.charmlet_shelf.specs.declared.image.Image.{Image}
-use Rattle.charmlet_shelf.proofs.Records.{at, itself}
+use Rattle.charmlet_shelf.proofs.Records.{at}
+use Rattle.charmlet_model.proofs.Maps.{tied_elem}
 
 -- each key is found
 pub key_is_there : {X : Type 0} (es : List (Elem × X)) (i : ℕ) (d : Elem) → i < length (keys_of es) → is_some (at es (slice_index_or (keys_of es) i d)) ≡ true
 key_is_there [] i d less = absurd (let never : ⊥ = omega arith in never)
-key_is_there (e ∷ es) zero d less = ap (λ b. is_some (cond b (Some e.1) (at es e.0))) (itself e.0)
+key_is_there (e ∷ es) zero d less = ap (λ b. is_some (cond b (Some e.1) (at es e.0))) (tied_elem e.0)
 key_is_there (e ∷ es) (suc i) d less =
     let x = slice_index_or (keys_of es) i d in
     elim (is_at (elem_cmp x) e.0) as (λ b. is_some (cond b (Some e.1) (at es x)) ≡ true) [ true ↦ refl | false ↦ key_is_there es i d (omega arith) ]

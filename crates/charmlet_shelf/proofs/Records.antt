@@ -3,11 +3,11 @@ use Rattle.std.proofs.Common.{◌≡◌, Bool, true, false, cond, List, [], ◌�
 use Rattle.std.specs.Prelude.{Option, Some, None, IsSome, is_some, option_map}
 use Rattle.std.specs.declared.cmp.Ordering.{Ordering}
 use Rattle.std.specs.declared.cmp.Ordering.TheVariants.{Less, Equal, Greater}
-use Rattle.std.specs.Ordering.{eq_by_cmp, is_eq, match_ordering}
+use Rattle.std.specs.Ordering.{eq_by_cmp, match_ordering}
 use Rattle.std.specs.BTreeMap.{insert_entry, is_at}
 use Rattle.std.specs.List.Sorted.{IsStrictlySortedBy}
 use Rattle.std.specs.Map.{lookup, keys_of, set_value, remove_entry}
-use Rattle.std.proofs.lemmas.Cmp.{eq_by_cmp_equiv, tied_itself}
+use Rattle.std.proofs.lemmas.Cmp.{eq_by_cmp_equiv}
 use Rattle.std.proofs.lemmas.Map.{keys-set_value, lookup-set_value}
 use Rattle.std.proofs.lemmas.Map.Made.{lookup-map_values}
 use Rattle.charmlet_model.specs.declared.names.Elem.{Elem}
@@ -19,6 +19,7 @@ use Rattle.charmlet_model.specs.Shelves.{if_there, record_in, records_of}
 use Rattle.charmlet_model.proofs.Maps.{elem_exact, elem_total, lookup-insert_entry, rising-insert_entry, same_maps}
 use Rattle.charmlet_model.proofs.Removals.{lookup-removed, rising-removed}
 use Rattle.charmlet_shelf.specs.Shelf.{with_record}
+use Rattle.std.proofs.lemmas.Map.Views.{tells_apart}
 
 abbrev pub Rising : {X : Type 0} → List (Elem × X) → Type 0
 Rising es = IsStrictlySortedBy elem_cmp (keys_of es)
@@ -26,17 +27,6 @@ Rising es = IsStrictlySortedBy elem_cmp (keys_of es)
 -- what is found of an element
 abbrev pub at : {X : Type 0} → List (Elem × X) → Elem → Option X
 at es x = lookup (is_at (elem_cmp x)) es
-
-same : (a b : Elem) → eq_by_cmp elem_cmp a b ≡ true → a ≡ b
-same a b h = elem_exact a b (equal (elem_cmp a b) h)
-  where
-    equal : (o : Ordering) → is_eq o ≡ true → o ≡ Equal
-    equal Less h = cc
-    equal Equal h = refl
-    equal Greater h = cc
-
-pub itself : (x : Elem) → eq_by_cmp elem_cmp x x ≡ true
-itself x = ap is_eq (tied_itself elem_total x)
 
 -- entries that are found alike are equal
 alike : {X : Type 0} (es fs : List (Elem × X)) → Rising es → Rising fs → ((q : Elem) → at es q ≡ at fs q) → es ≡ fs
@@ -72,7 +62,7 @@ written_same rs rising x r is =
     alike _ _ (rising_with rs rising x r) rising
     (λ q. found_with rs rising x q r
     ∙ elim (eq_by_cmp elem_cmp q x) as (λ e. eq_by_cmp elem_cmp q x ≡ e → cond e (if_there r) (at rs q) ≡ at rs q) [
-      | true ↦ λ here. sym is ∙ ap (at rs) (sym (same q x here))
+      | true ↦ λ here. sym is ∙ ap (at rs) (sym (tells_apart elem_exact q x here))
       | false ↦ λ _. refl
     ] refl)
 
@@ -171,6 +161,6 @@ put_and_taken es rising x v absent =
     (λ q. lookup-removed elem_total q x (insert_entry elem_cmp es x v) put
     ∙ ap (cond (eq_by_cmp elem_cmp q x) None) (lookup-insert_entry elem_cmp elem_total q x v es)
     ∙ elim (eq_by_cmp elem_cmp q x) as (λ e. eq_by_cmp elem_cmp q x ≡ e → cond e None (cond e (Some v) (at es q)) ≡ at es q) [
-      | true ↦ λ here. sym absent ∙ ap (at es) (sym (same q x here))
+      | true ↦ λ here. sym absent ∙ ap (at es) (sym (tells_apart elem_exact q x here))
       | false ↦ λ _. refl
     ] refl)

@@ -1,5 +1,5 @@
 -- Deliveries that a shelf was asked to make.
-use Rattle.std.specs.Prelude.{◌≡◌, ℕ, ◌+◌, ◌≤◌, List, Option, Some, None, true, is_some}
+use Rattle.std.specs.Prelude.{◌≡◌, ℕ, ◌+◌, ◌≤◌, List, Option, None, true, is_some}
 use Rattle.charmlet_model.specs.declared.kind.Kind.{Kind}
 use Rattle.charmlet_model.specs.declared.message.Message.{Message}
 use Rattle.charmlet_model.specs.declared.reaction.Reaction.{Reaction}
@@ -7,7 +7,7 @@ use Rattle.charmlet_model.specs.declared.state.Record.{Record}
 use Rattle.charmlet_model.specs.declared.state.State.{State}
 use Rattle.charmlet_model.specs.Reaction.{greatest, react}
 use Rattle.charmlet_model.specs.Unpacked.{state_at}
-use Rattle.charmlet_model.specs.World.{advanced}
+use Rattle.charmlet_model.specs.Own.{advanced_if}
 
 -- a message, the kind of its receiver's object, and the receiver's record before it
 pub record Due : Type 0 where
@@ -22,11 +22,6 @@ state_in kind bytes = state_at kind bytes
 -- what the message makes of its receiver
 abbrev pub reaction_in : Due → Option Reaction
 reaction_in due = react due.kind due.message.to due.receiver.state due.message.entry due.message.words
-
--- the record after a reaction, if there is one
-abbrev pub advanced_if : Record → Option Reaction → Record
-advanced_if r None = r
-advanced_if r (Some reaction) = advanced r reaction
 
 -- the receiver's record after the message
 abbrev pub record_after : Due → Record

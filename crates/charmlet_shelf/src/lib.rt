@@ -9,8 +9,6 @@ mod outcome;
 mod phase;
 mod receiving;
 mod shelf;
-#[cfg(test)]
-mod tests;
 
 pub use crate::delivery::Delivery;
 pub use crate::image::Image;

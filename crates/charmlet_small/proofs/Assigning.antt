@@ -1,6 +1,6 @@
 -- How deliveries end, by the steps that they take.
 use Rattle.std.proofs.Common.{◌≡◌, inl, inr, ℕ, ◌+◌, ◌-◌, ◌<◌, ◌==◌, true, false, cond, not, ◌||◌, List, [], ◌∷◌, ◌++◌, refl, sym, ap, subst, ◌∙◌, arith}
-use Rattle.std.specs.Prelude.{Option, Some, None, is_some, option_and_then, Result, Ok, Err, OnOk, OnErr, IfErr, is_err}
+use Rattle.std.specs.Prelude.{Option, Some, None, is_some, option_and_then, Result, Ok, Err, OnOk, IfErr}
 use Rattle.std.specs.Ordering.{is_eq, nat_cmp}
 use Rattle.std.specs.Cmp.{nat_cmp_total}
 use Rattle.std.proofs.lemmas.Cmp.{tied_itself}
@@ -14,36 +14,13 @@ use Rattle.charmlet_model.specs.declared.refusal.Refusal.TheVariants as refusals
 use Rattle.charmlet_model.specs.declared.TheConstants.{CONSTRUCT}
 use Rattle.charmlet_model.specs.Kind.{kind_number, numbered_kind}
 use Rattle.charmlet_model.specs.World.{record_of}
-use Rattle.charmlet_model.specs.Core.{Core, present, Blanks, Gate, When, MayLackMemory, MayFail, CoreStep, Assign, Commit, Release, Done, gates, message_gates, lacks_blank, blank_for, blank_of_id, pending_message, assigned_to, first_refusal, may_lack_memory, next_core, next_blanks, with_taken, with_given, is_present, is_processor, stands_on, is_full, are_counts_full}
+use Rattle.charmlet_model.specs.Core.{Core, present, Blanks, Gate, When, MayLackMemory, CoreStep, Assign, Commit, Release, Done, gates, message_gates, lacks_blank, blank_for, blank_of_id, pending_message, assigned_to, first_refusal, may_lack_memory, next_core, next_blanks, with_taken, with_given, is_present, is_processor, stands_on, is_full, are_counts_full}
 use Rattle.charmlet_model.specs.Run.{Store, Goes, IsNotDelivered}
 use Rattle.charmlet_small.specs.UnderWay.{Ends}
 use Rattle.charmlet_model.proofs.Maps.{lookup-insert_entry}
 use Rattle.charmlet_history.specs.Kept.{plenty}
-use Rattle.charmlet_history.proofs.Orders.{none_of_both, some_of_first, is_refused, lacks_memory, is_done}
-
--- ---- orders
-
--- a refusal stands in the front of an order whose rest refuses nothing
-in_front : (order more : List Gate) (refusal : Refusal) → first_refusal more ≡ None → first_refusal (order ++ more) ≡ Some refusal → first_refusal order ≡ Some refusal
-in_front [] more refusal none h = absurd (let no : None ≡ Some refusal = sym none ∙ h in let never : ⊥ = cc in never)
-in_front (When true other ∷ order) more refusal none h = h
-in_front (When false other ∷ order) more refusal none h = in_front order more refusal none h
-in_front (MayLackMemory ∷ order) more refusal none h = in_front order more refusal none h
-in_front (MayFail ∷ order) more refusal none h = in_front order more refusal none h
-
-none_in_front : (order more : List Gate) → first_refusal (order ++ more) ≡ None → first_refusal order ≡ None
-none_in_front [] more h = refl
-none_in_front (When true other ∷ order) more h = absurd (let no : ⊥ = cc in no)
-none_in_front (When false other ∷ order) more h = none_in_front order more h
-none_in_front (MayLackMemory ∷ order) more h = none_in_front order more h
-none_in_front (MayFail ∷ order) more h = none_in_front order more h
-
-memory_after : (order more : List Gate) → first_refusal order ≡ None → may_lack_memory more ≡ true → may_lack_memory (order ++ more) ≡ true
-memory_after [] more none h = h
-memory_after (When true other ∷ order) more none h = absurd (let no : ⊥ = cc in no)
-memory_after (When false other ∷ order) more none h = memory_after order more none h
-memory_after (MayLackMemory ∷ order) more none h = refl
-memory_after (MayFail ∷ order) more none h = memory_after order more none h
+use Rattle.charmlet_history.proofs.Orders.{none_of_both, some_of_first, in_front, none_in_front, memory_after, is_refused, lacks_memory, is_done}
+use Rattle.std.proofs.lemmas.Bool.{ne_eqb}
 
 -- ---- an assignment, up to the blank and from it on
 
@@ -52,16 +29,13 @@ abbrev pub Has : Blanks → Option Kind → Type 0
 Has blanks None = Unit {0}
 Has blanks (Some kind) = 0 < blanks kind
 
-not_zero : (n : ℕ) → 0 < n → (n == 0) ≡ false
-not_zero n above = elim (n == 0) as (λ b. (n == 0) ≡ b → b ≡ false) [ true ↦ λ h. let zero = exact_unsigned_eq n 0 h in absurd (omega arith) | false ↦ λ _. refl ] refl
-
 rest_passes : (blanks : Blanks) (kind : Option Kind) → Has blanks kind → first_refusal (lacks_blank blanks kind ++ MayLackMemory ∷ []) ≡ None
 rest_passes blanks None has = refl
-rest_passes blanks (Some kind) has = ap (λ b. first_refusal (When b (refusals.NoBlank kind) ∷ MayLackMemory ∷ [])) (not_zero (blanks kind) has)
+rest_passes blanks (Some kind) has = ap (λ b. first_refusal (When b (refusals.NoBlank kind) ∷ MayLackMemory ∷ [])) (ne_eqb (blanks kind) 0 (λ none. omega arith))
 
 rest_lacks : (blanks : Blanks) (kind : Option Kind) → Has blanks kind → may_lack_memory (lacks_blank blanks kind ++ MayLackMemory ∷ []) ≡ true
 rest_lacks blanks None has = refl
-rest_lacks blanks (Some kind) has = ap (λ b. may_lack_memory (When b (refusals.NoBlank kind) ∷ MayLackMemory ∷ [])) (not_zero (blanks kind) has)
+rest_lacks blanks (Some kind) has = ap (λ b. may_lack_memory (When b (refusals.NoBlank kind) ∷ MayLackMemory ∷ [])) (ne_eqb (blanks kind) 0 (λ none. omega arith))
 
 plenty_has : (kind : Option Kind) → Has plenty kind
 plenty_has None = tt
@@ -227,32 +201,6 @@ module _ (core : Core) (blanks : Blanks) (processor : ℕ) (some : is_some (assi
 
   pub goes_back : Goes (record { core = core; blanks = blanks }) (Release processor) Done (record { core = next_core core (Release processor); blanks = with_given (blank_of_id core (assigned_to core processor)) blanks })
   goes_back = is_done core blanks (Release processor) some refl
-
--- ---- clauses on results
-
-pub on_ok : {T E : Type 0} (P : Type 0) (r : Result T E) → P → OnOk r P
-on_ok P (Ok x) h = h
-on_ok P (Err e) h = tt
-
-pub on_err : {T E : Type 0} (P : Type 0) (r : Result T E) → P → OnErr r P
-on_err P (Ok x) h = tt
-on_err P (Err e) h = h
-
-pub map_ok : {T E : Type 0} (P Q : Type 0) (r : Result T E) → (P → Q) → OnOk r P → OnOk r Q
-map_ok P Q (Ok x) f h = f h
-map_ok P Q (Err e) f h = tt
-
-pub map_err : {T E : Type 0} (P Q : Type 0) (r : Result T E) → (P → Q) → OnErr r P → OnErr r Q
-map_err P Q (Ok x) f h = tt
-map_err P Q (Err e) f h = f h
-
-pub when_ok : {T E : Type 0} (P : Type 0) (r : Result T E) → is_err r ≡ false → OnOk r P → P
-when_ok P (Ok x) is h = h
-when_ok P (Err e) is h = absurd (let never : ⊥ = cc in never)
-
-pub when_err : {T E : Type 0} (P : Type 0) (r : Result T E) → is_err r ≡ true → OnErr r P → P
-when_err P (Ok x) is h = absurd (let never : ⊥ = cc in never)
-when_err P (Err e) is h = h
 
 -- a delivery that was assigned, and then committed or released
 pub ends_so : (first mid last : Store) (processor place : ℕ) (id : MsgId) → place ≡ processor → Goes first (Assign processor id) Done mid → {T : Type 0} (result : Result T Refusal) →

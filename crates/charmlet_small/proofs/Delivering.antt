@@ -1,10 +1,9 @@
 -- Deliveries that are under way, and what they make of the world.
-use Rattle.std.proofs.Common.{◌≡◌, ℕ, ◌+◌, ◌==◌, ◌<◌, ◌&&◌, Bool, true, false, cond, List, [], ◌∷◌, refl, sym, ap, subst, ◌∙◌, arith}
+use Rattle.std.proofs.Common.{◌≡◌, ℕ, ◌+◌, ◌==◌, ◌<◌, Bool, true, false, cond, List, refl, sym, ap, subst, ◌∙◌}
 use Rattle.std.specs.Prelude.{Option, Some, None, IfSome, is_none, is_some, option_and_then, if◌then◌else◌}
 use Rattle.std.specs.Ordering.{eq_by_cmp}
 use Rattle.std.specs.BTreeMap.{is_at}
 use Rattle.std.specs.Map.{lookup}
-use Rattle.std.proofs.lemmas.Bool.{leb-true}
 use Rattle.std.proofs.lemmas.Map.Views.{exact_unsigned_eq, tells_apart}
 use Rattle.charmlet_model.specs.declared.names.Elem.{Elem}
 use Rattle.charmlet_model.specs.declared.names.MsgId.{MsgId}
@@ -15,24 +14,22 @@ use Rattle.charmlet_model.specs.declared.state.Record.{Record}
 use Rattle.charmlet_model.specs.declared.reaction.Reaction.{Reaction}
 use Rattle.charmlet_model.specs.declared.TheConstants.{CONSTRUCT}
 use Rattle.charmlet_model.specs.Names.{elem_cmp}
-use Rattle.charmlet_model.specs.Kind.{kind_number}
 use Rattle.charmlet_model.specs.Reaction.{constructed, kind_of, react}
 use Rattle.charmlet_model.specs.Packed.{IsState}
 use Rattle.charmlet_model.specs.World.{World, advanced, performed, record_of, reaction_of, kind_of_array, can_deliver}
 use Rattle.charmlet_model.specs.Core.{Core, present, pending_message, place_of, assigned_to, next_core, committed, Commit, Release, Done, blank_for, blank_of_id, with_given}
 use Rattle.charmlet_model.specs.Run.{Goes, Store}
 use Rattle.charmlet_model.specs.Sound.{IsAssigned}
-use Rattle.charmlet_model.specs.Shelves.{count_of, if_here, if_there, there_in}
-use Rattle.charmlet_model.proofs.Maps.{both_parts, elem_exact}
+use Rattle.charmlet_model.specs.Shelves.{if_here, if_there, there_in}
+use Rattle.charmlet_model.proofs.Maps.{elem_exact, tied_elem}
 use Rattle.charmlet_model.proofs.Histories.{record_at-insert}
 use Rattle.charmlet_model.proofs.SoundLemmas.{sound_fit}
-use Rattle.charmlet_chare.specs.Output.{output_of}
 use Rattle.charmlet_chare.specs.declared.chare.Chare.{Ghosts}
 use Rattle.charmlet_history.specs.declared.history.History.{History}
-use Rattle.charmlet_history.specs.Kept.{Kept, Stands, assigned_message, core_in, core_of, kept_in, IsOutcome}
-use Rattle.charmlet_shelf.specs.Due.{Due, advanced_if, newcomer_due, reaction_in, record_after}
-use Rattle.charmlet_shelf.specs.Shelf.{Assigns, HasCounts, IsDueAt, View, done_by, has_newcomer, performed as performed_phase, receiver_kind, released, settled, with_record, without_output}
-use Rattle.charmlet_shelf.proofs.Records.{found_with, itself, rising_with}
+use Rattle.charmlet_history.specs.Kept.{Kept, Stands, assigned_message, core_in, core_of, kept_in}
+use Rattle.charmlet_shelf.specs.Due.{Due, newcomer_due, reaction_in, record_after}
+use Rattle.charmlet_shelf.specs.Shelf.{Assigns, IsDueAt, View, done_by, has_newcomer, performed as performed_phase, receiver_kind, settled, with_record, without_output}
+use Rattle.charmlet_shelf.proofs.Records.{found_with, rising_with}
 use Rattle.charmlet_shelf.specs.Count.{is_newcomer_of, objects_on}
 use Rattle.charmlet_shelf.specs.declared.phase.Phase.{Phase}
 use Rattle.charmlet_shelf.specs.declared.phase.Phase.TheVariants as phases
@@ -41,7 +38,8 @@ use Rattle.charmlet_small.specs.Desk.{Desk, IsWithin, ShowsOn, ShowsPart, Stands
 use Rattle.charmlet_migrate.specs.Moving.{store_with}
 use Rattle.charmlet_small.specs.UnderWay.{IsBusyAt, IsDelivering, IsUnderWay}
 use Rattle.charmlet_small.proofs.Assigning.{goes_back, is_committed}
-use Rattle.charmlet_small.proofs.Places.{absent_place, others_stay, present_next, receiver_shown, same_processors, seen_is, seen_so}
+use Rattle.charmlet_small.proofs.Places.{others_stay, present_next, receiver_shown, same_processors, seen_is}
+use Rattle.charmlet_model.specs.Own.{advanced_if}
 
 -- ---- the assigned message
 
@@ -68,13 +66,6 @@ module _ (k : Kept) (stands : Stands k) (p : ℕ) where
     can_be =
         let assigned : IsAssigned core p its.0 = subst (λ o. IfSome o (IsAssigned core p)) its.1 (stands.sound.assigned p) in
         ap (can_deliver w) (sym its.2) ∙ assigned.can_be
-
-    -- its receiver's counts have room
-    pub has_counts : HasCounts (record_of w m.to)
-    has_counts = (leb-true _ _ (both_parts _ _ can_be).1, leb-true _ _ (both_parts _ _ (both_parts _ _ can_be).0).1)
-
-    pub has_counts_here : (records : List (Elem × Record)) → ShowsOn p records core.places w → IfSome (lookup (is_at (elem_cmp m.to)) records) HasCounts
-    has_counts_here records shows = subst (λ o. IfSome o HasCounts) (sym (shows.shown m.to)) (seen_so HasCounts (place_of core m.to) p (record_of w m.to) has_counts)
 
     -- the delivery to a receiver that is there
     pub under_way_there : (records : List (Elem × Record)) → ShowsOn p records core.places w → (due : Due) → IsDueAt records m due → IsUnderWay core p due
@@ -117,10 +108,6 @@ module _ (k : Kept) (stands : Stands k) (p : ℕ) where
         reacts = ap (λ e. is_some (if e == CONSTRUCT then Some (constructed kind m.to m.words) else None)) wants_new.1;
       }
 
-      -- no shelf shows it
-      pub isnt_shown : (records : List (Elem × Record)) → ShowsOn p records core.places w → lookup (is_at (elem_cmp m.to)) records ≡ None
-      isnt_shown records shows = shows.shown m.to ∙ ap (λ o. if_here o p (record_of w m.to)) (absent_place core m.to (stands.sound.placed m.to) wants_new.0)
-
   -- ---- what a delivery makes of the world
 
   module _ (due : Due) (under_way : IsUnderWay core p due) where
@@ -131,10 +118,6 @@ module _ (k : Kept) (stands : Stands k) (p : ℕ) where
 
     made : (r : Reaction) × (reaction_in due ≡ Some r)
     made = some_of (reaction_in due) under_way.reacts
-
-    -- what its receiver makes of it is what the world says
-    pub outcome_is : (r : Reaction) → reaction_in due ≡ Some r → IsOutcome core p (output_of r)
-    outcome_is r is = (r, ap (option_and_then (reaction_of w)) under_way.message ∙ reaction_is ∙ is, refl)
 
     abbrev its_message : (id : MsgId) × (assigned_to core p ≡ Some id) × (pending_message core id ≡ Some due.message)
     its_message = its due.message under_way.message
@@ -152,7 +135,7 @@ module _ (k : Kept) (stands : Stands k) (p : ℕ) where
         let next = advanced (record_of w x) r in
         let core_after = next_core core (Commit p) in
         let after : record_after due ≡ next = ap (advanced_if due.receiver) made.1 ∙ ap (λ old. advanced old r) (sym under_way.receiver) in
-        let written : record_of (performed w due.message (Some r)) x ≡ next = record_at-insert w.records x next x ∙ ap (λ b. cond b next (record_of w x)) (itself x) in
+        let written : record_of (performed w due.message (Some r)) x ≡ next = record_at-insert w.records x next x ∙ ap (λ b. cond b next (record_of w x)) (tied_elem x) in
         let becomes : record_of (performed w due.message (reaction_of w due.message)) x ≡ next = ap (λ o. record_of (performed w due.message o) x) (reaction_is ∙ made.1) ∙ written in
         let receives : record_of (present core_after) x ≡ next = ap (λ (v : World). record_of v x) (after_is r made.1) ∙ written in
         let receiver : if_here (place_of core_after x) p next ≡ if_there next = receiver_shown core stands.sound p id due.message its_message.1 its_message.2 next becomes in
@@ -260,24 +243,6 @@ module _ {C : Type 0} {G : Ghosts C} (old : Desk C G) (due : Due) where
   -- ---- an assignment that is taken back
 
   module _ (busy : IsBusyAt old due (phases.Assigned due)) where
-    released_is : record old.shelf { phase = released old.shelf.phase } ≡ record { number = on; records = old.shelf.records; phase = phases.Idle }
-    released_is = ap (λ phase. record old.shelf { phase = released phase }) busy.delivery.phase_is
-
-    pub stands_released : (new : Desk C G) → Stands (kept_in new.history) → core_in new.history ≡ next_core its_core (Release on) → new.shelf ≡ record old.shelf { phase = released old.shelf.phase } →
-        IsWithin new.shelf new.stock → StandsAt new
-    stands_released new stands back shelf census =
-        let is = shelf ∙ released_is in
-        record {
-          history = stands;
-          shelf = record {
-            on = subst (λ (core : Core). new.shelf.number < core.processors) (sym back) (subst (λ (v : View). v.number < its_core.processors) (sym is) busy.delivery.part.on);
-            objects = subst (λ (core : Core). ShowsOn new.shelf.number new.shelf.records core.places (present core)) (sym back)
-                (subst (λ (v : View). ShowsOn v.number v.records its_core.places (present its_core)) (sym is) busy.delivery.part.objects);
-          };
-          idle = ap (λ (v : View). v.phase) is;
-          census = census;
-        }
-
     -- its newcomer, if it has one
     pub newcomer_is : (result : Bool) → result ≡ has_newcomer old.shelf.phase → result ≡ is_none due.receiver.state
     newcomer_is result is = is ∙ ap has_newcomer busy.delivery.phase_is
@@ -342,13 +307,6 @@ module _ (history : History) (stands : Stands (kept_in history)) (old shelf : Vi
       }),
     )
 
-    pub objects_there : (kind : Kind) → objects_on shelf kind ≡ objects_on old kind
-    objects_there kind =
-        let there : is_none due_there.receiver.state ≡ false = ap is_none assigns.1.2 in
-        ap (λ (v : View). objects_on v kind) is_there
-        ∙ ap (λ b. there_in old.records kind + cond (b && (kind_number due_there.kind == kind_number kind)) 1 0) there
-        ∙ ap (λ phase. there_in old.records kind + cond (is_newcomer_of kind phase) 1 0) (sym idle)
-
   -- with a newcomer
   module _ {C : Type 0} (state : C → State) (blank : C) (wanted : blank_of_id (core_in history) (assigned_to (core_in history) old.number) ≡ Some (kind_of (state blank)))
       (sent received : ℕ) (is : shelf ≡ record old { phase = phases.Assigned (newcomer_due m (kind_of (state blank)) sent received) }) where
@@ -364,9 +322,3 @@ module _ (history : History) (stands : Stands (kept_in history)) (old shelf : Vi
         part = record { on = shows.on; objects = shows.objects };
       }),
     )
-
-    pub objects_new : (kind : Kind) → objects_on shelf kind ≡ objects_on old kind + count_of state (blank ∷ []) kind
-    objects_new kind =
-        let new : objects_on shelf kind ≡ there_in old.records kind + cond (kind_number (kind_of (state blank)) == kind_number kind) 1 0 = ap (λ (v : View). objects_on v kind) is in
-        let before : objects_on old kind ≡ there_in old.records kind + 0 = ap (λ phase. there_in old.records kind + cond (is_newcomer_of kind phase) 1 0) idle in
-        omega arith

@@ -2,11 +2,10 @@
 use Rattle.std.proofs.Common.{◌≡◌, inl, inr, ℕ, ◌==◌, true, false, cond, List, [], ◌∷◌, refl, sym, ap, subst, ◌∙◌}
 use Rattle.std.specs.Prelude.{Option, Some, None, IfSome, is_some, unwrap_or, Result, Ok, Err}
 use Rattle.std.specs.Cmp.{nat_eq_equiv}
-use Rattle.std.specs.Ordering.{eq_by_cmp, is_eq}
+use Rattle.std.specs.Ordering.{eq_by_cmp}
 use Rattle.std.specs.BTreeMap.{is_at}
 use Rattle.std.specs.List.Sorted.{IsStrictlySortedBy}
 use Rattle.std.specs.Map.{keys_of, lookup}
-use Rattle.std.proofs.lemmas.Cmp.{tied_itself}
 use Rattle.std.proofs.lemmas.Map.Views.{tells_apart}
 use Rattle.charmlet_model.specs.declared.names.Elem.{Elem}
 use Rattle.charmlet_model.specs.declared.names.MsgId.{MsgId}
@@ -19,11 +18,11 @@ use Rattle.charmlet_model.specs.Names.{elem_cmp}
 use Rattle.charmlet_model.specs.World.{World, after, delivered, performed, reaction_of, record_of}
 use Rattle.charmlet_model.specs.Core.{Assign, Blanks, Commit, Core, CoreAnswer, CoreStep, Done, Refuses, Release, Stepped, Steps, assigned_to, committed, first_refusal, gates, home, next_core, pending_message, place_of, placed, placed_after, present, stands_on, stepped_unless}
 use Rattle.charmlet_model.specs.Run.{Goes, Store}
-use Rattle.charmlet_model.specs.Sound.{IsAssigned, IsPlaced, IsSound}
+use Rattle.charmlet_model.specs.Sound.{IsAssigned, IsSound}
 use Rattle.charmlet_model.specs.Shelves.{if_here, if_there}
 use Rattle.charmlet_model.proofs.Deliveries.{message_of, placed-elsewhere, receiver_is}
 use Rattle.charmlet_model.proofs.Histories.{record-elsewhere, world-append}
-use Rattle.charmlet_model.proofs.Maps.{elem_exact, elem_total, lookup-insert_entry}
+use Rattle.charmlet_model.proofs.Maps.{elem_exact, elem_total, lookup-insert_entry, tied_elem}
 use Rattle.charmlet_model.proofs.Removals.{lookup-removed}
 use Rattle.charmlet_model.proofs.SoundLemmas.{step_sound}
 use Rattle.charmlet_small.specs.UnderWay.{Ends}
@@ -32,11 +31,6 @@ use Rattle.charmlet_small.specs.UnderWay.{Ends}
 
 if_here_same : (p : ℕ) (r : Record) → if_here (Some p) p r ≡ Some r
 if_here_same p r = ap (λ b. cond b (Some r) None) (nat_eq_equiv.refl p)
-
--- what holds of the record holds of what is seen
-pub seen_so : (P : Record → Type 0) (place : Option ℕ) (p : ℕ) (r : Record) → P r → IfSome (if_here place p r) P
-seen_so P None p r h = tt
-seen_so P (Some q) p r h = elim (q == p) as (λ b. IfSome (cond b (Some r) None) P) [ true ↦ h | false ↦ tt ]
 
 -- what is seen is the record
 pub seen_is : (place : Option ℕ) (p : ℕ) (r v : Record) → if_here place p r ≡ Some v → r ≡ v
@@ -48,9 +42,6 @@ no_place : (o : Option ℕ) → is_some o ≡ false → o ≡ None
 no_place None h = refl
 no_place (Some p) h = absurd (let never : ⊥ = cc in never)
 
-pub absent_place : (core : Core) (x : Elem) → IsPlaced core x → (record_of (present core) x).state ≡ None → place_of core x ≡ None
-absent_place core x at none = no_place (place_of core x) (at.there ∙ ap is_some none)
-
 -- ---- the place of a receiver after a delivery
 
 module _ (places : List (Elem × ℕ)) (processors : ℕ) (y : Elem) (rising : IsStrictlySortedBy elem_cmp (keys_of places)) where
@@ -60,10 +51,10 @@ module _ (places : List (Elem × ℕ)) (processors : ℕ) (y : Elem) (rising : I
   put_home : (t : State) → place_in (placed places processors y None (Some t)) ≡ Some (home y processors)
   put_home t =
       lookup-insert_entry elem_cmp elem_total y y (home y processors) places
-      ∙ ap (λ b. cond b (Some (home y processors)) (place_in places)) (ap is_eq (tied_itself elem_total y))
+      ∙ ap (λ b. cond b (Some (home y processors)) (place_in places)) (tied_elem y)
 
   gone : (s : State) → place_in (placed places processors y (Some s) None) ≡ None
-  gone s = lookup-removed elem_total y y places rising ∙ ap (λ b. cond b None (place_in places)) (ap is_eq (tied_itself elem_total y))
+  gone s = lookup-removed elem_total y y places rising ∙ ap (λ b. cond b None (place_in places)) (tied_elem y)
 
   module _ (p : ℕ) (stands : unwrap_or (place_in places) (home y processors) ≡ p) where
     home_is : is_some (place_in places) ≡ false → home y processors ≡ p

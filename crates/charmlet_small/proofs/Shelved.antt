@@ -10,7 +10,7 @@ use Rattle.std.specs.Vec.{with_item}
 use Rattle.std.proofs.Math.Nat.{ℕ_set}
 use Rattle.std.proofs.Math.ListN.{get_or-map}
 use Rattle.std.proofs.Math.Path.{path_j}
-use Rattle.std.proofs.lemmas.List.{get_or-set_same, get_or-set_other, length-set, length-map, map-set}
+use Rattle.std.proofs.lemmas.List.{get_or-set_same, get_or-set_other, length-set, length-map, map-set, get_or_default}
 use Rattle.std.proofs.lemmas.List.Elements.{All-from_recursion, recursion_from_All, All-get_or, All-set}
 use Rattle.std.proofs.lemmas.List.Sums.{get_or-le-sum_by, sum_by-cons, sum_by-set}
 use Rattle.std.proofs.lemmas.Map.Views.{exact_unsigned_eq}
@@ -31,12 +31,14 @@ use Rattle.charmlet_shelf.specs.declared.phase.Phase.TheVariants.{Idle}
 use Rattle.charmlet_stock.specs.declared.stock.Stock.{Stock}
 use Rattle.charmlet_stock.specs.declared.pile.Tally.{Tally}
 use Rattle.charmlet_stock.specs.Pile.{nothing}
-use Rattle.charmlet_stock.specs.Stock.{tally_in}
-use Rattle.charmlet_migrate.specs.Moving.{IsCountedAmong, IsIdle, ShowsPresent, numbers_of, objects_among, records_on, supplied_to}
+use Rattle.charmlet_stock.specs.Stock.{tally_in, supplied_to}
+use Rattle.charmlet_migrate.specs.Moving.{IsCountedAmong, IsIdle, ShowsPresent, numbers_of, objects_among, records_on}
+use Rattle.charmlet_migrate.proofs.CarriedShelves as carried
 use Rattle.charmlet_small.specs.Desk.{IsWithin, ShowsOn, StandsAt, desk_of, held_in}
-use Rattle.charmlet_small.specs.Small.{AreEmpty, AreNumbered, StandsSo, empty_shelf, world_in}
+use Rattle.charmlet_small.specs.Small.{AreEmpty, AreNumbered, StandsSo, world_in}
 use Rattle.charmlet_small.specs.declared.small.Small.{Small}
 use Rattle.charmlet_small.proofs.Places.{Stays, stepped_core}
+use Rattle.charmlet_migrate.specs.Copying.{empty_shelf}
 
 -- ---- a list with one element written over
 
@@ -67,9 +69,7 @@ module _ {X : Type 0} (xs : List X) (p : ℕ) (y : X) (within : p < length xs) w
 
 -- its records
 pub records_at : (shelves : List View) (p : ℕ) (shelf : View) → p < length shelves → shelf_of (records_on shelves) p ≡ (get_or shelves p shelf).records
-records_at [] p shelf within = absurd (omega arith)
-records_at (s ∷ more) zero shelf within = refl
-records_at (s ∷ more) (suc p) shelf within = records_at more p shelf (omega arith)
+records_at shelves p shelf within = carried.records_at shelves p ∙ ap (λ (v : View). v.records) (get_or_default shelves p (empty_shelf 0) shelf within)
 
 module _ {C : Type 0} {G : Ghosts C} (history : History) (shelves : List View) (stock : Stock C G) (numbers : AreNumbered shelves) (count : length shelves ≡ (core_in history).processors) (shows : ShowsPresent shelves history) (p : ℕ) (within : p < length shelves) (shelf : View) (is : shelf ≡ get_or shelves p shelf) where
   pub number_is : shelf.number ≡ p

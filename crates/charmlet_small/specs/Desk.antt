@@ -17,8 +17,7 @@ use Rattle.charmlet_shelf.specs.Count.{objects_on}
 use Rattle.charmlet_shelf.specs.Shelf.{View}
 use Rattle.charmlet_shelf.specs.declared.phase.Phase.TheVariants.{Idle}
 use Rattle.charmlet_stock.specs.declared.stock.Stock.{Stock}
-use Rattle.charmlet_stock.specs.Stock.{blanks_in, tally_in}
-use Rattle.charmlet_migrate.specs.Moving.{supplied_to}
+use Rattle.charmlet_stock.specs.Stock.{blanks_in, tally_in, supplied_to}
 
 -- a history, the shelf of one processor, and a stock
 pub record Desk (C : Type 0) (G : Ghosts C) : Type 0 where

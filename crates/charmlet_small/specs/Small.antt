@@ -1,5 +1,5 @@
 -- What a store is, and what is true of it.
-use Rattle.std.specs.Prelude.{◌≡◌, ℕ, ◌<◌, List, [], get_or, length, Result, Ok, Err}
+use Rattle.std.specs.Prelude.{◌≡◌, ℕ, ◌<◌, List, get_or, length, Result, Ok, Err}
 use Rattle.std.specs.List.{All}
 use Rattle.charmlet_model.specs.declared.kind.Kind.{Kind}
 use Rattle.charmlet_model.specs.declared.refusal.Refusal.{Refusal}
@@ -12,9 +12,10 @@ use Rattle.charmlet_model.specs.Run.{Store}
 use Rattle.charmlet_chare.specs.declared.chare.Chare.{Ghosts}
 use Rattle.charmlet_history.specs.Kept.{Stands, core_in, kept_in}
 use Rattle.charmlet_shelf.specs.Shelf.{View}
-use Rattle.charmlet_shelf.specs.declared.phase.Phase.TheVariants.{Idle}
 use Rattle.charmlet_small.specs.declared.small.Small.{Small}
-use Rattle.charmlet_migrate.specs.Moving.{IsCountedAmong, IsIdle, ShowsPresent, store_with, supplied_to}
+use Rattle.charmlet_migrate.specs.Moving.{IsCountedAmong, IsIdle, ShowsPresent, store_with}
+use Rattle.charmlet_stock.specs.Stock.{supplied_to}
+use Rattle.charmlet_migrate.specs.Copying.{empty_shelf}
 
 -- the store as a core and the blanks of its stock
 abbrev pub store_in : {C : Type 0} {G : Ghosts C} → Small C G → Store
@@ -46,10 +47,6 @@ pub record StandsSo {C : Type 0} {G : Ghosts C} (small : Small C G) : Type 0 whe
 abbrev pub answer_in : Result Told Refusal → Answer
 answer_in (Ok told) = answers.Told told
 answer_in (Err refusal) = answers.Refused refusal
-
--- the shelf of a processor, with nothing on it
-abbrev pub empty_shelf : ℕ → View
-empty_shelf processor = record { number = processor; records = []; phase = Idle }
 
 -- so many of them, one of each processor
 pub record AreEmpty (processors : ℕ) (shelves : List View) : Type 0 where

@@ -1,5 +1,5 @@
 -- Values by kind, and room by kind.
-use Rattle.std.proofs.Common.{ℕ, ◌≡◌, ◌⊎◌, inl, inr, ◌+◌, ◌-◌, ◌≤◌, ◌==◌, cond, Bool, true, false, true≢false, List, [], ◌∷◌, refl, Result, Ok, Err, OnOk, is_err, sym, ap, subst, ◌∙◌, arith}
+use Rattle.std.proofs.Common.{ℕ, ◌≡◌, ◌⊎◌, inl, inr, ◌+◌, ◌-◌, ◌≤◌, ◌==◌, cond, Bool, true, false, true≢false, List, [], ◌∷◌, refl, sym, ap, subst, ◌∙◌, arith}
 use Rattle.std.specs.Cmp.{nat_eq_equiv}
 use Rattle.std.proofs.lemmas.List.Sums.{sum_by-append}
 use Rattle.charmlet_model.specs.declared.kind.Kind.{Kind}
@@ -89,6 +89,16 @@ others_stay values k x j different =
       | inl same ↦ absurd (true≢false (sym (subst (λ i. (kind_number k == kind_number i) ≡ true) (sym same.0) (nat_eq_equiv.refl (kind_number k))) ∙ different))
       | inr other ↦ other.1
     ]
+
+-- what holds of the kind that has changed, and of those that stay, holds of all
+pub by_kind : {T : Type 0} (values next : ByKind T) (k : Kind) (x : T) → next ≡ with_at values k x → (P : Kind → T → Type 0) → P k x →
+    ((j : Kind) → (kind_number k == kind_number j) ≡ false → P j (at values j)) → (j : Kind) → P j (at next j)
+by_kind {T = T} values next k x is P own others j =
+    subst (λ (v : ByKind T). P j (at v j)) (sym is)
+    (elim (at_with values k x j) [
+      | inl same ↦ subst (λ i. P i (at (with_at values k x) j)) (sym same.0) (subst (P k) (sym same.1) own)
+      | inr other ↦ subst (P j) (sym other.1) (others j other.0)
+    ])
 
 -- the kind may be named in another way
 pub own_room : {C : Type 0} {G : Ghosts C} (piles next : ByKind (Pile C G)) (j k : Kind) → j ≡ k → ((n : ℕ) → HasRoomFor (at piles k) (n + 1) → HasRoomFor (at next k) n) →
@@ -203,11 +213,3 @@ each_kind P a b c d e f kinds.Account = c
 each_kind P a b c d e f kinds.Sum = d
 each_kind P a b c d e f kinds.Tree = e
 each_kind P a b c d e f kinds.Tape = f
-
-pub map_ok : {T E : Type 0} (P Q : Type 0) (r : Result T E) → (P → Q) → OnOk r P → OnOk r Q
-map_ok P Q (Ok x) f h = f h
-map_ok P Q (Err e) f h = tt
-
-pub when_ok : {T E : Type 0} (P : Type 0) (r : Result T E) → is_err r ≡ false → OnOk r P → P
-when_ok P (Ok x) is h = h
-when_ok P (Err e) is h = absurd (let never : ⊥ = cc in never)

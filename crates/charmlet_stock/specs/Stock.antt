@@ -24,6 +24,10 @@ tally_in stock kind = at (census_of stock) kind
 abbrev pub blanks_in : {C : Type 0} {G : Ghosts C} → Stock C G → Kind → ℕ
 blanks_in stock kind = (tally_in stock kind).in_stock
 
+-- how many objects of a kind were supplied
+abbrev pub supplied_to : {C : Type 0} {G : Ghosts C} → Stock C G → Kind → ℕ
+supplied_to stock kind = (tally_in stock kind).supplied
+
 -- so many of one kind
 abbrev pub part_of : Kind → ℕ → Kind → ℕ
 part_of kind count k = if kind_number k == kind_number kind then count else 0

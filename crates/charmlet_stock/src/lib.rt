@@ -4,9 +4,7 @@
 mod by_kind;
 mod pile;
 mod stock;
-#[cfg(test)]
-mod tests;
 
 pub use crate::by_kind::ByKind;
 pub use crate::pile::Tally;
-pub use crate::stock::Stock;
+pub use crate::stock::{Stock, count_of};

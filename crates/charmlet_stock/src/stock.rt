@@ -197,7 +197,7 @@ impl<C: Chare> Stock<C> {
 }
 
 /// How many of the objects are of the kind.
-fn count_of<C: Chare>(objects: &[C], kind: Kind) -> usize
+pub fn count_of<C: Chare>(objects: &[C], kind: Kind) -> usize
     ensures { result ≡ count_of C.state objects.now kind }
 {
     let mut count = 0;

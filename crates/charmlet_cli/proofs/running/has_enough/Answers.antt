@@ -18,8 +18,8 @@ loop-kind-preserved g c =
     let at = c.loop-kind.kind-index in
     let kind = get_or all_kinds at kinds.Counter in
     let wanted : c.blanks.result ≡ blanks_of kind c.args.script.now.lines = c.blanks.ensures in
-    let counted : c.count_kind.result ≡ count_of g.C.Chare.state c.args.blanks.now kind = c.count_kind.ensures in
-    let less = c.if-count_kind-blanks.false in
+    let counted : c.count_of.result ≡ count_of g.C.Chare.state c.args.blanks.now kind = c.count_of.ensures in
+    let less = c.if-count_of-blanks.false in
     let enough : P kind = omega arith in
     subst (AllByRecursion P) (sym (take_more all_kinds at kinds.Counter c.loop-kind-test.true)) (AllByRecursion-append P (take at all_kinds) (kind ∷ []) c.loop-kind.invariant (enough, tt))
 

@@ -2,7 +2,7 @@ use Rattle.std.proofs.Common.{sym, ap, ◌∙◌, arith}
 use Rattle.charmlet_model.specs.Shelves.{count_of}
 use Rattle.charmlet_stock.specs.declared.pile.Tally.{Tally}
 use Rattle.charmlet_stock.specs.Pile.{supplied_more}
-use Rattle.charmlet_small.proofs.Assigning.{when_ok}
+use Rattle.charmlet_stock.proofs.Results.{when_ok}
 use Rattle.charmlet_cli.proofs.running.stock_of.Goals as goal
 
 pub returns : goal.returns

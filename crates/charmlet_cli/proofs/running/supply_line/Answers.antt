@@ -1,7 +1,7 @@
 use Rattle.std.proofs.Common.{inl, inr, ◌∷◌, [], refl, sym, ◌∙◌}
 use Rattle.charmlet_script.specs.declared.script.Line.TheVariants.{Supply}
 use Rattle.charmlet_script.specs.Printed.{supplied_text}
-use Rattle.charmlet_small.proofs.Assigning.{when_ok, when_err}
+use Rattle.charmlet_stock.proofs.Results.{when_ok, when_err}
 use Rattle.charmlet_cli.specs.Lines.{ledger_in, memory_text}
 use Rattle.charmlet_cli.proofs.Printing.{is_printed, line_written}
 use Rattle.charmlet_cli.proofs.running.supply_line.Goals as goal

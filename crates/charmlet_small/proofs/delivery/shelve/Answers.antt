@@ -2,7 +2,7 @@ use Rattle.std.proofs.Common.{◌≡◌, true, sym, ap, ◌∙◌}
 use Rattle.std.specs.Prelude.{Some, option_copied}
 use Rattle.charmlet_history.specs.Kept.{assigned_message, core_in}
 use Rattle.charmlet_shelf.specs.Shelf.{Assigns, is_idle}
-use Rattle.charmlet_small.proofs.Assigning.{when_ok}
+use Rattle.charmlet_stock.proofs.Results.{when_ok}
 use Rattle.charmlet_small.proofs.Delivering.{delivering_there}
 use Rattle.charmlet_small.proofs.delivery.shelve.Goals as goal
 

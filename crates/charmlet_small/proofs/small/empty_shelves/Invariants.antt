@@ -1,7 +1,7 @@
 use Rattle.std.proofs.Common.{◌≡◌, ℕ, ◌<◌, get_or}
 use Rattle.std.specs.Vec.{vec_len}
 use Rattle.charmlet_shelf.specs.Shelf.{View}
-use Rattle.charmlet_small.specs.Small.{empty_shelf}
+use Rattle.charmlet_migrate.specs.Copying.{empty_shelf}
 use Rattle.charmlet_small.proofs.small.empty_shelves.Given as goal
 
 -- the first shelves are there, empty

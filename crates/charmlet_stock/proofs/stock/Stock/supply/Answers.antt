@@ -6,7 +6,8 @@ use Rattle.charmlet_stock.specs.declared.pile.Tally.{Tally}
 use Rattle.charmlet_stock.specs.ByKind.{at}
 use Rattle.charmlet_stock.specs.Pile.{supplied_more}
 use Rattle.charmlet_stock.specs.Stock.{HasRoomForAll, census_of, tally_in}
-use Rattle.charmlet_stock.proofs.Room.{room_for_first, room_left, supplied_next, supplied_none, when_ok}
+use Rattle.charmlet_stock.proofs.Room.{room_for_first, room_left, supplied_next, supplied_none}
+use Rattle.charmlet_stock.proofs.Results.{when_ok}
 use Rattle.charmlet_stock.proofs.stock.Stock.supply.Goals as goal
 
 pub loop-object-init : goal.loop-object-init

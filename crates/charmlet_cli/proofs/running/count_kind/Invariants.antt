@@ -1,7 +1,0 @@
-use Rattle.std.proofs.Common.{◌≡◌, take}
-use Rattle.charmlet_model.specs.Shelves.{count_of}
-use Rattle.charmlet_cli.proofs.running.count_kind.Given as goal
-
--- those so far are counted
-abbrev pub invariant-loop-object : goal.invariant-loop-object
-invariant-loop-object g l = l.count ≡ count_of g.C.Chare.state (take l.object-index l.objects) l.kind

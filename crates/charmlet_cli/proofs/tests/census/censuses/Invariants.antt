@@ -1,6 +1,0 @@
-use Rattle.charmlet_small.specs.Small.{StandsSo}
-use Rattle.charmlet_cli.proofs.tests.census.censuses.Given as goal
-
--- what the store is stands
-abbrev pub invariant-loop-client : goal.invariant-loop-client
-invariant-loop-client g l = StandsSo l.store

@@ -1,6 +1,0 @@
-use Rattle.charmlet_small.specs.Small.{StandsSo}
-use Rattle.charmlet_cli.proofs.tests.steps.supply.Given as goal
-
--- what the store is stands
-abbrev pub invariant-loop : goal.invariant-loop
-invariant-loop g l = StandsSo l.store

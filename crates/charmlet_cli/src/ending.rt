@@ -1,0 +1,96 @@
+//! How the program ends: its exit status, and what it says on standard error.
+
+ghost use Rattle.std.specs.Prelude.{◌≡◌, OnOk};
+ghost use Rattle.charmlet_cli.specs.Failure.{exit_status};
+
+use crate::stop::Stop;
+use crate::writing::write_line;
+use charmlet_command::CommandError;
+use std::io;
+use std::io::Write;
+
+/// Why the program doesn't run a script to its end.
+#[derive(Debug, Drop)]
+pub enum Failure {
+    /// The command line is bad, or calls for help, which clap's text says.
+    Command(clap::Error),
+    /// The program stops before its work is done.
+    Stopped(Stop),
+}
+
+impl Failure {
+    ghost use Rattle.std.specs.Prelude.{◌≡◌, OnOk};
+    ghost use Rattle.charmlet_cli.specs.Failure.{Says, failure_status};
+
+    /// The exit status: 2 for a bad command line or a call for help, and else that of the stop.
+    fn status(&self) -> u8
+        ensures { result ≡ failure_status self.now }
+    {
+        match self {
+            Failure::Command(_) => 2,
+            Failure::Stopped(stop) => stop.status(),
+        }
+    }
+
+    /// Says why: clap's text as it is, and a stop in a line.
+    fn say<W: Write>(&self, errors: &mut W) -> io::Result<()>
+        ensures { OnOk result (Says self.now (W.contents errors.old) (W.contents errors.new)) }
+    {
+        match self {
+            Failure::Command(error) => write!(errors, "{error}"),
+            Failure::Stopped(stop) => write_line(errors, stop),
+        }
+    }
+}
+
+impl From<CommandError> for Failure {
+    ghost use Rattle.std.specs.Prelude.{◌≡◌};
+    ghost use Rattle.charmlet_cli.specs.Failure.{failure_of};
+
+    ghost from_gives = { λ error failure. failure ≡ failure_of error };
+
+    fn from(error: CommandError) -> Failure {
+        match error {
+            CommandError::Memory => Failure::Stopped(Stop::CannotGoOn),
+            CommandError::Line(error) => Failure::Command(error),
+        }
+    }
+}
+
+impl From<Stop> for Failure {
+    ghost use Rattle.std.specs.Prelude.{◌≡◌};
+    ghost use Rattle.charmlet_cli.specs.declared.ending.Failure.TheVariants.{Stopped};
+
+    ghost from_gives = { λ stop failure. failure ≡ Stopped stop };
+
+    fn from(stop: Stop) -> Failure {
+        Failure::Stopped(stop)
+    }
+}
+
+impl From<io::Error> for Failure {
+    ghost use Rattle.std.specs.Prelude.{◌≡◌};
+    ghost use Rattle.charmlet_cli.specs.declared.ending.Failure.TheVariants.{Stopped};
+    ghost use Rattle.charmlet_cli.specs.declared.stop.Stop.TheVariants.{CannotGoOn};
+
+    ghost from_gives = { λ _ failure. failure ≡ Stopped CannotGoOn };
+
+    fn from(_error: io::Error) -> Failure {
+        Failure::Stopped(Stop::CannotGoOn)
+    }
+}
+
+/// Says on `errors`, the program's standard error, why it failed, if it did, and gives its exit status:
+/// 0 where the script ran to its end, 2 for a bad command line or a call for help, and else that of the
+/// stop. The status is the same where `errors` fails.
+pub fn end_program<W: Write>(ran: &Result<(), Failure>, errors: &mut W) -> u8
+    ensures status { result ≡ exit_status ran.now }
+    ensures silent { OnOk ran.now (errors.new ≡ errors.old) }
+{
+    let Err(failure) = ran else {
+        return 0;
+    };
+    // Where nothing can be said, the status alone tells of the failure.
+    let _ = failure.say(errors);
+    failure.status()
+}

@@ -1,0 +1,237 @@
+//! Runs line by line, in which lines that are refused memory are tried again.
+
+ghost use Rattle.charmlet_small.specs.Small.{StandsSo};
+
+use super::moving::{MOVE, MOVED_RING};
+use super::showing::{RING_OF_THREE, WHOLE_TREE};
+use super::{FIRST_RUN, one_counter, parts};
+use charmlet_chare::Chare;
+use charmlet_cli::{Stop, census_line, pending_line, state_line, write_line, write_memory_refused};
+use charmlet_kinds::{Counter, Ring, Tree};
+use charmlet_model::{Answer, Kind, Refusal, Step};
+use charmlet_script::{Drained, Line, Supplied, read_script};
+use charmlet_small::Small;
+use std::alloc::{AllocError, Global};
+use std::io;
+use std::test::Fail;
+
+const MEMORY_REFUSED: &[u8] = b"refused 1 Memory\n";
+
+// Runs a supply line. Where memory is refused it is tried again, so many times in all.
+fn supply<C: Chare>(
+    store: &mut Small<C>,
+    supplied: Supplied,
+    mut blanks: Vec<C>,
+    tries: usize,
+    output: &mut Vec<u8>,
+) -> io::Result<()>
+    requires { StandsSo store.old }
+    ensures { StandsSo store.new }
+{
+    for _ in 0..tries {
+        match store.supply(blanks) {
+            Ok(()) => return write_line(output, &supplied),
+            Err(refused) => blanks = refused,
+        }
+    }
+    write_memory_refused(output)
+}
+
+// The answer to a step. Where memory is refused it is tried again, so many times in all.
+fn answer<C: Chare>(store: &mut Small<C>, step: &Step, tries: usize) -> Answer
+    requires { StandsSo store.old }
+    ensures { StandsSo store.new }
+{
+    for _ in 0..tries {
+        let Ok(mut answers) = store.run(std::slice::from_ref(step)) else {
+            continue;
+        };
+        match answers.pop() {
+            None | Some(Answer::Refused(Refusal::Memory)) => {}
+            Some(answer) => return answer,
+        }
+    }
+    Answer::Refused(Refusal::Memory)
+}
+
+// Runs a drain line, with each delivery tried so many times.
+fn drain<C: Chare>(
+    store: &mut Small<C>,
+    most: u32,
+    tries: usize,
+    output: &mut Vec<u8>,
+) -> io::Result<()>
+    requires { StandsSo store.old }
+    ensures { StandsSo store.new }
+{
+    let mut delivered = 0u32;
+    for _ in 0..most {
+        let Some((processor, id)) = store.next() else {
+            break;
+        };
+        if let Answer::Delivered(_) = answer(store, &Step::Deliver { processor, id }, tries) {
+            delivered = delivered.saturating_add(1);
+        }
+    }
+    let left = store.pending_count() as u64;
+    write_line(output, &Drained { delivered, left })
+}
+
+// Runs a line that shows something.
+fn show<C: Chare>(
+    alloc: Global,
+    store: &mut Small<C>,
+    line: &Line,
+    output: &mut Vec<u8>,
+) -> io::Result<()>
+    requires { StandsSo store.old }
+    ensures { StandsSo store.new }
+{
+    match line {
+        Line::State(elem) => state_line(alloc, store, *elem, output),
+        Line::Pending => pending_line(store, output),
+        _ => census_line(store, output),
+    }
+}
+
+// Runs a line that shows something. Where memory is refused it is tried again, so many times in all.
+fn show_again<C: Chare>(
+    alloc: Global,
+    store: &mut Small<C>,
+    line: &Line,
+    tries: usize,
+    output: &mut Vec<u8>,
+) -> io::Result<()>
+    requires { StandsSo store.old }
+    ensures { StandsSo store.new }
+{
+    show(alloc, store, line, output)?;
+    for _ in 1..tries {
+        if !output.ends_with(MEMORY_REFUSED) {
+            break;
+        }
+        output.truncate(output.len().saturating_sub(MEMORY_REFUSED.len()));
+        show(alloc, store, line, output)?;
+    }
+    Ok(())
+}
+
+// Runs a line.
+fn run<C: Chare>(
+    alloc: Global,
+    store: &mut Small<C>,
+    blanks: &mut Vec<C>,
+    line: &Line,
+    tries: usize,
+    output: &mut Vec<u8>,
+) -> io::Result<()>
+    requires { StandsSo store.old }
+    ensures { StandsSo store.new }
+{
+    let (kind, count) = match line {
+        Line::Supply { kind, count } => (*kind, *count),
+        Line::Drain { count } => return drain(store, *count, tries, output),
+        Line::Step(step) => return write_line(output, &answer(store, step, tries)),
+        _ => return show_again(alloc, store, line, tries, output),
+    };
+    let left = blanks.len().saturating_sub(count as usize);
+    let objects = blanks.split_off(left)?;
+    supply(store, Supplied { kind, count }, objects, tries, output)
+}
+
+// Whether what was supplied of each kind is on shelves, in the stock, or retired.
+fn adds_up<C: Chare>(store: &Small<C>) -> bool
+    requires { StandsSo store.now }
+{
+    for kind in &Kind::ALL {
+        let census = store.census(*kind);
+        if census.supplied != census.on_shelves + census.in_stock + census.retired {
+            return false;
+        }
+    }
+    true
+}
+
+// What the script prints, if memory is refused in lines alone, each of which is tried so many times.
+fn printed<C: Chare>(
+    alloc: Global,
+    text: &str,
+    mut blanks: Vec<C>,
+    tries: usize,
+) -> Result<Vec<u8>, Stop> {
+    let script = read_script(alloc, &mut text.as_bytes())?;
+    let manifest = script.manifest(alloc)?;
+    let Ok(mut store) = Small::new(alloc, manifest, script.processors()) else {
+        return Err(Stop::NotCreated);
+    };
+    let mut output = Vec::with_capacity(alloc, 4096)?;
+    for line in script.lines() {
+        run(alloc, &mut store, &mut blanks, line, tries, &mut output)?;
+        if !adds_up(&store) {
+            output.extend_from_slice(b"the census doesn't add up\n")?;
+        }
+    }
+    Ok(output)
+}
+
+// Whether a run prints what it has to.
+fn is_as_wanted<C: Chare>(
+    alloc: Global,
+    transcript: &str,
+    blanks: Vec<C>,
+    tries: usize,
+) -> Result<bool, Stop> {
+    let (text, wanted) = parts(alloc, transcript)?;
+    let output = printed(alloc, text.as_str(), blanks, tries)?;
+    Ok(output.as_slice() == wanted.as_bytes())
+}
+
+fn two_counters(alloc: Global) -> Result<Vec<Counter>, AllocError> {
+    let mut counters = one_counter(alloc)?;
+    counters.push(Counter::blank())?;
+    Ok(counters)
+}
+
+fn rings(alloc: Global, count: usize) -> Result<Vec<Ring>, AllocError> {
+    let mut rings = Vec::new(alloc);
+    for _ in 0..count {
+        rings.push(Ring::blank())?;
+    }
+    Ok(rings)
+}
+
+fn trees(alloc: Global, count: usize) -> Result<Vec<Tree>, AllocError> {
+    let mut trees = Vec::new(alloc);
+    for _ in 0..count {
+        trees.push(Tree::blank())?;
+    }
+    Ok(trees)
+}
+
+// Whether runs of three kinds, and two in which an element moves, print what they have to.
+fn are_as_wanted(alloc: Global, tries: usize) -> Result<bool, Stop> {
+    let moved = is_as_wanted(alloc, MOVED_RING, rings(alloc, 4)?, tries)?
+        && is_as_wanted(alloc, MOVE, two_counters(alloc)?, tries)?;
+    let counters = is_as_wanted(alloc, FIRST_RUN, one_counter(alloc)?, tries)?;
+    let rings = is_as_wanted(alloc, RING_OF_THREE, rings(alloc, 3)?, tries)?;
+    let trees = is_as_wanted(alloc, WHOLE_TREE, trees(alloc, 8)?, tries)?;
+    Ok(moved && counters && rings && trees)
+}
+
+#[test]
+fn refused_memory_changes_no_later_line(rt: HostRuntime) -> Result<(), Fail> {
+    let alloc = rt.alloc();
+    let as_wanted = match are_as_wanted(alloc, 2) {
+        Ok(as_wanted) => as_wanted,
+        Err(_) => are_as_wanted(alloc, 2)?,
+    };
+    assert!(rt; as_wanted);
+    Ok(())
+}
+
+// The same runs, which end where memory is refused: it passes once there is no such allocation.
+#[test]
+fn each_run_meets_no_refusal(rt: HostRuntime) -> Result<(), Fail> {
+    assert!(rt; are_as_wanted(rt.alloc(), 1)?);
+    Ok(())
+}

@@ -1,0 +1,524 @@
+use charmlet_model::{Elem, Kind, MsgId, Origin, Step};
+use charmlet_script::{
+    ArrayLine, Counted, Drained, Line, MAX_DELIVERIES, MAX_LENGTH, PendingIds, ReadError, Script,
+    Shown, Standing, Supplied, read_script,
+};
+use std::alloc::Global;
+use std::io;
+use std::io::{ErrorKind, Read};
+use std::test::Fail;
+
+const WORKED: &str = "\
+array 0 1
+supply 1 1
+req 7 1 0 0 65535 5
+deliver 0 c7.1
+flush
+status 7 1
+";
+
+fn read(alloc: Global, text: &[u8]) -> Result<Script, ReadError> {
+    let mut reader = text;
+    read_script(alloc, &mut reader)
+}
+
+/// The number of the malformed line, or 0.
+fn malformed(alloc: Global, text: &[u8]) -> u64 {
+    match read(alloc, text) {
+        Err(ReadError::Malformed(line)) => line,
+        _ => 0,
+    }
+}
+
+#[test]
+fn a_worked_script_is_read(rt: HostRuntime) -> Result<(), Fail> {
+    let script = read(rt.alloc(), WORKED.as_bytes())?;
+    let [array] = script.arrays() else {
+        panic!(rt; "one array");
+    };
+    assert!(rt; array.array == 0 && array.kind == Kind::Counter);
+    let [
+        Line::Supply { kind, count: 1 },
+        Line::Step(
+            Step::Request {
+                client: 7,
+                number: 1,
+                to,
+                entry: 65535,
+                words,
+            },
+        ),
+        Line::Step(Step::Deliver { processor: 0, id }),
+        Line::Step(Step::Flush),
+        Line::Step(
+            Step::Status {
+                client: 7,
+                number: 1,
+            },
+        ),
+    ] = script.lines()
+    else {
+        panic!(rt; "other lines");
+    };
+    let origin = Origin::Client(7);
+    assert_eq!(rt; *kind, Kind::Counter);
+    assert_eq!(rt; *to, Elem { array: 0, index: 0 });
+    assert_eq!(rt; words.as_slice(), [5].as_slice());
+    assert_eq!(rt; *id, MsgId { origin, number: 1 });
+    assert_eq!(rt; script.blanks(Kind::Counter), 1);
+    let manifest = script.manifest(rt.alloc())?;
+    assert_eq!(rt; manifest.kind_of(0), Some(Kind::Counter));
+    assert_eq!(rt; manifest.kind_of(1), None);
+    Ok(())
+}
+
+#[test]
+fn spaces_zeros_and_comments_are_allowed(rt: HostRuntime) -> Result<(), Fail> {
+    let text =
+        "\n# a comment\r\n  array  007 01 \nsupply 1 10000\nsupply 01 000000000000000000002\n\
+        deliver 0 e1.2.18446744073709551615\nreq 1 2 3 4 5";
+    let script = read(rt.alloc(), text.as_bytes())?;
+    assert!(rt; matches!(script.arrays(), [array] if array.array == 7));
+    assert_eq!(rt; script.lines().len(), 4);
+    assert_eq!(rt; script.blanks(Kind::Counter), 10002);
+    assert_eq!(rt; script.blanks(Kind::Tape), 0);
+    let [
+        ..,
+        Line::Step(Step::Deliver { id, .. }),
+        Line::Step(Step::Request { words, .. }),
+    ] = script.lines()
+    else {
+        panic!(rt; "other lines");
+    };
+    let origin = Origin::Element(Elem { array: 1, index: 2 });
+    assert_eq!(rt;
+        *id,
+        MsgId {
+            origin,
+            number: u64::MAX
+        }
+    );
+    assert!(rt; words.is_empty());
+    Ok(())
+}
+
+#[test]
+fn lines_that_show_and_drain_are_read(rt: HostRuntime) -> Result<(), Fail> {
+    let text = "array 0 1\ndrain 0\ndrain 1000000\nstate 7 0018446744073709551615\nstate 65535 3\n\
+        pending\n census \n";
+    let script = read(rt.alloc(), text.as_bytes())?;
+    let [
+        Line::Drain { count: 0 },
+        Line::Drain {
+            count: MAX_DELIVERIES,
+        },
+        Line::State(last),
+        Line::State(unnamed),
+        Line::Pending,
+        Line::Census,
+    ] = script.lines()
+    else {
+        panic!(rt; "other lines");
+    };
+    assert_eq!(rt;
+        *last,
+        Elem {
+            array: 7,
+            index: u64::MAX
+        }
+    );
+    assert_eq!(rt;
+        *unnamed,
+        Elem {
+            array: 65535,
+            index: 3
+        }
+    );
+    for kind in [Kind::Counter, Kind::Tape] {
+        assert_eq!(rt; script.blanks(kind), 0);
+    }
+    Ok(())
+}
+
+#[test]
+fn processors_are_declared_among_the_arrays(rt: HostRuntime) -> Result<(), Fail> {
+    for (text, processors) in [
+        ("array 0 1\n", 1),
+        ("pes 4\narray 0 1\n", 4),
+        ("array 0 1\npes 64", 64),
+        ("array 0 1\npes 2\narray 1 1\n", 2),
+        ("array 0 1\n# four of them\n\n pes  0004 \nsupply 1 1\n", 4),
+        ("pes 0\narray 0 1\n", 0),
+        ("pes 65535\narray 0 1\n", 65535),
+    ] {
+        let script = read(rt.alloc(), text.as_bytes())?;
+        assert_eq!(rt; script.processors(), processors, "{text:?}");
+    }
+    let script = read(rt.alloc(), b"array 0 1\npes 2\narray 1 6\nflush\n")?;
+    assert!(rt; matches!(script.arrays(), [first, last] if first.array == 0 && last.array == 1));
+    assert!(rt; matches!(script.lines(), [Line::Step(Step::Flush)]));
+    Ok(())
+}
+
+#[test]
+fn moves_are_read(rt: HostRuntime) -> Result<(), Fail> {
+    let text = "array 0 1\nmove 1 2 3\n move  65535 18446744073709551615 0065535 \n";
+    let script = read(rt.alloc(), text.as_bytes())?;
+    let [
+        Line::Step(
+            Step::Move {
+                elem: near,
+                processor: 3,
+            },
+        ),
+        Line::Step(
+            Step::Move {
+                elem: far,
+                processor: 65535,
+            },
+        ),
+    ] = script.lines()
+    else {
+        panic!(rt; "other lines");
+    };
+    assert_eq!(rt; *near, Elem { array: 1, index: 2 });
+    assert_eq!(rt;
+        *far,
+        Elem {
+            array: 65535,
+            index: u64::MAX
+        }
+    );
+    assert_eq!(rt; script.blanks(Kind::Counter), 0);
+    Ok(())
+}
+
+#[test]
+fn six_kinds_have_numbers(rt: HostRuntime) -> Result<(), Fail> {
+    let text = "array 11 1\narray 12 2\narray 13 3\narray 14 4\narray 15 5\narray 16 6\n\
+        supply 1 10\nsupply 2 20\nsupply 3 30\nsupply 4 40\nsupply 5 50\nsupply 6 60\n";
+    let script = read(rt.alloc(), text.as_bytes())?;
+    for (array, kind, count) in [
+        (11, Kind::Counter, 10),
+        (12, Kind::Ring, 20),
+        (13, Kind::Account, 30),
+        (14, Kind::Sum, 40),
+        (15, Kind::Tree, 50),
+        (16, Kind::Tape, 60),
+    ] {
+        assert!(rt; script.arrays().contains(&ArrayLine { array, kind }));
+        assert_eq!(rt; script.blanks(kind), count);
+    }
+    Ok(())
+}
+
+#[test]
+fn the_first_malformed_line_is_named(rt: HostRuntime) {
+    let alloc = rt.alloc();
+    for (text, line) in [
+        // no array line
+        ("", 1),
+        ("flush\nbad\n", 1),
+        ("array 0 0\n", 1),
+        ("array 0 7\n", 1),
+        ("array 65536 1\n", 1),
+        ("array 0 1\r\n", 1),
+        ("pes 2\n", 1),
+        ("pes 2\nmove 0 0 1\n", 1),
+        // an array line that may not stand there
+        ("array 0 1\narray 0 1\n", 2),
+        ("array 0 1\nflush\narray 1 1\n", 3),
+        // a line of processors that may not stand there
+        ("pes 2\narray 0 1\npes 2\n", 3),
+        ("pes 1\npes 1\narray 0 1\n", 2),
+        ("pes 0\narray 0 1\npes 4\n", 3),
+        ("array 0 1\nsupply 1 1\npes 2\n", 3),
+        ("array 0 1\npending\npes 1\n", 3),
+        ("array 0 1\nflush\npes 2\n", 3),
+        // no line of the language
+        ("bad\narray 0 1\n", 1),
+        ("array 0 1\n   \n", 2),
+        ("array 0 1\nflush\r\n", 2),
+        ("array 0 1\nflush now\n", 2),
+        ("array 0 1\n\nbad\nworse\n", 3),
+        ("array 0 1\n# é\n", 2),
+        // numbers out of range, and none
+        ("array 0 1\nsupply 1 10001\n", 2),
+        ("array 0 1\nsupply 0 1\n", 2),
+        ("array 0 1\nsupply 7 1\n", 2),
+        ("array 0 1\nstatus 4294967296 1\n", 2),
+        ("array 0 1\nstatus 1 18446744073709551616\n", 2),
+        ("array 0 1\nstatus +5 1\n", 2),
+        ("array 0 1\ndrain 1000001\n", 2),
+        ("array 0 1\ndrain 4294967297\n", 2),
+        ("array 0 1\nstate 65536 0\n", 2),
+        ("array 0 1\nstate 0 18446744073709551616\n", 2),
+        ("array 0 1\nreq 1 1 0 0 65536\n", 2),
+        ("array 0 1\npes 65536\n", 2),
+        ("array 0 1\npes -1\n", 2),
+        ("array 0 1\nmove 65536 0 0\n", 2),
+        ("array 0 1\nmove 0 18446744073709551616 0\n", 2),
+        ("array 0 1\nmove 0 0 65536\n", 2),
+        ("array 0 1\nmove 0 0 x\n", 2),
+        ("array 0 1\nreq 1 1 0 0 1 x\n", 2),
+        // missing and further words
+        ("array 0 1\ndrain\n", 2),
+        ("array 0 1\ndrain 1 2\n", 2),
+        ("array 0 1\nstate 0\n", 2),
+        ("array 0 1\nstate 0 1 2\n", 2),
+        ("array 0 1\npes\n", 2),
+        ("array 0 1\npes 1 2\n", 2),
+        ("array 0 1\nmove 0 0\n", 2),
+        ("array 0 1\nmove 0 0 1 2\n", 2),
+        ("array 0 1\npending 1\n", 2),
+        ("array 0 1\ncensus 1\n", 2),
+        ("array 0 1\nCENSUS\n", 2),
+        ("array 0 1\npendings\n", 2),
+        ("census\narray 0 1\n", 2),
+        // ids of messages
+        ("array 0 1\ndeliver 0 c7\n", 2),
+        ("array 0 1\ndeliver 0 e1.2\n", 2),
+        ("array 0 1\ndeliver 0 c.1\n", 2),
+        ("array 0 1\ndeliver 0 7.1\n", 2),
+    ] {
+        assert_eq!(rt; malformed(alloc, text.as_bytes()), line, "{text:?}");
+    }
+}
+
+#[test]
+fn a_script_has_at_most_64_arrays(rt: HostRuntime) -> Result<(), Fail> {
+    let alloc = rt.alloc();
+    let mut text = String::new(alloc);
+    for array in 0..64u16 {
+        text.push_str(format!(in alloc; "array {array} 1\n")?.as_str())?;
+    }
+    assert_eq!(rt; read(alloc, text.as_bytes())?.arrays().len(), 64);
+    text.push_str("array 64 1\n")?;
+    assert_eq!(rt; malformed(alloc, text.as_bytes()), 65);
+    Ok(())
+}
+
+#[test]
+fn a_script_has_at_most_1048576_bytes(rt: HostRuntime) -> Result<(), Fail> {
+    let alloc = rt.alloc();
+    let mut text = b"array 0 1\n".to_vec(alloc)?;
+    for _ in text.len()..MAX_LENGTH {
+        text.push(b'#')?;
+    }
+    assert!(rt; read(alloc, &text).is_ok());
+    text.push(b'\n')?;
+    assert_eq!(rt; malformed(alloc, &text), 2);
+    Ok(())
+}
+
+#[test]
+fn a_script_has_at_most_1048576_line_feeds(rt: HostRuntime) -> Result<(), Fail> {
+    let alloc = rt.alloc();
+    let mut text = b"array 0 1\n".to_vec(alloc)?;
+    for _ in text.len()..MAX_LENGTH {
+        text.push(b'\n')?;
+    }
+    assert!(rt; read(alloc, &text)?.lines().is_empty());
+    text.push(b'\n')?;
+    assert_eq!(rt; malformed(alloc, &text), 1_048_568);
+    Ok(())
+}
+
+#[test]
+fn numbers_go_to_their_limits(rt: HostRuntime) -> Result<(), Fail> {
+    let alloc = rt.alloc();
+    for (greatest, beyond) in [
+        ("array 65535 1", "array 65536 1"),
+        ("array 1 6", "array 1 7"),
+        ("pes 65535", "pes 65536"),
+        ("supply 6 10000", "supply 6 10001"),
+        ("drain 1000000", "drain 1000001"),
+        ("req 4294967295 1 0 0 0", "req 4294967296 1 0 0 0"),
+        (
+            "req 1 18446744073709551615 0 0 0",
+            "req 1 18446744073709551616 0 0 0",
+        ),
+        ("req 1 1 65535 0 0", "req 1 1 65536 0 0"),
+        (
+            "req 1 1 0 18446744073709551615 0",
+            "req 1 1 0 18446744073709551616 0",
+        ),
+        ("req 1 1 0 0 65535", "req 1 1 0 0 65536"),
+        (
+            "req 1 1 0 0 0 18446744073709551615",
+            "req 1 1 0 0 0 18446744073709551616",
+        ),
+        ("status 4294967295 1", "status 4294967296 1"),
+        (
+            "status 1 18446744073709551615",
+            "status 1 18446744073709551616",
+        ),
+        ("deliver 65535 c1.1", "deliver 65536 c1.1"),
+        ("deliver 0 c4294967295.1", "deliver 0 c4294967296.1"),
+        (
+            "deliver 0 c1.18446744073709551615",
+            "deliver 0 c1.18446744073709551616",
+        ),
+        ("deliver 0 e65535.0.1", "deliver 0 e65536.0.1"),
+        (
+            "deliver 0 e0.18446744073709551615.1",
+            "deliver 0 e0.18446744073709551616.1",
+        ),
+        (
+            "deliver 0 e0.0.18446744073709551615",
+            "deliver 0 e0.0.18446744073709551616",
+        ),
+        ("move 65535 0 0", "move 65536 0 0"),
+        (
+            "move 0 18446744073709551615 0",
+            "move 0 18446744073709551616 0",
+        ),
+        ("move 0 0 65535", "move 0 0 65536"),
+        ("state 65535 0", "state 65536 0"),
+        (
+            "state 0 18446744073709551615",
+            "state 0 18446744073709551616",
+        ),
+    ] {
+        let text = format!(in alloc; "array 0 1\n{greatest}\n")?;
+        assert!(rt; read(alloc, text.as_bytes()).is_ok(), "{greatest}");
+        let text = format!(in alloc; "array 0 1\n{beyond}\n")?;
+        assert_eq!(rt; malformed(alloc, text.as_bytes()), 2, "{beyond}");
+    }
+    Ok(())
+}
+
+/// A reader that gives a line, and fails from then on.
+#[derive(Drop)]
+struct Failing {
+    is_started: bool,
+    kind: ErrorKind,
+}
+
+impl Read for Failing {
+    fn read(&mut self, buf: &mut [u8]) -> io::Result<usize> {
+        if self.is_started {
+            return Err(io::Error::from(self.kind));
+        }
+        self.is_started = true;
+        let mut line: &[u8] = b"array 0 1\n";
+        line.read(buf)
+    }
+}
+
+#[test]
+fn a_failed_read_is_told(rt: HostRuntime) {
+    let mut reader = Failing {
+        is_started: false,
+        kind: ErrorKind::PermissionDenied,
+    };
+    let result = read_script(rt.alloc(), &mut reader);
+    assert!(rt;
+        matches!(result, Err(ReadError::Failed(error)) if error.kind() == ErrorKind::PermissionDenied)
+    );
+    let mut reader = Failing {
+        is_started: false,
+        kind: ErrorKind::OutOfMemory,
+    };
+    let result = read_script(rt.alloc(), &mut reader);
+    assert!(rt; matches!(result, Err(ReadError::Memory)));
+}
+
+#[test]
+fn texts_are_as_users_know_them(rt: HostRuntime) -> Result<(), Fail> {
+    let alloc = rt.alloc();
+    let supplied = Supplied {
+        kind: Kind::Tape,
+        count: 40,
+    };
+    assert_eq!(rt; format!(in alloc; "{supplied}")?.as_str(), "supplied 6 40");
+    let error = ReadError::Malformed(3);
+    assert_eq!(rt; format!(in alloc; "{error}")?.as_str(), "script line 3");
+    Ok(())
+}
+
+#[test]
+fn drains_and_counts_are_printed(rt: HostRuntime) -> Result<(), Fail> {
+    let alloc = rt.alloc();
+    let drained = Drained {
+        delivered: 3,
+        left: u64::MAX,
+    };
+    assert_eq!(rt;
+        format!(in alloc; "{drained}")?.as_str(),
+        "drained 3 left 18446744073709551615"
+    );
+    let counted = Counted {
+        kind: Kind::Ring,
+        supplied: 10,
+        on_shelves: 4,
+        in_stock: 5,
+        retired: 1,
+    };
+    assert_eq!(rt;
+        format!(in alloc; "{counted}")?.as_str(),
+        "census 2 supplied 10 shelves 4 stock 5 retired 1"
+    );
+    Ok(())
+}
+
+#[test]
+fn elements_are_printed_there_and_absent(rt: HostRuntime) -> Result<(), Fail> {
+    let alloc = rt.alloc();
+    let elem = Elem {
+        array: 65535,
+        index: 8,
+    };
+    let packed = String::from_str(alloc, "0100ff")?;
+    let there = Shown {
+        elem,
+        standing: Some(Standing {
+            processor: 2,
+            packed,
+        }),
+        sent: 3,
+        received: 4,
+    };
+    assert_eq!(rt;
+        format!(in alloc; "{there}")?.as_str(),
+        "state 65535.8 pe 2 sent 3 received 4 0100ff"
+    );
+    let absent = Shown {
+        elem,
+        standing: None,
+        sent: 3,
+        received: 4,
+    };
+    assert_eq!(rt;
+        format!(in alloc; "{absent}")?.as_str(),
+        "state 65535.8 none sent 3 received 4"
+    );
+    Ok(())
+}
+
+#[test]
+fn pending_ids_are_printed_in_their_order(rt: HostRuntime) -> Result<(), Fail> {
+    let alloc = rt.alloc();
+    let client = MsgId {
+        origin: Origin::Client(7),
+        number: 2,
+    };
+    let element = MsgId {
+        origin: Origin::Element(Elem { array: 1, index: 5 }),
+        number: 9,
+    };
+    let later = MsgId {
+        origin: Origin::Client(0),
+        number: 1,
+    };
+    let none = PendingIds(&[]);
+    assert_eq!(rt; format!(in alloc; "{none}")?.as_str(), "pending 0");
+    let one = PendingIds(&[element]);
+    assert_eq!(rt; format!(in alloc; "{one}")?.as_str(), "pending 1 e1.5.9");
+    let three = PendingIds(&[client, element, later]);
+    assert_eq!(rt;
+        format!(in alloc; "{three}")?.as_str(),
+        "pending 3 c7.2 e1.5.9 c0.1"
+    );
+    Ok(())
+}

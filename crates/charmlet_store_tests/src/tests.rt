@@ -1,0 +1,3 @@
+mod migrate;
+mod shelf;
+mod stock;

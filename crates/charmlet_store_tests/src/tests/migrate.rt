@@ -1,0 +1,279 @@
+ghost use Rattle.std.specs.Prelude.{◌≡◌, ◌∷◌, [], ℕ, List};
+ghost use Rattle.charmlet_kinds.specs.Ring.{state_of};
+ghost use Rattle.charmlet_kinds.specs.Tree as tree;
+ghost use Rattle.charmlet_history.specs.Kept.{Stands, core_in, kept_in};
+ghost use Rattle.charmlet_model.specs.declared.kind.Kind as kinds;
+ghost use Rattle.charmlet_model.specs.Packed.{IsState};
+ghost use Rattle.charmlet_model.specs.Reaction.{kind_of};
+ghost use Rattle.charmlet_model.specs.Shelves.{record_in};
+ghost use Rattle.charmlet_model.specs.Sound.{new_world, opened};
+ghost use Rattle.charmlet_shelf.specs.declared.phase.Phase.TheVariants as phases;
+
+use charmlet_chare::{Chare, Outbox};
+use charmlet_history::History;
+use charmlet_kinds::{Ring, Tape, Tree};
+use charmlet_migrate::{move_to, place_copy};
+use charmlet_model::{Elem, Manifest, Message, MsgId, Origin, Refusal, Resident, Words};
+use charmlet_pup::PupFault;
+use charmlet_shelf::Shelf;
+use charmlet_stock::Stock;
+use std::alloc::AllocError;
+use std::process::Abort;
+use std::sync::Arc;
+use std::sync::atomic::{AtomicU64, Ordering};
+
+const ME: Elem = Elem { array: 2, index: 7 };
+
+// A ring's element whose next one has index 9, and that has seen 2 tokens.
+const RING: [u8; 16] = [9, 0, 0, 0, 0, 0, 0, 0, 2, 0, 0, 0, 0, 0, 0, 0];
+
+// A tape with the one item 3.
+const TAPE: [u8; 12] = [1, 0, 0, 0, 3, 0, 0, 0, 0, 0, 0, 0];
+
+// A tree of depth 5.
+const TREE: [u8; 8] = [5, 0, 0, 0, 0, 0, 0, 0];
+
+// The shelf of processor 2, with an element that has sent 4 messages and received 5. Where memory is refused
+// it is placed at the second try.
+fn source_with<C: Chare>(rt: &(impl AllocGlobal + Abort), object: C) -> Shelf<C>
+    ensures { result ≡ record { number = 2; records = (ME, record_in C.state (record { object = object; sent = 4; received = 5 })) ∷ []; phase = phases.Idle } }
+{
+    let mut shelf = Shelf::new(rt.alloc(), 2);
+    let resident = Resident {
+        object,
+        sent: 4,
+        received: 5,
+    };
+    if let Err((_, resident)) = shelf.place(ME, resident) {
+        assert!(rt; shelf.place(ME, resident).is_ok());
+    }
+    shelf
+}
+
+// The object has this packed form.
+fn packs_to<C: Chare>(rt: &(impl AllocGlobal + Abort), object: &mut C, bytes: &[u8]) {
+    let mut packed = Vec::new(rt.alloc());
+    if object.pack(&mut packed).is_err() {
+        assert!(rt; object.pack(&mut packed).is_ok());
+    }
+    assert!(rt; packed.as_slice() == bytes);
+}
+
+// An object of this packed form.
+fn unpacked<C: Chare>(rt: &impl Abort, mut blank: C, packed: &[u8]) -> C
+    ensures state { IsState (C.state result) }
+    ensures kind { kind_of (C.state result) ≡ kind_of (C.state blank) }
+{
+    if blank.unpack(packed).is_err() {
+        assert!(rt; blank.unpack(packed).is_ok());
+    }
+    blank
+}
+
+// The element isn't on the shelf, and no delivery is under way.
+fn lacks<C: Chare>(rt: &impl Abort, shelf: &mut Shelf<C>) {
+    assert!(rt; matches!(shelf.lift(ME), Err(Refusal::Absent)));
+}
+
+// What stands on the last and the first of three shelves once a copy of the element with this object was placed there:
+// its object, and the one that was blank. Where memory is refused the copy is placed at the second try.
+fn copied<C: Chare>(rt: &(impl AllocGlobal + Abort), object: C, blank: C) -> (C, C)
+    requires state { IsState (C.state object) }
+    requires kind { kind_of (C.state object) ≡ kind_of (C.state blank) }
+{
+    let source = source_with(rt, object);
+    let mut shelves = [Shelf::new(rt.alloc(), 0), Shelf::new(rt.alloc(), 1), source];
+    if let Err((refusal, blank)) = place_copy(&mut shelves, 2, 0, ME, blank) {
+        assert!(rt; refusal == Refusal::Memory);
+        assert!(rt; place_copy(&mut shelves, 2, 0, ME, blank).is_ok());
+    }
+    lacks(rt, &mut shelves[1]);
+    (lifted(rt, &mut shelves[2]), lifted(rt, &mut shelves[0]))
+}
+
+// The object of the element, which has sent 4 messages and received 5.
+fn lifted<C: Chare>(rt: &impl Abort, shelf: &mut Shelf<C>) -> C {
+    let resident = shelf.lift(ME).expect(rt, "it is there");
+    assert!(rt; (resident.sent, resident.received) == (4, 5));
+    resident.object
+}
+
+// The element with this object is copied into the blank, and so is its state.
+fn is_copied<C: Chare>(rt: &(impl AllocGlobal + Abort), object: C, blank: C, packed: &[u8])
+    requires state { IsState (C.state object) }
+    requires kind { kind_of (C.state object) ≡ kind_of (C.state blank) }
+{
+    let (mut old, mut new) = copied(rt, object, blank);
+    packs_to(rt, &mut old, packed);
+    packs_to(rt, &mut new, packed);
+}
+
+#[test]
+fn rings_are_copied(rt: HostRuntime) {
+    let ring = unpacked(&rt, Ring::blank(), &RING);
+    is_copied(&rt, ring, Ring::blank(), &RING);
+}
+
+#[test]
+fn refused_memory_leaves_the_shelves(rt: HostRuntime) {
+    let tape = unpacked(&rt, Tape::blank(rt.alloc()), &TAPE);
+    is_copied(&rt, tape, Tape::blank(rt.alloc()), &TAPE);
+}
+
+// The same with a token assigned to the element.
+fn busy_source_with(rt: &(impl AllocGlobal + Abort), ring: Ring) -> Shelf<Ring>
+    ensures { result.records ≡ (ME, record { state = Some (state_of ring); sent = 4; received = 5 }) ∷ [] }
+{
+    let mut shelf = source_with(rt, ring);
+    let message = Message {
+        id: MsgId {
+            origin: Origin::Client(1),
+            number: 1,
+        },
+        to: ME,
+        entry: 0,
+        words: Words::new(Vec::new(rt.alloc())),
+    };
+    assert!(rt; shelf.assign(message).is_ok());
+    shelf
+}
+
+#[test]
+fn nothing_is_copied_during_a_delivery(rt: HostRuntime) {
+    let ring = unpacked(&rt, Ring::blank(), &RING);
+    let source = busy_source_with(&rt, ring);
+    let mut shelves = [Shelf::new(rt.alloc(), 0), source];
+    let copied = place_copy(&mut shelves, 1, 0, ME, Ring::blank());
+    let (refusal, _) = copied.err().expect(&rt, "it is refused");
+    assert_eq!(rt; refusal, Refusal::Uncommitted);
+    assert!(rt; shelves[1].release().is_none());
+    assert!(rt; shelves[1].lift(ME).is_ok());
+    lacks(&rt, &mut shelves[0]);
+}
+
+// How often a probe was used.
+#[derive(Drop)]
+struct Uses {
+    packed: AtomicU64,
+    unpacked: AtomicU64,
+    entered: AtomicU64,
+    dropped: AtomicU64,
+}
+
+impl Uses {
+    fn new() -> Uses {
+        Uses {
+            packed: AtomicU64::new(0),
+            unpacked: AtomicU64::new(0),
+            entered: AtomicU64::new(0),
+            dropped: AtomicU64::new(0),
+        }
+    }
+
+    // It was packed, unpacked, entered and dropped so often.
+    fn are(&self, packed: u64, unpacked: u64, entered: u64, dropped: u64) -> bool {
+        self.packed.load(Ordering::SeqCst) == packed
+            && self.unpacked.load(Ordering::SeqCst) == unpacked
+            && self.entered.load(Ordering::SeqCst) == entered
+            && self.dropped.load(Ordering::SeqCst) == dropped
+    }
+}
+
+// A tree that counts its uses. Its uses are its mark, which isn't packed.
+struct Probe {
+    tree: Tree,
+    uses: Arc<Uses>,
+}
+
+impl Drop for Probe {
+    fn drop(self) {
+        let Probe { tree: _, uses } = self;
+        uses.dropped.fetch_add(1, Ordering::SeqCst);
+    }
+}
+
+impl Chare for Probe {
+    ghost state = { λ probe. tree.state_of probe.tree };
+
+    fn kind(&self) -> u16 {
+        self.tree.kind()
+    }
+
+    fn size(&mut self) -> usize {
+        self.tree.size()
+    }
+
+    fn pack(&mut self, into: &mut Vec<u8>) -> Result<(), AllocError> {
+        self.uses.packed.fetch_add(1, Ordering::SeqCst);
+        self.tree.pack(into)
+    }
+
+    fn unpack(&mut self, bytes: &[u8]) -> Result<(), PupFault> {
+        self.uses.unpacked.fetch_add(1, Ordering::SeqCst);
+        self.tree.unpack(bytes)
+    }
+
+    fn enter(
+        &mut self,
+        me: Elem,
+        entry: u16,
+        payload: &[u64],
+        out: &mut Outbox,
+    ) -> Result<(), AllocError> {
+        self.uses.entered.fetch_add(1, Ordering::SeqCst);
+        self.tree.enter(me, entry, payload, out)
+    }
+}
+
+#[test]
+fn blanks_become_copies(rt: HostRuntime) {
+    let of_old = Arc::new(rt.alloc(), Uses::new()).expect(&rt, "uses");
+    let of_blank = Arc::new(rt.alloc(), Uses::new()).expect(&rt, "uses");
+    let tree = unpacked(&rt, Tree::blank(), &TREE);
+    let uses = of_old.clone().expect(&rt, "it is shared");
+    let old = Probe { tree, uses };
+    let uses = of_blank.clone().expect(&rt, "it is shared");
+    let blank = Probe {
+        tree: Tree::blank(),
+        uses,
+    };
+    let (old, new) = copied(&rt, old, blank);
+    assert!(rt; of_old.are(1, 0, 0, 0));
+    assert!(rt; of_blank.are(0, 1, 0, 0));
+    drop(new);
+    assert!(rt; of_blank.are(0, 1, 0, 1));
+    drop(old);
+    assert!(rt; of_old.are(1, 0, 0, 1));
+}
+
+// A history of three processors in which nothing has happened.
+fn history_of(rt: &(impl AllocGlobal + Abort)) -> History
+    ensures stands { Stands (kept_in result) }
+    ensures opens { (manifest : List (ℕ × kinds.Kind)) × (core_in result ≡ opened 3 (new_world manifest) 0 1) }
+{
+    let manifest = Manifest::of(rt.alloc(), &[(2, 2)])
+        .expect(rt, "memory")
+        .expect(rt, "a manifest");
+    History::new(rt.alloc(), manifest, 3)
+        .ok()
+        .expect(rt, "three processors")
+}
+
+// A move of an element that was never there is refused so.
+fn is_refused(rt: &(impl AllocGlobal + Abort), processor: u16, refusal: Refusal) {
+    let mut history = history_of(rt);
+    let mut shelves: [Shelf<Ring>; 3] = [
+        Shelf::new(rt.alloc(), 0),
+        Shelf::new(rt.alloc(), 1),
+        Shelf::new(rt.alloc(), 2),
+    ];
+    let mut stock = Stock::new(rt.alloc());
+    let moved = move_to(&mut history, &mut shelves, &mut stock, ME, processor);
+    assert!(rt; moved == Err(refusal));
+}
+
+#[test]
+fn moves_are_refused(rt: HostRuntime) {
+    is_refused(&rt, 3, Refusal::BadPes);
+    is_refused(&rt, 1, Refusal::Absent);
+}

@@ -1,0 +1,3 @@
+mod chare;
+mod locate;
+mod pup;
