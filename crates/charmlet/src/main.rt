@@ -54,5 +54,7 @@ fn charmlet<R: Runtime + AllocGlobal>(rt: &R) -> Result<(), Failure> {
 }
 
 fn main(rt: HostRuntime) -> ExitCode {
-    ExitCode::from(end_program(&charmlet(&rt), &mut rt.stderr()))
+    // Where nothing can be said, the status alone tells of the failure.
+    let (status, _) = end_program(&charmlet(&rt), &mut rt.stderr());
+    ExitCode::from(status)
 }

@@ -1,7 +1,7 @@
 //! How the program ends: its exit status, and what it says on standard error.
 
-ghost use Rattle.std.specs.Prelude.{◌≡◌, OnOk};
-ghost use Rattle.charmlet_cli.specs.Failure.{exit_status};
+ghost use Rattle.std.specs.Prelude.{◌≡◌, IfErr, OnOk};
+ghost use Rattle.charmlet_cli.specs.Failure.{Says, exit_status};
 
 use crate::stop::Stop;
 use crate::writing::write_line;
@@ -80,17 +80,16 @@ impl From<io::Error> for Failure {
     }
 }
 
-/// Says on `errors`, the program's standard error, why it failed, if it did, and gives its exit status:
-/// 0 where the script ran to its end, 2 for a bad command line or a call for help, and else that of the
-/// stop. The status is the same where `errors` fails.
-pub fn end_program<W: Write>(ran: &Result<(), Failure>, errors: &mut W) -> u8
-    ensures status { result ≡ exit_status ran.now }
+/// Says on `errors`, the program's standard error, why it failed, if it did. Gives its exit status, and whether
+/// that could be said: 0 where the script ran to its end, 2 for a bad command line or a call for help, and else
+/// the status of the stop. The status is the same where `errors` fails.
+pub fn end_program<W: Write>(ran: &Result<(), Failure>, errors: &mut W) -> (u8, io::Result<()>)
+    ensures status { result.0 ≡ exit_status ran.now }
+    ensures said { OnOk result.1 (IfErr ran.now (λ failure. Says failure (W.contents errors.old) (W.contents errors.new))) }
     ensures silent { OnOk ran.now (errors.new ≡ errors.old) }
 {
-    let Err(failure) = ran else {
-        return 0;
-    };
-    // Where nothing can be said, the status alone tells of the failure.
-    let _ = failure.say(errors);
-    failure.status()
+    match ran {
+        Ok(()) => (0, Ok(())),
+        Err(failure) => (failure.status(), failure.say(errors)),
+    }
 }

@@ -74,24 +74,31 @@ Lines, of which 'array' and 'pes' come first:
   req C N A I E W..  client C's request N: entry E of element I of array A, with words W..
   status C N         client C asks what became of its request N
   deliver PE ID      processor PE delivers the pending message ID
-  drain N            delivers what can be delivered, oldest first, at most N messages
+  drain N            delivers what can be delivered, oldest first, up to N messages, at
+                     most 1000000, or up to a refusal
   move A I PE        element I of array A goes to processor PE
-  flush              makes all events durable
+  flush              makes all events durable; stores live in memory so far
   state A I          shows where element I of array A stands, and its state
   pending            shows the pending messages
   census             shows where the objects of each kind are
 
-Message cC.N is number N of client C, and eA.I.N number N of element I of array A.
+A request and a status print what is durable of the request: 'told unknown', 'told accepted',
+'told replied' with the words of the reply, or 'told past' once a later one is durable.
+Message cC.N is number N of client C, and eA.I.N number N of element I of array A. A message
+is delivered where its receiver stands, at first processor (A + I) mod the number of them.
+Constructing an element takes a blank of its kind, and so does moving it to another processor.
 Kinds are 1 counter, 2 ring, 3 account, 4 sum, 5 tree and 6 tape; entry 65535 constructs
 an element, and docs/MODEL.md says what the other entries do. Empty lines and those that
 begin with # are skipped.
-A refused line prints 'refused', the refusal's number, its name and its values; it
-changes nothing, and the run goes on. A malformed line is named, and no line is run.";
+A refused line prints 'refused', the refusal's number, its name and its values. It changes
+nothing, but that a drain keeps what it delivered before, and the run goes on.
+A script is ASCII, of at most 1048576 bytes. Where a line is malformed, standard error names
+the first one, as 'script line L', and no line is run.";
 
 const STATUSES: &str = "\
 Exit status:
   0  the script ran to its end; a refused line is an answer like any other
-  1  there can't be so many processors, or memory or the output failed
+  1  no store could be created, or memory or the output failed
   2  a bad command line, a call for help, or a script that is malformed or can't be read";
 
 /// `run SCRIPT`.

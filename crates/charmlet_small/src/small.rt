@@ -11,7 +11,9 @@ ghost use Rattle.charmlet_model.specs.Sound.{new_world, opened};
 ghost use Rattle.charmlet_locate.specs.Locations.{is_processor_count};
 ghost use Rattle.charmlet_history.specs.Kept.{core_in, next_in};
 ghost use Rattle.charmlet_migrate.specs.Moving.{answer_in as done_or_refused};
-ghost use Rattle.charmlet_stock.specs.Stock.{blanks_in, census_of, part_of};
+ghost use Rattle.charmlet_stock.specs.ByKind.{with_at};
+ghost use Rattle.charmlet_stock.specs.Pile.{with_out};
+ghost use Rattle.charmlet_stock.specs.Stock.{blanks_in, census_of, part_of, tally_in};
 ghost use Rattle.charmlet_small.specs.Small.{AreEmpty, StandsSo, answer_in, store_in, supplied_in};
 ghost use Rattle.charmlet_small.specs.UnderWay.{Ends};
 
@@ -82,6 +84,7 @@ impl<C: Chare> Small<C> {
         ensures core { (store_in self.new).core ≡ (store_in self.old).core }
         ensures drawn { OnOk result ((k : kinds.Kind) → (store_in self.new).blanks k ≡ (store_in self.old).blanks k + part_of kind count k) }
         ensures left { OnOk result ((k : kinds.Kind) → blanks_in source.old k ≡ blanks_in source.new k + part_of kind count k) }
+        ensures source { OnOk result (census_of source.new ≡ with_at (census_of source.old) kind (with_out (tally_in source.old kind) count)) }
         ensures supplied { OnOk result ((k : kinds.Kind) → supplied_in self.new k ≡ supplied_in self.old k + part_of kind count k) }
         ensures err { OnErr result ((store_in self.new ≡ store_in self.old) × (supplied_in self.new ≡ supplied_in self.old) × (census_of source.new ≡ census_of source.old)) }
     {

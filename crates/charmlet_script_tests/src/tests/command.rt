@@ -15,7 +15,7 @@ says what its lines do, and docs/SCRIPT.md the whole.";
 const STATUSES: &str = "\
 Exit status:
   0  the script ran to its end; a refused line is an answer like any other
-  1  there can't be so many processors, or memory or the output failed
+  1  no store could be created, or memory or the output failed
   2  a bad command line, a call for help, or a script that is malformed or can't be read";
 
 /// The text of the line that the words make, which has to be refused.

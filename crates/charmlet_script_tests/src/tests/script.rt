@@ -1,9 +1,9 @@
 use charmlet_model::{Elem, Kind, MsgId, Origin, Step};
 use charmlet_script::{
-    ArrayLine, Counted, Drained, Line, MAX_DELIVERIES, MAX_LENGTH, PendingIds, ReadError, Script,
-    Shown, Standing, Supplied, read_script,
+    ArrayLine, Counted, Drained, Line, MAX_LENGTH, PendingIds, ReadError, Script, Shown, Standing,
+    Supplied, read_script,
 };
-use std::alloc::Global;
+use std::alloc::{AllocError, Global};
 use std::io;
 use std::io::{ErrorKind, Read};
 use std::test::Fail;
@@ -22,6 +22,11 @@ fn read(alloc: Global, text: &[u8]) -> Result<Script, ReadError> {
     read_script(alloc, &mut reader)
 }
 
+/// The lines behind the arrays, in words.
+fn lines_of(alloc: Global, script: &Script) -> Result<String, AllocError> {
+    format!(in alloc; "{:?}", script.lines())
+}
+
 /// The number of the malformed line, or 0.
 fn malformed(alloc: Global, text: &[u8]) -> u64 {
     match read(alloc, text) {
@@ -37,34 +42,15 @@ fn a_worked_script_is_read(rt: HostRuntime) -> Result<(), Fail> {
         panic!(rt; "one array");
     };
     assert!(rt; array.array == 0 && array.kind == Kind::Counter);
-    let [
-        Line::Supply { kind, count: 1 },
-        Line::Step(
-            Step::Request {
-                client: 7,
-                number: 1,
-                to,
-                entry: 65535,
-                words,
-            },
-        ),
-        Line::Step(Step::Deliver { processor: 0, id }),
-        Line::Step(Step::Flush),
-        Line::Step(
-            Step::Status {
-                client: 7,
-                number: 1,
-            },
-        ),
-    ] = script.lines()
-    else {
-        panic!(rt; "other lines");
-    };
-    let origin = Origin::Client(7);
-    assert_eq!(rt; *kind, Kind::Counter);
-    assert_eq!(rt; *to, Elem { array: 0, index: 0 });
-    assert_eq!(rt; words.as_slice(), [5].as_slice());
-    assert_eq!(rt; *id, MsgId { origin, number: 1 });
+    let lines = lines_of(rt.alloc(), &script)?;
+    assert_eq!(rt;
+        lines.as_str(),
+        "[Supply { kind: Counter, count: 1 }, \
+         Step(Request { client: 7, number: 1, to: Elem { array: 0, index: 0 }, entry: 65535, words: Words { items: [5] } }), \
+         Step(Deliver { processor: 0, id: MsgId { origin: Client(7), number: 1 } }), \
+         Step(Flush), \
+         Step(Status { client: 7, number: 1 })]"
+    );
     assert_eq!(rt; script.blanks(Kind::Counter), 1);
     let manifest = script.manifest(rt.alloc())?;
     assert_eq!(rt; manifest.kind_of(0), Some(Kind::Counter));
@@ -82,23 +68,14 @@ fn spaces_zeros_and_comments_are_allowed(rt: HostRuntime) -> Result<(), Fail> {
     assert_eq!(rt; script.lines().len(), 4);
     assert_eq!(rt; script.blanks(Kind::Counter), 10002);
     assert_eq!(rt; script.blanks(Kind::Tape), 0);
-    let [
-        ..,
-        Line::Step(Step::Deliver { id, .. }),
-        Line::Step(Step::Request { words, .. }),
-    ] = script.lines()
-    else {
-        panic!(rt; "other lines");
-    };
-    let origin = Origin::Element(Elem { array: 1, index: 2 });
+    let lines = lines_of(rt.alloc(), &script)?;
     assert_eq!(rt;
-        *id,
-        MsgId {
-            origin,
-            number: u64::MAX
-        }
+        lines.as_str(),
+        "[Supply { kind: Counter, count: 10000 }, \
+         Supply { kind: Counter, count: 2 }, \
+         Step(Deliver { processor: 0, id: MsgId { origin: Element(Elem { array: 1, index: 2 }), number: 18446744073709551615 } }), \
+         Step(Request { client: 1, number: 2, to: Elem { array: 3, index: 4 }, entry: 5, words: Words { items: [] } })]"
     );
-    assert!(rt; words.is_empty());
     Ok(())
 }
 
@@ -107,32 +84,15 @@ fn lines_that_show_and_drain_are_read(rt: HostRuntime) -> Result<(), Fail> {
     let text = "array 0 1\ndrain 0\ndrain 1000000\nstate 7 0018446744073709551615\nstate 65535 3\n\
         pending\n census \n";
     let script = read(rt.alloc(), text.as_bytes())?;
-    let [
-        Line::Drain { count: 0 },
-        Line::Drain {
-            count: MAX_DELIVERIES,
-        },
-        Line::State(last),
-        Line::State(unnamed),
-        Line::Pending,
-        Line::Census,
-    ] = script.lines()
-    else {
-        panic!(rt; "other lines");
-    };
+    let lines = lines_of(rt.alloc(), &script)?;
     assert_eq!(rt;
-        *last,
-        Elem {
-            array: 7,
-            index: u64::MAX
-        }
-    );
-    assert_eq!(rt;
-        *unnamed,
-        Elem {
-            array: 65535,
-            index: 3
-        }
+        lines.as_str(),
+        "[Drain { count: 0 }, \
+         Drain { count: 1000000 }, \
+         State(Elem { array: 7, index: 18446744073709551615 }), \
+         State(Elem { array: 65535, index: 3 }), \
+         Pending, \
+         Census]"
     );
     for kind in [Kind::Counter, Kind::Tape] {
         assert_eq!(rt; script.blanks(kind), 0);
@@ -164,30 +124,11 @@ fn processors_are_declared_among_the_arrays(rt: HostRuntime) -> Result<(), Fail>
 fn moves_are_read(rt: HostRuntime) -> Result<(), Fail> {
     let text = "array 0 1\nmove 1 2 3\n move  65535 18446744073709551615 0065535 \n";
     let script = read(rt.alloc(), text.as_bytes())?;
-    let [
-        Line::Step(
-            Step::Move {
-                elem: near,
-                processor: 3,
-            },
-        ),
-        Line::Step(
-            Step::Move {
-                elem: far,
-                processor: 65535,
-            },
-        ),
-    ] = script.lines()
-    else {
-        panic!(rt; "other lines");
-    };
-    assert_eq!(rt; *near, Elem { array: 1, index: 2 });
+    let lines = lines_of(rt.alloc(), &script)?;
     assert_eq!(rt;
-        *far,
-        Elem {
-            array: 65535,
-            index: u64::MAX
-        }
+        lines.as_str(),
+        "[Step(Move { elem: Elem { array: 1, index: 2 }, processor: 3 }), \
+         Step(Move { elem: Elem { array: 65535, index: 18446744073709551615 }, processor: 65535 })]"
     );
     assert_eq!(rt; script.blanks(Kind::Counter), 0);
     Ok(())

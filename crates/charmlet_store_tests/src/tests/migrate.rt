@@ -24,6 +24,8 @@ use std::sync::atomic::{AtomicU64, Ordering};
 
 const ME: Elem = Elem { array: 2, index: 7 };
 
+const OTHER: Elem = Elem { array: 2, index: 8 };
+
 // A ring's element whose next one has index 9, and that has seen 2 tokens.
 const RING: [u8; 16] = [9, 0, 0, 0, 0, 0, 0, 0, 2, 0, 0, 0, 0, 0, 0, 0];
 
@@ -149,6 +151,35 @@ fn nothing_is_copied_during_a_delivery(rt: HostRuntime) {
     assert!(rt; shelves[1].release().is_none());
     assert!(rt; shelves[1].lift(ME).is_ok());
     lacks(&rt, &mut shelves[0]);
+}
+
+// The shelf of processor 1, with another element.
+fn other_source_with(rt: &(impl AllocGlobal + Abort), object: Ring) -> Shelf<Ring>
+    ensures { result.records ≡ (OTHER, record { state = Some (state_of object); sent = 4; received = 5 }) ∷ [] }
+{
+    let mut shelf = Shelf::new(rt.alloc(), 1);
+    let resident = Resident {
+        object,
+        sent: 4,
+        received: 5,
+    };
+    assert!(rt; shelf.place(OTHER, resident).is_ok());
+    shelf
+}
+
+#[test]
+fn nothing_is_copied_to_a_shelf_during_its_delivery(rt: HostRuntime) {
+    let assigned = unpacked(&rt, Ring::blank(), &RING);
+    let busy = busy_source_with(&rt, assigned);
+    let ring = unpacked(&rt, Ring::blank(), &RING);
+    let source = other_source_with(&rt, ring);
+    let mut shelves = [busy, source];
+    let copied = place_copy(&mut shelves, 1, 0, OTHER, Ring::blank());
+    let (refusal, _) = copied.err().expect(&rt, "it is refused");
+    assert_eq!(rt; refusal, Refusal::Uncommitted);
+    assert!(rt; shelves[0].release().is_none());
+    assert!(rt; matches!(shelves[0].lift(OTHER), Err(Refusal::Absent)));
+    assert!(rt; shelves[1].lift(OTHER).is_ok());
 }
 
 // How often a probe was used.

@@ -8,12 +8,14 @@ use charmlet_script::{ReadError, read_script};
 use std::alloc::{AllocError, Global};
 use std::io;
 use std::io::{ErrorKind, Write};
+use std::process::Abort;
 use std::test::Fail;
 
-// The exit status, and what is said on standard error.
-fn ending(alloc: Global, ran: &Result<(), Failure>) -> (u8, Vec<u8>) {
-    let mut errors = Vec::new(alloc);
-    let status = end_program(ran, &mut errors);
+// The exit status, and what is said on standard error, which can be said.
+fn ending(rt: &(impl AllocGlobal + Abort), ran: &Result<(), Failure>) -> (u8, Vec<u8>) {
+    let mut errors = Vec::new(rt.alloc());
+    let (status, said) = end_program(ran, &mut errors);
+    assert!(rt; said.is_ok());
     (status, errors)
 }
 
@@ -43,7 +45,7 @@ fn scripts_end_with_0_1_or_2(rt: HostRuntime) {
         let taken = Vec::new(alloc);
         let mut output = FullOutput { taken, room };
         let ran = run(alloc, text, &mut output).map_err(Failure::from);
-        let (status, errors) = ending(alloc, &ran);
+        let (status, errors) = ending(&rt, &ran);
         assert_eq!(rt; status, wanted, "{text:?}");
         assert_eq!(rt; errors.as_slice(), says.as_bytes(), "{text:?}");
     }
@@ -61,7 +63,7 @@ fn stops_end_with_1_or_2(rt: HostRuntime) {
             "script line 18446744073709551615\n",
         ),
     ] {
-        let (status, errors) = ending(rt.alloc(), &Err(Failure::from(stop)));
+        let (status, errors) = ending(&rt, &Err(Failure::from(stop)));
         assert_eq!(rt; status, wanted, "{stop:?}");
         assert_eq!(rt; errors.as_slice(), says.as_bytes());
     }
@@ -69,7 +71,6 @@ fn stops_end_with_1_or_2(rt: HostRuntime) {
 
 #[test]
 fn want_of_memory_ends_with_1(rt: HostRuntime) {
-    let alloc = rt.alloc();
     for failure in [
         Failure::from(CommandError::Memory),
         Failure::from(io::Error::from(ErrorKind::OutOfMemory)),
@@ -77,7 +78,7 @@ fn want_of_memory_ends_with_1(rt: HostRuntime) {
         Failure::from(Stop::from(ReadError::Memory)),
         Failure::from(Stop::from(RunError::<Counter>::Memory)),
     ] {
-        let (status, errors) = ending(alloc, &Err(failure));
+        let (status, errors) = ending(&rt, &Err(failure));
         assert_eq!(rt; status, 1);
         assert_eq!(rt; errors.as_slice(), b"cannot go on\n".as_slice());
     }
@@ -99,7 +100,7 @@ fn bad_command_lines_and_calls_for_help_end_with_2(rt: HostRuntime) -> Result<()
             panic!(rt; "{words:?} asks for something");
         };
         let says = format!(in alloc; "{error}")?;
-        let (status, errors) = ending(alloc, &Err(Failure::Command(error)));
+        let (status, errors) = ending(&rt, &Err(Failure::Command(error)));
         assert_eq!(rt; status, 2, "{words:?}");
         assert_eq!(rt; errors.as_slice(), says.as_bytes());
     }
@@ -111,8 +112,9 @@ fn statuses_stand_where_nothing_can_be_said(rt: HostRuntime) {
     let taken = Vec::new(rt.alloc());
     let mut errors = FullOutput { taken, room: 0 };
     for (stop, wanted) in [(Stop::CannotGoOn, 1), (Stop::UnreadableScript, 2)] {
-        let status = end_program(&Err(Failure::from(stop)), &mut errors);
+        let (status, said) = end_program(&Err(Failure::from(stop)), &mut errors);
         assert_eq!(rt; status, wanted);
+        assert!(rt; said.is_err());
     }
     assert!(rt; errors.taken.is_empty());
 }

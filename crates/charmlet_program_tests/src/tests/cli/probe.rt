@@ -11,6 +11,7 @@ use charmlet_pup::PupFault;
 use charmlet_script::read_script;
 use charmlet_small::Small;
 use std::alloc::{AllocError, Global};
+use std::process::Abort;
 use std::sync::Arc;
 use std::sync::atomic::{AtomicU64, Ordering};
 use std::test::Fail;
@@ -135,6 +136,23 @@ pub(super) fn probes(
     Ok(probes)
 }
 
+// What so many probes note, and what is printed, of a transcript's run, which prints what it has to.
+fn run_of(
+    rt: &(impl AllocGlobal + Abort),
+    transcript: &str,
+    count: usize,
+) -> Result<(Arc<Notes>, Vec<u8>), Fail> {
+    let alloc = rt.alloc();
+    let notes = Arc::new(alloc, Notes::new())?;
+    let (text, wanted) = parts(alloc, transcript)?;
+    let script = read_script(alloc, &mut text.as_bytes())?;
+    let mut output = Vec::new(alloc);
+    let ran = run_script(alloc, &script, probes(alloc, &notes, count)?, &mut output);
+    assert!(rt; ran.is_ok());
+    assert_eq!(rt; output.as_slice(), wanted.as_bytes());
+    Ok((notes, output))
+}
+
 // Two of the three deliveries enter the object; that of client 8 finds it present, and doesn't.
 const DRAINED: &str = "\
 > array 0 1
@@ -156,33 +174,19 @@ told replied 8
 
 #[test]
 fn each_delivery_enters_its_object_once(rt: HostRuntime) -> Result<(), Fail> {
-    let alloc = rt.alloc();
-    let notes = Arc::new(alloc, Notes::new())?;
-    let (text, wanted) = parts(alloc, VISITS)?;
-    let script = read_script(alloc, &mut text.as_bytes())?;
-    let mut output = Vec::new(alloc);
-    let ran = run_script(alloc, &script, probes(alloc, &notes, 3)?, &mut output);
-    assert!(rt; ran.is_ok());
-    assert_eq!(rt; output.as_slice(), wanted.as_bytes());
+    let (notes, output) = run_of(&rt, VISITS, 3)?;
     assert_eq!(rt; notes.entries.load(Ordering::SeqCst), 4);
     assert_eq!(rt; notes.unpacked.load(Ordering::SeqCst), 0);
     assert_eq!(rt; notes.drops.load(Ordering::SeqCst), 3);
     let last = notes.replied.load(Ordering::SeqCst);
-    let told = format!(in alloc; "told replied {last}\n")?;
+    let told = format!(in rt.alloc(); "told replied {last}\n")?;
     assert!(rt; output.ends_with(told.as_bytes()));
     Ok(())
 }
 
 #[test]
 fn each_drained_delivery_enters_its_object_once(rt: HostRuntime) -> Result<(), Fail> {
-    let alloc = rt.alloc();
-    let notes = Arc::new(alloc, Notes::new())?;
-    let (text, wanted) = parts(alloc, DRAINED)?;
-    let script = read_script(alloc, &mut text.as_bytes())?;
-    let mut output = Vec::new(alloc);
-    let ran = run_script(alloc, &script, probes(alloc, &notes, 1)?, &mut output);
-    assert!(rt; ran.is_ok());
-    assert_eq!(rt; output.as_slice(), wanted.as_bytes());
+    let (notes, _) = run_of(&rt, DRAINED, 1)?;
     assert_eq!(rt; notes.entries.load(Ordering::SeqCst), 2);
     assert_eq!(rt; notes.replied.load(Ordering::SeqCst), 8);
     Ok(())
@@ -212,28 +216,23 @@ told replied 8
 
 #[test]
 fn each_move_unpacks_its_object_once(rt: HostRuntime) -> Result<(), Fail> {
-    let alloc = rt.alloc();
-    let notes = Arc::new(alloc, Notes::new())?;
-    let (text, wanted) = parts(alloc, MOVED)?;
-    let script = read_script(alloc, &mut text.as_bytes())?;
-    let mut output = Vec::new(alloc);
-    let ran = run_script(alloc, &script, probes(alloc, &notes, 2)?, &mut output);
-    assert!(rt; ran.is_ok());
-    assert_eq!(rt; output.as_slice(), wanted.as_bytes());
+    let (notes, _) = run_of(&rt, MOVED, 2)?;
     assert_eq!(rt; notes.entries.load(Ordering::SeqCst), 2);
     assert_eq!(rt; notes.unpacked.load(Ordering::SeqCst), 1);
     assert_eq!(rt; notes.drops.load(Ordering::SeqCst), 2);
     Ok(())
 }
 
+const NO_STORE: &str = "\
+> pes 65
+> array 0 1
+> supply 1 2
+refused 17 BadPes
+";
+
 #[test]
 fn objects_are_dropped_where_there_is_no_store(rt: HostRuntime) -> Result<(), Fail> {
-    let alloc = rt.alloc();
-    let notes = Arc::new(alloc, Notes::new())?;
-    let script = read_script(alloc, &mut "pes 65\narray 0 1\nsupply 1 2\n".as_bytes())?;
-    let mut output = Vec::new(alloc);
-    let ran = run_script(alloc, &script, probes(alloc, &notes, 3)?, &mut output);
-    assert!(rt; ran.is_ok());
+    let (notes, _) = run_of(&rt, NO_STORE, 3)?;
     assert_eq!(rt; notes.entries.load(Ordering::SeqCst), 0);
     assert_eq!(rt; notes.drops.load(Ordering::SeqCst), 3);
     Ok(())
