@@ -407,10 +407,13 @@ fn play(rt: &impl Abort, alloc: Global, transcript: &str) -> Result<(), Fail> {
 
 // The story that begins with such an array.
 fn story_of(alloc: Global, text: &str) -> Result<Story, Fail> {
-    match numbers(alloc, text, ' ')?.as_slice() {
-        [array, kind] => Ok(Story::new(alloc, u16::try_from(*array)?, u16::try_from(*kind)?)?),
-        _ => Err(Fail::new("no array")),
-    }
+    let words = numbers(alloc, text, ' ')?;
+    let [array, kind] = words.as_slice() else {
+        return Err(Fail::new("no array"));
+    };
+    let array = u16::try_from(*array)?;
+    let kind = u16::try_from(*kind)?;
+    Ok(Story::new(alloc, array, kind)?)
 }
 
 #[test]
