@@ -1,5 +1,5 @@
 -- From clap's matches and faults to the script that a line asks to run.
-use Rattle.std.proofs.Common.{◌≡◌, ◌∷◌, [], List, true, Option, Some, None, codes, refl, inl, inr, option_and_then, option_map, Result, Ok, Err, IfErr}
+use Rattle.std.proofs.Common.{◌≡◌, ◌∙◌, ◌∷◌, [], List, true, Option, Some, None, codes, refl, inl, inr, option_and_then, option_map, Result, Ok, Err, IfErr}
 use Rattle.std.specs.Str.{bytes_eq}
 use Rattle.clap.specs.Walk.{Row, Text, first_of}
 use Rattle.std.specs.Prelude.{Box, IsErrAnd}
@@ -8,9 +8,11 @@ use Rattle.clap.specs.Simple.{App, is_simple, subcommand_of, subcommand_rows}
 use Rattle.clap.specs.declared.parser.matches.SubCommand.{SubCommand}
 use Rattle.clap.specs.declared.parser.matches.ArgMatches.TheViews.{out-SubCommand}
 use Rattle.clap.specs.Faults.{fault_of, is_simple_and_free}
-use Rattle.clap.specs.Kinds.{Kinds, HasKind, IsAmong}
+use Rattle.clap.specs.Kinds.{Kinds, HasKind, IsAmong, or_else}
 use Rattle.clap.specs.Values.{kind_of}
 use Rattle.clap.specs.declared.error.Error.{Error}
+use Rattle.clap.specs.declared.error.kind.ErrorKind.{ErrorKind}
+use Rattle.clap.specs.declared.error.kind.ErrorKind.TheVariants.{MissingSubcommand}
 use Rattle.clap.proofs.OnLiterals.{clap_on_literals}
 use Rattle.charmlet_command.specs.CommandLine.{AsksNothing, IsErrorOf, asked_script, charmlet_line, script_of}
 use Rattle.charmlet_command.specs.declared.CommandError.{CommandError}
@@ -54,21 +56,40 @@ asked_is app words others found is none met =
     rw (no_fault, same) refl
 
 -- where it finds one, nothing is asked
-faulty : (words : List Text) (error : Error) (faults : Kinds) → fault_of charmlet_line words ≡ faults → IsAmong (kind_of error) faults → asked_script words ≡ None
+nothing_asked : (words : List Text) (kind : ErrorKind) (faults : Kinds) → fault_of charmlet_line words ≡ faults → IsAmong kind faults → asked_script words ≡ None
 unfolding asked_script
-faulty words error [] e among = absurd among
-faulty words error (k ∷ ks) e among = rw e refl
+nothing_asked words kind [] e among = absurd among
+nothing_asked words kind (k ∷ ks) e among = rw e refl
 
-nothing_asked : (words : List Text) (error : Error) (answer : CommandError) → HasKind (fault_of charmlet_line words) error → IsErrorOf error answer
+-- and one of its faults tells so
+told_by : (kind : ErrorKind) (faults others : Kinds) → IsAmong kind faults → IsAmong kind (or_else faults others)
+told_by kind [] others among = absurd among
+told_by kind (k ∷ ks) others among = among
+
+answered : (words : List Text) (error : Error) (answer : CommandError) → HasKind (fault_of charmlet_line words) error → IsErrorOf error answer
     → AsksNothing words answer
-nothing_asked words error Memory kinds is = tt
-nothing_asked words error (Line text) kinds is = elim kinds [
+answered words error Memory kinds is = tt
+answered words error (Line text) kinds is = elim kinds [
   | inl memory ↦ let never : Line text ≡ Memory = is.memory memory in absurd (cc)
-  | inr among ↦ faulty words error _ refl among
+  | inr among ↦
+      let whole : Line text ≡ Line error = is.line (λ memory. let never : Line text ≡ Memory = is.memory memory in absurd (cc)) in
+      let same : error ≡ text = cc in
+      let told : IsAmong (kind_of text) (fault_of charmlet_line words) = rw (← same) among in
+      (nothing_asked words (kind_of text) _ refl told, told_by (kind_of text) _ _ told)
 ]
+
+-- where clap finds no fault, and no script is asked for, the error tells the want of a subcommand
+pub missing_is : (words : List Text) (app : App) (others : Type 0) (found : Option (Text × List Row)) (error : Error) → app ≡ charmlet_line
+    → (is_simple_and_free app ≡ true → fault_of app words ≡ [])
+    → (is_simple app ≡ true → others × (found ≡ subcommand_of app words))
+    → option_and_then script_of found ≡ None → kind_of error ≡ MissingSubcommand
+    → AsksNothing words (Line error)
+missing_is words app others found error is none met no_script kind =
+    let no_fault : fault_of charmlet_line words ≡ [] = rw is at none charmlet_is_free in
+    (asked_is app words others found is none met ∙ no_script, rw no_fault (inl kind))
 
 -- what clap's error becomes is an answer to words that ask for nothing
 pub error_is : {T : Type 0} (app : App) (words : List Text) (error : Error) (r : Result T CommandError) → app ≡ charmlet_line
     → (is_simple_and_free app ≡ true → HasKind (fault_of app words) error) → IsErrAnd r (IsErrorOf error) → IfErr r (AsksNothing words)
-error_is app words error (Ok value) is kinds answered = tt
-error_is app words error (Err answer) is kinds answered = nothing_asked words error answer (rw is at kinds charmlet_is_free) answered
+error_is app words error (Ok value) is kinds is_error = tt
+error_is app words error (Err answer) is kinds is_error = answered words error answer (rw is at kinds charmlet_is_free) is_error

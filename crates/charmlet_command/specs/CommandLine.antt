@@ -3,14 +3,14 @@ use Rattle.std.specs.Prelude.{◌≡◌, ◌≢◌, Bool, List, [], ◌∷◌, O
 use Rattle.std.specs.Str.{bytes_eq}
 use Rattle.clap.specs.Walk.{Row, Rule, Text, first_of}
 use Rattle.clap.specs.Simple.{App, new_app, new_rule, on_top, subcommand_of, with_rule, with_subcommand}
-use Rattle.clap.specs.Kinds.{Kinds}
+use Rattle.clap.specs.Kinds.{Kinds, IsAmong, or_else}
 use Rattle.clap.specs.Faults.{fault_of}
 use Rattle.clap.specs.Values.{kind_of}
 use Rattle.clap.specs.declared.builder.action.ArgAction.TheVariants.{Set}
 use Rattle.clap.specs.declared.builder.command.Command.{Command as Parser}
 use Rattle.clap.specs.declared.builder.command.Command.TheViews.{out-Command}
 use Rattle.clap.specs.declared.error.Error.{Error}
-use Rattle.clap.specs.declared.error.kind.ErrorKind.TheVariants.{OutOfMemory}
+use Rattle.clap.specs.declared.error.kind.ErrorKind.TheVariants.{MissingSubcommand, OutOfMemory}
 use Rattle.charmlet_command.specs.declared.Command.{Command}
 use Rattle.charmlet_command.specs.declared.Command.TheVariants.{Run}
 use Rattle.charmlet_command.specs.declared.CommandError.{CommandError}
@@ -50,10 +50,14 @@ asked_script words = unless_faulty (fault_of charmlet_line words) (option_and_th
 abbrev pub Asks : List Text → Command → Type 0
 Asks words (Run script) = asked_script words ≡ Some script.now
 
--- the words ask for no command, want of memory aside
+-- why words ask for nothing: clap's faults, and where it finds none, the want of a subcommand
+abbrev pub faults_of : List Text → Kinds
+faults_of words = or_else (fault_of charmlet_line words) (MissingSubcommand ∷ [])
+
+-- the words ask for no command, and the error tells why, want of memory aside
 abbrev pub AsksNothing : List Text → CommandError → Type 0
 AsksNothing words Memory = Unit {0}
-AsksNothing words (Line error) = asked_script words ≡ None
+AsksNothing words (Line error) = (asked_script words ≡ None) × IsAmong (kind_of error) (faults_of words)
 
 -- what clap's error becomes: want of memory has no text
 pub record IsErrorOf (error : Error) (answer : CommandError) : Type 0 where

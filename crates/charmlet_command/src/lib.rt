@@ -143,8 +143,8 @@ fn script_in<'a>(matches: &ArgMatches<'a>) -> Option<&'a str>
 }
 
 /// What the words ask for; the first is the program's name. Only `run SCRIPT` is a command; every
-/// other line, a call for help among them, is answered by `CommandError::Line` with clap's text,
-/// and want of memory by `CommandError::Memory`.
+/// other line, a call for help among them, is answered by `CommandError::Line` with clap's text and
+/// a kind of error that clap's meaning of the words has, and want of memory by `CommandError::Memory`.
 pub fn command_of<'a, S: AsStr>(alloc: Global, words: &'a [S]) -> Result<Command<'a>, CommandError>
     ensures ok { IfOk result (Asks (map S.text words.entry.now)) }
     ensures err { IfErr result (AsksNothing (map S.text words.entry.now)) }

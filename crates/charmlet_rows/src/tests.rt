@@ -29,7 +29,8 @@ fn answer(
         sends: Sends::new(Vec::new(alloc)),
         reply: Words::new(Vec::new(alloc)),
     };
-    Ok(react(alloc, kind, ME, state, entry, words)?.unwrap_or(nothing))
+    let reaction = react(alloc, kind, ME, state, entry, words)?;
+    Ok(reaction.unwrap_or(nothing))
 }
 
 #[test]
@@ -101,16 +102,18 @@ fn ids_and_refusals_are_printed(rt: HostRuntime) -> Result<(), Fail> {
         origin: Origin::Client(7),
         number: 2,
     };
-    assert_eq!(rt; format!(in alloc; "{client}")?.as_str(), "c7.2");
+    let text = format!(in alloc; "{client}")?;
+    assert_eq!(rt; text.as_str(), "c7.2");
     let element = MsgId {
         origin: Origin::Element(ME),
         number: 4,
     };
-    assert_eq!(rt; format!(in alloc; "{element}")?.as_str(), "e2.3.4");
+    let text = format!(in alloc; "{element}")?;
+    assert_eq!(rt; text.as_str(), "e2.3.4");
     let (half, offset) = (Half::Zero, 49);
     let count = 1;
     let kind = Kind::Counter;
-    for (refusal, number, text) in [
+    for (refusal, number, wanted) in [
         (Refusal::OutOfTurn(2), 5, "OutOfTurn 2"),
         (Refusal::Elsewhere(1), 10, "Elsewhere 1"),
         (Refusal::NoBlank(Kind::Tree), 11, "NoBlank 5"),
@@ -124,7 +127,8 @@ fn ids_and_refusals_are_printed(rt: HostRuntime) -> Result<(), Fail> {
         (Refusal::Strayed, 22, "Strayed"),
     ] {
         assert_eq!(rt; refusal.number(), number);
-        assert_eq!(rt; format!(in alloc; "{refusal}")?.as_str(), text);
+        let text = format!(in alloc; "{refusal}")?;
+        assert_eq!(rt; text.as_str(), wanted);
     }
     Ok(())
 }
@@ -140,7 +144,7 @@ fn clients_are_told_by_their_rows(rt: HostRuntime) -> Result<(), Fail> {
         last: 2,
         reply: None,
     };
-    for (row, number, text) in [
+    for (row, number, wanted) in [
         (&ClientRow::new(), 1, "told unknown"),
         (&ClientRow::new(), 0, "told past"),
         (&replied, 3, "told unknown"),
@@ -149,7 +153,8 @@ fn clients_are_told_by_their_rows(rt: HostRuntime) -> Result<(), Fail> {
         (&waiting, 2, "told accepted"),
     ] {
         let told = row.told(alloc, number)?;
-        assert_eq!(rt; format!(in alloc; "{told}")?.as_str(), text);
+        let text = format!(in alloc; "{told}")?;
+        assert_eq!(rt; text.as_str(), wanted);
     }
     Ok(())
 }

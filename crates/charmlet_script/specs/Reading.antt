@@ -4,7 +4,7 @@ use Rattle.std.specs.List.{list_any}
 use Rattle.std.specs.Option.{option_map_or}
 use Rattle.std.specs.IoError.{error_kind}
 use Rattle.std.specs.declared.io.Error.{Error}
-use Rattle.std.specs.declared.io.ErrorKind.TheVariants.{OutOfMemory}
+use Rattle.std.specs.declared.io.ErrorKind.TheVariants.{OutOfMemory, Interrupted}
 use Rattle.charmlet_model.specs.Texts.{Text}
 use Rattle.charmlet_script.specs.declared.error.LineFault.{LineFault}
 use Rattle.charmlet_script.specs.declared.error.LineFault.TheVariants as faults
@@ -112,10 +112,10 @@ Answers (Err (errors.Malformed number)) spelled = spelled ≡ Err number
 Answers (Err errors.Memory) spelled = Unit {0}
 Answers (Err (errors.Failed error)) spelled = Unit {0}
 
--- a read that fails for want of memory is told as that
-abbrev pub TellsWantOfMemory : ReadError → Type 0
-TellsWantOfMemory (errors.Failed error) = error_kind error ≢ OutOfMemory
-TellsWantOfMemory _ = Unit {0}
+-- a failed read is no want of memory, which is told as that, and no interruption, behind which it goes on
+abbrev pub TellsFailure : ReadError → Type 0
+TellsFailure (errors.Failed error) = (error_kind error ≢ OutOfMemory) × (error_kind error ≢ Interrupted)
+TellsFailure _ = Unit {0}
 
 -- what a failed read is answered by
 pub record IsErrorOf (error : Error) (answer : ReadError) : Type 0 where

@@ -1,9 +1,11 @@
 //! The reader of scripts.
 
-ghost use Rattle.std.specs.Prelude.{◌≡◌, ◌+◌, ◌<◌, ◌≤◌, ◌==◌, IfErr, IfOk, IfSome, OnOk, length, map, take};
+ghost use Rattle.std.specs.Prelude.{◌≡◌, ◌≢◌, ◌+◌, ◌<◌, ◌≤◌, ◌==◌, IfErr, IfOk, IfSome, OnOk, length, map, take};
+ghost use Rattle.std.specs.IoError.{error_kind};
 ghost use Rattle.std.specs.List.{list_any};
+ghost use Rattle.std.specs.declared.io.ErrorKind.TheVariants.{Interrupted};
 ghost use Rattle.charmlet_script.specs.Script.{most_lines, no_lines};
-ghost use Rattle.charmlet_script.specs.Reading.{Answers, TellsWantOfMemory, LeavesLines, has_array, is_array_line, lines_spell, may_add, may_declare, script_of, with_array, with_item, with_line, with_lines, with_processors, within};
+ghost use Rattle.charmlet_script.specs.Reading.{Answers, TellsFailure, LeavesLines, has_array, is_array_line, lines_spell, may_add, may_declare, script_of, with_array, with_item, with_line, with_lines, with_processors, within};
 
 use crate::draft::Draft;
 use crate::error::{LineFault, ReadError};
@@ -119,7 +121,7 @@ fn has_array_line(alloc: Global, lines: &[&[u8]]) -> Result<bool, AllocError>
 fn add_lines(alloc: Global, lines: &[&[u8]]) -> Result<Draft, ReadError>
     ensures reads { Answers result (with_lines no_lines 1 (map (λ line. line.now) lines.now)) }
     ensures few { IfOk result (λ script. length script.lines ≤ length lines.now) }
-    ensures memory { IfErr result TellsWantOfMemory }
+    ensures failure { IfErr result TellsFailure }
 {
     let mut script = Draft::new(alloc);
     for (index, line) in lines.iter().enumerate() {
@@ -137,7 +139,7 @@ fn add_lines(alloc: Global, lines: &[&[u8]]) -> Result<Draft, ReadError>
 fn read_lines(alloc: Global, lines: &[&[u8]]) -> Result<Script, ReadError>
     requires { length lines.now ≤ most_lines }
     ensures reads { Answers result (lines_spell (map (λ line. line.now) lines.now)) }
-    ensures memory { IfErr result TellsWantOfMemory }
+    ensures failure { IfErr result TellsFailure }
 {
     if !has_array_line(alloc, lines)? {
         return Err(ReadError::Malformed(1));
@@ -148,7 +150,8 @@ fn read_lines(alloc: Global, lines: &[&[u8]]) -> Result<Script, ReadError>
 
 /// The reader's bytes, up to one past the greatest length of a script.
 fn read_start<R: Read>(alloc: Global, reader: &mut R) -> Result<Vec<u8>, io::Error>
-    ensures { IfSome (R.remaining reader.old) (λ bytes. IfOk result (λ text. text.items ≡ take (MAX_LENGTH + 1) bytes)) }
+    ensures reads { IfSome (R.remaining reader.old) (λ bytes. IfOk result (λ text. text.items ≡ take (MAX_LENGTH + 1) bytes)) }
+    ensures retried { IfErr result (λ error. error_kind error ≢ Interrupted) }
 {
     let mut text = Vec::new(alloc);
     let mut limited = Read::take(reader, MAX_LENGTH as u64 + 1);
@@ -173,10 +176,10 @@ fn cut(text: &mut Vec<u8>) -> Result<(), AllocError>
 ///
 /// Where a line is malformed, it answers `ReadError::Malformed` with the number of the first one, or
 /// with 1 where no line spells an array; where a read fails, `ReadError::Failed`, and where memory
-/// runs out, `ReadError::Memory`. After an error the reader has given any part of its bytes.
+/// runs out, `ReadError::Memory`. An interrupted read is tried again. After an error the reader has given any part of its bytes.
 pub fn read_script<R: Read>(alloc: Global, reader: &mut R) -> Result<Script, ReadError>
     ensures reads { IfSome (R.remaining reader.old) (λ bytes. Answers result (script_of bytes)) }
-    ensures memory { IfErr result TellsWantOfMemory }
+    ensures failure { IfErr result TellsFailure }
 {
     let mut text = read_start(alloc, reader)?;
     cut(&mut text)?;

@@ -1,5 +1,5 @@
 use Rattle.std.proofs.Common.{◌∙◌, sym}
-use Rattle.charmlet_command.proofs.Asking.{asked_is, error_is}
+use Rattle.charmlet_command.proofs.Asking.{asked_is, error_is, missing_is}
 use Rattle.charmlet_command.proofs.command_of.Goals as goal
 
 pub returns-in_err-matches-clause-err : goal.returns-in_err-matches-clause-err
@@ -12,4 +12,5 @@ returns-in-Some-clause-ok g c =
 
 pub returns-clause-err : goal.returns-clause-err
 returns-clause-err g c =
-    asked_is _ _ _ _ c.in_ok-parser.ensures c.in_ok-matches.ensures.kinds c.in_ok-matches.ensures.ok.2 ∙ sym c.in-None.ensures
+    missing_is _ _ _ _ c.in_ok-error-in-None.error c.in_ok-parser.ensures c.in_ok-matches.ensures.kinds c.in_ok-matches.ensures.ok.2 (sym c.in-None.ensures)
+    c.in_ok-error-in-None.ensures.kind

@@ -1,5 +1,5 @@
-//! Worked histories, run by the plain program of the world. A transcript has a line `> STEP` for each step,
-//! and behind it the step's answer, if it has one.
+//! Worked histories of one array, run by the plain program of the world. A transcript has a line `> STEP` for each step,
+//! and behind it the step's answer.
 
 use charmlet_model::{CONSTRUCT, Elem, Event, Kind, Manifest, MsgId, Origin, Words};
 use charmlet_plain::World;
@@ -8,7 +8,6 @@ use std::process::Abort;
 use std::test::Fail;
 
 const COUNTER: &str = "\
-> array 0 1
 > req 7 1 0 0 65535 5
 told unknown
 > deliver c7.1
@@ -40,7 +39,6 @@ told unknown
 ";
 
 const SUM_STOPS: &str = "\
-> array 0 1
 > req 7 1 0 0 65535 18446744073709551615
 told unknown
 > req 8 1 0 0 0 1
@@ -54,7 +52,6 @@ told replied 18446744073709551615
 ";
 
 const COUNTER_IS_READ: &str = "\
-> array 0 1
 > req 7 1 0 0 65535 5
 told unknown
 > deliver c7.1
@@ -72,7 +69,6 @@ none
 ";
 
 const REPEATS: &str = "\
-> array 0 1
 > req 7 1 0 0 65535 5
 told unknown
 > req 7 1 0 0 65535 5
@@ -98,7 +94,6 @@ c7.1
 ";
 
 const RING: &str = "\
-> array 0 2
 > req 1 1 0 0 65535 1
 told unknown
 > req 2 1 0 1 65535 2
@@ -118,7 +113,6 @@ Some(Ring { next: 0, seen: 1 }) sent 1 received 2
 ";
 
 const ACCOUNT_LACKS: &str = "\
-> array 3 3
 > req 1 1 3 0 65535 9
 told unknown
 > deliver c1.1
@@ -138,7 +132,6 @@ none
 ";
 
 const ACCOUNT_PAYS: &str = "\
-> array 3 3
 > req 1 1 3 0 65535 10
 told unknown
 > deliver c1.1
@@ -162,7 +155,6 @@ e3.0.1
 ";
 
 const TREE: &str = "\
-> array 0 5
 > req 1 1 0 0 65535 2
 told unknown
 > drain 100
@@ -367,7 +359,8 @@ fn numbers(alloc: Global, text: &str, separator: char) -> Result<Vec<u64>, Fail>
         return Ok(numbers);
     }
     for word in text.split(separator) {
-        numbers.push(word.parse::<u64>()?)?;
+        let number = word.parse::<u64>()?;
+        numbers.push(number)?;
     }
     Ok(numbers)
 }
@@ -384,51 +377,34 @@ fn id_of(alloc: Global, text: &str) -> Result<MsgId, Fail> {
 }
 
 // Runs the steps of a transcript, and compares what they answer with it.
-fn play(rt: &impl Abort, alloc: Global, transcript: &str) -> Result<(), Fail> {
+fn play(rt: &impl Abort, story: &mut Story, transcript: &str) -> Result<(), Fail> {
+    let alloc = story.alloc;
     let mut printed = String::new(alloc);
-    let mut story = None;
     for line in transcript.lines() {
-        let Some(step) = line.strip_prefix("> ") else {
-            continue;
-        };
-        let answer = match (&mut story, step.strip_prefix("array ")) {
-            (_, Some(rest)) => {
-                story = Some(story_of(alloc, rest)?);
-                String::new(alloc)
-            }
-            (Some(story), None) => format!(in alloc; "{}\n", story.answer(step)?)?,
-            (None, None) => return Err(Fail::new("no array yet")),
-        };
-        printed.push_str(format!(in alloc; "> {step}\n{answer}")?.as_str())?;
+        if let Some(step) = line.strip_prefix("> ") {
+            let answer = story.answer(step)?;
+            let answered = format!(in alloc; "> {step}\n{answer}\n")?;
+            printed.push_str(answered.as_str())?;
+        }
     }
     assert_eq!(rt; printed.as_str(), transcript);
     Ok(())
 }
 
-// The story that begins with such an array.
-fn story_of(alloc: Global, text: &str) -> Result<Story, Fail> {
-    let words = numbers(alloc, text, ' ')?;
-    let [array, kind] = words.as_slice() else {
-        return Err(Fail::new("no array"));
-    };
-    let array = u16::try_from(*array)?;
-    let kind = u16::try_from(*kind)?;
-    Ok(Story::new(alloc, array, kind)?)
-}
-
 #[test]
 fn transcripts_are_as_they_were_told(rt: HostRuntime) -> Result<(), Fail> {
-    for transcript in [
-        COUNTER,
-        SUM_STOPS,
-        COUNTER_IS_READ,
-        REPEATS,
-        RING,
-        ACCOUNT_LACKS,
-        ACCOUNT_PAYS,
-        TREE,
+    for (array, kind, transcript) in [
+        (0, 1, COUNTER),
+        (0, 1, SUM_STOPS),
+        (0, 1, COUNTER_IS_READ),
+        (0, 1, REPEATS),
+        (0, 2, RING),
+        (3, 3, ACCOUNT_LACKS),
+        (3, 3, ACCOUNT_PAYS),
+        (0, 5, TREE),
     ] {
-        play(&rt, rt.alloc(), transcript)?;
+        let mut story = Story::new(rt.alloc(), array, kind)?;
+        play(&rt, &mut story, transcript)?;
     }
     Ok(())
 }
@@ -474,7 +450,8 @@ fn worlds_have_1024_clients_at_most(rt: HostRuntime) -> Result<(), Fail> {
         ("status 1022 1", "told accepted"),
         ("status 1024 1", "told unknown"),
     ] {
-        assert_eq!(rt; story.answer(step)?.as_str(), wanted, "{step}");
+        let answer = story.answer(step)?;
+        assert_eq!(rt; answer.as_str(), wanted, "{step}");
     }
     Ok(())
 }
@@ -509,22 +486,25 @@ fn life_of_a_tree(alloc: Global) -> Result<Vec<Event>, AllocError> {
     Ok(events)
 }
 
-// The world after the events. An event for which memory is refused is tried again, once, and has to leave
-// the world as it was: else there is none.
+// Whether an event happened. Where memory is refused for it the world has to be as it was, and it is tried again.
+fn happened(alloc: Global, world: &mut World, event: &Event) -> Result<bool, AllocError> {
+    let before = format!(in alloc; "{world:?}")?;
+    let happened = world.after(event);
+    if happened.is_ok() {
+        return happened;
+    }
+    let after = format!(in alloc; "{world:?}")?;
+    if after != before {
+        return Ok(false);
+    }
+    world.after(event)
+}
+
+// The world after the events, if each of them happened.
 fn world_after(alloc: Global, events: &[Event]) -> Result<Option<World>, AllocError> {
     let mut world = empty_world(alloc, 0, 5)?;
     for event in events {
-        let before = format!(in alloc; "{world:?}")?;
-        let happened = match world.after(event) {
-            Ok(happened) => happened,
-            Err(AllocError) => {
-                if format!(in alloc; "{world:?}")? != before {
-                    return Ok(None);
-                }
-                world.after(event)?
-            }
-        };
-        if !happened {
+        if !happened(alloc, &mut world, event)? {
             return Ok(None);
         }
     }

@@ -167,8 +167,8 @@ fn the_first_malformed_line_is_named(rt: HostRuntime) {
         ("pes 2\n", 1),
         ("pes 2\nmove 0 0 1\n", 1),
         // an array line that may not stand there
-        ("array 0 1\narray 0 1\n", 2),
         ("array 0 1\nflush\narray 1 1\n", 3),
+        ("census\narray 0 1\n", 2),
         // a line of processors that may not stand there
         ("pes 2\narray 0 1\npes 2\n", 3),
         ("pes 1\npes 1\narray 0 1\n", 2),
@@ -180,50 +180,61 @@ fn the_first_malformed_line_is_named(rt: HostRuntime) {
         ("bad\narray 0 1\n", 1),
         ("array 0 1\n   \n", 2),
         ("array 0 1\nflush\r\n", 2),
-        ("array 0 1\nflush now\n", 2),
         ("array 0 1\n\nbad\nworse\n", 3),
-        ("array 0 1\n# é\n", 2),
-        // numbers out of range, and none
-        ("array 0 1\nsupply 1 10001\n", 2),
-        ("array 0 1\nsupply 0 1\n", 2),
-        ("array 0 1\nsupply 7 1\n", 2),
-        ("array 0 1\nstatus 4294967296 1\n", 2),
-        ("array 0 1\nstatus 1 18446744073709551616\n", 2),
-        ("array 0 1\nstatus +5 1\n", 2),
-        ("array 0 1\ndrain 1000001\n", 2),
-        ("array 0 1\ndrain 4294967297\n", 2),
-        ("array 0 1\nstate 65536 0\n", 2),
-        ("array 0 1\nstate 0 18446744073709551616\n", 2),
-        ("array 0 1\nreq 1 1 0 0 65536\n", 2),
-        ("array 0 1\npes 65536\n", 2),
-        ("array 0 1\npes -1\n", 2),
-        ("array 0 1\nmove 65536 0 0\n", 2),
-        ("array 0 1\nmove 0 18446744073709551616 0\n", 2),
-        ("array 0 1\nmove 0 0 65536\n", 2),
-        ("array 0 1\nmove 0 0 x\n", 2),
-        ("array 0 1\nreq 1 1 0 0 1 x\n", 2),
-        // missing and further words
-        ("array 0 1\ndrain\n", 2),
-        ("array 0 1\ndrain 1 2\n", 2),
-        ("array 0 1\nstate 0\n", 2),
-        ("array 0 1\nstate 0 1 2\n", 2),
-        ("array 0 1\npes\n", 2),
-        ("array 0 1\npes 1 2\n", 2),
-        ("array 0 1\nmove 0 0\n", 2),
-        ("array 0 1\nmove 0 0 1 2\n", 2),
-        ("array 0 1\npending 1\n", 2),
-        ("array 0 1\ncensus 1\n", 2),
-        ("array 0 1\nCENSUS\n", 2),
-        ("array 0 1\npendings\n", 2),
-        ("census\narray 0 1\n", 2),
-        // ids of messages
-        ("array 0 1\ndeliver 0 c7\n", 2),
-        ("array 0 1\ndeliver 0 e1.2\n", 2),
-        ("array 0 1\ndeliver 0 c.1\n", 2),
-        ("array 0 1\ndeliver 0 7.1\n", 2),
     ] {
         assert_eq!(rt; malformed(alloc, text.as_bytes()), line, "{text:?}");
     }
+}
+
+// Each of these lines is malformed behind `array 0 1`.
+const MALFORMED: &str = "\
+array 0 1
+flush now
+# é
+supply 1 10001
+supply 0 1
+supply 7 1
+status 4294967296 1
+status 1 18446744073709551616
+status +5 1
+drain 1000001
+drain 4294967297
+state 65536 0
+state 0 18446744073709551616
+req 1 1 0 0 65536
+req 1 1 0 0 1 x
+pes 65536
+pes -1
+move 65536 0 0
+move 0 18446744073709551616 0
+move 0 0 65536
+move 0 0 x
+drain
+drain 1 2
+state 0
+state 0 1 2
+pes
+pes 1 2
+move 0 0
+move 0 0 1 2
+pending 1
+census 1
+CENSUS
+pendings
+deliver 0 c7
+deliver 0 e1.2
+deliver 0 c.1
+deliver 0 7.1
+";
+
+#[test]
+fn malformed_lines_are_refused(rt: HostRuntime) -> Result<(), Fail> {
+    let alloc = rt.alloc();
+    for line in MALFORMED.lines() {
+        let text = format!(in alloc; "array 0 1\n{line}\n")?;
+        assert_eq!(rt; malformed(alloc, text.as_bytes()), 2, "{line}");
+    }
+    Ok(())
 }
 
 #[test]
@@ -233,7 +244,8 @@ fn a_script_has_at_most_64_arrays(rt: HostRuntime) -> Result<(), Fail> {
     for array in 0..64u16 {
         text.push_str(format!(in alloc; "array {array} 1\n")?.as_str())?;
     }
-    assert_eq!(rt; read(alloc, text.as_bytes())?.arrays().len(), 64);
+    let script = read(alloc, text.as_bytes())?;
+    assert_eq!(rt; script.arrays().len(), 64);
     text.push_str("array 64 1\n")?;
     assert_eq!(rt; malformed(alloc, text.as_bytes()), 65);
     Ok(())
@@ -259,70 +271,49 @@ fn a_script_has_at_most_1048576_line_feeds(rt: HostRuntime) -> Result<(), Fail> 
     for _ in text.len()..MAX_LENGTH {
         text.push(b'\n')?;
     }
-    assert!(rt; read(alloc, &text)?.lines().is_empty());
+    let script = read(alloc, &text)?;
+    assert!(rt; script.lines().is_empty());
     text.push(b'\n')?;
     assert_eq!(rt; malformed(alloc, &text), 1_048_568);
     Ok(())
 }
 
+// Lines with the greatest number that one may have, and behind it the next number.
+const LIMITS: &str = "\
+array 65535 1 | array 65536 1
+array 1 6 | array 1 7
+pes 65535 | pes 65536
+supply 6 10000 | supply 6 10001
+drain 1000000 | drain 1000001
+req 4294967295 1 0 0 0 | req 4294967296 1 0 0 0
+req 1 18446744073709551615 0 0 0 | req 1 18446744073709551616 0 0 0
+req 1 1 65535 0 0 | req 1 1 65536 0 0
+req 1 1 0 18446744073709551615 0 | req 1 1 0 18446744073709551616 0
+req 1 1 0 0 65535 | req 1 1 0 0 65536
+req 1 1 0 0 0 18446744073709551615 | req 1 1 0 0 0 18446744073709551616
+status 4294967295 1 | status 4294967296 1
+status 1 18446744073709551615 | status 1 18446744073709551616
+deliver 65535 c1.1 | deliver 65536 c1.1
+deliver 0 c4294967295.1 | deliver 0 c4294967296.1
+deliver 0 c1.18446744073709551615 | deliver 0 c1.18446744073709551616
+deliver 0 e65535.0.1 | deliver 0 e65536.0.1
+deliver 0 e0.18446744073709551615.1 | deliver 0 e0.18446744073709551616.1
+deliver 0 e0.0.18446744073709551615 | deliver 0 e0.0.18446744073709551616
+move 65535 0 0 | move 65536 0 0
+move 0 18446744073709551615 0 | move 0 18446744073709551616 0
+move 0 0 65535 | move 0 0 65536
+state 65535 0 | state 65536 0
+state 0 18446744073709551615 | state 0 18446744073709551616
+";
+
 #[test]
 fn numbers_go_to_their_limits(rt: HostRuntime) -> Result<(), Fail> {
     let alloc = rt.alloc();
-    for (greatest, beyond) in [
-        ("array 65535 1", "array 65536 1"),
-        ("array 1 6", "array 1 7"),
-        ("pes 65535", "pes 65536"),
-        ("supply 6 10000", "supply 6 10001"),
-        ("drain 1000000", "drain 1000001"),
-        ("req 4294967295 1 0 0 0", "req 4294967296 1 0 0 0"),
-        (
-            "req 1 18446744073709551615 0 0 0",
-            "req 1 18446744073709551616 0 0 0",
-        ),
-        ("req 1 1 65535 0 0", "req 1 1 65536 0 0"),
-        (
-            "req 1 1 0 18446744073709551615 0",
-            "req 1 1 0 18446744073709551616 0",
-        ),
-        ("req 1 1 0 0 65535", "req 1 1 0 0 65536"),
-        (
-            "req 1 1 0 0 0 18446744073709551615",
-            "req 1 1 0 0 0 18446744073709551616",
-        ),
-        ("status 4294967295 1", "status 4294967296 1"),
-        (
-            "status 1 18446744073709551615",
-            "status 1 18446744073709551616",
-        ),
-        ("deliver 65535 c1.1", "deliver 65536 c1.1"),
-        ("deliver 0 c4294967295.1", "deliver 0 c4294967296.1"),
-        (
-            "deliver 0 c1.18446744073709551615",
-            "deliver 0 c1.18446744073709551616",
-        ),
-        ("deliver 0 e65535.0.1", "deliver 0 e65536.0.1"),
-        (
-            "deliver 0 e0.18446744073709551615.1",
-            "deliver 0 e0.18446744073709551616.1",
-        ),
-        (
-            "deliver 0 e0.0.18446744073709551615",
-            "deliver 0 e0.0.18446744073709551616",
-        ),
-        ("move 65535 0 0", "move 65536 0 0"),
-        (
-            "move 0 18446744073709551615 0",
-            "move 0 18446744073709551616 0",
-        ),
-        ("move 0 0 65535", "move 0 0 65536"),
-        ("state 65535 0", "state 65536 0"),
-        (
-            "state 0 18446744073709551615",
-            "state 0 18446744073709551616",
-        ),
-    ] {
+    for line in LIMITS.lines() {
+        let (greatest, beyond) = line.split_once(" | ").unwrap_or((line, ""));
         let text = format!(in alloc; "array 0 1\n{greatest}\n")?;
-        assert!(rt; read(alloc, text.as_bytes()).is_ok(), "{greatest}");
+        let script = read(alloc, text.as_bytes());
+        assert!(rt; script.is_ok(), "{greatest}");
         let text = format!(in alloc; "array 0 1\n{beyond}\n")?;
         assert_eq!(rt; malformed(alloc, text.as_bytes()), 2, "{beyond}");
     }
@@ -372,9 +363,11 @@ fn texts_are_as_users_know_them(rt: HostRuntime) -> Result<(), Fail> {
         kind: Kind::Tape,
         count: 40,
     };
-    assert_eq!(rt; format!(in alloc; "{supplied}")?.as_str(), "supplied 6 40");
+    let text = format!(in alloc; "{supplied}")?;
+    assert_eq!(rt; text.as_str(), "supplied 6 40");
     let error = ReadError::Malformed(3);
-    assert_eq!(rt; format!(in alloc; "{error}")?.as_str(), "script line 3");
+    let text = format!(in alloc; "{error}")?;
+    assert_eq!(rt; text.as_str(), "script line 3");
     Ok(())
 }
 
@@ -452,14 +445,14 @@ fn pending_ids_are_printed_in_their_order(rt: HostRuntime) -> Result<(), Fail> {
         origin: Origin::Client(0),
         number: 1,
     };
-    let none = PendingIds(&[]);
-    assert_eq!(rt; format!(in alloc; "{none}")?.as_str(), "pending 0");
-    let one = PendingIds(&[element]);
-    assert_eq!(rt; format!(in alloc; "{one}")?.as_str(), "pending 1 e1.5.9");
-    let three = PendingIds(&[client, element, later]);
-    assert_eq!(rt;
-        format!(in alloc; "{three}")?.as_str(),
-        "pending 3 c7.2 e1.5.9 c0.1"
-    );
+    for (ids, wanted) in [
+        ([].as_slice(), "pending 0"),
+        (&[element], "pending 1 e1.5.9"),
+        (&[client, element, later], "pending 3 c7.2 e1.5.9 c0.1"),
+    ] {
+        let ids = PendingIds(ids);
+        let text = format!(in alloc; "{ids}")?;
+        assert_eq!(rt; text.as_str(), wanted);
+    }
     Ok(())
 }

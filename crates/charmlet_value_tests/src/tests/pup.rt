@@ -318,7 +318,8 @@ fn faults_are_told_in_words(rt: HostRuntime) -> Result<(), Fail> {
         (PupFault::Trailing, "bytes are left over"),
         (PupFault::Memory, "out of memory"),
     ] {
-        assert_eq!(rt; format!(in rt.alloc(); "{fault}")?.as_str(), text);
+        let said = format!(in rt.alloc(); "{fault}")?;
+        assert_eq!(rt; said.as_str(), text);
     }
     Ok(())
 }

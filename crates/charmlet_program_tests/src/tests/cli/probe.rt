@@ -146,8 +146,9 @@ fn run_of(
     let notes = Arc::new(alloc, Notes::new())?;
     let (text, wanted) = parts(alloc, transcript)?;
     let script = read_script(alloc, &mut text.as_bytes())?;
+    let blanks = probes(alloc, &notes, count)?;
     let mut output = Vec::new(alloc);
-    let ran = run_script(alloc, &script, probes(alloc, &notes, count)?, &mut output);
+    let ran = run_script(alloc, &script, blanks, &mut output);
     assert!(rt; ran.is_ok());
     assert_eq!(rt; output.as_slice(), wanted.as_bytes());
     Ok((notes, output))
@@ -255,14 +256,21 @@ fn deliver<C: Chare>(alloc: Global, store: &mut Small<C>, client: u32, entry: u1
 fn destroyed_objects_are_dropped_at_once(rt: HostRuntime) -> Result<(), Fail> {
     let alloc = rt.alloc();
     let notes = Arc::new(alloc, Notes::new())?;
-    let manifest = Manifest::of(alloc, &[(0, Kind::Tree.number())])?.ok_or("there is none")?;
+    let manifest = Manifest::of(alloc, &[(0, Kind::Tree.number())])?;
+    let Some(manifest) = manifest else {
+        panic!(rt; "kind 5 is a tree's");
+    };
     let mut store = Small::new(alloc, manifest, 1)?;
+    let notes_of_probe = notes.clone()?;
+    let object = Tree::blank();
+    let probe = Probe {
+        object,
+        notes: notes_of_probe,
+    };
     let mut blanks = Vec::new(alloc);
-    blanks.push(Probe {
-        object: Tree::blank(),
-        notes: notes.clone()?,
-    })?;
-    assert!(rt; store.supply(blanks).is_ok());
+    blanks.push(probe)?;
+    let supplied = store.supply(blanks);
+    assert!(rt; supplied.is_ok());
     deliver(alloc, &mut store, 7, CONSTRUCT);
     assert_eq!(rt; notes.drops.load(Ordering::SeqCst), 0);
     deliver(alloc, &mut store, 8, 0);

@@ -15,4 +15,4 @@ read_lines-requires g c =
 
 pub returns-clause-reads : goal.returns-clause-reads
 returns-clause-reads g c = script_is (g.R.Read.remaining c.args.reader.now) c.in_ok-text.text.items c.deref.result.now _ c.read_lines.result
-    c.in_ok-text.ensures (c.deref.ensures.value ∙ c.in_ok-cut.ensures.text) c.in_ok-lines.ensures (rw c.deref-2.ensures.value at c.read_lines.ensures.reads)
+    c.in_ok-text.ensures.reads (c.deref.ensures.value ∙ c.in_ok-cut.ensures.text) c.in_ok-lines.ensures (rw c.deref-2.ensures.value at c.read_lines.ensures.reads)
