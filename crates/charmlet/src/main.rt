@@ -32,12 +32,9 @@ fn run<R: Runtime + AllocGlobal>(rt: &R, path: &str) -> Result<(), Stop> {
         }
     }
     let mut writer = BufWriter::new(alloc, io::writer(rt))?;
-    let ran = run_script(alloc, &script, blanks, &mut writer)?;
+    run_script(alloc, &script, blanks, &mut writer)?;
     writer.flush()?;
-    match ran.stop() {
-        Some(stop) => Err(stop),
-        None => Ok(()),
-    }
+    Ok(())
 }
 
 /// The words of the command line, the first of which is the program's name.

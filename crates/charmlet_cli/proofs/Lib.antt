@@ -1,3 +1,4 @@
 pub mod Endings
+pub mod Openings
 pub mod Printing
 pub mod Showings

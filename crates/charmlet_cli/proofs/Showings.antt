@@ -5,10 +5,10 @@ use Rattle.std.specs.List.{flat_map}
 use Rattle.charmlet_chare.specs.declared.chare.Chare.{Ghosts}
 use Rattle.charmlet_migrate.specs.Moving.{objects_among}
 use Rattle.charmlet_stock.specs.Stock.{blanks_in, tally_in}
-use Rattle.charmlet_small.specs.declared.small.Small.{Small}
-use Rattle.charmlet_small.specs.Small.{StandsSo, world_in}
-use Rattle.charmlet_small.specs.There.{there_of}
-use Rattle.charmlet_small.proofs.Theres.{shelves_count_there}
+use Rattle.charmlet_store.specs.declared.store.Store.{Store}
+use Rattle.charmlet_store.specs.Store.{IsStoreConsistent, world_in}
+use Rattle.charmlet_store.specs.There.{there_of}
+use Rattle.charmlet_store.proofs.Theres.{shelves_count_there}
 use Rattle.charmlet_cli.specs.Lines.{ShowsCensus, ledger_in}
 use Rattle.charmlet_cli.specs.Shown.{all_kinds, counted_of, counted_texts}
 
@@ -17,19 +17,19 @@ is_some_unless None there = absurd (there refl)
 is_some_unless (Some x) there = refl
 
 -- what a store counts is a census
-pub census_shown : {C : Type 0} {G : Ghosts C} (small : Small C G) → StandsSo small →
-    ShowsCensus (ledger_in small) (flat_map (λ kind. counted_texts (counted_of small kind)) all_kinds)
-census_shown small stands = (
-  λ kind. (tally_in small.stock kind).retired,
+pub census_shown : {C : Type 0} {G : Ghosts C} (store : Store C G) → IsStoreConsistent store →
+    ShowsCensus (ledger_in store) (flat_map (λ kind. counted_texts (counted_of store kind)) all_kinds)
+census_shown store consistent = (
+  λ kind. (tally_in store.stock kind).retired,
   λ kind.
-      let there : objects_among small.shelves.items kind ≡ there_of (world_in small) kind = shelves_count_there small stands kind in
-      let whole = stands.census kind in
+      let there : objects_among store.shelves.items kind ≡ there_of (world_in store) kind = shelves_count_there store consistent kind in
+      let whole = consistent.census kind in
       omega arith,
   λ i. flat_map (λ kind. counted_texts (record {
     kind = kind;
-    supplied = (tally_in small.stock kind).supplied;
-    on_shelves = shelves_count_there small stands kind i;
-    in_stock = blanks_in small.stock kind;
-    retired = (tally_in small.stock kind).retired;
+    supplied = (tally_in store.stock kind).supplied;
+    on_shelves = shelves_count_there store consistent kind i;
+    in_stock = blanks_in store.stock kind;
+    retired = (tally_in store.stock kind).retired;
   })) all_kinds,
 )

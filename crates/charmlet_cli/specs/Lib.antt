@@ -2,7 +2,8 @@
 pub mod Drain
 pub mod Failure
 pub mod Lines
-pub mod Ran
+pub mod Run
 pub mod RunError
 pub mod Shown
 pub mod Stop
+pub mod Writing

@@ -1,5 +1,5 @@
 -- What the lines of a script do to a store, and what they print.
-use Rattle.std.specs.Prelude.{◌≡◌, ◌⊎◌, ℕ, ◌+◌, ◌≤◌, List, [], ◌∷◌, ◌++◌, map, Option, IsSome, unwrap_or}
+use Rattle.std.specs.Prelude.{◌≡◌, ◌⊎◌, ℕ, ◌+◌, ◌≤◌, List, [], ◌∷◌, ◌++◌, map, Option, IsSome, Result, unwrap_or}
 use Rattle.std.specs.Io.KnownBytes.{Appends}
 use Rattle.std.specs.List.{flat_map}
 use Rattle.charmlet_model.specs.declared.kind.Kind.{Kind}
@@ -10,45 +10,46 @@ use Rattle.charmlet_model.specs.declared.step.Answer.{Answer}
 use Rattle.charmlet_model.specs.declared.step.Answer.TheVariants.{Refused}
 use Rattle.charmlet_model.specs.Manifest.{manifest_of}
 use Rattle.charmlet_model.specs.Texts.{Text, answer_text}
-use Rattle.charmlet_model.specs.Run.{Store, Does}
+use Rattle.charmlet_model.specs.Run.{StoreView, Does}
 use Rattle.charmlet_model.specs.Sound.{new_world, opened}
 use Rattle.charmlet_script.specs.declared.script.Line.{Line}
 use Rattle.charmlet_script.specs.declared.script.Line.TheVariants.{Supply, Drain, State, Pending, Census, Step}
 use Rattle.charmlet_script.specs.Printed.{pending_text, supplied_text}
 use Rattle.charmlet_script.specs.Script.{Contents, blanks_of, pairs_of, processors_of}
 use Rattle.charmlet_model.specs.declared.state.State as states
-use Rattle.charmlet_model.specs.Core.{present, stands_on}
+use Rattle.charmlet_model.specs.Core.{present, place_or_home}
 use Rattle.charmlet_model.specs.Shelves.{count_of}
 use Rattle.charmlet_model.specs.World.{record_of}
 use Rattle.charmlet_chare.specs.declared.chare.Chare.{Ghosts}
 use Rattle.charmlet_stock.specs.declared.stock.Stock.{Stock}
 use Rattle.charmlet_stock.specs.Stock.{blanks_in, part_of}
-use Rattle.charmlet_small.specs.declared.small.Small.{Small}
-use Rattle.charmlet_small.specs.Small.{store_in, supplied_in}
+use Rattle.charmlet_store.specs.declared.store.Store.{Store}
+use Rattle.charmlet_store.specs.Store.{store_in, supplied_in}
 use Rattle.charmlet_cli.specs.Drain.{DrainsUpTo, drain_texts}
 use Rattle.charmlet_cli.specs.Shown.{IsWhole, all_kinds, counted_in, counted_texts, record_text}
+use Rattle.charmlet_cli.specs.Writing.{AppendsBeginning, Writes}
 
 -- there are as many objects of each kind as the lines supply
 abbrev pub AreEnough : {C : Type 0} → (C → states.State) → List C → List Line → Type 0
 AreEnough state objects lines = (kind : Kind) → blanks_of kind lines ≤ count_of state objects kind
 
 -- how many blanks of a kind are still to be supplied
-abbrev pub held_in : {C : Type 0} {G : Ghosts C} → Stock C G → Kind → ℕ
-held_in source kind = blanks_in source kind
+abbrev pub blanks_left : {C : Type 0} {G : Ghosts C} → Stock C G → Kind → ℕ
+blanks_left source kind = blanks_in source kind
 
 -- a store, and how many objects of each kind were supplied to it so far
 pub record Ledger : Type 0 where
-  pub store : Store
+  pub store : StoreView
   pub supplied : Kind → ℕ
 
 -- of a store that runs
-abbrev pub ledger_in : {C : Type 0} {G : Ghosts C} → Small C G → Ledger
-ledger_in small = record { store = store_in small; supplied = supplied_in small }
+abbrev pub ledger_in : {C : Type 0} {G : Ghosts C} → Store C G → Ledger
+ledger_in store = record { store = store_in store; supplied = supplied_in store }
 
 -- before the first line: the script's processors and arrays, and nothing else
 abbrev pub opening_of : Contents → Ledger
 opening_of script = record {
-  store = record { core = opened (processors_of script) (new_world (unwrap_or (manifest_of (pairs_of script.arrays)) [])) 0 1; blanks = λ _. 0 };
+  store = record { core = opened (processors_of script) (new_world (unwrap_or (manifest_of (pairs_of script.arrays)) [])) 0 1 0; blanks = λ _. 0 };
   supplied = λ _. 0;
 }
 
@@ -71,13 +72,13 @@ abbrev pub Supplies : Ledger → Kind → ℕ → Text → Ledger → Type 0
 Supplies old kind count text new = ((text ≡ supplied_text (record { kind = kind; count = count })) × IsSupplied kind count old new) ⊎ ((text ≡ memory_text) × (new ≡ old))
 
 -- a state line shows the element's processor and record; memory may be refused where the element is there
-abbrev pub ShowsState : Store → Elem → Text → Type 0
+abbrev pub ShowsState : StoreView → Elem → Text → Type 0
 ShowsState store elem text =
-    (text ≡ record_text elem (stands_on store.core elem) (record_of (present store.core) elem))
+    (text ≡ record_text elem (place_or_home store.core elem) (record_of (present store.core) elem))
     ⊎ (IsSome (record_of (present store.core) elem).state × (text ≡ memory_text))
 
 -- a pending line shows the ids of the pending messages, or memory is refused
-abbrev pub ShowsPending : Store → Text → Type 0
+abbrev pub ShowsPending : StoreView → Text → Type 0
 ShowsPending store text = (text ≡ pending_text (map (λ m. m.id) (present store.core).pending)) ⊎ (text ≡ memory_text)
 
 -- a census shows, kind by kind, where the objects are that were supplied so far
@@ -96,12 +97,23 @@ Follows old Pending texts new = (text : Text) × ShowsPending old.store text × 
 Follows old Census texts new = ShowsCensus old texts × (new ≡ old)
 Follows old (Step step) texts new = (answer : Answer) × Does old.store step answer new.store × (new.supplied ≡ old.supplied) × (texts ≡ answer_text answer ∷ [])
 
--- a line prints its texts behind what was printed before
-abbrev pub IsPrinted : Ledger → Line → Ledger → (before after : Option Text) → Type 0
-IsPrinted old line new before after = (texts : List Text) × Follows old line texts new × Appends before after (in_lines texts)
+-- a line is run, and its texts are written after what was written before, or where that fails a beginning of them
+abbrev pub IsPrinted : {T E : Type 0} → Result T E → Ledger → Line → Ledger → (before after : Option Text) → Type 0
+IsPrinted result old line new before after = (texts : List Text) × Follows old line texts new × Writes result before after (in_lines texts)
 
 -- lines one after another print their texts
 abbrev pub Prints : Ledger → List Line → List Text → Ledger → Type 0
 Prints first [] texts last = (texts ≡ []) × (last ≡ first)
 Prints first (line ∷ lines) texts last =
     (next : Ledger) × (printed : List Text) × (rest : List Text) × Follows first line printed next × Prints next lines rest last × (texts ≡ printed ++ rest)
+
+-- lines are run one after another, and their texts written
+abbrev pub AreRun : Ledger → List Line → Ledger → (before after : Option Text) → Type 0
+AreRun first lines last before after = (texts : List Text) × Prints first lines texts last × Appends before after (in_lines texts)
+
+-- some lines are run and their texts written, and the next line is run and a beginning of its texts written
+abbrev pub BreakOff : Ledger → List Line → (before after : Option Text) → Type 0
+BreakOff first lines before after =
+    (whole : List Line) × (line : Line) × (rest : List Line) × (lines ≡ whole ++ line ∷ rest)
+    × (mid : Ledger) × (between : Option Text) × AreRun first whole mid before between
+    × (texts : List Text) × (last : Ledger) × Follows mid line texts last × AppendsBeginning between after (in_lines texts)

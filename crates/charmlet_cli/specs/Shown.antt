@@ -8,14 +8,14 @@ use Rattle.charmlet_model.specs.declared.state.Record.{Record}
 use Rattle.charmlet_model.specs.declared.state.State.{State}
 use Rattle.charmlet_model.specs.Core.{present}
 use Rattle.charmlet_model.specs.Packed.{pupped}
-use Rattle.charmlet_model.specs.Run.{Store}
+use Rattle.charmlet_model.specs.Run.{StoreView}
 use Rattle.charmlet_model.specs.Texts.{Text}
 use Rattle.charmlet_script.specs.declared.printed.Counted.{Counted}
 use Rattle.charmlet_script.specs.Printed.{absent_text, counted_text, standing_text}
 use Rattle.charmlet_chare.specs.declared.chare.Chare.{Ghosts}
-use Rattle.charmlet_small.specs.declared.small.Small.{Small}
-use Rattle.charmlet_small.specs.Census.{census_in}
-use Rattle.charmlet_small.specs.There.{there_of}
+use Rattle.charmlet_store.specs.declared.store.Store.{Store}
+use Rattle.charmlet_store.specs.Census.{census_in}
+use Rattle.charmlet_store.specs.There.{there_of}
 
 -- an element on this processor, if it is there, with this state and these counts; the digits are those of its packed state
 abbrev pub state_text : Elem → (processor : ℕ) → Option State → (sent received : ℕ) → Text
@@ -31,7 +31,7 @@ abbrev pub all_kinds : List Kind
 all_kinds = kinds.Counter ∷ kinds.Ring ∷ kinds.Account ∷ kinds.Sum ∷ kinds.Tree ∷ kinds.Tape ∷ []
 
 -- the numbers of a kind: those on shelves are the elements that are there, and those in the stock its blanks
-abbrev pub counted_in : Store → (supplied retired : Kind → ℕ) → Kind → Counted
+abbrev pub counted_in : StoreView → (supplied retired : Kind → ℕ) → Kind → Counted
 counted_in store supplied retired kind = record {
   kind = kind;
   supplied = supplied kind;
@@ -41,13 +41,13 @@ counted_in store supplied retired kind = record {
 }
 
 -- the numbers of a kind that a store counts
-abbrev pub counted_of : {C : Type 0} {G : Ghosts C} → Small C G → Kind → Counted
-counted_of small kind = record {
+abbrev pub counted_of : {C : Type 0} {G : Ghosts C} → Store C G → Kind → Counted
+counted_of store kind = record {
   kind = kind;
-  supplied = (census_in small kind).supplied;
-  on_shelves = (census_in small kind).on_shelves;
-  in_stock = (census_in small kind).in_stock;
-  retired = (census_in small kind).retired;
+  supplied = (census_in store kind).supplied;
+  on_shelves = (census_in store kind).on_shelves;
+  in_stock = (census_in store kind).in_stock;
+  retired = (census_in store kind).retired;
 }
 
 -- what was supplied is on shelves, in the stock, or retired

@@ -4,7 +4,6 @@ ghost use Rattle.std.specs.Prelude.{◌≡◌, IfErr, OnOk};
 ghost use Rattle.charmlet_cli.specs.Failure.{Says, exit_status};
 
 use crate::stop::Stop;
-use crate::writing::write_line;
 use charmlet_command::CommandError;
 use std::io;
 use std::io::Write;
@@ -32,13 +31,16 @@ impl Failure {
         }
     }
 
-    /// Says why: clap's text as it is, and a stop in a line.
+    /// Says why, and takes no memory: clap's text as it is, and a stop in a line.
     fn say<W: Write>(&self, errors: &mut W) -> io::Result<()>
         ensures { OnOk result (Says self.now (W.contents errors.old) (W.contents errors.new)) }
     {
         match self {
             Failure::Command(error) => write!(errors, "{error}"),
-            Failure::Stopped(stop) => write_line(errors, stop),
+            Failure::Stopped(stop) => {
+                writeln!(errors, "{stop}")?;
+                errors.flush()
+            }
         }
     }
 }

@@ -1,65 +1,44 @@
 //! Runs of scripts.
 
-ghost use Rattle.std.specs.Prelude.{◌≡◌, ◌↔◌, ◌+◌, ◌≤◌, List, Some, true, OnOk, IfErr, IfOk};
-ghost use Rattle.std.specs.Io.KnownBytes.{Appends};
+ghost use Rattle.std.specs.Prelude.{◌≡◌, ◌↔◌, ◌+◌, ◌≤◌, Some, true, OnOk, OnErr, IfErr, IfOk};
 ghost use Rattle.charmlet_model.specs.declared.kind.Kind.{Kind};
 ghost use Rattle.charmlet_model.specs.Fit.{IsFit};
 ghost use Rattle.charmlet_model.specs.Manifest.{manifest_of};
 ghost use Rattle.charmlet_model.specs.Shelves.{count_of};
 ghost use Rattle.charmlet_model.specs.Sound.{new_world};
-ghost use Rattle.charmlet_model.specs.Texts.{Text};
 ghost use Rattle.charmlet_script.specs.Script.{blanks_in, blanks_of, pairs_of};
 ghost use Rattle.charmlet_script.specs.declared.script.Line.TheVariants as lines;
-ghost use Rattle.charmlet_small.specs.Small.{StandsSo};
+ghost use Rattle.charmlet_store.specs.Store.{IsStoreConsistent};
 ghost use Rattle.charmlet_stock.specs.Stock.{part_of};
-ghost use Rattle.charmlet_cli.specs.Lines.{AreEnough, IsPrinted, Prints, held_in, in_lines, ledger_in};
-ghost use Rattle.charmlet_cli.specs.Ran.{RunsTo, stop_after};
-ghost use Rattle.charmlet_cli.specs.RunError.{Leaves};
+ghost use Rattle.charmlet_cli.specs.Lines.{AreEnough, AreRun, BreakOff, IsPrinted, blanks_left, ledger_in};
+ghost use Rattle.charmlet_cli.specs.RunError.{EndsRun, Leaves};
+ghost use Rattle.charmlet_cli.specs.Run.{IsRun};
 ghost use Rattle.charmlet_cli.specs.declared.running.RunError.TheVariants as errors;
 
 use crate::draining::drain_line;
 use crate::showing::{census_line, pending_line, state_line};
-use crate::stop::Stop;
-use crate::writing::{write_line, write_memory_refused};
+use crate::writing::{write_answer, write_line, write_memory_refused};
 use charmlet_chare::Chare;
 use charmlet_model::{Answer, Kind, Manifest, Refusal};
 use charmlet_script::{Line, Script, Supplied};
-use charmlet_small::Small;
 use charmlet_stock::{Stock, count_of};
+use charmlet_store::Store;
 use std::alloc::{AllocError, Global};
 use std::io;
 use std::io::Write;
 
-/// How far a script was run, where neither memory nor the output ended the run.
-#[derive(Clone, Copy, Debug, PartialEq, Eq)]
-pub enum Ran {
-    /// All its lines were run.
-    Whole,
-    /// The store wasn't created, for this reason, which is all that was written. No line was run.
-    NotCreated(Refusal),
-}
-
-impl Ran {
-    /// Why the program stops after the run, if it does: `Stop::NotCreated` where there was no store.
-    pub fn stop(&self) -> Option<Stop>
-        ensures { result ≡ stop_after self.now }
-    {
-        match self {
-            Ran::Whole => None,
-            Ran::NotCreated(_) => Some(Stop::NotCreated),
-        }
-    }
-}
-
-/// Why a run of a script ended before its last line.
+/// Why a script wasn't run to its last line.
 #[derive(Drop)]
 pub enum RunError<C: Chare> {
     /// There are fewer objects of a kind than the script supplies. All come back, and nothing was
     /// written.
     TooFewBlanks(Vec<C>),
-    /// Memory was refused outside a step.
+    /// The store wasn't created, for this reason, whose line is all that was written. No line was run.
+    NotCreated(Refusal),
+    /// Memory was refused before the first line. Nothing was written.
     Memory,
-    /// The output failed.
+    /// A line couldn't be written: the output failed, or memory for the line's text was refused. A beginning of what
+    /// the script prints was written.
     Output(io::Error),
 }
 
@@ -87,29 +66,28 @@ impl<C: Chare> From<io::Error> for RunError<C> {
 /// shelves is refused, `Memory`. Then the refusal is written, no line is run, and all objects are dropped.
 ///
 /// `RunError` says what each error means; where there are too few objects, it comes before the test of the
-/// number of processors. What was written before an error stays written.
+/// number of processors.
 pub fn run_script<C: Chare, W: Write>(
     alloc: Global,
     script: &Script,
     blanks: Vec<C>,
     writer: &mut W,
-) -> Result<Ran, RunError<C>>
+) -> Result<(), RunError<C>>
     ensures enough { OnOk result (AreEnough C.state blanks.items script.now.lines) }
-    ensures ran { IfOk result (RunsTo script.now (W.contents writer.old) (W.contents writer.new)) }
-    ensures err { IfErr result (Leaves C.state blanks.items script.now.lines writer.old writer.new) }
+    ensures ran { OnOk result (IsRun script.now (W.contents writer.old) (W.contents writer.new)) }
+    ensures err { IfErr result (Leaves C.state W.contents blanks.items script.now writer.old writer.new) }
 {
     if !has_enough(script, blanks.as_slice()) {
         return Err(RunError::TooFewBlanks(blanks));
     }
     let manifest = script.manifest(alloc)?;
     let mut source = stock_of(alloc, blanks)?;
-    let ran = run_in_new_store(alloc, script, manifest, &mut source, writer)?;
-    Ok(ran)
+    run_in_new_store(alloc, script, manifest, &mut source, writer)
 }
 
 /// A stock with these objects. It fails only for want of memory.
 fn stock_of<C: Chare>(alloc: Global, objects: Vec<C>) -> Result<Stock<C>, AllocError>
-    ensures { IfOk result (λ stock. (kind : Kind) → held_in stock kind ≡ count_of C.state objects.items kind) }
+    ensures { IfOk result (λ stock. (kind : Kind) → blanks_left stock kind ≡ count_of C.state objects.items kind) }
 {
     let mut stock = Stock::new(alloc);
     if stock.supply(objects).is_err() {
@@ -125,20 +103,21 @@ fn run_in_new_store<C: Chare, W: Write>(
     manifest: Manifest,
     source: &mut Stock<C>,
     writer: &mut W,
-) -> io::Result<Ran>
+) -> Result<(), RunError<C>>
     requires manifest { manifest_of (pairs_of script.now.arrays) ≡ Some manifest }
     requires fit { IsFit (new_world manifest) }
-    requires enough { (kind : Kind) → blanks_of kind script.now.lines ≤ held_in source.old kind }
-    ensures { IfOk result (RunsTo script.now (W.contents writer.old) (W.contents writer.new)) }
+    requires enough { (kind : Kind) → blanks_of kind script.now.lines ≤ blanks_left source.old kind }
+    ensures ran { OnOk result (IsRun script.now (W.contents writer.old) (W.contents writer.new)) }
+    ensures err { IfErr result (EndsRun script.now (W.contents writer.old) (W.contents writer.new)) }
 {
-    match Small::new(alloc, manifest, script.processors()) {
+    match Store::new(alloc, manifest, script.processors()) {
         Ok(mut store) => {
             run_lines(alloc, &mut store, source, script.lines(), writer)?;
-            Ok(Ran::Whole)
+            Ok(())
         }
         Err(refusal) => {
-            write_line(writer, &Answer::Refused(refusal))?;
-            Ok(Ran::NotCreated(refusal))
+            write_answer(alloc, writer, &Answer::Refused(refusal))?;
+            Err(RunError::NotCreated(refusal))
         }
     }
 }
@@ -146,14 +125,15 @@ fn run_in_new_store<C: Chare, W: Write>(
 /// Runs lines one after another.
 fn run_lines<C: Chare, W: Write>(
     alloc: Global,
-    store: &mut Small<C>,
+    store: &mut Store<C>,
     source: &mut Stock<C>,
     lines: &[Line],
     writer: &mut W,
 ) -> io::Result<()>
-    requires stands { StandsSo store.old }
-    requires enough { (kind : Kind) → blanks_of kind lines.now ≤ held_in source.old kind }
-    ensures prints { OnOk result ((texts : List Text) × Prints (ledger_in store.old) lines.now texts (ledger_in store.new) × Appends (W.contents writer.old) (W.contents writer.new) (in_lines texts)) }
+    requires consistent { IsStoreConsistent store.old }
+    requires enough { (kind : Kind) → blanks_of kind lines.now ≤ blanks_left source.old kind }
+    ensures prints { OnOk result (AreRun (ledger_in store.old) lines.now (ledger_in store.new) (W.contents writer.old) (W.contents writer.new)) }
+    ensures breaks_off { OnErr result (BreakOff (ledger_in store.old) lines.now (W.contents writer.old) (W.contents writer.new)) }
 {
     for line in lines {
         run_line(alloc, store, source, line, writer)?;
@@ -164,46 +144,49 @@ fn run_lines<C: Chare, W: Write>(
 /// Runs one line, and writes what it answers.
 fn run_line<C: Chare, W: Write>(
     alloc: Global,
-    store: &mut Small<C>,
+    store: &mut Store<C>,
     source: &mut Stock<C>,
     line: &Line,
     writer: &mut W,
 ) -> io::Result<()>
-    requires stands { StandsSo store.old }
-    requires enough { (kind : Kind) → blanks_in kind line.now ≤ held_in source.old kind }
-    ensures stands { StandsSo store.new }
-    ensures prints { OnOk result (IsPrinted (ledger_in store.old) line.now (ledger_in store.new) (W.contents writer.old) (W.contents writer.new)) }
-    ensures left { OnOk result ((kind : Kind) → held_in source.old kind ≤ held_in source.new kind + blanks_in kind line.now) }
+    requires consistent { IsStoreConsistent store.old }
+    requires enough { (kind : Kind) → blanks_in kind line.now ≤ blanks_left source.old kind }
+    ensures consistent { IsStoreConsistent store.new }
+    ensures prints { IsPrinted result (ledger_in store.old) line.now (ledger_in store.new) (W.contents writer.old) (W.contents writer.new) }
+    ensures left { OnOk result ((kind : Kind) → blanks_left source.old kind ≤ blanks_left source.new kind + blanks_in kind line.now) }
 {
     let step = match line {
-        Line::Supply { kind, count } => return supply_line(store, source, *kind, *count, writer),
-        Line::Drain { count } => return drain_line(store, *count, writer),
+        Line::Supply { kind, count } => return supply_line(
+            alloc, store, source, *kind, *count, writer,
+        ),
+        Line::Drain { count } => return drain_line(alloc, store, *count, writer),
         Line::State(elem) => return state_line(alloc, store, *elem, writer),
-        Line::Pending => return pending_line(store, writer),
-        Line::Census => return census_line(store, writer),
+        Line::Pending => return pending_line(alloc, store, writer),
+        Line::Census => return census_line(alloc, store, writer),
         Line::Step(step) => step,
     };
-    write_line(writer, &store.step(step))
+    write_answer(alloc, writer, &store.step(step))
 }
 
 /// Supplies so many objects of a kind, and writes that it did, or that memory was refused.
 fn supply_line<C: Chare, W: Write>(
-    store: &mut Small<C>,
+    alloc: Global,
+    store: &mut Store<C>,
     source: &mut Stock<C>,
     kind: Kind,
     count: u32,
     writer: &mut W,
 ) -> io::Result<()>
-    requires stands { StandsSo store.old }
-    requires enough { count ≤ held_in source.old kind }
-    ensures stands { StandsSo store.new }
-    ensures prints { OnOk result (IsPrinted (ledger_in store.old) (lines.Supply kind count) (ledger_in store.new) (W.contents writer.old) (W.contents writer.new)) }
-    ensures left { OnOk result ((k : Kind) → held_in source.old k ≤ held_in source.new k + part_of kind count k) }
+    requires consistent { IsStoreConsistent store.old }
+    requires enough { count ≤ blanks_left source.old kind }
+    ensures consistent { IsStoreConsistent store.new }
+    ensures prints { IsPrinted result (ledger_in store.old) (lines.Supply kind count) (ledger_in store.new) (W.contents writer.old) (W.contents writer.new) }
+    ensures left { OnOk result ((k : Kind) → blanks_left source.old k ≤ blanks_left source.new k + part_of kind count k) }
 {
     if store.draw(source, kind, count as usize).is_err() {
         return write_memory_refused(writer);
     }
-    write_line(writer, &Supplied { kind, count })
+    write_line(alloc, writer, &Supplied { kind, count })
 }
 
 /// Whether there are as many objects of each kind as the script supplies.

@@ -1,48 +1,48 @@
 //! The running of lines that show something of a store, and change nothing.
 
-ghost use Rattle.std.specs.Prelude.{◌≡◌, IfOk, IsOk, None, OnOk};
-ghost use Rattle.std.specs.Io.KnownBytes.{Appends};
-ghost use Rattle.charmlet_model.specs.Core.{stands_on};
+ghost use Rattle.std.specs.Prelude.{◌≡◌, IfOk, IsOk, None};
+ghost use Rattle.charmlet_model.specs.Core.{place_or_home};
 ghost use Rattle.charmlet_model.specs.World.{record_of};
 ghost use Rattle.charmlet_script.specs.Printed.{shown_text};
 ghost use Rattle.charmlet_script.specs.declared.script.Line.TheVariants as lines;
-ghost use Rattle.charmlet_small.specs.Census.{census_in};
-ghost use Rattle.charmlet_small.specs.Small.{StandsSo, store_in, world_in};
+ghost use Rattle.charmlet_store.specs.Census.{census_in};
+ghost use Rattle.charmlet_store.specs.Store.{IsStoreConsistent, store_in, world_in};
 ghost use Rattle.charmlet_cli.specs.Lines.{IsPrinted, in_lines, ledger_in};
 ghost use Rattle.charmlet_cli.specs.Shown.{counted_of, counted_texts, record_text};
+ghost use Rattle.charmlet_cli.specs.Writing.{Writes};
 
 use crate::writing::{write_line, write_memory_refused};
 use charmlet_chare::Chare;
 use charmlet_model::{Elem, Kind};
 use charmlet_script::{Counted, PendingIds, Shown, Standing};
-use charmlet_small::Small;
+use charmlet_store::Store;
 use std::alloc::{AllocError, Global};
 use std::io;
 use std::io::Write;
 
-/// Writes where the element stands and its state, or that memory was refused. An error is the writer's.
+/// Writes where the element stands and its state, or that memory was refused. An error is as `write_line` has it.
 pub fn state_line<C: Chare, W: Write>(
     alloc: Global,
-    store: &mut Small<C>,
+    store: &mut Store<C>,
     elem: Elem,
     writer: &mut W,
 ) -> io::Result<()>
-    requires { StandsSo store.old }
-    ensures stands { StandsSo store.new }
-    ensures prints { OnOk result (IsPrinted (ledger_in store.old) (lines.State elem) (ledger_in store.new) (W.contents writer.old) (W.contents writer.new)) }
+    requires { IsStoreConsistent store.old }
+    ensures consistent { IsStoreConsistent store.new }
+    ensures prints { IsPrinted result (ledger_in store.old) (lines.State elem) (ledger_in store.new) (W.contents writer.old) (W.contents writer.new) }
 {
     let Ok(shown) = shown(alloc, store, elem) else {
         return write_memory_refused(writer);
     };
-    write_line(writer, &shown)
+    write_line(alloc, writer, &shown)
 }
 
 /// What a line shows of an element. It fails only for want of memory, and not where the element isn't
 /// there.
-fn shown<C: Chare>(alloc: Global, store: &mut Small<C>, elem: Elem) -> Result<Shown, AllocError>
-    requires { StandsSo store.old }
+fn shown<C: Chare>(alloc: Global, store: &mut Store<C>, elem: Elem) -> Result<Shown, AllocError>
+    requires { IsStoreConsistent store.old }
     ensures same { store.new ≡ store.old }
-    ensures ok { IfOk result (λ shown. shown_text shown ≡ record_text elem (stands_on (store_in store.old).core elem) (record_of (world_in store.old) elem)) }
+    ensures ok { IfOk result (λ shown. shown_text shown ≡ record_text elem (place_or_home (store_in store.old).core elem) (record_of (world_in store.old) elem)) }
     ensures absent { (record_of (world_in store.old) elem).state ≡ None → IsOk result }
 {
     let look = store.look(elem)?;
@@ -67,32 +67,46 @@ fn shown<C: Chare>(alloc: Global, store: &mut Small<C>, elem: Elem) -> Result<Sh
     })
 }
 
-/// Writes the ids of the pending messages, or that memory was refused. An error is the writer's.
-pub fn pending_line<C: Chare, W: Write>(store: &Small<C>, writer: &mut W) -> io::Result<()>
-    requires { StandsSo store.now }
-    ensures { OnOk result (IsPrinted (ledger_in store.now) lines.Pending (ledger_in store.now) (W.contents writer.old) (W.contents writer.new)) }
+/// Writes the ids of the pending messages, or that memory was refused. An error is as `write_line` has it.
+pub fn pending_line<C: Chare, W: Write>(
+    alloc: Global,
+    store: &Store<C>,
+    writer: &mut W,
+) -> io::Result<()>
+    requires { IsStoreConsistent store.now }
+    ensures { IsPrinted result (ledger_in store.now) lines.Pending (ledger_in store.now) (W.contents writer.old) (W.contents writer.new) }
 {
     let Ok(ids) = store.pending() else {
         return write_memory_refused(writer);
     };
-    write_line(writer, &PendingIds(ids.as_slice()))
+    write_line(alloc, writer, &PendingIds(ids.as_slice()))
 }
 
-/// Writes, for each kind of which objects were supplied, where they are. An error is the writer's.
-pub fn census_line<C: Chare, W: Write>(store: &Small<C>, writer: &mut W) -> io::Result<()>
-    requires { StandsSo store.now }
-    ensures { OnOk result (IsPrinted (ledger_in store.now) lines.Census (ledger_in store.now) (W.contents writer.old) (W.contents writer.new)) }
+/// Writes, for each kind of which objects were supplied, where they are, a line each. An error is as `write_line` has
+/// it, and the lines before that one stay written.
+pub fn census_line<C: Chare, W: Write>(
+    alloc: Global,
+    store: &Store<C>,
+    writer: &mut W,
+) -> io::Result<()>
+    requires { IsStoreConsistent store.now }
+    ensures { IsPrinted result (ledger_in store.now) lines.Census (ledger_in store.now) (W.contents writer.old) (W.contents writer.new) }
 {
     for kind in &Kind::ALL {
-        count_line(store, *kind, writer)?;
+        count_line(alloc, store, *kind, writer)?;
     }
     Ok(())
 }
 
 /// Writes where the objects of a kind are, if some were supplied.
-fn count_line<C: Chare, W: Write>(store: &Small<C>, kind: Kind, writer: &mut W) -> io::Result<()>
-    requires { StandsSo store.now }
-    ensures { OnOk result (Appends (W.contents writer.old) (W.contents writer.new) (in_lines (counted_texts (counted_of store.now kind)))) }
+fn count_line<C: Chare, W: Write>(
+    alloc: Global,
+    store: &Store<C>,
+    kind: Kind,
+    writer: &mut W,
+) -> io::Result<()>
+    requires { IsStoreConsistent store.now }
+    ensures { Writes result (W.contents writer.old) (W.contents writer.new) (in_lines (counted_texts (counted_of store.now kind))) }
 {
     let census = store.census(kind);
     if census.supplied == 0 {
@@ -105,5 +119,5 @@ fn count_line<C: Chare, W: Write>(store: &Small<C>, kind: Kind, writer: &mut W) 
         in_stock: census.in_stock,
         retired: census.retired,
     };
-    write_line(writer, &counted)
+    write_line(alloc, writer, &counted)
 }

@@ -72,12 +72,15 @@ impl From<ReadError> for Stop {
 
 impl<C: Chare> From<RunError<C>> for Stop {
     ghost use Rattle.std.specs.Prelude.{◌≡◌};
-    ghost use Rattle.charmlet_cli.specs.declared.stop.Stop.TheVariants.{CannotGoOn};
+    ghost use Rattle.charmlet_cli.specs.RunError.{stop_after};
 
-    ghost from_gives = { λ _ stop. stop ≡ CannotGoOn };
+    ghost from_gives = { λ error stop. stop ≡ stop_after error };
 
-    fn from(_error: RunError<C>) -> Stop {
-        Stop::CannotGoOn
+    fn from(error: RunError<C>) -> Stop {
+        match error {
+            RunError::NotCreated(_) => Stop::NotCreated,
+            RunError::TooFewBlanks(_) | RunError::Memory | RunError::Output(_) => Stop::CannotGoOn,
+        }
     }
 }
 

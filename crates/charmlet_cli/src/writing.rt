@@ -1,26 +1,68 @@
 //! The lines of the output.
 
-ghost use Rattle.std.specs.Prelude.{◌≡◌, ◌∷◌, [], Some, OnOk};
-ghost use Rattle.std.specs.Io.KnownBytes.{Appends};
-ghost use Rattle.charmlet_model.specs.Texts.{Text};
+ghost use Rattle.std.specs.Prelude.{◌∷◌, [], IfSome};
+ghost use Rattle.charmlet_model.specs.Texts.{answer_text};
 ghost use Rattle.charmlet_cli.specs.Lines.{in_lines, memory_text};
+ghost use Rattle.charmlet_cli.specs.Writing.{Writes};
 
 use charmlet_model::{Answer, Refusal};
-use std::io::Write;
+use std::alloc::Global;
+use std::io::{ErrorKind, Write};
 use std::{fmt, io};
 
-/// Writes a line and its line feed, and flushes, so that whoever reads the output has it at once. An error is
-/// the writer's, or says that the line couldn't be formatted.
-pub fn write_line<T: fmt::Display, W: Write>(writer: &mut W, line: &T) -> io::Result<()>
-    ensures { OnOk result ((text : Text) → T.output line.now ≡ Some text → Appends (W.contents writer.old) (W.contents writer.new) (in_lines (text ∷ []))) }
+/// Writes a line and its line feed, and flushes, so that whoever reads the output has it at once.
+///
+/// An error is the writer's, and a beginning of the line is written; or memory for the line's text was refused, of
+/// kind `OutOfMemory`, and nothing of it is written.
+pub fn write_line<T: fmt::Display, W: Write>(
+    alloc: Global,
+    writer: &mut W,
+    line: &T,
+) -> io::Result<()>
+    ensures { IfSome (T.output line.now) (λ text. Writes result (W.contents writer.old) (W.contents writer.new) (in_lines (text ∷ []))) }
 {
-    writeln!(writer, "{line}")?;
-    writer.flush()
+    let text = format!(in alloc; "{line}\n")?;
+    write_bytes(writer, text.as_bytes())
 }
 
-/// Writes that memory was refused. An error is the writer's.
+/// Writes that memory was refused, for which it takes none. An error is the writer's, and a beginning of the line is
+/// written.
 pub fn write_memory_refused<W: Write>(writer: &mut W) -> io::Result<()>
-    ensures { OnOk result (Appends (W.contents writer.old) (W.contents writer.new) (in_lines (memory_text ∷ []))) }
+    ensures { Writes result (W.contents writer.old) (W.contents writer.new) (in_lines (memory_text ∷ [])) }
 {
-    write_line(writer, &Answer::Refused(Refusal::Memory))
+    write_bytes(writer, b"refused 1 Memory\n")
+}
+
+/// Writes an answer as a line does. That memory was refused takes none.
+pub(crate) fn write_answer<W: Write>(
+    alloc: Global,
+    writer: &mut W,
+    answer: &Answer,
+) -> io::Result<()>
+    ensures { Writes result (W.contents writer.old) (W.contents writer.new) (in_lines (answer_text answer.now ∷ [])) }
+{
+    match answer {
+        Answer::Refused(Refusal::Memory) => write_memory_refused(writer),
+        _ => write_line(alloc, writer, answer),
+    }
+}
+
+/// Writes these bytes, and flushes. An interrupted write is tried again. An error is the writer's, and a beginning of
+/// the bytes is written.
+fn write_bytes<W: Write>(writer: &mut W, bytes: &[u8]) -> io::Result<()>
+    ensures { Writes result (W.contents writer.old) (W.contents writer.new) bytes.now }
+{
+    let mut rest = bytes;
+    for _ in 0..u64::MAX {
+        if rest.is_empty() {
+            return writer.flush();
+        }
+        match writer.write(rest) {
+            Ok(0) => return Err(io::Error::from(ErrorKind::WriteZero)),
+            Ok(count) => rest = &rest[count..],
+            Err(error) if error.kind() == ErrorKind::Interrupted => {}
+            Err(error) => return Err(error),
+        }
+    }
+    Err(io::Error::from(ErrorKind::Interrupted))
 }

@@ -83,7 +83,8 @@ Lines, of which 'array' and 'pes' come first:
   census             shows where the objects of each kind are
 
 A request and a status print what is durable of the request: 'told unknown', 'told accepted',
-'told replied' with the words of the reply, or 'told past' once a later one is durable.
+'told replied' with the words of the reply, or 'told past' once it has left the client's
+window of eight. A client may have eight requests without a reply.
 Message cC.N is number N of client C, and eA.I.N number N of element I of array A. A message
 is delivered where its receiver stands, at first processor (A + I) mod the number of them.
 Constructing an element takes a blank of its kind, and so does moving it to another processor.

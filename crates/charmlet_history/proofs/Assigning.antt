@@ -1,5 +1,5 @@
 -- What a test and an assignment make of what is kept.
-use Rattle.std.proofs.Common.{◌≡◌, ℕ, ◌+◌, ◌<◌, ◌^◌, ◌==◌, Bool, true, false, cond, not, ◌&&◌, ◌||◌, List, [], ◌∷◌, ◌++◌, length, refl, sym, ap, subst, ◌∙◌, arith, if◌then◌else◌}
+use Rattle.std.proofs.Common.{◌≡◌, ℕ, ◌+◌, ◌<◌, ◌==◌, Bool, true, false, cond, not, ◌&&◌, ◌||◌, List, [], ◌∷◌, ◌++◌, refl, sym, ap, subst, ◌∙◌, if◌then◌else◌}
 use Rattle.std.proofs.lemmas.Bool.{lt-ltb}
 use Rattle.std.specs.Prelude.{Option, Some, None, is_some, nat_le, nat_lt, unwrap_or, option_and_then, Result, Ok, Err, IfOk, IfErr}
 use Rattle.std.specs.Ordering.{eq_by_cmp, nat_cmp}
@@ -18,14 +18,14 @@ use Rattle.charmlet_model.specs.Names.{elem_cmp}
 use Rattle.charmlet_model.specs.Reaction.{greatest}
 use Rattle.charmlet_model.specs.World.{message_among, record_of}
 use Rattle.charmlet_model.specs.Core as model
-use Rattle.charmlet_model.specs.Core.{Core, Gate, When, MayLackMemory, present, home, place_of, stands_on, is_present, assigned_to, pending_message, gates, message_gates, lacks_blank, are_counts_full, blank_for, blank_of_id, first_refusal, next_core, Assign, Release}
+use Rattle.charmlet_model.specs.Core.{Core, Gate, When, MayLackMemory, present, home, place_of, place_or_home, is_present, assigned_to, pending_message, gates, message_gates, lacks_blank, are_counts_full, blank_for, blank_of_id, first_refusal, next_core, Assign, Release}
 use Rattle.charmlet_model.specs.Sound.{IsSound}
 use Rattle.charmlet_model.proofs.Maps.{elem_total, elem_exact, rising-insert_entry}
 use Rattle.charmlet_model.proofs.SoundLemmas.{step_sound}
 use Rattle.charmlet_history.specs.declared.element.Element.{Element}
-use Rattle.charmlet_history.specs.Kept.{Kept, Stands, IsCountedBy, core_of, element_at, places_of, stands_in, is_full, plenty, refusal_in}
+use Rattle.charmlet_history.specs.Kept.{Kept, IsConsistent, IsCountedBy, core_of, element_at, places_of, place_or_home_in, is_full, plenty, refusal_in}
 use Rattle.charmlet_history.specs.Delivered.{lacks_count, receiver_gates, blank_of, with_entry, with_receiver, with_room}
-use Rattle.charmlet_history.proofs.Standing.{manifest_is}
+use Rattle.charmlet_history.proofs.Consistency.{manifest_is}
 use Rattle.charmlet_history.proofs.Orders.{is_done}
 use Rattle.charmlet_history.proofs.Places.{element_at-insert, places_stay, seen_place}
 
@@ -95,21 +95,20 @@ behind true busy a b h = refl
 behind false true a b h = refl
 behind false false a b h = h
 
-module _ (k : Kept) (stands : Stands k) where
+module _ (k : Kept) (consistent : IsConsistent k) where
   abbrev core : Core
   core = core_of k
 
-  pub stands_is : (x : Elem) → stands_on core x ≡ stands_in k x
-  stands_is x = ap (λ o. unwrap_or o (home x k.processors)) (seen_place x k.elements stands.rising)
+  pub place_or_home_is : (x : Elem) → place_or_home core x ≡ place_or_home_in k x
+  place_or_home_is x = ap (λ o. unwrap_or o (home x k.processors)) (seen_place x k.elements consistent.rising)
 
   pub there_is : (x : Elem) → is_present core x ≡ is_some (element_at k.elements x).place
-  there_is x = sym (stands.sound.placed x).there ∙ ap is_some (seen_place x k.elements stands.rising)
+  there_is x = sym (consistent.sound.placed x).there ∙ ap is_some (seen_place x k.elements consistent.rising)
 
   full_is : (x : Elem) → (model.is_full core || are_counts_full (record_of (present core) x)) ≡ (is_full k || lacks_count (element_at k.elements x))
   full_is x =
-      let events : 0 + length k.events ≡ length k.events = omega arith in
-      let counts = stands.counts x in
-      λ i. nat_le (2 ^ 40) (events i + length k.assigned) || not (nat_le (sym counts.received i + 1) greatest && nat_le (sym counts.sent i + 16) greatest)
+      let counts = consistent.counts x in
+      λ i. is_full k || not (nat_le (sym counts.received i + 1) greatest && nat_le (sym counts.sent i + 16) greatest)
 
   module _ (processor : ℕ) where
     abbrev order : Message → Bool → ℕ → Bool → List Gate
@@ -122,34 +121,45 @@ module _ (k : Kept) (stands : Stands k) where
     message_order : (m : Message) → first_refusal (message_gates core plenty processor (Some m)) ≡ first_refusal (receiver_gates k processor m)
     message_order m =
         let there = is_some (element_at k.elements m.to).place in
-        (λ i. first_refusal (order m (there_is m.to i) (stands_is m.to i) (full_is m.to i)))
-        ∙ short_order (not (there || (m.entry == CONSTRUCT))) (not (stands_in k m.to == processor)) (is_full k || lacks_count (element_at k.elements m.to)) (stands_in k m.to) (blank_for core m)
+        (λ i. first_refusal (order m (there_is m.to i) (place_or_home_is m.to i) (full_is m.to i)))
+        ∙ short_order (not (there || (m.entry == CONSTRUCT))) (not (place_or_home_in k m.to == processor)) (is_full k || lacks_count (element_at k.elements m.to)) (place_or_home_in k m.to) (blank_for core m)
 
     pending_order : (o : Option Message) → first_refusal (message_gates core plenty processor o) ≡ first_refusal (pending_gates k processor o)
     pending_order None = refl
     pending_order (Some m) = message_order m
 
+    -- the order after its first place
+    abbrev assign_rest : MsgId → List Gate
+    assign_rest id =
+        When (not (nat_lt processor k.processors)) refusals.BadPes
+        ∷ When (is_some (lookup (is_at (nat_cmp processor)) k.assigned)) refusals.Uncommitted
+        ∷ message_gates core plenty processor (pending_message core id)
+
+    -- a halted store
+    pub delivery_halted : (id : MsgId) → k.halted ≡ true → first_refusal (gates core plenty (Assign processor id)) ≡ Some refusals.Halted
+    delivery_halted id halted = ap (λ b. first_refusal (When b refusals.Halted ∷ assign_rest id)) halted
+
     -- a test by what is kept
-    order_is : (id : MsgId) → first_refusal (gates core plenty (Assign processor id)) ≡ first_refusal (delivery_gates k processor id)
-    order_is id =
-        behind (not (nat_lt processor k.processors)) (is_some (lookup (is_at (nat_cmp processor)) k.assigned)) (message_gates core plenty processor (pending_message core id))
+    order_is : (id : MsgId) → k.halted ≡ false → first_refusal (gates core plenty (Assign processor id)) ≡ first_refusal (delivery_gates k processor id)
+    order_is id running =
+        ap (λ b. first_refusal (When b refusals.Halted ∷ assign_rest id)) running ∙ behind (not (nat_lt processor k.processors)) (is_some (lookup (is_at (nat_cmp processor)) k.assigned)) (message_gates core plenty processor (pending_message core id))
         (pending_gates k processor (message_among id k.pending))
-        (pending_order (pending_message core id) ∙ ap (λ ms. first_refusal (pending_gates k processor (message_among id ms))) (sym stands.pending))
+        (pending_order (pending_message core id) ∙ ap (λ ms. first_refusal (pending_gates k processor (message_among id ms))) (sym consistent.pending))
 
     blank_is : (m : Message) → blank_for core m ≡ blank_of k m
     blank_is m = λ i. if there_is m.to i then None else (if m.entry == CONSTRUCT then lookup (is_at (nat_cmp m.to.array)) (manifest_is k i) else None)
 
     -- the receiver's test is the whole one, where nothing else refuses
     pub tested : (id : MsgId) (m : Message) (result : Result (Option Kind) Refusal) →
-        processor < k.processors → is_some (lookup (is_at (nat_cmp processor)) k.assigned) ≡ false → message_among id k.pending ≡ Some m →
+        k.halted ≡ false → processor < k.processors → is_some (lookup (is_at (nat_cmp processor)) k.assigned) ≡ false → message_among id k.pending ≡ Some m →
         refusal_in result ≡ first_refusal (receiver_gates k processor m) → IfOk result (λ kind. kind ≡ blank_of k m) →
         IfOk result (λ kind. (kind ≡ blank_of_id core (Some id)) × (first_refusal (gates core plenty (Assign processor id)) ≡ None))
         × IfErr result (λ refusal. first_refusal (gates core plenty (Assign processor id)) ≡ Some refusal)
-    tested id m result below free is by_receiver by_blank =
+    tested id m result running below free is by_receiver by_blank =
         let whole : first_refusal (gates core plenty (Assign processor id)) ≡ first_refusal (receiver_gates k processor m) =
-        order_is id ∙ (λ i. first_refusal (When (not (lt-ltb processor k.processors below i)) refusals.BadPes ∷ When (free i) refusals.Uncommitted ∷ pending_gates k processor (is i))) in
+        order_is id running ∙ (λ i. first_refusal (When (not (lt-ltb processor k.processors below i)) refusals.BadPes ∷ When (free i) refusals.Uncommitted ∷ pending_gates k processor (is i))) in
         let blank : blank_of_id core (Some id) ≡ blank_of k m =
-        ap (λ ms. option_and_then (blank_for core) (message_among id ms)) (sym stands.pending) ∙ ap (option_and_then (blank_for core)) is ∙ blank_is m in
+        ap (λ ms. option_and_then (blank_for core) (message_among id ms)) (sym consistent.pending) ∙ ap (option_and_then (blank_for core)) is ∙ blank_is m in
         elim result as (λ r. refusal_in r ≡ first_refusal (receiver_gates k processor m) → IfOk r (λ kind. kind ≡ blank_of k m) →
         IfOk r (λ kind. (kind ≡ blank_of_id core (Some id)) × (first_refusal (gates core plenty (Assign processor id)) ≡ None))
         × IfErr r (λ refusal. first_refusal (gates core plenty (Assign processor id)) ≡ Some refusal)) [
@@ -161,16 +171,16 @@ module _ (k : Kept) (stands : Stands k) where
 
   module _ (id : MsgId) where
     pub room_core : core_of (with_room k id) ≡ core
-    room_core = λ i. record core { places = receiver_places k.elements (message_among id k.pending) stands.rising i }
+    room_core = λ i. record core { places = receiver_places k.elements (message_among id k.pending) consistent.rising i }
 
-    pub room_stands : Stands (with_room k id)
-    room_stands = record {
-      sound = subst IsSound (sym room_core) stands.sound;
-      rising = receiver_rising k.elements (message_among id k.pending) stands.rising;
-      counts = λ x. subst (IsCountedBy (record_of (present core) x)) (sym (receiver_unseen k.elements (message_among id k.pending) x)) (stands.counts x);
-      pending = stands.pending;
-      clients = stands.clients;
-      durable_rows = stands.durable_rows;
+    pub room_consistent : IsConsistent (with_room k id)
+    room_consistent = record {
+      sound = subst IsSound (sym room_core) consistent.sound;
+      rising = receiver_rising k.elements (message_among id k.pending) consistent.rising;
+      counts = λ x. subst (IsCountedBy (record_of (present core) x)) (sym (receiver_unseen k.elements (message_among id k.pending) x)) (consistent.counts x);
+      pending = consistent.pending;
+      clients = consistent.clients;
+      durable_rows = consistent.durable_rows;
     }
 
   -- ---- an assignment
@@ -179,11 +189,11 @@ module _ (k : Kept) (stands : Stands k) where
     pub assigned_core : core_of (assigned_in k processor id) ≡ next_core core (Assign processor id)
     assigned_core = ap (λ (c : Core). record c { assigned = insert_entry nat_cmp k.assigned processor id }) (room_core id)
 
-    pub assigned_stands : Stands (assigned_in k processor id)
-    assigned_stands =
-        let room = room_stands id in
+    pub assigned_consistent : IsConsistent (assigned_in k processor id)
+    assigned_consistent =
+        let room = room_consistent id in
         record {
-          sound = subst IsSound (sym assigned_core) (step_sound core plenty (Assign processor id) _ stands.sound tt (is_done core plenty (Assign processor id) refl can));
+          sound = subst IsSound (sym assigned_core) (step_sound core plenty (Assign processor id) _ consistent.sound tt (is_done core plenty (Assign processor id) refl can));
           rising = room.rising;
           counts = room.counts;
           pending = room.pending;
@@ -198,5 +208,5 @@ module _ (k : Kept) (stands : Stands k) where
     released = record k { assigned = remove_entry (is_at (nat_cmp processor)) k.assigned }
 
     released_sound : (o : Option MsgId) → assigned_to core processor ≡ o → IsSound (core_of released)
-    released_sound None none = subst (λ assigned. IsSound (record core { assigned = assigned })) (sym (none_removed (is_at (nat_cmp processor)) k.assigned none)) stands.sound
-    released_sound (Some id) is = step_sound core plenty (Release processor) _ stands.sound tt (is_done core plenty (Release processor) (ap is_some is) refl)
+    released_sound None none = subst (λ assigned. IsSound (record core { assigned = assigned })) (sym (none_removed (is_at (nat_cmp processor)) k.assigned none)) consistent.sound
+    released_sound (Some id) is = step_sound core plenty (Release processor) _ consistent.sound tt (is_done core plenty (Release processor) (ap is_some is) refl)

@@ -1,5 +1,6 @@
-pub mod Entries
-pub mod Standing
+pub mod ShownLemmas
+pub mod RowsLemmas
+pub mod Consistency
 pub mod Orders
 pub mod Requests
 pub mod Flushes
@@ -9,3 +10,5 @@ pub mod Places
 pub mod Assigning
 pub mod Delivering
 pub mod Moves
+pub mod Openings
+pub mod Rooms

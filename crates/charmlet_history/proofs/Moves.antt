@@ -11,16 +11,16 @@ use Rattle.charmlet_model.specs.declared.kind.Kind.{Kind}
 use Rattle.charmlet_model.specs.declared.refusal.Refusal.TheVariants as refusals
 use Rattle.charmlet_model.specs.Names.{elem_cmp}
 use Rattle.charmlet_model.specs.World.{kind_of_array, record_of}
-use Rattle.charmlet_model.specs.Core.{Core, Gate, When, MayLackMemory, Move, home, present, lacks_blank, gates, first_refusal, next_core}
+use Rattle.charmlet_model.specs.Core.{Core, Gate, When, MayLackMemory, Move, home, present, lacks_blank, gates, first_refusal, next_core, is_present, place_or_home}
 use Rattle.charmlet_model.specs.Sound.{IsSound}
 use Rattle.charmlet_model.proofs.Maps.{elem_total, elem_exact, rising-insert_entry}
 use Rattle.charmlet_model.proofs.SoundLemmas.{step_sound}
 use Rattle.charmlet_history.specs.declared.element.Element.{Element}
-use Rattle.charmlet_history.specs.Kept.{Kept, Stands, IsCountedBy, core_of, blank_of_move, element_at, stands_in, plenty}
+use Rattle.charmlet_history.specs.Kept.{Kept, IsConsistent, IsCountedBy, core_of, blank_of_move, element_at, place_or_home_in, plenty}
 use Rattle.charmlet_history.specs.Delivered.{relocated}
-use Rattle.charmlet_history.proofs.Assigning.{stands_is, there_is}
+use Rattle.charmlet_history.proofs.Assigning.{place_or_home_is, there_is}
 use Rattle.charmlet_history.proofs.Orders.{is_done}
-use Rattle.charmlet_history.proofs.Standing.{manifest_is}
+use Rattle.charmlet_history.proofs.Consistency.{manifest_is}
 use Rattle.charmlet_history.proofs.Places.{element_at-insert, places_moved}
 
 -- of a move to another processor, where the stock lacks nothing
@@ -33,7 +33,7 @@ abbrev pub move_order : Kept → Elem → ℕ → List Gate
 move_order k x processor =
     When (not (nat_lt processor k.processors)) refusals.BadPes
     ∷ When (not (is_some (element_at k.elements x).place)) refusals.Absent
-    ∷ cond (stands_in k x == processor) [] (away_order k (stands_in k x) processor)
+    ∷ cond (place_or_home_in k x == processor) [] (away_order k (place_or_home_in k x) processor)
 
 away_passes : (busy : Bool) (wanted : Option Kind) →
     first_refusal (When busy refusals.Uncommitted ∷ (lacks_blank plenty wanted ++ MayLackMemory ∷ [])) ≡ first_refusal (When busy refusals.Uncommitted ∷ [])
@@ -49,7 +49,7 @@ behind false true own a b h = refl
 behind false false true a b h = refl
 behind false false false a b h = h
 
-module _ (k : Kept) (stands : Stands k) (x : Elem) (processor : ℕ) where
+module _ (k : Kept) (consistent : IsConsistent k) (x : Elem) (processor : ℕ) where
   abbrev core : Core
   core = core_of k
 
@@ -60,21 +60,25 @@ module _ (k : Kept) (stands : Stands k) (x : Elem) (processor : ℕ) where
       ∷ cond (place == processor) [] (When (is_some (lookup (is_at (nat_cmp place)) k.assigned) || is_some (lookup (is_at (nat_cmp processor)) k.assigned)) refusals.Uncommitted
       ∷ (lacks_blank plenty (kind_of_array (present core) x.array) ++ MayLackMemory ∷ []))
 
-  pub move_order_is : first_refusal (gates core plenty (Move x processor)) ≡ first_refusal (move_order k x processor)
-  move_order_is =
-      (λ i. first_refusal (order (there_is k stands x i) (stands_is k stands x i)))
-      ∙ behind (not (nat_lt processor k.processors)) (not (is_some (element_at k.elements x).place)) (stands_in k x == processor) _ (away_order k (stands_in k x) processor)
-      (away_passes (is_some (lookup (is_at (nat_cmp (stands_in k x))) k.assigned) || is_some (lookup (is_at (nat_cmp processor)) k.assigned)) (kind_of_array (present core) x.array))
+  -- a halted store
+  pub move_halted : k.halted ≡ true → first_refusal (gates core plenty (Move x processor)) ≡ Some refusals.Halted
+  move_halted halted = ap (λ b. first_refusal (When b refusals.Halted ∷ When false refusals.Checkpointing ∷ order (is_present core x) (place_or_home core x))) halted
+
+  pub move_order_is : k.halted ≡ false → first_refusal (gates core plenty (Move x processor)) ≡ first_refusal (move_order k x processor)
+  move_order_is running =
+      ap (λ b. first_refusal (When b refusals.Halted ∷ When false refusals.Checkpointing ∷ order (is_present core x) (place_or_home core x))) running ∙ (λ i. first_refusal (order (there_is k consistent x i) (place_or_home_is k consistent x i)))
+      ∙ behind (not (nat_lt processor k.processors)) (not (is_some (element_at k.elements x).place)) (place_or_home_in k x == processor) _ (away_order k (place_or_home_in k x) processor)
+      (away_passes (is_some (lookup (is_at (nat_cmp (place_or_home_in k x))) k.assigned) || is_some (lookup (is_at (nat_cmp processor)) k.assigned)) (kind_of_array (present core) x.array))
 
   -- ---- a move that can be
 
   module _ (can : first_refusal (gates core plenty (Move x processor)) ≡ None) where
     -- to its own processor
-    pub stays_there : (stands_in k x == processor) ≡ true → core ≡ next_core core (Move x processor)
-    stays_there own = sym (ap (λ b. cond b core (record core { places = insert_entry elem_cmp core.places x processor })) (ap (λ p. p == processor) (stands_is k stands x) ∙ own))
+    pub stays_there : (place_or_home_in k x == processor) ≡ true → core ≡ next_core core (Move x processor)
+    stays_there own = sym (ap (λ b. cond b core (record core { places = insert_entry elem_cmp core.places x processor })) (ap (λ p. p == processor) (place_or_home_is k consistent x) ∙ own))
 
     -- to another one
-    module _ (away : (stands_in k x == processor) ≡ false) where
+    module _ (away : (place_or_home_in k x == processor) ≡ false) where
       abbrev e : Element
       e = record (element_at k.elements x) { place = Some processor }
 
@@ -83,34 +87,38 @@ module _ (k : Kept) (stands : Stands k) (x : Elem) (processor : ℕ) where
 
       pub moved_core : core_of new ≡ next_core core (Move x processor)
       moved_core =
-          (λ i. record core { places = places_moved k.elements stands.rising x e processor refl i })
-          ∙ sym (ap (λ b. cond b core (record core { places = insert_entry elem_cmp core.places x processor })) (ap (λ p. p == processor) (stands_is k stands x) ∙ away))
+          (λ i. record core { places = places_moved k.elements consistent.rising x e processor refl i })
+          ∙ sym (ap (λ b. cond b core (record core { places = insert_entry elem_cmp core.places x processor })) (ap (λ p. p == processor) (place_or_home_is k consistent x) ∙ away))
 
       counts_stay : (y : Elem) → IsCountedBy (record_of (present core) y) (element_at new.elements y)
       counts_stay y =
           subst (IsCountedBy (record_of (present core) y)) (sym (element_at-insert k.elements x e y))
           (elim (eq_by_cmp elem_cmp y x) as (λ b. eq_by_cmp elem_cmp y x ≡ b → IsCountedBy (record_of (present core) y) (cond b e (element_at k.elements y))) [
             | true ↦ λ same.
-                let counts = stands.counts x in
+                let counts = consistent.counts x in
                 subst (λ z. IsCountedBy (record_of (present core) z) e) (sym (tells_apart elem_exact y x same)) (record { sent = counts.sent; received = counts.received })
-            | false ↦ λ _. stands.counts y
+            | false ↦ λ _. consistent.counts y
           ] refl)
 
-      pub moved_stands : Stands new
-      moved_stands = record {
-        sound = subst IsSound (sym moved_core) (step_sound core plenty (Move x processor) _ stands.sound tt (is_done core plenty (Move x processor) refl can));
-        rising = rising-insert_entry elem_cmp elem_total x e k.elements stands.rising;
+      pub moved_consistent : IsConsistent new
+      moved_consistent = record {
+        sound = subst IsSound (sym moved_core) (step_sound core plenty (Move x processor) _ consistent.sound tt (is_done core plenty (Move x processor) refl can));
+        rising = rising-insert_entry elem_cmp elem_total x e k.elements consistent.rising;
         counts = counts_stay;
-        pending = stands.pending;
-        clients = stands.clients;
-        durable_rows = stands.durable_rows;
+        pending = consistent.pending;
+        clients = consistent.clients;
+        durable_rows = consistent.durable_rows;
       }
 
     -- it is there
     pub moves_there : is_some (element_at k.elements x).place ≡ true
     moves_there =
-        there (nat_lt processor k.processors) (is_some (element_at k.elements x).place) (cond (stands_in k x == processor) [] (away_order k (stands_in k x) processor)) (sym move_order_is ∙ can)
+        there (nat_lt processor k.processors) (is_some (element_at k.elements x).place) (cond (place_or_home_in k x == processor) [] (away_order k (place_or_home_in k x) processor)) (sym (move_order_is (runs k.halted refl)) ∙ can)
       where
+        runs : (b : Bool) → k.halted ≡ b → k.halted ≡ false
+        runs false is = is
+        runs true halted = absurd (let both : Some refusals.Halted ≡ None = sym (move_halted halted) ∙ can in let never : ⊥ = cc in never)
+
         there : (below it_is : Bool) (more : List Gate) → first_refusal (When (not below) refusals.BadPes ∷ When (not it_is) refusals.Absent ∷ more) ≡ None → it_is ≡ true
         there true true more h = refl
         there true false more h = absurd (let never : ⊥ = cc in never)
@@ -118,22 +126,22 @@ module _ (k : Kept) (stands : Stands k) (x : Elem) (processor : ℕ) where
 
   -- ---- a test of a move
 
-  module _ (below : processor < k.processors) where
+  module _ (running : k.halted ≡ false) (below : processor < k.processors) where
     abbrev tested : Bool → Bool → List Gate → List Gate
     tested here there more = When (not here) refusals.BadPes ∷ When (not there) refusals.Absent ∷ more
 
     pub absent_refused : (element_at k.elements x).place ≡ None → first_refusal (gates core plenty (Move x processor)) ≡ Some refusals.Absent
     absent_refused none =
-        move_order_is ∙ (λ i. first_refusal (tested (lt-ltb processor k.processors below i) (is_some (none i)) (cond (stands_in k x == processor) [] (away_order k (stands_in k x) processor))))
+        move_order_is running ∙ (λ i. first_refusal (tested (lt-ltb processor k.processors below i) (is_some (none i)) (cond (place_or_home_in k x == processor) [] (away_order k (place_or_home_in k x) processor))))
 
     module _ (place : ℕ) (is : (element_at k.elements x).place ≡ Some place) where
-      it_stands : stands_in k x ≡ place
-      it_stands = ap (λ o. unwrap_or o (home x k.processors)) is
+      it_is_there : place_or_home_in k x ≡ place
+      it_is_there = ap (λ o. unwrap_or o (home x k.processors)) is
 
       pub order_there : first_refusal (gates core plenty (Move x processor)) ≡ first_refusal (cond (place == processor) [] (away_order k place processor))
       order_there =
-          move_order_is
-          ∙ (λ i. first_refusal (tested (lt-ltb processor k.processors below i) (is_some (is i)) (cond (it_stands i == processor) [] (away_order k (it_stands i) processor))))
+          move_order_is running
+          ∙ (λ i. first_refusal (tested (lt-ltb processor k.processors below i) (is_some (is i)) (cond (it_is_there i == processor) [] (away_order k (it_is_there i) processor))))
 
-      pub blank_there : blank_of_move core x processor ≡ cond (place == processor) None (lookup (is_at (nat_cmp x.array)) k.manifest)
-      blank_there = λ i. cond ((stands_is k stands x ∙ it_stands) i == processor) None (lookup (is_at (nat_cmp x.array)) (manifest_is k i))
+      pub blank_there : blank_of_move core x processor ≡ cond (place == processor) None (lookup (is_at (nat_cmp x.array)) k.opening.manifest)
+      blank_there = λ i. cond ((place_or_home_is k consistent x ∙ it_is_there) i == processor) None (lookup (is_at (nat_cmp x.array)) (manifest_is k i))

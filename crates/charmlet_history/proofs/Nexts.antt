@@ -14,12 +14,12 @@ use Rattle.charmlet_model.specs.Names.{same_origin, same_id}
 use Rattle.charmlet_model.specs.Reaction.{greatest}
 use Rattle.charmlet_model.specs.World.{World, can, can_deliver, message_among, oldest_deliverable}
 use Rattle.charmlet_model.specs.Fit.{AreDistinct, AreApart}
-use Rattle.charmlet_model.specs.Core.{present, stands_on}
+use Rattle.charmlet_model.specs.Core.{present, place_or_home}
 use Rattle.charmlet_model.proofs.Deliveries.{message_of}
 use Rattle.charmlet_model.proofs.Fits.{same_id-is}
 use Rattle.charmlet_model.proofs.SoundLemmas.{sound_fit}
-use Rattle.charmlet_history.specs.Kept.{Kept, Stands, core_of, due_on, is_deliverable, next_in, oldest, stands_in}
-use Rattle.charmlet_history.proofs.Assigning.{stands_is, there_is}
+use Rattle.charmlet_history.specs.Kept.{Kept, IsConsistent, core_of, due_on, is_deliverable, next_in, oldest, place_or_home_in}
+use Rattle.charmlet_history.proofs.Assigning.{place_or_home_is, there_is}
 
 -- ---- ids
 
@@ -49,14 +49,14 @@ all_named (m ∷ ms) h = (ap (λ b. cond b (Some m) (message_among m.id ms)) (sa
 
 -- ---- so the oldest one is found by the kept counts
 
-module _ (k : Kept) (stands : Stands k) where
+module _ (k : Kept) (consistent : IsConsistent k) where
   abbrev w : World
   w = present (core_of k)
 
   deliverable_is : (m : Message) → is_deliverable k m ≡ can_deliver w (Some m)
   deliverable_is m =
-      let counts = stands.counts m.to in
-      λ i. (sym (there_is k stands m.to) i || (m.entry == CONSTRUCT)) && nat_le (counts.received i + 1) greatest && nat_le (counts.sent i + 16) greatest
+      let counts = consistent.counts m.to in
+      λ i. (sym (there_is k consistent m.to) i || (m.entry == CONSTRUCT)) && nat_le (counts.received i + 1) greatest && nat_le (counts.sent i + 16) greatest
 
   same_oldest : (ms : List Message) → AllByRecursion (λ m. message_among m.id w.pending ≡ Some m) ms → oldest k ms ≡ oldest_deliverable w ms
   same_oldest [] named = refl
@@ -65,14 +65,14 @@ module _ (k : Kept) (stands : Stands k) where
       ∙ ap (λ o. cond (can w (Deliver m.id)) (Some m.id) o) (same_oldest ms named.1)
 
   pub oldest_is : oldest k k.pending ≡ oldest_deliverable w w.pending
-  oldest_is = ap (oldest k) stands.pending ∙ same_oldest w.pending (all_named w.pending (sound_fit (core_of k) stands.sound).distinct)
+  oldest_is = ap (oldest k) consistent.pending ∙ same_oldest w.pending (all_named w.pending (sound_fit (core_of k) consistent.sound).distinct)
 
   -- and its processor by what is kept
-  pub next_is : (id : MsgId) (m : Message) → oldest k k.pending ≡ Some id → message_among id k.pending ≡ Some m → Some (stands_in k m.to, id) ≡ next_in (core_of k)
+  pub next_is : (id : MsgId) (m : Message) → oldest k k.pending ≡ Some id → message_among id k.pending ≡ Some m → Some (place_or_home_in k m.to, id) ≡ next_in (core_of k)
   next_is id m first found =
       sym (ap (option_and_then (due_on (core_of k))) (sym oldest_is ∙ first)
-      ∙ ap (option_map (λ n. (stands_on (core_of k) n.to, id))) (ap (message_among id) (sym stands.pending) ∙ found)
-      ∙ ap (λ p. Some (p, id)) (stands_is k stands m.to))
+      ∙ ap (option_map (λ n. (place_or_home (core_of k) n.to, id))) (ap (message_among id) (sym consistent.pending) ∙ found)
+      ∙ ap (λ p. Some (p, id)) (place_or_home_is k consistent m.to))
 
   pub none_is_next : oldest k k.pending ≡ None → next_in (core_of k) ≡ None
   none_is_next none = ap (option_and_then (due_on (core_of k))) (sym oldest_is ∙ none)
@@ -82,7 +82,7 @@ module _ (k : Kept) (stands : Stands k) where
   oldest_found id first none =
       let can_be = oldest_can w.pending (sym oldest_is ∙ first) in
       let some = message_of w id can_be in
-      let both : Some some.0 ≡ None = sym some.1 ∙ ap (message_among id) (sym stands.pending) ∙ none in
+      let both : Some some.0 ≡ None = sym some.1 ∙ ap (message_among id) (sym consistent.pending) ∙ none in
       let never : ⊥ = cc in never
     where
       oldest_can : (ms : List Message) → oldest_deliverable w ms ≡ Some id → can w (Deliver id) ≡ true

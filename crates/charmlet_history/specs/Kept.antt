@@ -16,20 +16,20 @@ use Rattle.charmlet_model.specs.declared.refusal.Refusal.{Refusal}
 use Rattle.charmlet_model.specs.declared.told.Told.{Told}
 use Rattle.charmlet_model.specs.Names.{elem_cmp}
 use Rattle.charmlet_model.specs.declared.reaction.Reaction.{Reaction}
-use Rattle.charmlet_model.specs.World.{record_of, client_of, message_among, request, reaction_of, kind_of_array, oldest_deliverable}
+use Rattle.charmlet_model.specs.World.{World, record_of, client_of, message_among, request, reaction_of, kind_of_array, oldest_deliverable}
 use Rattle.charmlet_model.specs.declared.refusal.Refusal.TheVariants as refusals
 use Rattle.charmlet_model.specs.declared.TheConstants.{CONSTRUCT}
 use Rattle.charmlet_model.specs.Reaction.{capped, greatest}
-use Rattle.charmlet_model.specs.Core.{Core, present, durable_world, pending_message, assigned_to, home, stands_on, Blanks, is_out_of_turn, is_waiting, Gate, When, CoreAnswer, Tells, Refuses}
+use Rattle.charmlet_model.specs.Core.{Core, present, durable_world, pending_message, assigned_to, home, place_or_home, Blanks, Gate, When, CoreAnswer, Tells, Counts, Refuses}
 use Rattle.charmlet_model.specs.Told.{told_of}
-use Rattle.charmlet_model.specs.Sound.{IsSound, new_world}
+use Rattle.charmlet_model.specs.Row.{no_client, in_window, follows_last, has_place, with_request}
+use Rattle.charmlet_model.specs.Sound.{IsSound}
 use Rattle.std.specs.Vec.{vec_len, vec_capacity}
 use Rattle.charmlet_chare.specs.declared.output.Output.{Output}
 use Rattle.charmlet_chare.specs.Output.{output_of}
-use Rattle.charmlet_history.specs.declared.client.Client.{Client}
 use Rattle.charmlet_history.specs.declared.element.Element.{Element}
 use Rattle.charmlet_history.specs.declared.history.History.{History}
-use Rattle.charmlet_history.specs.Client.{durable_row, new_client, with_present}
+use Rattle.charmlet_history.specs.Client.{Rows, same_rows, with_present}
 
 -- an element that was never constructed
 abbrev pub no_element : Element
@@ -52,27 +52,39 @@ abbrev pub places_of : List (Elem × Element) → List (Elem × ℕ)
 places_of [] = []
 places_of (e ∷ es) = with_place e.0 e.1.place (places_of es)
 
-abbrev pub client_at : List (ℕ × Client) → ℕ → Client
+-- of a client that never made a request
+abbrev pub new_client : Rows
+new_client = same_rows no_client
+
+abbrev pub client_at : List (ℕ × Rows) → ℕ → Rows
 client_at clients c = unwrap_or (lookup (is_at (nat_cmp c)) clients) new_client
 
 -- the clients' rows in the present world
-abbrev pub present_rows : List (ℕ × Client) → List (ℕ × ClientRow)
+abbrev pub present_rows : List (ℕ × Rows) → List (ℕ × ClientRow)
 present_rows = map (λ e. (e.0, e.1.present))
 
 -- what a history keeps, its room aside
 pub record Kept : Type 0 where
-  pub manifest : List (ℕ × Kind)
+  pub opening : World
+  pub before : ℕ
+  pub generation : ℕ
+  pub log_end : ℕ
+  pub halted : Bool
   pub processors : ℕ
   pub elements : List (Elem × Element)
   pub pending : List Message
-  pub clients : List (ℕ × Client)
+  pub clients : List (ℕ × Rows)
   pub events : List Event
   pub durable : ℕ
   pub assigned : List (ℕ × MsgId)
 
 abbrev pub kept_in : History → Kept
 kept_in h = record {
-  manifest = h.manifest;
+  opening = h.opening;
+  before = h.before;
+  generation = h.generation;
+  log_end = h.log_end;
+  halted = h.halted;
   processors = h.processors;
   elements = h.elements.entries;
   pending = h.pending.items;
@@ -82,18 +94,19 @@ kept_in h = record {
   assigned = h.assigned.entries;
 }
 
--- the core of a store that opened with a new world and keeps this
+-- the core of a store that keeps this
 abbrev pub core_of : Kept → Core
 core_of k = record {
   processors = k.processors;
-  opening = new_world k.manifest;
-  before = 0;
+  opening = k.opening;
+  before = k.before;
   history = k.events;
   durable = k.durable;
-  generation = 1;
+  generation = k.generation;
+  log_end = k.log_end;
   places = places_of k.elements;
   assigned = k.assigned;
-  halted = false;
+  halted = k.halted;
   busy = false;
 }
 
@@ -101,13 +114,13 @@ abbrev pub core_in : History → Core
 core_in h = core_of (kept_in h)
 
 -- what is kept is the present world, the places of its elements, and the durable rows of its clients
-pub record Stands (k : Kept) : Type 0 where
+pub record IsConsistent (k : Kept) : Type 0 where
   pub sound : IsSound (core_of k)
   pub rising : IsStrictlySortedBy elem_cmp (keys_of k.elements)
   pub counts : (x : Elem) → IsCountedBy (record_of (present (core_of k)) x) (element_at k.elements x)
   pub pending : k.pending ≡ (present (core_of k)).pending
   pub clients : present_rows k.clients ≡ (present (core_of k)).clients
-  pub durable_rows : (c : ℕ) → durable_row (client_at k.clients c) ≡ client_of (durable_world (core_of k)) c
+  pub durable_rows : (c : ℕ) → (client_at k.clients c).durable ≡ client_of (durable_world (core_of k)) c
 
 -- the refusal, if there is one
 abbrev pub refusal_in : {T : Type 0} → Result T Refusal → Option Refusal
@@ -119,51 +132,57 @@ abbrev pub told_or_refused : Result Told Refusal → CoreAnswer
 told_or_refused (Ok told) = Tells told
 told_or_refused (Err refusal) = Refuses refusal
 
+-- how many events are durable, or a refusal
+abbrev pub counts_or_refused : Result ℕ Refusal → CoreAnswer
+counts_or_refused (Ok count) = Counts count
+counts_or_refused (Err refusal) = Refuses refusal
+
 -- ---- refusals, by what is kept
 
 -- of a request out of its turn
 abbrev pub turn_gates : ClientRow → ℕ → List Gate
-turn_gates row number = When (is_out_of_turn row number) (refusals.OutOfTurn (capped row.last 1)) ∷ When (is_waiting row) refusals.Waiting ∷ []
+turn_gates row number =
+    When (not (follows_last row number)) (refusals.OutOfTurn (capped row.last 1)) ∷ When (not (has_place row)) refusals.Waiting ∷ []
 
 -- events and assigned deliveries would pass 2^40
 abbrev pub is_full : Kept → Bool
-is_full k = nat_le (2 ^ 40) (length k.events + length k.assigned)
+is_full k = nat_le (2 ^ 40) (k.before + length k.events + length k.assigned)
 
 -- of a request for which there is no array or no room
 abbrev pub limit_gates : Kept → ℕ → ℕ → List ℕ → List Gate
 limit_gates k client array words =
-    When (is_none (lookup (is_at (nat_cmp array)) k.manifest)) refusals.NoArray
+    When (is_none (lookup (is_at (nat_cmp array)) k.opening.manifest)) refusals.NoArray
     ∷ When (nat_lt 512 (length words)) refusals.TooLong
     ∷ When (not (is_some (lookup (is_at (nat_cmp client)) k.clients) || nat_lt (length k.clients) 1024)) refusals.ClientsFull
     ∷ When (is_full k) refusals.HistoryFull ∷ []
 
--- a repeat of the client's last request
+-- a repeat of a request of the client's window
 abbrev pub repeats : Kept → ℕ → ℕ → Bool
-repeats k client number = nat_lt 0 number && (number == (client_at k.clients client).present.last)
+repeats k client number = in_window (client_at k.clients client).present number
 
 -- what a client is told by its durable row
 abbrev pub told_by : Kept → ℕ → ℕ → Told
-told_by k client number = told_of (durable_row (client_at k.clients client)) number
+told_by k client number = told_of (client_at k.clients client).durable number
 
 -- ---- what each call makes of it
 
 -- the client's present row becomes this one
-abbrev pub with_row : List (ℕ × Client) → ℕ → ClientRow → List (ℕ × Client)
+abbrev pub with_row : List (ℕ × Rows) → ℕ → ClientRow → List (ℕ × Rows)
 with_row clients c row = insert_entry nat_cmp clients c (with_present (client_at clients c) row)
 
 -- a request is accepted
 abbrev pub accepted : Kept → ℕ → ℕ → Elem → ℕ → List ℕ → Kept
 accepted k client number to entry words = record k {
   pending = k.pending ++ request client number to entry words ∷ [];
-  clients = with_row k.clients client (record { last = number; reply = None });
+  clients = with_row k.clients client (with_request (client_at k.clients client).present number);
   events = k.events ++ Accept client number to entry words ∷ [];
 }
 
 -- ---- deliveries
 
 -- an element's place, or its home
-abbrev pub stands_in : Kept → Elem → ℕ
-stands_in k x = unwrap_or (element_at k.elements x).place (home x k.processors)
+abbrev pub place_or_home_in : Kept → Elem → ℕ
+place_or_home_in k x = unwrap_or (element_at k.elements x).place (home x k.processors)
 
 -- the receiver is there or is constructed, and its counts have room
 abbrev pub is_deliverable : Kept → Message → Bool
@@ -178,7 +197,7 @@ oldest k (m ∷ ms) = if is_deliverable k m then Some m.id else oldest k ms
 
 -- the processor on which the receiver of a pending message stands, and the message
 abbrev pub due_on : Core → MsgId → Option (ℕ × MsgId)
-due_on core id = option_map (λ m. (stands_on core m.to, id)) (pending_message core id)
+due_on core id = option_map (λ m. (place_or_home core m.to, id)) (pending_message core id)
 
 -- the oldest message that can be delivered, with its processor
 abbrev pub next_in : Core → Option (ℕ × MsgId)
@@ -213,8 +232,12 @@ pub record HasRoomFor (h : History) (id : MsgId) : Type 0 where
 abbrev pub HasRoom : History → ℕ → Type 0
 HasRoom h processor = IfSome (lookup (is_at (nat_cmp processor)) h.assigned.entries) (HasRoomFor h)
 
+-- what is assigned to each processor keeps its room
+abbrev pub KeepsRoom : History → History → Type 0
+KeepsRoom old new = (processor : ℕ) → HasRoom old processor → HasRoom new processor
+
 -- ---- moves
 
 -- the kind of the blank that a move to another processor takes
 abbrev pub blank_of_move : Core → Elem → ℕ → Option Kind
-blank_of_move core x processor = if stands_on core x == processor then None else kind_of_array (present core) x.array
+blank_of_move core x processor = if place_or_home core x == processor then None else kind_of_array (present core) x.array

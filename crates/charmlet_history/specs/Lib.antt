@@ -3,3 +3,4 @@ pub mod Client
 pub mod Kept
 pub mod Flushed
 pub mod Delivered
+pub mod Opened

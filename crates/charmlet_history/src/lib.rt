@@ -8,8 +8,10 @@ mod flush;
 mod history;
 mod moving;
 mod next;
+mod opening;
 mod request;
 
+pub use crate::delivery::RefusedCommit;
 pub use crate::element::Element;
 pub use crate::history::History;
 pub use crate::request::Request;

@@ -6,20 +6,23 @@ ghost use Rattle.std.specs.Map.{lookup};
 ghost use Rattle.std.specs.Ordering.{nat_cmp};
 ghost use Rattle.charmlet_model.specs.Core as core;
 ghost use Rattle.charmlet_model.specs.Core.{first_refusal, gates, next_core};
-ghost use Rattle.charmlet_history.specs.Kept.{Stands, blank_of_move, core_in, kept_in, plenty};
+ghost use Rattle.charmlet_history.specs.Kept.{KeepsRoom, IsConsistent, blank_of_move, core_in, kept_in, plenty};
 
 use crate::history::History;
 use charmlet_model::{Elem, Kind, Refusal};
 
 impl History {
     /// Whether the element can move to the processor, the stock aside; `Ok` says of which kind a blank is
-    /// wanted, and none is where the element is there already. Refused: `BadPes`, `Absent`, `Uncommitted`,
-    /// the first that applies; `Uncommitted` only for a move to another processor.
+    /// wanted, and none is where the element is there already. Refused: `Halted`, `BadPes`, `Absent`,
+    /// `Uncommitted`, the first that applies; `Uncommitted` only for a move to another processor.
     pub fn test_move(&self, elem: Elem, processor: u16) -> Result<Option<Kind>, Refusal>
-        requires { Stands (kept_in self.now) }
+        requires { IsConsistent (kept_in self.now) }
         ensures ok { IfOk result (λ kind. (kind ≡ blank_of_move (core_in self.now) elem processor) × (first_refusal (gates (core_in self.now) plenty (core.Move elem processor)) ≡ None)) }
         ensures err { IfErr result (λ refusal. first_refusal (gates (core_in self.now) plenty (core.Move elem processor)) ≡ Some refusal) }
     {
+        if self.halted {
+            return Err(Refusal::Halted);
+        }
         if processor >= self.processors {
             return Err(Refusal::BadPes);
         }
@@ -32,17 +35,18 @@ impl History {
         if self.is_one_busy(place, processor) {
             return Err(Refusal::Uncommitted);
         }
-        Ok(self.manifest.kind_of(elem.array))
+        Ok(self.opening.manifest().kind_of(elem.array))
     }
 
     /// The element stands on the processor from now on. It takes no memory.
     pub fn relocate(&mut self, elem: Elem, processor: u16)
-        requires stands { Stands (kept_in self.old) }
+        requires consistent { IsConsistent (kept_in self.old) }
         requires can { first_refusal (gates (core_in self.old) plenty (core.Move elem processor)) ≡ None }
-        ensures stands { Stands (kept_in self.new) }
+        ensures consistent { IsConsistent (kept_in self.new) }
         ensures moved { core_in self.new ≡ next_core (core_in self.old) (core.Move elem processor) }
+        ensures room { KeepsRoom self.old self.new }
     {
-        if self.stands_on(elem) == processor {
+        if self.place_or_home(elem) == processor {
             return;
         }
         let Some(element) = self.elements.get_mut(&elem) else {

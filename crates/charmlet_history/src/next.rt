@@ -2,7 +2,7 @@
 
 ghost use Rattle.std.specs.Prelude.{◌≡◌};
 ghost use Rattle.charmlet_model.specs.Core.{present};
-ghost use Rattle.charmlet_history.specs.Kept.{Stands, core_in, is_deliverable, kept_in, next_in, oldest};
+ghost use Rattle.charmlet_history.specs.Kept.{IsConsistent, core_in, is_deliverable, kept_in, next_in, oldest};
 
 use crate::history::History;
 use charmlet_model::{CONSTRUCT, Message, MsgId};
@@ -10,7 +10,7 @@ use charmlet_model::{CONSTRUCT, Message, MsgId};
 impl History {
     /// The pending messages, in order of birth.
     pub fn pending(&self) -> &[Message]
-        requires { Stands (kept_in self.now) }
+        requires { IsConsistent (kept_in self.now) }
         ensures { result.now ≡ (present (core_in self.now)).pending }
     {
         self.pending.as_slice()
@@ -19,14 +19,14 @@ impl History {
     /// The oldest pending message that can be delivered, if there is one, and before it the processor
     /// that is to deliver it: the place of its receiver, or the home of one that isn't there.
     pub fn next(&self) -> Option<(u16, MsgId)>
-        requires { Stands (kept_in self.now) }
+        requires { IsConsistent (kept_in self.now) }
         ensures { result ≡ next_in (core_in self.now) }
     {
         let id = self.oldest()?;
         let Some(message) = self.find(id) else {
             unreachable!()
         };
-        Some((self.stands_on(message.to), id))
+        Some((self.place_or_home(message.to), id))
     }
 
     /// The oldest pending message that can be delivered by the counts that are kept.

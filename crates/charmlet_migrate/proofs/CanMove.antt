@@ -17,7 +17,7 @@ use Rattle.charmlet_model.specs.Names.{elem_cmp}
 use Rattle.charmlet_model.specs.Packed.{IsState}
 use Rattle.charmlet_model.specs.Reaction.{kind_of}
 use Rattle.charmlet_model.specs.World.{World, kind_of_array, record_of}
-use Rattle.charmlet_model.specs.Core.{Core, Move, first_refusal, gates, home, is_present, place_of, is_processor, next_core, present, stands_on}
+use Rattle.charmlet_model.specs.Core.{Core, Move, first_refusal, gates, home, is_present, place_of, is_processor, next_core, present, place_or_home}
 use Rattle.charmlet_model.specs.Shelves.{Shows}
 use Rattle.charmlet_model.specs.Sound.{IsSound}
 use Rattle.charmlet_model.proofs.CanLemmas.{Passes, all_pass, not_not}
@@ -63,19 +63,19 @@ module _ (core : Core) (sound : IsSound core) (x : Elem) (processor : ℕ) (can 
   its_kind = subst (λ o. IfSome o (λ s. (kind_of_array w x.array ≡ Some (kind_of s)) × IsState s)) its.1 ((sound_fit core sound).records x).state
 
   -- where no blank is wanted it is there already
-  pub is_there_already : blank_of_move core x processor ≡ None → (stands_on core x == processor) ≡ true
-  is_there_already none = here_if (stands_on core x == processor) (kind_of_array w x.array) (kind_of its.0) its_kind.0 none
+  pub is_there_already : blank_of_move core x processor ≡ None → (place_or_home core x == processor) ≡ true
+  is_there_already none = here_if (place_or_home core x == processor) (kind_of_array w x.array) (kind_of its.0) its_kind.0 none
 
   module _ (kind : Kind) (wanted : blank_of_move core x processor ≡ Some kind) where
-    pub is_elsewhere : (stands_on core x == processor) ≡ false
-    is_elsewhere = (elsewhere_if (stands_on core x == processor) (kind_of_array w x.array) kind wanted).0
+    pub is_elsewhere : (place_or_home core x == processor) ≡ false
+    is_elsewhere = (elsewhere_if (place_or_home core x == processor) (kind_of_array w x.array) kind wanted).0
 
     -- and its place changes
     pub next_is : next_core core (Move x processor) ≡ record core { places = insert_entry elem_cmp core.places x processor }
     next_is = ap (λ b. cond b core (record core { places = insert_entry elem_cmp core.places x processor })) is_elsewhere
 
     pub array_is : kind_of_array w x.array ≡ Some kind
-    array_is = (elsewhere_if (stands_on core x == processor) (kind_of_array w x.array) kind wanted).1
+    array_is = (elsewhere_if (place_or_home core x == processor) (kind_of_array w x.array) kind wanted).1
 
     module _ (p : ℕ) (place : place_of core x ≡ Some p) where
       pub place_within : p < core.processors

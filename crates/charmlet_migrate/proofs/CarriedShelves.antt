@@ -141,8 +141,8 @@ module _ (shelves : List View) (x : Elem) (p q : ℕ) (r : Record) (apart : p �
           (λ not_p not_q. ap (λ (v : View). on_shelf v y) (next_other k not_p not_q))
 
     -- the element stands on the other shelf alone
-    it_stands : (k : ℕ) → on_shelf (shelf_at next k) x ≡ if_here (Some q) k (record_of w x)
-    it_stands k = by_place (λ k. on_shelf (shelf_at next k) x ≡ if_here (Some q) k (record_of w x)) p q k
+    it_is_there : (k : ℕ) → on_shelf (shelf_at next k) x ≡ if_here (Some q) k (record_of w x)
+    it_is_there k = by_place (λ k. on_shelf (shelf_at next k) x ≡ if_here (Some q) k (record_of w x)) p q k
         (ap (lookup (is_at (elem_cmp x))) next_p
         ∙ lookup-removed elem_total x x (shelf_at shelves p).records (rising_at shelves places w shows p in_p)
         ∙ ap (λ b. cond b None (on_shelf (shelf_at shelves p) x)) (tied_elem x)
@@ -184,7 +184,7 @@ module _ (shelves : List View) (x : Elem) (p q : ℕ) (r : Record) (apart : p �
 
     all_shown : (y : Elem) → IsShown y
     all_shown = by_elem IsShown
-        (λ k. it_stands k ∙ ap (λ o. if_here o k (record_of w x)) (sym its_place))
+        (λ k. it_is_there k ∙ ap (λ o. if_here o k (record_of w x)) (sym its_place))
         (λ y other k. others_stay y other k ∙ shown_at shelves places w shows k y ∙ ap (λ o. if_here o k (record_of w y)) (sym (their_place y other)))
 
     all_placed : (y : Elem) → IsPlacedSo y

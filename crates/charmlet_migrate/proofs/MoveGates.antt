@@ -8,8 +8,8 @@ use Rattle.charmlet_model.specs.declared.refusal.Refusal.{Refusal}
 use Rattle.charmlet_model.specs.declared.refusal.Refusal.TheVariants as refusals
 use Rattle.charmlet_model.specs.Names.{elem_cmp}
 use Rattle.charmlet_model.specs.World.{kind_of_array}
-use Rattle.charmlet_model.specs.Core.{Core, present, Blanks, Gate, When, MayLackMemory, CoreStep, Move, Done, Refuses, gates, away_gates, lacks_blank, assigned_to, first_refusal, may_lack_memory, next_core, with_taken, is_present, is_processor, stands_on}
-use Rattle.charmlet_model.specs.Run.{Store, Goes}
+use Rattle.charmlet_model.specs.Core.{Core, present, Blanks, Gate, When, MayLackMemory, CoreStep, Move, Done, Refuses, gates, away_gates, lacks_blank, assigned_to, first_refusal, may_lack_memory, next_core, with_taken, is_present, is_processor, place_or_home}
+use Rattle.charmlet_model.specs.Run.{StoreView, Goes}
 use Rattle.charmlet_history.specs.Kept.{plenty}
 use Rattle.charmlet_history.proofs.Orders.{none_of_both, some_of_first, in_front, none_in_front, memory_after, is_refused, lacks_memory, is_done}
 use Rattle.std.proofs.lemmas.Bool.{ne_eqb}
@@ -40,7 +40,7 @@ module _ (core : Core) (x : Elem) (processor : ℕ) where
 
   -- the element is there already
   abbrev stays : Bool
-  stays = stands_on core x == processor
+  stays = place_or_home core x == processor
 
   -- the kind of the blank that is wanted for a move elsewhere
   abbrev wanted : Option Kind
@@ -54,7 +54,7 @@ module _ (core : Core) (x : Elem) (processor : ℕ) where
       ∷ When (not (is_present core x)) refusals.Absent ∷ []
 
   abbrev front : List Gate
-  front = start ++ When (is_some (assigned_to core (stands_on core x)) || is_some (assigned_to core processor)) refusals.Uncommitted ∷ []
+  front = start ++ When (is_some (assigned_to core (place_or_home core x)) || is_some (assigned_to core processor)) refusals.Uncommitted ∷ []
 
   -- by whether it is there already
   abbrev order : Bool → Blanks → List Gate
@@ -69,7 +69,7 @@ module _ (core : Core) (x : Elem) (processor : ℕ) where
   refused_so blanks refusal h = is_refused core blanks step refl refusal (refused_by stays blanks refusal h)
 
   module _ (can : first_refusal (gates core plenty step) ≡ None) (blanks : Blanks) where
-    abbrev store : Store
+    abbrev store : StoreView
     store = record { core = core; blanks = blanks }
 
     passes_there : (here : Bool) → here ≡ true → first_refusal (order here plenty) ≡ None → first_refusal (order here blanks) ≡ None
@@ -79,7 +79,7 @@ module _ (core : Core) (x : Elem) (processor : ℕ) where
     -- a move to the own processor changes nothing
     pub stays_there : stays ≡ true → Goes store step Done store
     stays_there here =
-        subst (λ (s : Store). Goes store step Done s)
+        subst (λ (s : StoreView). Goes store step Done s)
         (ap (λ b. record { core = cond b core (record core { places = insert_entry elem_cmp core.places x processor }); blanks = cond b blanks (with_taken wanted blanks) }) here)
         (is_done core blanks step refl (passes_there stays here can))
 

@@ -5,7 +5,7 @@ use Rattle.charmlet_model.specs.declared.names.Elem.{Elem}
 use Rattle.charmlet_model.specs.declared.refusal.Refusal.{Refusal}
 use Rattle.charmlet_model.specs.declared.state.Record.{Record}
 use Rattle.charmlet_model.specs.Core.{CoreAnswer, Done, Refuses, present}
-use Rattle.charmlet_model.specs.Run.{Store}
+use Rattle.charmlet_model.specs.Run.{StoreView}
 use Rattle.charmlet_model.specs.Shelves.{AddsUp, Shows}
 use Rattle.charmlet_chare.specs.declared.chare.Chare.{Ghosts}
 use Rattle.charmlet_history.specs.declared.history.History.{History}
@@ -33,7 +33,7 @@ abbrev pub objects_among : List View → Kind → ℕ
 objects_among shelves kind = sum_by (λ shelf. objects_on shelf kind) shelves
 
 -- a history and a stock as a core and blanks
-abbrev pub store_with : {C : Type 0} {G : Ghosts C} → History → Stock C G → Store
+abbrev pub store_with : {C : Type 0} {G : Ghosts C} → History → Stock C G → StoreView
 store_with history stock = record { core = core_in history; blanks = blanks_in stock }
 
 -- the shelves show the present world, each element on the shelf of its place
@@ -45,6 +45,6 @@ abbrev pub IsCountedAmong : {C : Type 0} {G : Ghosts C} → List View → Stock 
 IsCountedAmong shelves stock = AddsUp (supplied_to stock) (objects_among shelves) (blanks_in stock) (λ kind. (tally_in stock kind).retired)
 
 -- the answer to a move
-abbrev pub answer_in : {T : Type 0} → Result T Refusal → CoreAnswer
-answer_in (Ok x) = Done
-answer_in (Err refusal) = Refuses refusal
+abbrev pub move_answer : {T : Type 0} → Result T Refusal → CoreAnswer
+move_answer (Ok x) = Done
+move_answer (Err refusal) = Refuses refusal

@@ -5,9 +5,9 @@ ghost use Rattle.std.specs.List.{All};
 ghost use Rattle.charmlet_model.specs.Core as core;
 ghost use Rattle.charmlet_model.specs.Core.{first_refusal, gates, place_of};
 ghost use Rattle.charmlet_model.specs.Run.{Goes};
-ghost use Rattle.charmlet_history.specs.Kept.{Stands, blank_of_move, core_in, kept_in, plenty};
+ghost use Rattle.charmlet_history.specs.Kept.{IsConsistent, blank_of_move, core_in, kept_in, plenty};
 ghost use Rattle.charmlet_stock.specs.Stock.{census_of, supplied_to};
-ghost use Rattle.charmlet_migrate.specs.Moving.{IsCountedAmong, IsIdle, ShowsPresent, answer_in, numbers_of, store_with};
+ghost use Rattle.charmlet_migrate.specs.Moving.{IsCountedAmong, IsIdle, ShowsPresent, move_answer, numbers_of, store_with};
 
 use crate::copying::place_copy;
 use charmlet_chare::Chare;
@@ -30,12 +30,12 @@ pub fn move_to<C: Chare>(
     elem: Elem,
     processor: u16,
 ) -> Result<(), Refusal>
-    requires stands { Stands (kept_in history.old) }
+    requires consistent { IsConsistent (kept_in history.old) }
     requires count { length shelves.old ≡ (core_in history.old).processors }
     requires idle { All IsIdle shelves.old }
     requires shows { ShowsPresent shelves.old history.old }
-    ensures stands { Stands (kept_in history.new) }
-    ensures goes { Goes (store_with history.old stock.old) (core.Move elem processor) (answer_in result) (store_with history.new stock.new) }
+    ensures consistent { IsConsistent (kept_in history.new) }
+    ensures goes { Goes (store_with history.old stock.old) (core.Move elem processor) (move_answer result) (store_with history.new stock.new) }
     ensures count { length shelves.new ≡ (core_in history.new).processors }
     ensures numbers { numbers_of shelves.new ≡ numbers_of shelves.old }
     ensures idle { All IsIdle shelves.new }
@@ -61,14 +61,14 @@ fn move_away<C: Chare>(
     processor: u16,
     kind: Kind,
 ) -> Result<(), Refusal>
-    requires stands { Stands (kept_in history.old) }
+    requires consistent { IsConsistent (kept_in history.old) }
     requires count { length shelves.old ≡ (core_in history.old).processors }
     requires idle { All IsIdle shelves.old }
     requires shows { ShowsPresent shelves.old history.old }
     requires can { first_refusal (gates (core_in history.old) plenty (core.Move elem processor)) ≡ None }
     requires wanted { blank_of_move (core_in history.old) elem processor ≡ Some kind }
-    ensures stands { Stands (kept_in history.new) }
-    ensures goes { Goes (store_with history.old stock.old) (core.Move elem processor) (answer_in result) (store_with history.new stock.new) }
+    ensures consistent { IsConsistent (kept_in history.new) }
+    ensures goes { Goes (store_with history.old stock.old) (core.Move elem processor) (move_answer result) (store_with history.new stock.new) }
     ensures count { length shelves.new ≡ (core_in history.new).processors }
     ensures numbers { numbers_of shelves.new ≡ numbers_of shelves.old }
     ensures idle { All IsIdle shelves.new }

@@ -1,13 +1,12 @@
 -- What the plain program of a delivery rests on.
 use Rattle.std.proofs.Common.{◌≡◌, ℕ, ◌+◌, ◌*◌, ◌≤◌, Bool, true, false, cond, ◌&&◌, List, [], ◌∷◌, ◌++◌, length, length-append, refl, sym, ap, subst, ◌∙◌, arith}
 use borrow.Author.Tests.{leb-true}
-use Rattle.std.specs.Prelude.{Option, Some, None, IfSome, IsSome, is_some, if◌then◌else◌, ◌==◌, ◌||◌, nat_le, option_and_then}
-use Rattle.std.specs.Ordering.{is_eq, eq_by_cmp, nat_cmp}
+use Rattle.std.specs.Prelude.{Option, Some, None, IfSome, is_some, if◌then◌else◌, ◌==◌, ◌||◌, nat_le, option_and_then}
+use Rattle.std.specs.Ordering.{eq_by_cmp, nat_cmp}
 use Rattle.std.specs.Cmp.{nat_cmp_total}
 use Rattle.std.specs.List.Sorted.{IsStrictlySortedBy}
-use Rattle.std.specs.Map.{keys_of, lookup}
+use Rattle.std.specs.Map.{keys_of, lookup, remove_entry}
 use Rattle.std.specs.BTreeMap.{insert_entry, is_at}
-use Rattle.std.proofs.lemmas.Cmp.{tied_itself}
 use Rattle.std.proofs.lemmas.Map.Lookups.{exact_unsigned}
 use Rattle.charmlet_model.specs.declared.names.Elem.{Elem}
 use Rattle.charmlet_model.specs.declared.names.MsgId.{MsgId}
@@ -23,7 +22,8 @@ use Rattle.charmlet_model.specs.declared.TheConstants.{CONSTRUCT}
 use Rattle.charmlet_model.specs.Names.{elem_cmp}
 use Rattle.charmlet_model.specs.Reaction.{greatest, add, counter, token, ring, pay, credit, account, give, partial_sum, push, tape, child, children, constructed, entered, react}
 use Rattle.charmlet_model.specs.World.{World, advanced, answered, can_deliver, delivered, kind_of_array, message_among, numbered, performed, reaction_of, record_of, without}
-use Rattle.charmlet_model.proofs.Maps.{both_parts, lookup-insert_entry, same_maps}
+use Rattle.charmlet_model.proofs.Maps.{both_parts, lookup-insert_entry, rising-insert_entry, same_maps}
+use Rattle.charmlet_model.proofs.Removals.{rising-removed, lookup-removed}
 use Rattle.charmlet_model.proofs.Fits.{found-id}
 use Rattle.charmlet_model.proofs.Reactions.{either}
 use Rattle.std.proofs.lemmas.Map.Views.{tells_apart}
@@ -135,14 +135,14 @@ pub delivered_so : (w : World) (id : MsgId) (m : Message) (o : Reaction) → mes
       manifest = w.manifest;
       records = insert_entry elem_cmp w.records m.to (advanced (record_of w m.to) o);
       pending = without id w.pending ++ numbered m.to (record_of w m.to).sent o.sends;
-      clients = answered w.clients id.origin o.reply;
+      clients = answered w.clients id.origin id.number o.reply;
     }
 delivered_so w id m o here reacts =
     let performed_by : MsgId → World = λ i. record {
       manifest = w.manifest;
       records = insert_entry elem_cmp w.records m.to (advanced (record_of w m.to) o);
       pending = without i w.pending ++ numbered m.to (record_of w m.to).sent o.sends;
-      clients = answered w.clients i.origin o.reply;
+      clients = answered w.clients i.origin i.number o.reply;
     } in
     ap (delivered w) here ∙ ap (performed w m) reacts ∙ sym (ap performed_by (found-id id w.pending m here))
 
@@ -150,26 +150,22 @@ delivered_so w id m o here reacts =
 pub delivered_none : (w : World) (id : MsgId) (m : Message) → message_among id w.pending ≡ Some m → reaction_of w m ≡ None → delivered w (message_among id w.pending) ≡ w
 delivered_none w id m here none = ap (delivered w) here ∙ ap (performed w m) none
 
--- ---- a client's row, and the one before put back
+-- ---- a client's row that comes and goes again
 
-pub row_is_there : (clients : List (ℕ × ClientRow)) (client : ℕ) (row : ClientRow) → IsSome (lookup (is_at (nat_cmp client)) (insert_entry nat_cmp clients client row))
-row_is_there clients client row =
-    let here = lookup-insert_entry nat_cmp nat_cmp_total client client row clients
-    ∙ ap (λ b. cond b (Some row) (lookup (is_at (nat_cmp client)) clients)) (ap is_eq (tied_itself nat_cmp_total client)) in
-    subst IsSome (sym here) refl
+pub row_comes_and_goes : (clients : List (ℕ × ClientRow)) (client : ℕ) (row : ClientRow) → IsStrictlySortedBy nat_cmp (keys_of clients) →
+    lookup (is_at (nat_cmp client)) clients ≡ None → remove_entry (is_at (nat_cmp client)) (insert_entry nat_cmp clients client row) ≡ clients
+row_comes_and_goes clients client row rising none =
+    let there = insert_entry nat_cmp clients client row in
+    let rises = rising-insert_entry nat_cmp nat_cmp_total client row clients rising in
+    same_maps nat_cmp nat_cmp_total exact_unsigned (remove_entry (is_at (nat_cmp client)) there) clients
+    (rising-removed nat_cmp (is_at (nat_cmp client)) there rises) rising
+    (λ other. lookup-removed nat_cmp_total other client there rises
+    ∙ elim (eq_by_cmp nat_cmp other client) as (λ b. eq_by_cmp nat_cmp other client ≡ b → cond b None (lookup (is_at (nat_cmp other)) there) ≡ lookup (is_at (nat_cmp other)) clients) [
+      | true ↦ λ same. sym none ∙ ap (λ k. lookup (is_at (nat_cmp k)) clients) (sym (tells_apart exact_unsigned other client same))
+      | false ↦ λ apart. lookup-insert_entry nat_cmp nat_cmp_total other client row clients ∙ ap (λ b. cond b (Some row) (lookup (is_at (nat_cmp other)) clients)) apart
+    ] refl)
 
-pub put_back_same : (clients new : List (ℕ × ClientRow)) (client : ℕ) (row : ClientRow) (before : Option ClientRow) →
-    IsStrictlySortedBy nat_cmp (keys_of clients) → IsStrictlySortedBy nat_cmp (keys_of new) → before ≡ lookup (is_at (nat_cmp client)) clients →
-    ((other : ℕ) → lookup (is_at (nat_cmp other)) new ≡ (if eq_by_cmp nat_cmp other client then before else lookup (is_at (nat_cmp other)) (insert_entry nat_cmp clients client row))) →
-    new ≡ clients
-put_back_same clients new client row before rising_old rising_new was each =
-    same_maps nat_cmp nat_cmp_total exact_unsigned new clients rising_new rising_old (λ other. each other ∙ same other)
-  where
-    same : (other : ℕ) → (if eq_by_cmp nat_cmp other client then before else lookup (is_at (nat_cmp other)) (insert_entry nat_cmp clients client row)) ≡ lookup (is_at (nat_cmp other)) clients
-    same other =
-        let inserted = lookup-insert_entry nat_cmp nat_cmp_total other client row clients in
-        elim (eq_by_cmp nat_cmp other client) as (λ b. eq_by_cmp nat_cmp other client ≡ b →
-        (if b then before else lookup (is_at (nat_cmp other)) (insert_entry nat_cmp clients client row)) ≡ lookup (is_at (nat_cmp other)) clients) [
-          | true ↦ λ is. was ∙ ap (λ k. lookup (is_at (nat_cmp k)) clients) (sym (tells_apart exact_unsigned other client is))
-          | false ↦ λ apart. inserted ∙ ap (λ b. cond b (Some row) (lookup (is_at (nat_cmp other)) clients)) apart
-        ] refl
+-- a client without a row
+pub no_row : (o : Option ClientRow) → is_some o ≡ false → o ≡ None
+no_row None h = refl
+no_row (Some row) h = absurd (let never : ⊥ = cc in never)

@@ -8,4 +8,4 @@ mod world;
 
 pub use crate::kind_table::react;
 pub use crate::packed::{pack_state, read_state};
-pub use crate::world::World;
+pub use crate::world::PlainWorld;

@@ -49,8 +49,8 @@ numbers_of (word ∷ words) = do
   Some (n ∷ ns)
 
 -- a number of 32 bits that is at most so great
-unfoldable pub count_of : ℕ → Text → Option ℕ
-count_of most word = do
+unfoldable pub count_up_to : ℕ → Text → Option ℕ
+count_up_to most word = do
   n ← number_of 32 word
   if nat_le n most then Some n else None
 
@@ -103,14 +103,14 @@ pes_of _ = None
 unfoldable pub supply_of : List Text → Option Line
 supply_of (kind ∷ count ∷ []) = do
   k ← kind_of kind
-  n ← count_of 10000 count
+  n ← count_up_to 10000 count
   Some (lines.Supply k n)
 supply_of _ = None
 
 -- what follows `drain`: N, at most 1,000,000 deliveries
 unfoldable pub drain_of : List Text → Option Line
 drain_of (count ∷ []) = do
-  n ← count_of 1000000 count
+  n ← count_up_to 1000000 count
   Some (lines.Drain n)
 drain_of _ = None
 

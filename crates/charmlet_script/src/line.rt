@@ -8,7 +8,7 @@ ghost use Rattle.charmlet_script.specs.Reading.{Spells};
 use crate::error::LineFault;
 use crate::id::id_of;
 use crate::number::{
-    MAX_BLANKS, MAX_DELIVERIES, count_of, kind_of, numbers, u16_of, u32_of, u64_of,
+    MAX_BLANKS, MAX_DELIVERIES, count_up_to, kind_of, numbers, u16_of, u32_of, u64_of,
 };
 use crate::script::{ArrayLine, Line};
 use crate::split::words;
@@ -59,7 +59,7 @@ fn supply_of(words: &[&[u8]]) -> Option<Line>
         return None;
     };
     let kind = kind_of(kind)?;
-    let count = count_of(MAX_BLANKS, count)?;
+    let count = count_up_to(MAX_BLANKS, count)?;
     Some(Line::Supply { kind, count })
 }
 
@@ -71,7 +71,7 @@ fn drain_of(words: &[&[u8]]) -> Option<Line>
     let [count] = words else {
         return None;
     };
-    let count = count_of(MAX_DELIVERIES, count)?;
+    let count = count_up_to(MAX_DELIVERIES, count)?;
     Some(Line::Drain { count })
 }
 

@@ -1,7 +1,7 @@
 //! Words that are numbers.
 
 ghost use Rattle.std.specs.Prelude.{◌≡◌, map};
-ghost use Rattle.charmlet_script.specs.Line.{count_of, kind_of, number_of, numbers_of};
+ghost use Rattle.charmlet_script.specs.Line.{count_up_to, kind_of, number_of, numbers_of};
 ghost use Rattle.charmlet_script.specs.Reading.{Spells};
 
 use crate::error::LineFault;
@@ -64,9 +64,9 @@ pub(crate) fn kind_of(word: &[u8]) -> Option<Kind>
 }
 
 /// A decimal number of 32 bits that is at most `most`.
-#[tactic(auto, unfolding(crate::specs::Line::count_of))]
-pub(crate) fn count_of(most: u32, word: &[u8]) -> Option<u32>
-    ensures { result ≡ count_of most word.now }
+#[tactic(auto, unfolding(crate::specs::Line::count_up_to))]
+pub(crate) fn count_up_to(most: u32, word: &[u8]) -> Option<u32>
+    ensures { result ≡ count_up_to most word.now }
 {
     let count = u32_of(word)?;
     if count <= most { Some(count) } else { None }

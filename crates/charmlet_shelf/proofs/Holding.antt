@@ -8,7 +8,6 @@ use Rattle.std.specs.List.Sorted.{IsStrictlySortedBy}
 use Rattle.std.proofs.lemmas.Map.{keys-set_value, lookup-set_value}
 use Rattle.charmlet_model.specs.declared.message.Message.{Message}
 use Rattle.charmlet_model.specs.declared.names.Elem.{Elem}
-use Rattle.charmlet_model.specs.declared.state.Record.{Record}
 use Rattle.charmlet_model.specs.declared.state.Resident.{Resident}
 use Rattle.charmlet_model.specs.declared.state.State.{State}
 use Rattle.charmlet_model.specs.Names.{elem_cmp}
@@ -154,20 +153,14 @@ module _ {C : Type 0} (state : C → State) where
 
 -- ---- a delivery to an element that is there
 
-module _ {C : Type 0} (state : C → State) (es : List (Elem × Resident C)) (m : Message) (old new : Resident C) (here : at es m.to ≡ Some old) (same : record_in state new ≡ record_in state old) where
+module _ {C : Type 0} (state : C → State) (es : List (Elem × Resident C)) (m : Message) (resident : Resident C) (here : at es m.to ≡ Some resident) where
   abbrev its_due : Due
-  its_due = record { message = m; kind = kind_of (state old.object); receiver = record_in state old }
+  its_due = record { message = m; kind = kind_of (state resident.object); receiver = record_in state resident }
 
-  kept_state : state new.object ≡ state old.object
-  kept_state = let both : Some (state new.object) ≡ Some (state old.object) = ap (λ (r : Record). r.state) same in cc
-
-  receives : IsReceiver state its_due (Some (state old.object)) new
-  receives = record { kind = ap kind_of kept_state; before = refl; state = kept_state; sent = ap (λ (r : Record). r.sent) same; received = ap (λ (r : Record). r.received) same }
-
-  pub due_here : (due : Due) → due ≡ its_due → IsDueAt (records_of state es) m due × Holds state (set_value (is_at (elem_cmp m.to)) es new) due due.receiver.state
+  pub due_here : (due : Due) → due ≡ its_due → IsDueAt (records_of state es) m due × Holds state es due due.receiver.state
   due_here due is =
-      subst (λ (d : Due). IsDueAt (records_of state es) m d × Holds state (set_value (is_at (elem_cmp m.to)) es new) d d.receiver.state) (sym is)
-      ((state old.object, shown_there state es m.to old here, refl, refl), holds_written state es its_due old here new (Some (state old.object)) receives)
+      subst (λ (d : Due). IsDueAt (records_of state es) m d × Holds state es d d.receiver.state) (sym is)
+      ((state resident.object, shown_there state es m.to resident here, refl, refl), (resident, here, record { kind = refl; before = refl; state = refl; sent = refl; received = refl }))
 
 -- ---- an element that is to be constructed
 

@@ -1,12 +1,10 @@
 -- Deliveries that a shelf was asked to make.
-use Rattle.std.specs.Prelude.{◌≡◌, ℕ, ◌+◌, ◌≤◌, List, Option, None, true, is_some}
+use Rattle.std.specs.Prelude.{◌≡◌, ℕ, ◌+◌, ◌≤◌, Option, None, true, is_some}
 use Rattle.charmlet_model.specs.declared.kind.Kind.{Kind}
 use Rattle.charmlet_model.specs.declared.message.Message.{Message}
 use Rattle.charmlet_model.specs.declared.reaction.Reaction.{Reaction}
 use Rattle.charmlet_model.specs.declared.state.Record.{Record}
-use Rattle.charmlet_model.specs.declared.state.State.{State}
 use Rattle.charmlet_model.specs.Reaction.{greatest, react}
-use Rattle.charmlet_model.specs.Unpacked.{state_at}
 use Rattle.charmlet_model.specs.Own.{advanced_if}
 
 -- a message, the kind of its receiver's object, and the receiver's record before it
@@ -14,10 +12,6 @@ pub record Due : Type 0 where
   pub message : Message
   pub kind : Kind
   pub receiver : Record
-
--- the state of an object of this kind whose packed form the bytes are
-unfoldable pub state_in : Kind → List ℕ → State
-state_in kind bytes = state_at kind bytes
 
 -- what the message makes of its receiver
 abbrev pub reaction_in : Due → Option Reaction

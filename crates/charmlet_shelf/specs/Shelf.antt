@@ -146,15 +146,10 @@ has_newcomer _ = false
 
 -- ---- refusals
 
--- where no delivery is under way, only an element that is here is lifted
-abbrev pub lift_refusal : View → Elem → Option Refusal
-lift_refusal shelf x =
+-- where no delivery is under way, only an element that isn't here is refused
+abbrev pub refusal_at : View → Elem → Option Refusal
+refusal_at shelf x =
     if is_idle shelf.phase then (if is_some (lookup (is_at (elem_cmp x)) shelf.records) then None else Some refusals.Absent) else Some refusals.Uncommitted
-
--- a message is refused for the first of these reasons that applies, or else for want of memory
-abbrev pub assign_refusal : View → Elem → Refusal
-assign_refusal shelf x =
-    if is_idle shelf.phase then (if is_some (lookup (is_at (elem_cmp x)) shelf.records) then refusals.Memory else refusals.Absent) else refusals.Uncommitted
 
 -- counts with room for a delivery
 abbrev pub HasCounts : Record → Type 0

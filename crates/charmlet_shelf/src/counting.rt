@@ -11,7 +11,7 @@ use charmlet_model::{Elem, Kind, Resident};
 use std::collections::BTreeMap;
 
 /// How many of the residents' objects are of the kind.
-pub(crate) fn count_of<C: Chare>(residents: &BTreeMap<Elem, Resident<C>>, kind: Kind) -> u64
+pub(crate) fn count_residents<C: Chare>(residents: &BTreeMap<Elem, Resident<C>>, kind: Kind) -> u64
     ensures count { result ≡ count_of C.state (objects_of residents.now.entries) kind }
     ensures ordered { IsStrictlySortedBy elem_cmp (keys_of residents.now.entries) }
 {

@@ -1,6 +1,6 @@
 //! Deliveries to the objects of a shelf.
 
-ghost use Rattle.std.specs.Prelude.{◌≡◌, ◌+◌, if◌then◌else◌, IfOk, IfErr, IfSome, OnErr, OnOk, is_none, is_some};
+ghost use Rattle.std.specs.Prelude.{◌≡◌, ◌+◌, if◌then◌else◌, None, IfOk, IfErr, IfSome, OnErr, OnOk, is_none, is_some};
 ghost use Rattle.std.specs.BTreeMap.{is_at};
 ghost use Rattle.std.specs.Map.{lookup};
 ghost use Rattle.charmlet_model.specs.declared.kind.Kind.{Kind};
@@ -10,36 +10,30 @@ ghost use Rattle.charmlet_model.specs.Shelves.{records_of, there_in};
 ghost use Rattle.charmlet_shelf.specs.Count.{came_out, comes_as};
 ghost use Rattle.charmlet_shelf.specs.Due.{reaction_in, record_after};
 ghost use Rattle.charmlet_shelf.specs.Shelf.{HasCounts, Holds, IsDueAt, before_due, done_by, with_record, without_newcomer};
-ghost use Rattle.charmlet_model.specs.declared.refusal.Refusal.TheVariants as refusals;
 ghost use Rattle.charmlet_shelf.specs.declared.phase.Phase.TheVariants as phases;
 
 use crate::delivery::Delivery;
 use crate::outcome::Outcome;
 use crate::receiving::receive;
 use charmlet_chare::Chare;
-use charmlet_model::{Elem, Message, Refusal, Resident};
+use charmlet_model::{Elem, Message, Resident};
 use std::alloc::Global;
 use std::collections::BTreeMap;
 
-/// The delivery of a message to an element that is there, whose counts have room for it; else `Absent`, or
-/// `Memory`, and the message. The objects show what they showed.
+/// The delivery of a message to an element that is there, whose counts have room for it. Where the element
+/// isn't there, the message comes back. It takes no memory.
 pub(crate) fn delivery_at<C: Chare>(
-    alloc: Global,
-    residents: &mut BTreeMap<Elem, Resident<C>>,
+    residents: &BTreeMap<Elem, Resident<C>>,
     message: Message,
-) -> Result<Delivery, (Refusal, Message)>
-    requires { IfSome (lookup (is_at (elem_cmp message.to)) (records_of C.state residents.old.entries)) HasCounts }
-    ensures ok { IfOk result (λ due. IsDueAt (records_of C.state residents.old.entries) message due × Holds C.state residents.new.entries due due.receiver.state) }
-    ensures err { IfErr result (λ back. (back.0 ≡ (if is_some (lookup (is_at (elem_cmp message.to)) (records_of C.state residents.old.entries)) then refusals.Memory else refusals.Absent)) × (back.1 ≡ message)) }
-    ensures same { records_of C.state residents.new.entries ≡ records_of C.state residents.old.entries }
+) -> Result<Delivery, Message>
+    requires { IfSome (lookup (is_at (elem_cmp message.to)) (records_of C.state residents.now.entries)) HasCounts }
+    ensures ok { IfOk result (λ due. IsDueAt (records_of C.state residents.now.entries) message due × Holds C.state residents.now.entries due due.receiver.state) }
+    ensures err { IfErr result (λ back. (lookup (is_at (elem_cmp message.to)) (records_of C.state residents.now.entries) ≡ None) × (back ≡ message)) }
 {
-    let Some(resident) = residents.get_mut(&message.to) else {
-        return Err((Refusal::Absent, message));
+    let Some(resident) = residents.get(&message.to) else {
+        return Err(message);
     };
-    match Delivery::to_resident(alloc, resident, message) {
-        Ok(delivery) => Ok(delivery),
-        Err(message) => Err((Refusal::Memory, message)),
-    }
+    Ok(Delivery::to_resident(resident, message))
 }
 
 /// Has the receiver react. Where memory is refused, the delivery comes back, and the objects show what they
@@ -67,7 +61,7 @@ pub(crate) fn react<C: Chare>(
 }
 
 /// Counts the delivery at its receiver, or takes out the object that it destroys.
-pub(crate) fn advance<C: Chare>(
+pub(crate) fn bring_forward<C: Chare>(
     residents: &mut BTreeMap<Elem, Resident<C>>,
     outcome: &Outcome,
 ) -> Option<C>

@@ -3,71 +3,60 @@
 ghost use Rattle.charmlet_model.specs.Shelves.{record_in};
 ghost use Rattle.charmlet_shelf.specs.Shelf.{HasCounts};
 
+use crate::seen::SeenState;
 use charmlet_chare::{Chare, kind_of};
 use charmlet_model::{Kind, Message, Resident};
-use std::alloc::Global;
 use std::marker::Model;
 
 /// A message, with the kind of its receiver's object and the receiver as it was before the message. A
-/// contract sees the three.
+/// contract sees the three. Of the receiver's state no code keeps anything.
 #[derive(Drop)]
 pub struct Delivery {
     message: Message,
     kind: Kind,
-    /// The receiver's packed state, or none where the message constructs it.
-    packed: Option<Vec<u8>>,
+    /// The receiver's state, for contracts alone, or none where the message constructs it.
+    before: Option<SeenState>,
     sent: u64,
     received: u64,
 }
 
 impl Model for Delivery {
     ghost use Rattle.std.specs.Prelude.{option_map};
-    ghost use Rattle.charmlet_shelf.specs.Due.{Due, IsDue, state_in};
+    ghost use Rattle.charmlet_shelf.specs.Due.{Due, IsDue};
 
     ghost Value = { Due };
 
     ghost view = { λ d. record {
       message = d.message;
       kind = d.kind;
-      receiver = record { state = option_map (λ p. state_in d.kind p.items) d.packed; sent = d.sent; received = d.received };
+      receiver = record { state = option_map (λ seen. seen.state) d.before; sent = d.sent; received = d.received };
     } };
 
     ghost invariant = { λ d. IsDue (record {
       message = d.message;
       kind = d.kind;
-      receiver = record { state = option_map (λ p. state_in d.kind p.items) d.packed; sent = d.sent; received = d.received };
+      receiver = record { state = option_map (λ seen. seen.state) d.before; sent = d.sent; received = d.received };
     }) };
 }
 
 impl Delivery {
-    ghost use Rattle.std.specs.Prelude.{◌≡◌, ◌+◌, ◌≤◌, IfOk, IfErr, is_some};
+    ghost use Rattle.std.specs.Prelude.{◌≡◌, ◌+◌, ◌≤◌, is_some};
     ghost use Rattle.charmlet_model.specs.Reaction.{greatest, kind_of};
     ghost use Rattle.charmlet_model.specs.declared.TheConstants.{CONSTRUCT};
     ghost use Rattle.charmlet_shelf.specs.Due.{IsDue, newcomer_due};
 
-    /// The delivery of a message to an element that is there. Where memory is refused, the message comes
-    /// back. The element shows what it showed.
-    pub(crate) fn to_resident<C: Chare>(
-        alloc: Global,
-        resident: &mut Resident<C>,
-        message: Message,
-    ) -> Result<Self, Message>
-        requires { HasCounts (record_in C.state resident.old) }
-        ensures ok { IfOk result (λ due. due ≡ record { message = message; kind = kind_of (C.state resident.old.object); receiver = record_in C.state resident.old }) }
-        ensures err { IfErr result (λ back. back ≡ message) }
-        ensures same { record_in C.state resident.new ≡ record_in C.state resident.old }
+    /// The delivery of a message to an element that is there. It takes no memory.
+    pub(crate) fn to_resident<C: Chare>(resident: &Resident<C>, message: Message) -> Self
+        requires { HasCounts (record_in C.state resident.now) }
+        ensures { result ≡ record { message = message; kind = kind_of (C.state resident.now.object); receiver = record_in C.state resident.now } }
     {
-        let mut packed = Vec::new(alloc);
-        if resident.object.pack(&mut packed).is_err() {
-            return Err(message);
-        }
-        Ok(Delivery {
+        Delivery {
+            message,
             kind: kind_of(&resident.object),
-            packed: Some(packed),
+            before: Some(SeenState::of(&resident.object)),
             sent: resident.sent,
             received: resident.received,
-            message,
-        })
+        }
     }
 
     /// The delivery of a message that constructs an element of a kind, which has sent and received so many
@@ -81,7 +70,7 @@ impl Delivery {
         Delivery {
             message,
             kind,
-            packed: None,
+            before: None,
             sent,
             received,
         }
@@ -99,7 +88,7 @@ impl Delivery {
         ensures there { result ≡ is_some self.now.receiver.state }
         ensures due { IsDue self.now }
     {
-        self.packed.is_some()
+        self.before.is_some()
     }
 
     /// How many messages the receiver has sent and received once it has sent so many more by this one.

@@ -8,6 +8,7 @@ mod image;
 mod outcome;
 mod phase;
 mod receiving;
+mod seen;
 mod shelf;
 
 pub use crate::delivery::Delivery;

@@ -1,7 +1,7 @@
 //! Shelves.
 
-use crate::counting::count_of;
-use crate::delivering::{advance, delivery_at, react, take_newcomer};
+use crate::counting::count_residents;
+use crate::delivering::{bring_forward, delivery_at, react, take_newcomer};
 use crate::delivery::Delivery;
 use crate::image::{Image, image_at, images_of};
 use crate::outcome::Outcome;
@@ -53,7 +53,7 @@ impl<C: Chare> Shelf<C> {
     ghost use Rattle.charmlet_shelf.specs.Count.{came_out, objects_on};
     ghost use Rattle.charmlet_shelf.specs.Due.{newcomer_due};
     ghost use Rattle.charmlet_shelf.specs.Image.{AreImages, IsImageIf};
-    ghost use Rattle.charmlet_shelf.specs.Shelf.{Assigns, HasCounts, assign_refusal, has_newcomer, is_assigned, is_destroyed, is_idle, lift_refusal, outcome_in, output_in, performed, receiver_kind, released, settled, without_output};
+    ghost use Rattle.charmlet_shelf.specs.Shelf.{Assigns, HasCounts, has_newcomer, is_assigned, is_destroyed, is_idle, outcome_in, output_in, performed, receiver_kind, refusal_at, released, settled, without_output};
 
     /// An empty shelf of a processor. It takes no memory.
     pub fn new(alloc: Global, number: u16) -> Self
@@ -86,7 +86,7 @@ impl<C: Chare> Shelf<C> {
     pub fn count(&self, kind: Kind) -> u64
         ensures { result ≡ objects_on self.now kind }
     {
-        count_of(&self.residents, kind)
+        count_residents(&self.residents, kind)
     }
 
     /// Places an element that isn't here. `Uncommitted` where a delivery is under way, else `Memory`; then
@@ -109,7 +109,7 @@ impl<C: Chare> Shelf<C> {
     /// `Absent` where the element isn't here; then the shelf is as before. It takes no memory.
     pub fn lift(&mut self, elem: Elem) -> Result<Resident<C>, Refusal>
         ensures ok { IfOk result (λ resident. (is_idle self.old.phase ≡ true) × (lookup (is_at (elem_cmp elem)) self.old.records ≡ Some (record_in C.state resident)) × (self.new ≡ record self.old { records = remove_entry (is_at (elem_cmp elem)) self.old.records })) }
-        ensures err { IfErr result (λ refusal. Some refusal ≡ lift_refusal self.old elem) }
+        ensures err { IfErr result (λ refusal. Some refusal ≡ refusal_at self.old elem) }
         ensures same { OnErr result (self.new ≡ self.old) }
     {
         if !self.is_idle() {
@@ -122,29 +122,30 @@ impl<C: Chare> Shelf<C> {
     }
 
     /// Assigns a message to an element that is here. `Uncommitted` where a delivery is under way, else
-    /// `Absent` where the element isn't here, else `Memory`; then the message comes back, and the shelf is
-    /// as before.
+    /// `Absent` where the element isn't here; then the message comes back, and the shelf is as before. It
+    /// takes no memory: the message moves, and of the receiver's state nothing is made.
     pub fn assign(&mut self, message: Message) -> Result<(), (Refusal, Message)>
         requires { IfSome (lookup (is_at (elem_cmp message.to)) self.old.records) HasCounts }
         ensures ok { OnOk result ((is_idle self.old.phase ≡ true) × Assigns self.old message self.new) }
-        ensures err { IfErr result (λ back. (back.0 ≡ assign_refusal self.old message.to) × (back.1 ≡ message)) }
+        ensures err { IfErr result (λ back. (Some back.0 ≡ refusal_at self.old message.to) × (back.1 ≡ message)) }
         ensures same { OnErr result (self.new ≡ self.old) }
     {
         if !self.is_idle() {
             return Err((Refusal::Uncommitted, message));
         }
-        match delivery_at(self.alloc, &mut self.residents, message) {
+        match delivery_at(&self.residents, message) {
             Ok(delivery) => {
                 self.phase = Phase::Assigned(delivery);
                 Ok(())
             }
-            Err(back) => Err(back),
+            Err(message) => Err((Refusal::Absent, message)),
         }
     }
 
     /// Assigns a message that constructs an element, which isn't here, from a blank with the element's
-    /// counts. `Uncommitted` where a delivery is under way, else `Memory`; then both come back, and the
-    /// shelf is as before.
+    /// counts. `Uncommitted` where a delivery is under way, else `Memory`, which is taken for the element's
+    /// entry among those that are here and for nothing else; then both come back, and the shelf is as
+    /// before.
     pub fn assign_new(
         &mut self,
         message: Message,
@@ -222,7 +223,7 @@ impl<C: Chare> Shelf<C> {
         ensures count { (kind : Kind) → objects_on self.old kind ≡ objects_on self.new kind + came_out C.state result kind }
     {
         match mem::replace(&mut self.phase, Phase::Idle) {
-            Phase::Done(outcome) => advance(&mut self.residents, &outcome),
+            Phase::Done(outcome) => bring_forward(&mut self.residents, &outcome),
             phase => {
                 self.phase = phase;
                 None

@@ -1,3 +1,4 @@
 mod migrate;
+mod packing;
 mod shelf;
 mod stock;

@@ -1,49 +1,25 @@
+mod beginnings;
 mod census;
 mod ending;
 mod flushing;
 mod probe;
 mod steps;
+mod worked;
 
 ghost use Rattle.std.specs.Prelude.{IfOk, IfSome};
-ghost use Rattle.charmlet_small.specs.Small.{StandsSo};
+ghost use Rattle.charmlet_store.specs.Store.{IsStoreConsistent};
 
+use self::worked::FIRST_RUN;
 use charmlet_chare::Chare;
 use charmlet_cli::{RunError, Stop, run_script};
 use charmlet_kinds::Counter;
 use charmlet_model::{CONSTRUCT, Elem, Kind, Manifest, MsgId, Origin, Step, Words};
 use charmlet_script::{Script, read_script};
-use charmlet_small::Small;
+use charmlet_store::Store;
 use std::alloc::{AllocError, Global};
 use std::io;
 use std::io::Write;
 use std::test::Fail;
-
-// The lines of the script and what they print, those of the script behind `> `.
-const FIRST_RUN: &str = "\
-> array 0 1
-> supply 1 1
-supplied 1 1
-> req 7 1 0 0 65535 5
-told unknown
-> deliver 0 c7.1
-delivered c7.1
-> flush
-flushed 2
-> status 7 1
-told replied
-> req 7 2 0 0 0 3
-told unknown
-> deliver 0 c7.2
-delivered c7.2
-> status 7 2
-told unknown
-> flush
-flushed 4
-> status 7 2
-told replied 8
-> status 7 1
-told past
-";
 
 // The script in a transcript, and what it prints.
 fn parts(alloc: Global, transcript: &str) -> Result<(String, String), AllocError> {
@@ -134,14 +110,14 @@ fn failed_output_ends_the_run(rt: HostRuntime) -> Result<(), Fail> {
 }
 
 // A store with an array of counters.
-fn small<C: Chare>(alloc: Global) -> Result<Option<Small<C>>, AllocError>
-    ensures { IfOk result (λ store. IfSome store (StandsSo)) }
+fn new_store<C: Chare>(alloc: Global) -> Result<Option<Store<C>>, AllocError>
+    ensures { IfOk result (λ store. IfSome store (IsStoreConsistent)) }
 {
     let manifest = Manifest::of(alloc, &[(0, 1)])?;
     let Some(manifest) = manifest else {
         return Ok(None);
     };
-    let store = Small::new(alloc, manifest, 1);
+    let store = Store::new(alloc, manifest, 1);
     Ok(store.ok())
 }
 
@@ -157,8 +133,8 @@ fn request(alloc: Global, client: u32, index: u64, entry: u16) -> Step {
 }
 
 // The message that can be delivered next, with its processor.
-fn next_of<C: Chare>(alloc: Global, store: &Small<C>) -> Result<String, AllocError>
-    requires { StandsSo store.now }
+fn next_of<C: Chare>(alloc: Global, store: &Store<C>) -> Result<String, AllocError>
+    requires { IsStoreConsistent store.now }
 {
     match store.next() {
         Some((processor, id)) => format!(in alloc; "{processor} {id}\n"),
@@ -169,7 +145,7 @@ fn next_of<C: Chare>(alloc: Global, store: &Small<C>) -> Result<String, AllocErr
 // What is next in a new store, behind a message that waits for its receiver, once that is to be
 // constructed, and once it is.
 fn nexts<C: Chare>(alloc: Global, blanks: Vec<C>) -> Result<String, AllocError> {
-    let store = small(alloc)?;
+    let store = new_store(alloc)?;
     let Some(mut store) = store else {
         return String::from_str(alloc, "no store\n");
     };

@@ -356,6 +356,40 @@ fn a_failed_read_is_told(rt: HostRuntime) {
     assert!(rt; matches!(result, Err(ReadError::Memory)));
 }
 
+/// A reader that never ends: after its first bytes it gives the letter x for ever. It counts the bytes that it gave.
+#[derive(Drop)]
+struct Endless {
+    start: &'static [u8],
+    given: u64,
+}
+
+impl Read for Endless {
+    fn read(&mut self, buf: &mut [u8]) -> io::Result<usize> {
+        buf.fill(b'x');
+        let count = match self.start.read(buf)? {
+            0 => buf.len(),
+            count => count,
+        };
+        self.given = self.given.saturating_add(count as u64);
+        Ok(count)
+    }
+}
+
+#[test]
+fn a_reader_that_never_ends_is_read_to_the_byte_after_the_limit(rt: HostRuntime) {
+    for (start, line) in [
+        (b"".as_slice(), 1),
+        (b"array 0 1\n".as_slice(), 2),
+        (b"array 0 1\n#".as_slice(), 2),
+        (b"array 0 1\n\n#\n\n#".as_slice(), 5),
+    ] {
+        let mut reader = Endless { start, given: 0 };
+        let read = read_script(rt.alloc(), &mut reader);
+        assert!(rt; matches!(read, Err(ReadError::Malformed(number)) if number == line));
+        assert_eq!(rt; reader.given, MAX_LENGTH as u64 + 1);
+    }
+}
+
 #[test]
 fn texts_are_as_users_know_them(rt: HostRuntime) -> Result<(), Fail> {
     let alloc = rt.alloc();

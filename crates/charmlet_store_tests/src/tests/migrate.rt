@@ -1,7 +1,7 @@
 ghost use Rattle.std.specs.Prelude.{◌≡◌, ◌∷◌, [], ℕ, List};
 ghost use Rattle.charmlet_kinds.specs.Ring.{state_of};
 ghost use Rattle.charmlet_kinds.specs.Tree as tree;
-ghost use Rattle.charmlet_history.specs.Kept.{Stands, core_in, kept_in};
+ghost use Rattle.charmlet_history.specs.Kept.{IsConsistent, core_in, kept_in};
 ghost use Rattle.charmlet_model.specs.declared.kind.Kind as kinds;
 ghost use Rattle.charmlet_model.specs.Packed.{IsState};
 ghost use Rattle.charmlet_model.specs.Reaction.{kind_of};
@@ -279,13 +279,13 @@ fn blanks_become_copies(rt: HostRuntime) {
 
 // A history of three processors in which nothing has happened.
 fn history_of(rt: &(impl AllocGlobal + Abort)) -> History
-    ensures stands { Stands (kept_in result) }
-    ensures opens { (manifest : List (ℕ × kinds.Kind)) × (core_in result ≡ opened 3 (new_world manifest) 0 1) }
+    ensures consistent { IsConsistent (kept_in result) }
+    ensures opens { (manifest : List (ℕ × kinds.Kind)) × (core_in result ≡ opened 3 (new_world manifest) 0 1 0) }
 {
     let manifest = Manifest::of(rt.alloc(), &[(2, 2)])
         .expect(rt, "memory")
         .expect(rt, "a manifest");
-    History::new(rt.alloc(), manifest, 3)
+    History::new(rt.alloc(), manifest, 0, 3)
         .ok()
         .expect(rt, "three processors")
 }

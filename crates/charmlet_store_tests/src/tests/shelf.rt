@@ -17,7 +17,7 @@ use std::process::Abort;
 use std::sync::Arc;
 use std::sync::atomic::{AtomicU64, Ordering};
 
-const ME: Elem = Elem { array: 2, index: 7 };
+pub(super) const ME: Elem = Elem { array: 2, index: 7 };
 
 const OTHER: Elem = Elem { array: 2, index: 8 };
 
@@ -84,7 +84,7 @@ fn probe_of(rt: &impl Abort, entries: &Arc<AtomicU64>, packed: &[u8]) -> Residen
 }
 
 // The element of a ring, which sent 4 messages and received 5.
-fn ring(rt: &impl Abort) -> Resident<Ring>
+pub(super) fn ring(rt: &impl Abort) -> Resident<Ring>
     ensures sent { result.sent ≡ 4 }
     ensures received { result.received ≡ 5 }
 {
@@ -94,7 +94,7 @@ fn ring(rt: &impl Abort) -> Resident<Ring>
 }
 
 // An element with these counts.
-fn resident<C>(object: C, sent: u64, received: u64) -> Resident<C>
+pub(super) fn resident<C>(object: C, sent: u64, received: u64) -> Resident<C>
     ensures { result ≡ record { object = object; sent = sent; received = received } }
 {
     Resident {
@@ -105,7 +105,12 @@ fn resident<C>(object: C, sent: u64, received: u64) -> Resident<C>
 }
 
 // A message of client 1. Where memory is refused it is made at the second try.
-fn message(rt: &(impl AllocGlobal + Abort), to: Elem, entry: u16, words: &[u64]) -> Message
+pub(super) fn message(
+    rt: &(impl AllocGlobal + Abort),
+    to: Elem,
+    entry: u16,
+    words: &[u64],
+) -> Message
     ensures to { result.to ≡ to }
     ensures entry { result.entry ≡ entry }
 {
@@ -125,7 +130,7 @@ fn message(rt: &(impl AllocGlobal + Abort), to: Elem, entry: u16, words: &[u64])
 
 // The shelf of processor 3, with one element. Where memory is refused, the shelf is as before, and the
 // element is placed at the second try.
-fn shelf_with<C: Chare>(
+pub(super) fn shelf_with<C: Chare>(
     rt: &(impl AllocGlobal + Abort),
     elem: Elem,
     resident: Resident<C>,
@@ -141,9 +146,8 @@ fn shelf_with<C: Chare>(
     shelf
 }
 
-// The shelf of processor 3, with an element that is assigned a message. Where memory is refused, the
-// shelf is as before, and the message is assigned at the second try.
-fn assigned<C: Chare>(
+// The shelf of processor 3, with an element that is assigned a message. That takes no memory.
+pub(super) fn assigned<C: Chare>(
     rt: &(impl AllocGlobal + Abort),
     resident: Resident<C>,
     entry: u16,
@@ -154,16 +158,13 @@ fn assigned<C: Chare>(
     ensures records { result.records ≡ (ME, record_in C.state resident) ∷ [] }
 {
     let mut shelf = shelf_with(rt, ME, resident);
-    if let Err((refusal, back)) = shelf.assign(message(rt, ME, entry, words)) {
-        assert!(rt; refusal == Refusal::Memory && shelf.is_idle());
-        assert!(rt; shelf.assign(back).is_ok());
-    }
+    assert!(rt; shelf.assign(message(rt, ME, entry, words)).is_ok());
     shelf
 }
 
 // The shelf of processor 3, where an element is to be constructed from a blank. Where memory is refused,
 // the shelf is as before, and the message is assigned at the second try.
-fn constructing<C: Chare>(
+pub(super) fn constructing<C: Chare>(
     rt: &(impl AllocGlobal + Abort),
     blank: Resident<C>,
     words: &[u64],

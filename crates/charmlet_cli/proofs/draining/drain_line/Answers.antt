@@ -1,36 +1,62 @@
-use Rattle.std.proofs.Common.{◌∷◌, [], refl, ap, subst}
-use Rattle.std.specs.Prelude.{Some, None}
+use Rattle.std.proofs.Common.{ℕ, ◌∷◌, [], refl, subst}
+use Rattle.std.specs.Prelude.{Option, Some, None}
+use Rattle.std.specs.Io.KnownBytes.{Appends}
+use Rattle.charmlet_model.specs.declared.refusal.Refusal.{Refusal}
 use Rattle.charmlet_model.specs.declared.step.Answer.TheVariants.{Refused}
-use Rattle.charmlet_model.specs.Texts.{answer_text}
-use Rattle.charmlet_script.specs.declared.script.Line.TheVariants.{Drain}
+use Rattle.charmlet_model.specs.Run.{StoreView}
+use Rattle.charmlet_model.specs.Texts.{Text, answer_text}
 use Rattle.charmlet_script.specs.Printed.{drained_text}
-use Rattle.charmlet_small.specs.Small.{store_in}
-use Rattle.charmlet_cli.specs.Drain.{DrainsUpTo, drain_text}
-use Rattle.charmlet_cli.specs.Lines.{ledger_in}
-use Rattle.charmlet_cli.proofs.Printing.{is_printed, line_then, line_written}
+use Rattle.charmlet_store.specs.Store.{store_in}
+use Rattle.charmlet_cli.specs.Drain.{DrainsUpTo, drain_text, drain_texts}
+use Rattle.charmlet_cli.specs.Lines.{in_lines}
+use Rattle.charmlet_cli.specs.Writing.{AppendsBeginning}
+use Rattle.charmlet_cli.proofs.Printing.{beginning_written, line_begins, line_then}
 use Rattle.charmlet_cli.proofs.draining.drain_line.Goals as goal
+
+-- a beginning of its own line is one of what it prints
+drain_begins : (a b : Option Text) (k : ℕ) (last : StoreView) (refusal : Option Refusal) → AppendsBeginning a b (in_lines (drain_text k last ∷ [])) → AppendsBeginning a b (in_lines (drain_texts k last refusal))
+drain_begins a b k last None h = h
+drain_begins a b k last (Some refusal) h = line_begins a b (drain_text k last ∷ []) (answer_text (Refused refusal) ∷ []) h
+
+pub returns-in_err-write_line-clause-prints : goal.returns-in_err-write_line-clause-prints
+returns-in_err-write_line-clause-prints g c =
+    let old = g.W.Write.contents c.args.writer.now in
+    let mid = g.W.Write.contents c.write_line.new.writer in
+    let last = store_in c.drain-delivered.new.store in
+    let k = c.drain-delivered.result.0 in
+    let refusal = c.drain-delivered.result.1 in
+    let begins : AppendsBeginning old mid (in_lines (drain_text k last ∷ [])) =
+    subst (λ n. AppendsBeginning old mid (in_lines (drained_text (record { delivered = k; left = n }) ∷ []))) c.pending_count-left.ensures c.in_err-write_line.ensures in (
+      drain_texts k last refusal,
+      (k, refusal, c.drain-delivered.ensures.drains, c.drain-delivered.ensures.supplied, refl),
+      beginning_written c.from_residual.result _ old mid (in_lines (drain_texts k last refusal)) c.from_residual.ensures.1 (drain_begins old mid k last refusal begins),
+    )
 
 pub returns-in_default-clause-prints : goal.returns-in_default-clause-prints
 returns-in_default-clause-prints g c =
+    let old = g.W.Write.contents c.args.writer.now in
+    let mid = g.W.Write.contents c.write_line.new.writer in
     let before = store_in c.args.store.now in
     let last = store_in c.drain-delivered.new.store in
     let k = c.drain-delivered.result.0 in
-    let drains = subst (λ refusal. DrainsUpTo before c.args.most k refusal last) c.in_default.is c.drain-delivered.ensures.drains in
-    let counted = ap (λ n. Some (drained_text (record { delivered = k; left = n }))) c.pending_count-left.ensures in
-    (drain_text k last ∷ [], (k, None, drains, c.drain-delivered.ensures.supplied, refl), c.in_ok-write_line.ensures (drain_text k last) counted)
+    let drains = subst (λ refusal. DrainsUpTo before c.args.most k refusal last) c.in_default.is c.drain-delivered.ensures.drains in (
+      drain_text k last ∷ [],
+      (k, None, drains, c.drain-delivered.ensures.supplied, refl),
+      subst (λ n. Appends old mid (in_lines (drained_text (record { delivered = k; left = n }) ∷ []))) c.pending_count-left.ensures c.in_ok-write_line.ensures,
+    )
 
 pub returns-clause-prints : goal.returns-clause-prints
 returns-clause-prints g c =
-    let before = store_in c.args.store.now in
-    let last = store_in c.drain-delivered.new.store in
     let old = g.W.Write.contents c.args.writer.now in
     let mid = g.W.Write.contents c.write_line.new.writer in
-    let new = g.W.Write.contents c.write_line-2.new.writer in
+    let new = g.W.Write.contents c.write_answer.new.writer in
+    let before = store_in c.args.store.now in
+    let last = store_in c.drain-delivered.new.store in
     let k = c.drain-delivered.result.0 in
     let drains = subst (λ refusal. DrainsUpTo before c.args.most k refusal last) c.in-Some.is c.drain-delivered.ensures.drains in
-    let counted = ap (λ n. Some (drained_text (record { delivered = k; left = n }))) c.pending_count-left.ensures in
     let refused = answer_text (Refused c.in-Some.refusal) in
-    is_printed (ledger_in c.args.store.now) (Drain c.args.most) (ledger_in c.drain-delivered.new.store) old new (drain_text k last ∷ refused ∷ []) c.write_line-2.result
-    (k, Some c.in-Some.refusal, drains, c.drain-delivered.ensures.supplied, refl)
-    (line_then old mid new (drain_text k last ∷ []) (refused ∷ []) c.write_line-2.result (c.in_ok-write_line.ensures (drain_text k last) counted)
-    (line_written refused mid new c.write_line-2.result c.write_line-2.ensures))
+    let drained = subst (λ n. Appends old mid (in_lines (drained_text (record { delivered = k; left = n }) ∷ []))) c.pending_count-left.ensures c.in_ok-write_line.ensures in (
+      drain_text k last ∷ refused ∷ [],
+      (k, Some c.in-Some.refusal, drains, c.drain-delivered.ensures.supplied, refl),
+      line_then c.write_answer.result old mid new (drain_text k last ∷ []) (refused ∷ []) drained c.write_answer.ensures,
+    )

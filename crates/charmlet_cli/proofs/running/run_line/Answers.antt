@@ -1,12 +1,10 @@
 use Rattle.std.proofs.Common.{◌≡◌, ◌≤◌, cond, ◌∷◌, [], refl, sym, ap, subst, ◌∙◌}
-use Rattle.std.specs.Prelude.{OnOk}
 use Rattle.std.specs.Cmp.{nat_eq_equiv}
 use Rattle.charmlet_model.specs.Kind.{kind_number}
 use Rattle.charmlet_model.specs.Texts.{answer_text}
 use Rattle.charmlet_script.specs.declared.script.Line.TheVariants.{Supply}
 use Rattle.charmlet_script.specs.Script.{blanks_in}
-use Rattle.charmlet_cli.specs.Lines.{Follows, IsPrinted, held_in, ledger_in}
-use Rattle.charmlet_cli.proofs.Printing.{is_printed, line_written}
+use Rattle.charmlet_cli.specs.Lines.{Follows, IsPrinted, blanks_left, ledger_in}
 use Rattle.charmlet_cli.proofs.running.run_line.Goals as goal
 
 pub supply_line-requires-clause-enough : goal.supply_line-requires-clause-enough
@@ -15,11 +13,11 @@ supply_line-requires-clause-enough g c κs within =
     let line : c.args.line.now ≡ Supply kind c.in-Supply.count = c.in-Supply.is in
     let part : blanks_in kind c.args.line.now ≡ c.in-Supply.count =
     ap (blanks_in kind) line ∙ ap (λ b. cond b c.in-Supply.count 0) (nat_eq_equiv.refl (kind_number kind)) in
-    subst (λ n. n ≤ held_in c.args.source.now kind) part (c.requires.enough kind)
+    subst (λ n. n ≤ blanks_left c.args.source.now kind) part (c.requires.enough kind)
 
 pub returns-in-Supply-clause-prints : goal.returns-in-Supply-clause-prints
 returns-in-Supply-clause-prints g c =
-    subst (λ line. OnOk c.supply_line.result (IsPrinted (ledger_in c.args.store.now) line (ledger_in c.supply_line.new.store) (g.W.Write.contents c.args.writer.now) (g.W.Write.contents c.supply_line.new.writer)))
+    subst (λ line. IsPrinted c.supply_line.result (ledger_in c.args.store.now) line (ledger_in c.supply_line.new.store) (g.W.Write.contents c.args.writer.now) (g.W.Write.contents c.supply_line.new.writer))
     (sym c.in-Supply.is) c.supply_line.ensures.prints
 
 pub returns-clause-prints : goal.returns-clause-prints
@@ -27,7 +25,5 @@ returns-clause-prints g c =
     let before = ledger_in c.args.store.now in
     let next = ledger_in c.step.new.self in
     let text = answer_text c.step.result in
-    let old = g.W.Write.contents c.args.writer.now in
-    let new = g.W.Write.contents c.write_line.new.writer in
     let follows : Follows before c.args.line.now (text ∷ []) next = subst (λ line. Follows before line (text ∷ []) next) (sym c.in-Step.is) (c.step.result, c.step.ensures.does, c.step.ensures.supplied, refl) in
-    is_printed before c.args.line.now next old new (text ∷ []) c.write_line.result follows (line_written text old new c.write_line.result c.write_line.ensures)
+    (text ∷ [], follows, c.write_answer.ensures)

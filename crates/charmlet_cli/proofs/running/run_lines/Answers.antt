@@ -4,9 +4,29 @@ use Rattle.std.proofs.lemmas.List.{take_more}
 use Rattle.std.proofs.lemmas.List.Sums.{sum_by-drop_more}
 use Rattle.charmlet_model.specs.Texts.{Text}
 use Rattle.charmlet_script.specs.Script.{blanks_in, blanks_of}
-use Rattle.charmlet_cli.specs.Lines.{Prints, held_in, ledger_in}
-use Rattle.charmlet_cli.proofs.Printing.{lines_then, prints_more}
+use Rattle.charmlet_cli.specs.Lines.{Prints, blanks_left, ledger_in}
+use Rattle.charmlet_cli.proofs.Endings.{on_err}
+use Rattle.charmlet_cli.proofs.Printing.{lines_then, prints_more, split_at}
 use Rattle.charmlet_cli.proofs.running.run_lines.Goals as goal
+
+pub returns-in_err-run_line-clause-breaks_off : goal.returns-in_err-run_line-clause-breaks_off
+returns-in_err-run_line-clause-breaks_off g c =
+    let lines = c.args.lines.now in
+    let at = c.loop-line.line-index in
+    let printed = c.in_err-run_line.ensures.prints in
+    on_err c.from_residual.result (
+      take at lines,
+      c.line-item.result,
+      drop (at + 1) lines,
+      split_at lines at c.line-item.result c.loop-line-test.true ∙ ap (λ line. take at lines ++ line ∷ drop (at + 1) lines) (sym c.line-item.is),
+      ledger_in c.loop-line.store,
+      g.W.Write.contents c.loop-line.writer,
+      c.loop-line.invariant.1,
+      printed.0,
+      ledger_in c.run_line.new.store,
+      printed.1,
+      printed.2,
+    )
 
 pub loop-line-preserved : goal.loop-line-preserved
 loop-line-preserved g c =
@@ -22,13 +42,13 @@ loop-line-preserved g c =
     let texts : List Text = so_far.0 ++ printed.0 in
     let prints : Prints first (take (at + 1) lines) texts next =
     subst (λ lines. Prints first lines texts next) (sym more) (prints_more first before next (take at lines) c.line-item.result so_far.0 printed.0 so_far.1 printed.1) in (
-      c.run_line.ensures.stands,
+      c.run_line.ensures.consistent,
       (texts, prints, lines_then _ _ _ so_far.0 printed.0 so_far.2 printed.2),
       λ kind.
           let split : blanks_of kind (drop at lines) ≡ blanks_in kind (get_or lines at c.line-item.result) + blanks_of kind (drop (at + 1) lines) =
           sum_by-drop_more (blanks_in kind) lines at c.line-item.result c.loop-line-test.true in
           let here : blanks_in kind c.line-item.result ≡ blanks_in kind (get_or lines at c.line-item.result) = ap (blanks_in kind) c.line-item.is in
-          let enough : blanks_of kind (drop at lines) ≤ held_in c.loop-line.source kind = c.loop-line.invariant.2 kind in
-          let left : held_in c.loop-line.source kind ≤ held_in c.run_line.new.source kind + blanks_in kind c.line-item.result = c.in_ok-run_line.ensures.left kind in
+          let enough : blanks_of kind (drop at lines) ≤ blanks_left c.loop-line.source kind = c.loop-line.invariant.2 kind in
+          let left : blanks_left c.loop-line.source kind ≤ blanks_left c.run_line.new.source kind + blanks_in kind c.line-item.result = c.in_ok-run_line.ensures.left kind in
           omega arith,
     )

@@ -2,7 +2,7 @@ use Rattle.std.proofs.Common.{rules, ◌≡◌, ◌≤◌, true, false, refl, sy
 use Rattle.std.proofs.lemmas.Bool.{iff_false}
 use Rattle.charmlet_script.specs.Script.{blanks_of}
 use Rattle.charmlet_cli.specs.Lines.{AreEnough}
-use Rattle.charmlet_cli.proofs.Endings.{memory_ends, output_ends}
+use Rattle.charmlet_cli.proofs.Endings.{memory_ends, on_ok, run_ends}
 use Rattle.charmlet_cli.proofs.running.run_script.Goals as goal
 
 pub returns-then-not-has_enough-clause-err : goal.returns-then-not-has_enough-clause-err
@@ -17,13 +17,13 @@ returns-then-not-has_enough-clause-err g c =
 pub returns-in_err-manifest-clause-err : goal.returns-in_err-manifest-clause-err
 returns-in_err-manifest-clause-err g c =
     let is : c.has_enough.result ≡ true = search rules in
-    memory_ends g.C.Chare.state c.args.blanks.items c.args.script.now.lines c.args.writer.now c.args.writer.now c.from_residual.result
+    memory_ends g.C.Chare.state g.W.Write.contents c.args.blanks.items c.args.script.now c.args.writer.now c.from_residual.result
     (subst (λ items. AreEnough g.C.Chare.state items c.args.script.now.lines) c.as_slice.ensures.value (c.has_enough.ensures.0 is)) c.from_residual.ensures.1
 
 pub returns-in_err-source-clause-err : goal.returns-in_err-source-clause-err
 returns-in_err-source-clause-err g c =
     let is : c.has_enough.result ≡ true = search rules in
-    memory_ends g.C.Chare.state c.args.blanks.items c.args.script.now.lines c.args.writer.now c.args.writer.now c.from_residual-in_err-source.result
+    memory_ends g.C.Chare.state g.W.Write.contents c.args.blanks.items c.args.script.now c.args.writer.now c.from_residual-in_err-source.result
     (subst (λ items. AreEnough g.C.Chare.state items c.args.script.now.lines) c.as_slice.ensures.value (c.has_enough.ensures.0 is)) c.from_residual-in_err-source.ensures.1
 
 pub run_in_new_store-requires-clause-enough : goal.run_in_new_store-requires-clause-enough
@@ -32,13 +32,13 @@ run_in_new_store-requires-clause-enough g c κs within = λ kind.
     let enough = subst (λ items. AreEnough g.C.Chare.state items c.args.script.now.lines) c.as_slice.ensures.value (c.has_enough.ensures.0 is) in
     subst (λ n. blanks_of kind c.args.script.now.lines ≤ n) (sym (c.in_ok-source.ensures kind)) (enough kind)
 
-pub returns-in_err-ran-clause-err : goal.returns-in_err-ran-clause-err
-returns-in_err-ran-clause-err g c =
-    let is : c.has_enough.result ≡ true = search rules in
-    output_ends g.C.Chare.state c.args.blanks.items c.args.script.now.lines c.args.writer.now c.run_in_new_store.new.writer _ c.from_residual-in_err-ran.result
-    (subst (λ items. AreEnough g.C.Chare.state items c.args.script.now.lines) c.as_slice.ensures.value (c.has_enough.ensures.0 is)) c.from_residual-in_err-ran.ensures.1
-
 pub returns-clause-enough : goal.returns-clause-enough
 returns-clause-enough g c =
     let is : c.has_enough.result ≡ true = search rules in
-    subst (λ items. AreEnough g.C.Chare.state items c.args.script.now.lines) c.as_slice.ensures.value (c.has_enough.ensures.0 is)
+    on_ok c.run_in_new_store.result (subst (λ items. AreEnough g.C.Chare.state items c.args.script.now.lines) c.as_slice.ensures.value (c.has_enough.ensures.0 is))
+
+pub returns-clause-err : goal.returns-clause-err
+returns-clause-err g c =
+    let is : c.has_enough.result ≡ true = search rules in
+    run_ends g.C.Chare.state g.W.Write.contents c.args.blanks.items c.args.script.now c.args.writer.now c.run_in_new_store.new.writer c.run_in_new_store.result
+    (subst (λ items. AreEnough g.C.Chare.state items c.args.script.now.lines) c.as_slice.ensures.value (c.has_enough.ensures.0 is)) c.run_in_new_store.ensures.err

@@ -8,7 +8,7 @@ use Rattle.charmlet_model.specs.declared.kind.Kind.TheVariants as kinds
 use Rattle.charmlet_model.specs.Texts.{Text}
 use Rattle.charmlet_cli.specs.Lines.{in_lines}
 use Rattle.charmlet_cli.specs.Shown.{all_kinds, counted_of, counted_texts}
-use Rattle.charmlet_cli.proofs.Printing.{appends_nothing, lines_more}
+use Rattle.charmlet_cli.proofs.Printing.{appends_nothing, beginning_written, lines_begin, lines_more}
 use Rattle.charmlet_cli.proofs.Showings.{census_shown}
 use Rattle.charmlet_cli.proofs.showing.census_line.Goals as goal
 
@@ -25,6 +25,18 @@ loop-kind-preserved g c =
     let kind = get_or all_kinds at kinds.Counter in
     subst (λ kinds. Appends old new (in_lines (flat_map of kinds))) (sym (take_more all_kinds at kinds.Counter c.loop-kind-test.true))
     (lines_more of old mid new (take at all_kinds) kind c.loop-kind.invariant c.in_ok-count_line.ensures)
+
+pub returns-in_err-count_line : goal.returns-in_err-count_line
+returns-in_err-count_line g c =
+    let of : Kind → List Text = λ kind. counted_texts (counted_of c.args.store.now kind) in
+    let old = g.W.Write.contents c.args.writer.now in
+    let mid = g.W.Write.contents c.loop-kind.writer in
+    let new = g.W.Write.contents c.count_line.new.writer in
+    let begins = lines_begin of old mid new all_kinds c.loop-kind.kind-index kinds.Counter c.loop-kind-test.true c.loop-kind.invariant c.in_err-count_line.ensures in (
+      flat_map of all_kinds,
+      (census_shown c.args.store.now c.requires, refl),
+      beginning_written c.from_residual.result _ old new (in_lines (flat_map of all_kinds)) c.from_residual.ensures.1 begins,
+    )
 
 pub returns : goal.returns
 returns g c =

@@ -1,13 +1,11 @@
 use Rattle.std.proofs.Common.{◌≡◌, cond, ◌∷◌, [], sym, ap, subst, ◌∙◌, arith}
-use Rattle.std.specs.Prelude.{OnOk}
-use Rattle.std.specs.Io.KnownBytes.{Appends}
 use Rattle.std.proofs.lemmas.Bool.{lt-ltb}
 use Rattle.charmlet_script.specs.declared.printed.Counted.{Counted}
 use Rattle.charmlet_script.specs.Printed.{counted_text}
-use Rattle.charmlet_small.specs.declared.census.Census.{Census}
+use Rattle.charmlet_store.specs.declared.census.Census.{Census}
 use Rattle.charmlet_cli.specs.Lines.{in_lines}
 use Rattle.charmlet_cli.specs.Shown.{counted_of, counted_texts}
-use Rattle.charmlet_cli.proofs.Printing.{line_written}
+use Rattle.charmlet_cli.specs.Writing.{Writes}
 use Rattle.charmlet_cli.proofs.showing.count_line.Goals as goal
 
 pub returns : goal.returns
@@ -24,4 +22,4 @@ returns g c =
     let counted = of c.census-census.result in
     let some : counted_texts counted ≡ counted_text counted ∷ [] = ap (λ b. cond b (counted_text counted ∷ []) []) (lt-ltb 0 c.census-census.result.supplied (omega arith)) in
     let same : counted ≡ counted_of c.args.store.now c.args.kind = ap of c.census-census.ensures.counts in
-    subst (λ texts. OnOk c.write_line.result (Appends old new (in_lines texts))) (sym some ∙ ap counted_texts same) (line_written (counted_text counted) old new c.write_line.result c.write_line.ensures)
+    subst (λ texts. Writes c.write_line.result old new (in_lines texts)) (sym some ∙ ap counted_texts same) c.write_line.ensures

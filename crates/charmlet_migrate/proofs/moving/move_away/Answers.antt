@@ -22,7 +22,7 @@ use Rattle.charmlet_migrate.proofs.moving.move_away.Goals as goal
 pub returns-in_default-take-clause-goes : goal.returns-in_default-take-clause-goes
 returns-in_default-take-clause-goes g c =
     let core = core_in c.args.history.now in
-    let sound = c.requires.stands.sound in
+    let sound = c.requires.consistent.sound in
     let x = c.args.elem in
     let processor = c.args.processor in
     let kind = c.args.kind in
@@ -38,19 +38,19 @@ pub place_copy-requires-clause-here : goal.place_copy-requires-clause-here
 place_copy-requires-clause-here g c κs within =
     let core = core_in c.args.history.now in
     let place : place_of core c.args.elem ≡ Some c.in-Some.place = sym c.where_is.ensures ∙ c.in-Some.is in
-    let h = here_as core c.requires.stands.sound c.args.elem c.args.processor c.requires.can c.args.kind c.requires.wanted c.in-Some.place place c.args.shelves.now c.requires.shows in
+    let h = here_as core c.requires.consistent.sound c.args.elem c.args.processor c.requires.can c.args.kind c.requires.wanted c.in-Some.place place c.args.shelves.now c.requires.shows in
     (h.0, h.1, h.2, h.3, h.4, h.5 ∙ sym c.in-Some-take.ensures.kind)
 
 pub place_copy-requires-clause-absent : goal.place_copy-requires-clause-absent
 place_copy-requires-clause-absent g c κs within =
     let core = core_in c.args.history.now in
     let place : place_of core c.args.elem ≡ Some c.in-Some.place = sym c.where_is.ensures ∙ c.in-Some.is in
-    absent_there core c.requires.stands.sound c.args.elem c.args.processor c.requires.can c.args.kind c.requires.wanted c.in-Some.place place c.args.shelves.now c.requires.shows
+    absent_there core c.requires.consistent.sound c.args.elem c.args.processor c.requires.can c.args.kind c.requires.wanted c.in-Some.place place c.args.shelves.now c.requires.shows
 
 pub returns-in-Err-clause-goes : goal.returns-in-Err-clause-goes
 returns-in-Err-clause-goes g c =
     let core = core_in c.args.history.now in
-    let sound = c.requires.stands.sound in
+    let sound = c.requires.consistent.sound in
     let x = c.args.elem in
     let processor = c.args.processor in
     let kind = c.args.kind in
@@ -74,7 +74,7 @@ returns-in-Err-clause-goes g c =
 pub retire-requires-after_bounds : goal.retire-requires-after_bounds
 retire-requires-after_bounds g c κs within =
     let core = core_in c.args.history.now in
-    let sound = c.requires.stands.sound in
+    let sound = c.requires.consistent.sound in
     let x = c.args.elem in
     let processor = c.args.processor in
     let kind = c.args.kind in
@@ -88,7 +88,7 @@ retire-requires-after_bounds g c κs within =
 pub returns-clause-goes : goal.returns-clause-goes
 returns-clause-goes g c =
     let core = core_in c.args.history.now in
-    let sound = c.requires.stands.sound in
+    let sound = c.requires.consistent.sound in
     let x = c.args.elem in
     let processor = c.args.processor in
     let kind = c.args.kind in
@@ -103,7 +103,7 @@ returns-clause-goes g c =
 pub returns-clause-numbers : goal.returns-clause-numbers
 returns-clause-numbers g c =
     let core = core_in c.args.history.now in
-    let sound = c.requires.stands.sound in
+    let sound = c.requires.consistent.sound in
     let x = c.args.elem in
     let processor = c.args.processor in
     let kind = c.args.kind in
@@ -117,7 +117,7 @@ returns-clause-numbers g c =
 pub returns-clause-shows : goal.returns-clause-shows
 returns-clause-shows g c =
     let core = core_in c.args.history.now in
-    let sound = c.requires.stands.sound in
+    let sound = c.requires.consistent.sound in
     let x = c.args.elem in
     let processor = c.args.processor in
     let kind = c.args.kind in
@@ -132,7 +132,7 @@ returns-clause-shows g c =
 pub returns-clause-census : goal.returns-clause-census
 returns-clause-census g c =
     let core = core_in c.args.history.now in
-    let sound = c.requires.stands.sound in
+    let sound = c.requires.consistent.sound in
     let x = c.args.elem in
     let processor = c.args.processor in
     let kind = c.args.kind in

@@ -4,7 +4,7 @@ use super::request;
 use charmlet_chare::Chare;
 use charmlet_kinds::{Counter, Tree};
 use charmlet_model::{CONSTRUCT, Kind, Manifest, MsgId, Origin, Step};
-use charmlet_small::{Census, Small};
+use charmlet_store::{Census, Store};
 use std::alloc::{AllocError, Global};
 use std::test::Fail;
 
@@ -27,7 +27,7 @@ fn censuses<C: Chare>(
     let Some(manifest) = Manifest::of(alloc, &[(0, kind.number())])? else {
         return Ok(censuses);
     };
-    let Ok(mut store) = Small::new(alloc, manifest, 1) else {
+    let Ok(mut store) = Store::new(alloc, manifest, 1) else {
         return Ok(censuses);
     };
     let _ = store.supply(blanks);

@@ -1,15 +1,15 @@
 //! Objects that note what is done with them.
 
-ghost use Rattle.charmlet_small.specs.Small.{StandsSo};
+ghost use Rattle.charmlet_store.specs.Store.{IsStoreConsistent};
 
 use super::{parts, request};
 use charmlet_chare::{Chare, Outbox};
-use charmlet_cli::run_script;
+use charmlet_cli::{RunError, run_script};
 use charmlet_kinds::{Counter, Tree};
-use charmlet_model::{CONSTRUCT, Elem, Kind, Manifest, MsgId, Origin, Step};
+use charmlet_model::{CONSTRUCT, Elem, Kind, Manifest, MsgId, Origin, Refusal, Step};
 use charmlet_pup::PupFault;
 use charmlet_script::read_script;
-use charmlet_small::Small;
+use charmlet_store::Store;
 use std::alloc::{AllocError, Global};
 use std::process::Abort;
 use std::sync::Arc;
@@ -224,25 +224,25 @@ fn each_move_unpacks_its_object_once(rt: HostRuntime) -> Result<(), Fail> {
     Ok(())
 }
 
-const NO_STORE: &str = "\
-> pes 65
-> array 0 1
-> supply 1 2
-refused 17 BadPes
-";
-
 #[test]
 fn objects_are_dropped_where_there_is_no_store(rt: HostRuntime) -> Result<(), Fail> {
-    let (notes, _) = run_of(&rt, NO_STORE, 3)?;
+    let alloc = rt.alloc();
+    let notes = Arc::new(alloc, Notes::new())?;
+    let script = read_script(alloc, &mut b"pes 65\narray 0 1\nsupply 1 2\n".as_slice())?;
+    let blanks = probes(alloc, &notes, 3)?;
+    let mut output = Vec::new(alloc);
+    let ran = run_script(alloc, &script, blanks, &mut output);
+    assert!(rt; matches!(ran, Err(RunError::NotCreated(Refusal::BadPes))));
+    assert_eq!(rt; output.as_slice(), b"refused 17 BadPes\n".as_slice());
     assert_eq!(rt; notes.entries.load(Ordering::SeqCst), 0);
     assert_eq!(rt; notes.drops.load(Ordering::SeqCst), 3);
     Ok(())
 }
 
 // A request of the client is delivered.
-fn deliver<C: Chare>(alloc: Global, store: &mut Small<C>, client: u32, entry: u16)
-    requires { StandsSo store.old }
-    ensures { StandsSo store.new }
+fn deliver<C: Chare>(alloc: Global, store: &mut Store<C>, client: u32, entry: u16)
+    requires { IsStoreConsistent store.old }
+    ensures { IsStoreConsistent store.new }
 {
     let _ = store.step(&request(alloc, client, 0, entry));
     let id = MsgId {
@@ -260,7 +260,7 @@ fn destroyed_objects_are_dropped_at_once(rt: HostRuntime) -> Result<(), Fail> {
     let Some(manifest) = manifest else {
         panic!(rt; "kind 5 is a tree's");
     };
-    let mut store = Small::new(alloc, manifest, 1)?;
+    let mut store = Store::new(alloc, manifest, 1)?;
     let notes_of_probe = notes.clone()?;
     let object = Tree::blank();
     let probe = Probe {

@@ -1,14 +1,15 @@
 //! Runs line by line, in which lines that are refused memory are tried again.
 
-ghost use Rattle.charmlet_small.specs.Small.{StandsSo};
+ghost use Rattle.charmlet_store.specs.Store.{IsStoreConsistent};
 
-use super::{FIRST_RUN, one_counter, parts, two_counters};
+use super::worked::{FIRST_RUN, MOVE, RING_OF_THREE, TREE};
+use super::{one_counter, parts, two_counters};
 use charmlet_chare::Chare;
 use charmlet_cli::{Stop, census_line, pending_line, state_line, write_line, write_memory_refused};
 use charmlet_kinds::{Counter, Ring, Tree};
 use charmlet_model::{Answer, Kind, Refusal, Step};
 use charmlet_script::{Drained, Line, Supplied, read_script};
-use charmlet_small::Small;
+use charmlet_store::Store;
 use std::alloc::{AllocError, Global};
 use std::io;
 use std::test::Fail;
@@ -49,110 +50,23 @@ state 0.2 pe 1 sent 1 received 2 00000000000000000100000000000000
 census 2 supplied 4 shelves 3 stock 0 retired 1
 ";
 
-// A counter goes to the other processor, with its state and counts, and its messages are delivered there.
-const MOVE: &str = "\
-> pes 2
-> array 0 1
-> supply 1 2
-supplied 1 2
-> req 7 1 0 0 65535 5
-told unknown
-> deliver 0 c7.1
-delivered c7.1
-> move 0 0 1
-moved 0.0 to 1
-> census
-census 1 supplied 2 shelves 1 stock 0 retired 1
-> req 7 2 0 0 1
-told unknown
-> deliver 0 c7.2
-refused 10 Elsewhere 1
-> deliver 1 c7.2
-delivered c7.2
-> move 0 0 2
-refused 17 BadPes
-> move 0 0 0
-refused 11 NoBlank 1
-> move 0 0 1
-moved 0.0 to 1
-> move 0 1 0
-refused 9 Absent
-> state 0 0
-state 0.0 pe 1 sent 0 received 2 0500000000000000
-> census
-census 1 supplied 2 shelves 1 stock 0 retired 1
-";
-
-const RING_OF_THREE: &str = "\
-> array 0 2
-> supply 2 3
-supplied 2 3
-> req 1 1 0 0 65535 1
-told unknown
-> req 2 1 0 1 65535 2
-told unknown
-> req 3 1 0 2 65535 0
-told unknown
-> req 4 1 0 0 0 4
-told unknown
-> drain 100
-drained 8 left 0
-> state 0 0
-state 0.0 pe 0 sent 2 received 3 01000000000000000200000000000000
-> state 0 1
-state 0.1 pe 0 sent 1 received 3 02000000000000000200000000000000
-> state 0 2
-state 0.2 pe 0 sent 1 received 2 00000000000000000100000000000000
-";
-
-const WHOLE_TREE: &str = "\
-> array 0 5
-> supply 5 7
-supplied 5 7
-> req 1 1 0 0 65535 2
-told unknown
-> drain 100
-drained 7 left 0
-> req 1 2 0 1 0
-told unknown
-> drain 9
-drained 1 left 0
-> state 0 1
-state 0.1 none sent 2 received 2
-> census
-census 5 supplied 7 shelves 6 stock 0 retired 1
-> req 1 3 0 1 65535 1
-told unknown
-> deliver 0 c1.3
-refused 11 NoBlank 5
-> supply 5 1
-supplied 5 1
-> drain 9
-drained 3 left 0
-> state 0 1
-state 0.1 pe 0 sent 4 received 3 0100000000000000
-> state 0 3
-state 0.3 pe 0 sent 0 received 2 0000000000000000
-> census
-census 5 supplied 8 shelves 7 stock 0 retired 1
-";
-
 const MEMORY_REFUSED: &[u8] = b"refused 1 Memory\n";
 
 // Runs a supply line. Where memory is refused it is tried again, so many times in all.
 fn supply<C: Chare>(
-    store: &mut Small<C>,
+    alloc: Global,
+    store: &mut Store<C>,
     supplied: Supplied,
     mut blanks: Vec<C>,
     tries: usize,
     output: &mut Vec<u8>,
 ) -> io::Result<()>
-    requires { StandsSo store.old }
-    ensures { StandsSo store.new }
+    requires { IsStoreConsistent store.old }
+    ensures { IsStoreConsistent store.new }
 {
     for _ in 0..tries {
         match store.supply(blanks) {
-            Ok(()) => return write_line(output, &supplied),
+            Ok(()) => return write_line(alloc, output, &supplied),
             Err(refused) => blanks = refused,
         }
     }
@@ -160,9 +74,9 @@ fn supply<C: Chare>(
 }
 
 // The answer to a step. Where memory is refused it is tried again, so many times in all.
-fn answer<C: Chare>(store: &mut Small<C>, step: &Step, tries: usize) -> Answer
-    requires { StandsSo store.old }
-    ensures { StandsSo store.new }
+fn answer<C: Chare>(store: &mut Store<C>, step: &Step, tries: usize) -> Answer
+    requires { IsStoreConsistent store.old }
+    ensures { IsStoreConsistent store.new }
 {
     for _ in 0..tries {
         let Ok(mut answers) = store.run(std::slice::from_ref(step)) else {
@@ -178,13 +92,14 @@ fn answer<C: Chare>(store: &mut Small<C>, step: &Step, tries: usize) -> Answer
 
 // Runs a drain line, with each delivery tried so many times.
 fn drain<C: Chare>(
-    store: &mut Small<C>,
+    alloc: Global,
+    store: &mut Store<C>,
     most: u32,
     tries: usize,
     output: &mut Vec<u8>,
 ) -> io::Result<()>
-    requires { StandsSo store.old }
-    ensures { StandsSo store.new }
+    requires { IsStoreConsistent store.old }
+    ensures { IsStoreConsistent store.new }
 {
     let mut delivered = 0u32;
     for _ in 0..most {
@@ -198,36 +113,36 @@ fn drain<C: Chare>(
         }
     }
     let left = store.pending_count() as u64;
-    write_line(output, &Drained { delivered, left })
+    write_line(alloc, output, &Drained { delivered, left })
 }
 
 // Runs a line that shows something.
 fn show<C: Chare>(
     alloc: Global,
-    store: &mut Small<C>,
+    store: &mut Store<C>,
     line: &Line,
     output: &mut Vec<u8>,
 ) -> io::Result<()>
-    requires { StandsSo store.old }
-    ensures { StandsSo store.new }
+    requires { IsStoreConsistent store.old }
+    ensures { IsStoreConsistent store.new }
 {
     match line {
         Line::State(elem) => state_line(alloc, store, *elem, output),
-        Line::Pending => pending_line(store, output),
-        _ => census_line(store, output),
+        Line::Pending => pending_line(alloc, store, output),
+        _ => census_line(alloc, store, output),
     }
 }
 
 // Runs a line that shows something. Where memory is refused it is tried again, so many times in all.
 fn show_again<C: Chare>(
     alloc: Global,
-    store: &mut Small<C>,
+    store: &mut Store<C>,
     line: &Line,
     tries: usize,
     output: &mut Vec<u8>,
 ) -> io::Result<()>
-    requires { StandsSo store.old }
-    ensures { StandsSo store.new }
+    requires { IsStoreConsistent store.old }
+    ensures { IsStoreConsistent store.new }
 {
     show(alloc, store, line, output)?;
     for _ in 1..tries {
@@ -243,29 +158,36 @@ fn show_again<C: Chare>(
 // Runs a line.
 fn run<C: Chare>(
     alloc: Global,
-    store: &mut Small<C>,
+    store: &mut Store<C>,
     blanks: &mut Vec<C>,
     line: &Line,
     tries: usize,
     output: &mut Vec<u8>,
 ) -> io::Result<()>
-    requires { StandsSo store.old }
-    ensures { StandsSo store.new }
+    requires { IsStoreConsistent store.old }
+    ensures { IsStoreConsistent store.new }
 {
     let (kind, count) = match line {
         Line::Supply { kind, count } => (*kind, *count),
-        Line::Drain { count } => return drain(store, *count, tries, output),
-        Line::Step(step) => return write_line(output, &answer(store, step, tries)),
+        Line::Drain { count } => return drain(alloc, store, *count, tries, output),
+        Line::Step(step) => return write_line(alloc, output, &answer(store, step, tries)),
         _ => return show_again(alloc, store, line, tries, output),
     };
     let left = blanks.len().saturating_sub(count as usize);
     let objects = blanks.split_off(left)?;
-    supply(store, Supplied { kind, count }, objects, tries, output)
+    supply(
+        alloc,
+        store,
+        Supplied { kind, count },
+        objects,
+        tries,
+        output,
+    )
 }
 
 // Whether what was supplied of each kind is on shelves, in the stock, or retired.
-fn adds_up<C: Chare>(store: &Small<C>) -> bool
-    requires { StandsSo store.now }
+fn adds_up<C: Chare>(store: &Store<C>) -> bool
+    requires { IsStoreConsistent store.now }
 {
     for kind in &Kind::ALL {
         let census = store.census(*kind);
@@ -285,7 +207,7 @@ fn printed<C: Chare>(
 ) -> Result<Vec<u8>, Stop> {
     let script = read_script(alloc, &mut text.as_bytes())?;
     let manifest = script.manifest(alloc)?;
-    let Ok(mut store) = Small::new(alloc, manifest, script.processors()) else {
+    let Ok(mut store) = Store::new(alloc, manifest, script.processors()) else {
         return Err(Stop::NotCreated);
     };
     let mut output = Vec::with_capacity(alloc, 4096)?;
@@ -332,7 +254,7 @@ fn are_as_wanted(alloc: Global, tries: usize) -> Result<bool, Stop> {
         && is_as_wanted(alloc, MOVE, two_counters(alloc)?, tries)?;
     let counters = is_as_wanted(alloc, FIRST_RUN, one_counter(alloc)?, tries)?;
     let rings = is_as_wanted(alloc, RING_OF_THREE, rings(alloc, 3)?, tries)?;
-    let trees = is_as_wanted(alloc, WHOLE_TREE, trees(alloc, 8)?, tries)?;
+    let trees = is_as_wanted(alloc, TREE, trees(alloc, 8)?, tries)?;
     Ok(moved && counters && rings && trees)
 }
 

@@ -25,4 +25,4 @@ returns c =
     let k = kept_in c.args.self.now in
     let first : oldest k k.pending ≡ Some c.in_ok-id.id = search rules in
     let found : message_among c.in_ok-id.id k.pending ≡ Some c.in-Some.message.now = sym c.find.ensures ∙ ap option_copied c.in-Some.is in
-    ap (λ p. Some (p, c.in_ok-id.id)) c.stands_on.ensures ∙ next_is k c.requires c.in_ok-id.id c.in-Some.message.now first found
+    ap (λ p. Some (p, c.in_ok-id.id)) c.place_or_home.ensures ∙ next_is k c.requires c.in_ok-id.id c.in-Some.message.now first found

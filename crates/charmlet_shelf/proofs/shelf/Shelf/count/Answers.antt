@@ -9,6 +9,6 @@ pub returns : goal.returns
 returns g c =
     let state = g.C.Chare.state in
     let es = c.self.inside.residents.entries in
-    let rising : Rising es = c.count_of.ensures.ordered in
-    c.count_of.ensures.count ∙ by_shown c.args.kind state es ∙ counts_phase c.args.kind state es rising c.self.inside.phase c.self.invariant
+    let rising : Rising es = c.count_residents.ensures.ordered in
+    c.count_residents.ensures.count ∙ by_shown c.args.kind state es ∙ counts_phase c.args.kind state es rising c.self.inside.phase c.self.invariant
     ∙ ap (λ (v : View). objects_on v c.args.kind) c.self.view_is

@@ -1,0 +1,154 @@
+-- What a history keeps of the world with which it opens.
+use Rattle.std.proofs.Common.{◌≡◌, ℕ, ◌≤◌, ◌<◌, ◌^◌, true, false, cond, List, [], ◌∷◌, ◌++◌, refl, sym, ap, subst, ◌∙◌, append_assoc, if◌then◌else◌}
+use Rattle.std.specs.Prelude.{Some, None, is_some, map, unwrap_or}
+use Rattle.std.specs.declared.cmp.Ordering.{Ordering}
+use Rattle.std.specs.declared.cmp.Ordering.TheVariants.{Less, Greater}
+use Rattle.std.specs.Ordering.{nat_cmp, match_ordering, ordering_reverse}
+use Rattle.std.specs.Cmp.{IsTotalOrder, nat_cmp_total}
+use Rattle.std.specs.List.{AllByRecursion}
+use Rattle.std.specs.List.Sorted.{IsStrictlySortedBy}
+use Rattle.std.specs.BTreeMap.{insert_entry, is_at}
+use Rattle.std.specs.Map.{lookup, keys_of}
+use Rattle.std.proofs.lemmas.List.{append-nil}
+use Rattle.charmlet_model.specs.declared.names.Elem.{Elem}
+use Rattle.charmlet_model.specs.declared.state.Record.{Record}
+use Rattle.charmlet_model.specs.declared.client.ClientRow.{ClientRow}
+use Rattle.charmlet_model.specs.Names.{elem_cmp}
+use Rattle.charmlet_model.specs.Row.{no_client}
+use Rattle.charmlet_model.specs.World.{World, no_record, record_at, row_of}
+use Rattle.charmlet_model.specs.Fit.{IsFit}
+use Rattle.charmlet_model.specs.Core.{home}
+use Rattle.charmlet_model.specs.Sound.{IsSound, homes, opened}
+use Rattle.charmlet_model.proofs.Maps.{elem_total}
+use Rattle.charmlet_model.proofs.OpenedLemmas.{opened_sound}
+use Rattle.charmlet_history.specs.declared.element.Element.{Element}
+use Rattle.charmlet_history.specs.Client.{Rows, same_rows}
+use Rattle.charmlet_history.specs.Kept.{Kept, IsConsistent, IsCountedBy, core_of, client_at, element_at, new_client, no_element, places_of, present_rows, with_place}
+use Rattle.charmlet_history.specs.Opened.{opened_client, opened_element, with_clients, with_elements, with_made}
+
+-- ---- entries that are inserted in rising order
+
+module _ {K X Y : Type 0} (R : K → K → Ordering) (total : IsTotalOrder R) (make : K → X → Y) where
+  abbrev made : List (K × X) → List (K × Y)
+  made = map (λ e. (e.0, make e.0 e.1))
+
+  -- the keys are all below this one
+  abbrev IsPast : List (K × Y) → K → Type 0
+  IsPast es k = AllByRecursion (λ q. R k q ≡ Greater) (keys_of es)
+
+  inserted_last : (es : List (K × Y)) (k : K) (v : Y) → IsPast es k → insert_entry R es k v ≡ es ++ (k, v) ∷ []
+  inserted_last [] k v h = refl
+  inserted_last (e ∷ es) k v h =
+      ap (λ r. match_ordering r ((k, v) ∷ e ∷ es) ((e.0, v) ∷ es) (e ∷ insert_entry R es k v)) h.0
+      ∙ ap (λ fs. e ∷ fs) (inserted_last es k v h.1)
+
+  past_one_more : (es : List (K × Y)) (k q : K) (v : Y) → IsPast es k → R q k ≡ Less → IsPast (es ++ (q, v) ∷ []) k
+  past_one_more [] k q v h below = (total.antisymm k q ∙ ap ordering_reverse below, tt)
+  past_one_more (e ∷ es) k q v h below = (h.0, past_one_more es k q v h.1 below)
+
+  all_past : (es : List (K × Y)) (q : K) (v : Y) (ks : List K) → AllByRecursion (IsPast es) ks → AllByRecursion (λ y. R q y ≡ Less) ks →
+      AllByRecursion (IsPast (es ++ (q, v) ∷ [])) ks
+  all_past es q v [] h below = tt
+  all_past es q v (k ∷ ks) h below = (past_one_more es k q v h.0 below.0, all_past es q v ks h.1 below.1)
+
+  made_after : (es : List (K × Y)) (xs : List (K × X)) → IsStrictlySortedBy R (keys_of xs) → AllByRecursion (IsPast es) (keys_of xs) →
+      with_made R make es xs ≡ es ++ made xs
+  unfolding IsStrictlySortedBy
+  made_after es [] rising h = sym (append-nil es)
+  made_after es (x ∷ xs) rising h =
+      let v = make x.0 x.1 in
+      ap (λ fs. with_made R make fs xs) (inserted_last es x.0 v h.0)
+      ∙ made_after (es ++ (x.0, v) ∷ []) xs rising.1 (all_past es x.0 v (keys_of xs) h.1 rising.0)
+      ∙ append_assoc es ((x.0, v) ∷ []) (made xs)
+
+  none_past : (ks : List K) → AllByRecursion (IsPast []) ks
+  none_past [] = tt
+  none_past (k ∷ ks) = (tt, none_past ks)
+
+  -- they are the entries with their values made
+  pub all_made : (xs : List (K × X)) → IsStrictlySortedBy R (keys_of xs) → with_made R make [] xs ≡ map (λ e. (e.0, make e.0 e.1)) xs
+  all_made xs rising = made_after [] xs rising (none_past (keys_of xs))
+
+  pub keys_of-made : (xs : List (K × X)) → keys_of (map (λ e. (e.0, make e.0 e.1)) xs) ≡ keys_of xs
+  keys_of-made [] = refl
+  keys_of-made (x ∷ xs) = ap (λ ks. x.0 ∷ ks) (keys_of-made xs)
+
+-- ---- elements and clients
+
+module _ (processors : ℕ) where
+  abbrev elements : List (Elem × Record) → List (Elem × Element)
+  elements = map (λ e. (e.0, opened_element processors e.0 e.1))
+
+  counts_are : (x : Elem) (rs : List (Elem × Record)) → IsCountedBy (record_at rs x) (element_at (elements rs) x)
+  counts_are x [] = record { sent = refl; received = refl }
+  counts_are x (e ∷ es) = elim (is_at (elem_cmp x) e.0) as
+      (λ b. IsCountedBy (unwrap_or (cond b (Some e.1) (lookup (is_at (elem_cmp x)) es)) no_record)
+      (unwrap_or (cond b (Some (opened_element processors e.0 e.1)) (lookup (is_at (elem_cmp x)) (elements es))) no_element)) [
+        | true ↦ record { sent = refl; received = refl }
+        | false ↦ counts_are x es
+      ]
+
+  places_are_homes : (rs : List (Elem × Record)) → places_of (elements rs) ≡ homes processors rs
+  places_are_homes [] = refl
+  places_are_homes (e ∷ es) = elim (is_some e.1.state) as
+      (λ b. with_place e.0 (if b then Some (home e.0 processors) else None) (places_of (elements es)) ≡ (if b then (e.0, home e.0 processors) ∷ homes processors es else homes processors es)) [
+        | true ↦ ap (λ ps. (e.0, home e.0 processors) ∷ ps) (places_are_homes es)
+        | false ↦ places_are_homes es
+      ]
+
+abbrev clients : List (ℕ × ClientRow) → List (ℕ × Rows)
+clients = map (λ e. (e.0, opened_client e.0 e.1))
+
+present_are : (rows : List (ℕ × ClientRow)) → present_rows (clients rows) ≡ rows
+present_are [] = refl
+present_are (e ∷ es) = ap (λ fs. e ∷ fs) (present_are es)
+
+durable_are : (c : ℕ) (rows : List (ℕ × ClientRow)) → (client_at (clients rows) c).durable ≡ row_of rows c
+durable_are c [] = refl
+durable_are c (e ∷ es) = elim (is_at (nat_cmp c) e.0) as
+    (λ b. (unwrap_or (cond b (Some (same_rows e.1)) (lookup (is_at (nat_cmp c)) (clients es))) new_client).durable ≡ unwrap_or (cond b (Some e.1) (lookup (is_at (nat_cmp c)) es)) no_client) [
+      | true ↦ refl
+      | false ↦ durable_are c es
+    ]
+
+-- ---- what is kept of an opening world
+
+module _ (processors : ℕ) (w : World) (before generation log_end : ℕ) where
+  abbrev pub opened_kept : Kept
+  opened_kept = record {
+    opening = w;
+    before = before;
+    generation = generation;
+    log_end = log_end;
+    halted = false;
+    processors = processors;
+    elements = with_elements processors [] w.records;
+    pending = w.pending;
+    clients = with_clients [] w.clients;
+    events = [];
+    durable = 0;
+    assigned = [];
+  }
+
+  module _ (fit : IsFit w) where
+    elements_are : with_elements processors [] w.records ≡ elements processors w.records
+    elements_are = all_made elem_cmp elem_total (opened_element processors) w.records fit.rising_records
+
+    clients_are : with_clients [] w.clients ≡ clients w.clients
+    clients_are = all_made nat_cmp nat_cmp_total opened_client w.clients fit.rising_clients
+
+    -- it is the core of a store that opens so
+    pub opened_core : core_of opened_kept ≡ opened processors w before generation log_end
+    opened_core =
+        let places = ap places_of elements_are ∙ places_are_homes processors w.records in
+        λ i. record (opened processors w before generation log_end) { places = places i }
+
+    pub opened_consistent : 1 ≤ processors → processors ≤ 64 → before ≤ 2 ^ 40 → 1 ≤ generation → generation ≤ 2 ^ 40 → log_end < 2 ^ 31 → IsConsistent opened_kept
+    opened_consistent some few small_before some_generation few_generations small_end = record {
+      sound = subst IsSound (sym opened_core) (opened_sound processors w before generation log_end some few fit small_before some_generation few_generations small_end);
+      rising = subst (IsStrictlySortedBy elem_cmp) (sym (ap keys_of elements_are ∙ keys_of-made elem_cmp elem_total (opened_element processors) w.records)) fit.rising_records;
+      counts = λ x. subst (λ es. IsCountedBy (record_at w.records x) (element_at es x)) (sym elements_are) (counts_are processors x w.records);
+      pending = refl;
+      clients = ap present_rows clients_are ∙ present_are w.clients;
+      durable_rows = λ c. ap (λ cs. (client_at cs c).durable) clients_are ∙ durable_are c w.clients;
+    }

@@ -1,0 +1,59 @@
+-- Room that stays.
+use Rattle.std.proofs.Common.{◌≡◌, ℕ, true, false, cond, List, [], ◌∷◌, ◌++◌, refl, sym, ap, subst, ◌∙◌}
+use Rattle.std.specs.Prelude.{Some, None, IfSome, is_some}
+use Rattle.std.specs.Ordering.{eq_by_cmp, nat_cmp}
+use Rattle.std.specs.BTreeMap.{insert_entry, is_at}
+use Rattle.std.specs.Map.{lookup}
+use Rattle.charmlet_model.specs.declared.names.Elem.{Elem}
+use Rattle.charmlet_model.specs.declared.names.MsgId.{MsgId}
+use Rattle.charmlet_model.specs.declared.message.Message.{Message}
+use Rattle.charmlet_model.specs.Names.{elem_cmp, same_id}
+use Rattle.charmlet_model.specs.World.{message_among}
+use Rattle.charmlet_model.specs.Core.{present}
+use Rattle.charmlet_model.specs.Sound.{IsAssigned}
+use Rattle.charmlet_model.proofs.Maps.{elem_total, lookup-insert_entry}
+use Rattle.charmlet_model.proofs.Deliveries.{message_of}
+use Rattle.charmlet_history.specs.declared.element.Element.{Element}
+use Rattle.charmlet_history.specs.Kept.{Kept, IsConsistent, core_of}
+
+-- the message's receiver has an entry
+abbrev pub HasEntry : List (Elem × Element) → Message → Type 0
+HasEntry elements m = is_some (lookup (is_at (elem_cmp m.to)) elements) ≡ true
+
+-- an entry stays where another one is written
+pub entry_stays : (es : List (Elem × Element)) (y : Elem) (e : Element) (m : Message) → HasEntry es m → HasEntry (insert_entry elem_cmp es y e) m
+entry_stays es y e m there =
+    ap is_some (lookup-insert_entry elem_cmp elem_total m.to y e es)
+    ∙ elim (eq_by_cmp elem_cmp m.to y) as (λ b. is_some (cond b (Some e) (lookup (is_at (elem_cmp m.to)) es)) ≡ true) [ true ↦ refl | false ↦ there ]
+
+-- a pending message stays the one of its id
+pub still_among : (id : MsgId) (ms ns : List Message) (m : Message) → message_among id ms ≡ Some m → message_among id (ms ++ ns) ≡ Some m
+still_among id [] ns m is = absurd (let never : ⊥ = cc in never)
+still_among id (n ∷ ms) ns m is =
+    elim (same_id id n.id) as (λ b. cond b (Some n) (message_among id ms) ≡ Some m → cond b (Some n) (message_among id (ms ++ ns)) ≡ Some m) [
+      | true ↦ λ is. is
+      | false ↦ λ is. still_among id ms ns m is
+    ] is
+
+-- what is assigned is pending
+pub assigned_pending : (k : Kept) → IsConsistent k → (processor : ℕ) (id : MsgId) → lookup (is_at (nat_cmp processor)) k.assigned ≡ Some id →
+    (m : Message) × (message_among id k.pending ≡ Some m)
+assigned_pending k consistent processor id has =
+    let core = core_of k in
+    let m = message_of (present core) id (subst (λ o. IfSome o (IsAssigned core processor)) has (consistent.sound.assigned processor)).can_be in
+    (m.0, ap (message_among id) consistent.pending ∙ m.1)
+
+-- so its receiver keeps its entry where more messages come
+pub receiver_stays : (k : Kept) → IsConsistent k → (processor : ℕ) (more : List Message) (P : MsgId → Type 0) →
+    IfSome (lookup (is_at (nat_cmp processor)) k.assigned) (λ id. P id × IfSome (message_among id k.pending) (HasEntry k.elements)) →
+    IfSome (lookup (is_at (nat_cmp processor)) k.assigned) (λ id. P id × IfSome (message_among id (k.pending ++ more)) (HasEntry k.elements))
+receiver_stays k consistent processor more P =
+    elim (lookup (is_at (nat_cmp processor)) k.assigned) as (λ o. lookup (is_at (nat_cmp processor)) k.assigned ≡ o →
+    IfSome o (λ id. P id × IfSome (message_among id k.pending) (HasEntry k.elements)) →
+    IfSome o (λ id. P id × IfSome (message_among id (k.pending ++ more)) (HasEntry k.elements))) [
+      | None ↦ λ _ _. tt
+      | Some id ↦ λ has h.
+          let m = assigned_pending k consistent processor id has in
+          let entry : HasEntry k.elements m.0 = subst (λ o. IfSome o (HasEntry k.elements)) m.1 h.1 in
+          (h.0, subst (λ o. IfSome o (HasEntry k.elements)) (sym (still_among id k.pending more m.0 m.1)) entry)
+    ] refl

@@ -1,0 +1,2 @@
+pub mod OpeningFit
+pub mod Outcomes

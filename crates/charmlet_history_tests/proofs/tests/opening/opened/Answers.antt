@@ -1,0 +1,7 @@
+use Rattle.std.proofs.Common.{sym, subst}
+use Rattle.charmlet_model.specs.Fit.{IsFit}
+use Rattle.charmlet_history_tests.proofs.OpeningFit.{opening_fit}
+use Rattle.charmlet_history_tests.proofs.tests.opening.opened.Goals as goal
+
+pub open-requires-clause-fit : goal.open-requires-clause-fit
+open-requires-clause-fit c = subst IsFit (sym c.in_ok-world.ensures) opening_fit

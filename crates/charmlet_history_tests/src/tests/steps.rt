@@ -1,0 +1,371 @@
+//! Steps of a history, and the text of what each answers.
+
+ghost use Rattle.std.specs.Prelude.{◌≡◌, IsNone};
+ghost use Rattle.charmlet_chare.specs.Output.{empty_output};
+ghost use Rattle.charmlet_history.specs.Kept.{IsOutcome, IsConsistent, core_in, kept_in};
+
+use super::opening::counter_at;
+use charmlet_chare::Output;
+use charmlet_history::{Element, History, RefusedCommit, Request};
+use charmlet_model::{CONSTRUCT, Elem, Kind, MsgId, Origin, Refusal, Sends, Told, Words};
+use std::alloc::{AllocError, Global};
+use std::process::Abort;
+
+// What is asked of a history.
+#[derive(Clone, Copy)]
+pub enum Step {
+    // This client's request of this number, to the counter of index 0 at an entry that it lacks.
+    Ask(u32, u64),
+    // The same to this element, which it constructs, with so many words.
+    Construct(u32, u64, Elem, usize),
+    Status(u32, u64),
+    // Whether this client's request of this number can be assigned to the processor.
+    Test(u16, u32, u64),
+    // Whether this element's message of this number can be.
+    TestSent(u16, Elem, u64),
+    // The client's request, which is to a counter at an entry that it lacks, is assigned to the processor and committed.
+    Deliver(u16, u32, u64),
+    // The same, but it isn't committed.
+    Assign(u16, u32, u64),
+    Release(u16),
+    // The message that is assigned to the processor.
+    Assigned(u16),
+    // Whether the element can move to the processor.
+    Move(Elem, u16),
+    // The element moves to the processor, where it can.
+    Relocate(Elem, u16),
+    Flush,
+    Halt,
+    IsHalted,
+    WhereIs(Elem),
+    Counts(Elem),
+    Next,
+    Pending,
+}
+
+// What is answered.
+#[derive(Drop)]
+pub enum Answer {
+    Done,
+    Refused(Refusal),
+    Told(Told),
+    Blank(Option<Kind>),
+    Durable(u64),
+    Halted(bool),
+    Place(Option<u16>),
+    Counted(Element),
+    Assigned(Option<MsgId>),
+    Next(Option<(u16, MsgId)>),
+    Pending(usize),
+}
+
+pub fn of_client(client: u32, number: u64) -> MsgId {
+    MsgId {
+        origin: Origin::Client(client),
+        number,
+    }
+}
+
+fn of_element(elem: Elem, number: u64) -> MsgId {
+    MsgId {
+        origin: Origin::Element(elem),
+        number,
+    }
+}
+
+// Asks for an entry that counters lack.
+fn ask(history: &mut History, client: u32, number: u64) -> Result<Told, Refusal>
+    requires { IsConsistent (kept_in history.old) }
+    ensures { IsConsistent (kept_in history.new) }
+{
+    let request = Request {
+        client,
+        number,
+        to: counter_at(0),
+        entry: 2,
+        words: &[4],
+    };
+    history.request(&request)
+}
+
+// Asks for a construction with so many words, at most 513.
+fn construct(
+    history: &mut History,
+    client: u32,
+    number: u64,
+    to: Elem,
+    words: usize,
+) -> Result<Told, Refusal>
+    requires { IsConsistent (kept_in history.old) }
+    ensures { IsConsistent (kept_in history.new) }
+{
+    let request = Request {
+        client,
+        number,
+        to,
+        entry: CONSTRUCT,
+        words: &[0; 513][..words.min(513)],
+    };
+    history.request(&request)
+}
+
+fn told(answered: Result<Told, Refusal>) -> Answer {
+    match answered {
+        Ok(told) => Answer::Told(told),
+        Err(refusal) => Answer::Refused(refusal),
+    }
+}
+
+fn blank(answered: Result<Option<Kind>, Refusal>) -> Answer {
+    match answered {
+        Ok(kind) => Answer::Blank(kind),
+        Err(refusal) => Answer::Refused(refusal),
+    }
+}
+
+fn done(refusal: Option<Refusal>) -> Answer {
+    match refusal {
+        None => Answer::Done,
+        Some(refusal) => Answer::Refused(refusal),
+    }
+}
+
+fn durable(answered: Result<u64, Refusal>) -> Answer {
+    match answered {
+        Ok(count) => Answer::Durable(count),
+        Err(refusal) => Answer::Refused(refusal),
+    }
+}
+
+// The answer to a step that changes nothing, if it is one.
+fn looked_up(history: &History, step: Step) -> Option<Answer>
+    requires { IsConsistent (kept_in history.now) }
+{
+    let found = match step {
+        Step::Status(client, number) => told(history.status(client, number)),
+        Step::Test(processor, client, number) => {
+            blank(history.test_delivery(processor, of_client(client, number)))
+        }
+        Step::TestSent(processor, elem, number) => {
+            blank(history.test_delivery(processor, of_element(elem, number)))
+        }
+        Step::Move(elem, processor) => blank(history.test_move(elem, processor)),
+        Step::Assigned(processor) => Answer::Assigned(assigned(history, processor)),
+        Step::IsHalted => Answer::Halted(history.is_halted()),
+        Step::WhereIs(elem) => Answer::Place(history.where_is(elem)),
+        Step::Counts(elem) => Answer::Counted(history.element(elem)),
+        Step::Next => Answer::Next(history.next()),
+        Step::Pending => Answer::Pending(history.pending().len()),
+        _ => return None,
+    };
+    Some(found)
+}
+
+fn assigned(history: &History, processor: u16) -> Option<MsgId>
+    requires { IsConsistent (kept_in history.now) }
+{
+    let message = history.assigned(processor)?;
+    Some(message.id)
+}
+
+// The element moves to the processor, where it can.
+fn relocate(history: &mut History, elem: Elem, processor: u16) -> Option<Refusal>
+    requires { IsConsistent (kept_in history.old) }
+    ensures { IsConsistent (kept_in history.new) }
+{
+    match history.test_move(elem, processor) {
+        Ok(_) => {
+            history.relocate(elem, processor);
+            None
+        }
+        Err(refusal) => Some(refusal),
+    }
+}
+
+// Takes a step, and answers.
+fn answer_to(history: &mut History, alloc: Global, step: Step) -> Answer
+    requires { IsConsistent (kept_in history.old) }
+    ensures { IsConsistent (kept_in history.new) }
+{
+    match step {
+        Step::Ask(client, number) => told(ask(history, client, number)),
+        Step::Construct(client, number, to, words) => {
+            told(construct(history, client, number, to, words))
+        }
+        Step::Flush => durable(history.flush()),
+        Step::Deliver(processor, client, number) => {
+            done(deliver(history, alloc, processor, of_client(client, number)))
+        }
+        Step::Assign(processor, client, number) => {
+            done(assign(history, processor, of_client(client, number)))
+        }
+        Step::Relocate(elem, processor) => done(relocate(history, elem, processor)),
+        Step::Release(processor) => {
+            history.release(processor);
+            Answer::Done
+        }
+        Step::Halt => {
+            history.halt();
+            Answer::Done
+        }
+        _ => looked_up(history, step).unwrap_or(Answer::Done),
+    }
+}
+
+// Assigns a message to a counter at an entry that it lacks, so that nothing comes of it. The counter of index 0 is there,
+// and processor 3 is idle.
+fn assign(history: &mut History, processor: u16, id: MsgId) -> Option<Refusal>
+    requires { IsConsistent (kept_in history.old) }
+    ensures consistent { IsConsistent (kept_in history.new) }
+    ensures outcome { IsNone result → IsOutcome (core_in history.new) processor empty_output }
+{
+    if let Err(refusal) = history.test_delivery(processor, id) {
+        return Some(refusal);
+    }
+    let kind = match history.test_move(counter_at(0), 3) {
+        Ok(kind) => kind,
+        Err(refusal) => return Some(refusal),
+    };
+    let Some(Kind::Counter) = kind else {
+        return Some(Refusal::Strayed);
+    };
+    if history.assign(processor, id).is_err() {
+        return Some(Refusal::Memory);
+    }
+    let Some(message) = history.assigned(processor) else {
+        return Some(Refusal::Strayed);
+    };
+    if message.entry != 2 || message.to.array != 0 {
+        return Some(Refusal::Strayed);
+    }
+    None
+}
+
+// What comes of such a message. It takes no memory.
+fn nothing(alloc: Global) -> Output
+    ensures { result ≡ empty_output }
+{
+    Output {
+        sends: Sends::new(Vec::new(alloc)),
+        reply: Words::new(Vec::new(alloc)),
+        is_destroyed: false,
+    }
+}
+
+fn deliver(history: &mut History, alloc: Global, processor: u16, id: MsgId) -> Option<Refusal>
+    requires { IsConsistent (kept_in history.old) }
+    ensures { IsConsistent (kept_in history.new) }
+{
+    let refused = assign(history, processor, id);
+    if refused.is_some() {
+        return refused;
+    }
+    match history.commit(processor, nothing(alloc)) {
+        Ok(()) => None,
+        Err(refused) => Some(refused.refusal),
+    }
+}
+
+// Halts the store after such a message was assigned. The commit is refused, and nothing comes back.
+pub fn halts_before_the_commit(
+    rt: &(impl AllocGlobal + Abort),
+    history: &mut History,
+    processor: u16,
+    id: MsgId,
+)
+    requires { IsConsistent (kept_in history.old) }
+    ensures { IsConsistent (kept_in history.new) }
+{
+    let refused = assign(history, processor, id);
+    assert!(rt; refused.is_none());
+    history.halt();
+    let committed = history.commit(processor, nothing(rt.alloc()));
+    let refused = committed.err().expect(rt, "it is refused");
+    assert_eq!(rt; refused.refusal, Refusal::Halted);
+    assert!(rt; refused.output.sends.as_slice().is_empty());
+    assert!(rt; refused.output.reply.is_empty());
+    assert!(rt; !refused.output.is_destroyed);
+}
+
+fn lacks_memory(answer: &Answer) -> bool {
+    matches!(answer, Answer::Refused(Refusal::Memory))
+}
+
+// Takes a step, once more where memory is refused.
+fn taken(history: &mut History, alloc: Global, step: Step) -> Answer
+    requires { IsConsistent (kept_in history.old) }
+    ensures { IsConsistent (kept_in history.new) }
+{
+    let first = answer_to(history, alloc, step);
+    if lacks_memory(&first) {
+        return answer_to(history, alloc, step);
+    }
+    first
+}
+
+fn write_next(text: &mut String, next: Option<(u16, MsgId)>) -> Result<(), AllocError> {
+    match next {
+        Some((processor, id)) => writeln!(text, "next {processor} {id}"),
+        None => writeln!(text, "next none"),
+    }
+}
+
+fn write_assigned(text: &mut String, assigned: Option<MsgId>) -> Result<(), AllocError> {
+    match assigned {
+        Some(id) => writeln!(text, "assigned {id}"),
+        None => writeln!(text, "assigned none"),
+    }
+}
+
+fn write_element(text: &mut String, element: Element) -> Result<(), AllocError> {
+    let Element {
+        place,
+        sent,
+        received,
+    } = element;
+    writeln!(text, "{place:?} sent {sent} received {received}")
+}
+
+fn write_blank(text: &mut String, kind: Option<Kind>) -> Result<(), AllocError> {
+    match kind {
+        Some(kind) => writeln!(text, "can with a blank of kind {kind}"),
+        None => writeln!(text, "can"),
+    }
+}
+
+fn write_answer(text: &mut String, answer: &Answer) -> Result<(), AllocError> {
+    match answer {
+        Answer::Done => writeln!(text, "done"),
+        Answer::Refused(refusal) => writeln!(text, "{refusal}"),
+        Answer::Told(told) => writeln!(text, "{told}"),
+        Answer::Blank(kind) => write_blank(text, *kind),
+        Answer::Durable(count) => writeln!(text, "durable {count}"),
+        Answer::Halted(is_halted) => writeln!(text, "halted {is_halted}"),
+        Answer::Place(place) => writeln!(text, "{place:?}"),
+        Answer::Counted(element) => write_element(text, *element),
+        Answer::Assigned(id) => write_assigned(text, *id),
+        Answer::Next(next) => write_next(text, *next),
+        Answer::Pending(count) => writeln!(text, "pending {count}"),
+    }
+}
+
+// A text with room for each run here.
+fn text_with_room(rt: &(impl AllocGlobal + Abort)) -> String {
+    match String::with_capacity(rt.alloc(), 4096) {
+        Ok(text) => text,
+        Err(_) => String::with_capacity(rt.alloc(), 4096).expect(rt, "memory"),
+    }
+}
+
+// Takes the steps in order. What they answer is this text, a line each.
+pub fn run(rt: &(impl AllocGlobal + Abort), history: &mut History, steps: &[Step], wanted: &str)
+    requires { IsConsistent (kept_in history.old) }
+    ensures { IsConsistent (kept_in history.new) }
+{
+    let mut text = text_with_room(rt);
+    for step in steps {
+        let answer = taken(history, rt.alloc(), *step);
+        write_answer(&mut text, &answer).expect(rt, "there is room");
+    }
+    assert_eq!(rt; text.as_str(), wanted);
+}

@@ -1,0 +1,533 @@
+//! What histories answer that open with a small world, at their limits, and after they were halted.
+
+ghost use Rattle.std.specs.Prelude.{◌≡◌, ◌≤◌, ◌<◌, ◌^◌};
+ghost use Rattle.charmlet_history.specs.Kept.{IsConsistent, kept_in};
+
+use super::opening::opened;
+use super::steps::{Step, halts_before_the_commit, of_client, run};
+use charmlet_history::History;
+use charmlet_model::{Elem, Refusal};
+use std::process::Abort;
+
+// The history that opens with the small world on four processors. Where memory is refused it opens at the second try.
+fn open(rt: &(impl AllocGlobal + Abort), before: u64, generation: u64, log_end: u64) -> History
+    requires before { before ≤ 2 ^ 40 }
+    requires some_generation { 1 ≤ generation }
+    requires few_generations { generation ≤ 2 ^ 40 }
+    requires log_end { log_end < 2 ^ 31 }
+    ensures { IsConsistent (kept_in result) }
+{
+    let first = opened(rt.alloc(), before, generation, log_end, 4);
+    match first {
+        Ok(history) => history,
+        Err(refusal) => {
+            assert_eq!(rt; refusal, Refusal::Memory);
+            let second = opened(rt.alloc(), before, generation, log_end, 4);
+            second.ok().expect(rt, "memory")
+        }
+    }
+}
+
+// What such a history answers to the steps is this text. It is that of the first file, whose log has no bytes.
+fn answers(rt: &(impl AllocGlobal + Abort), before: u64, steps: &[Step], wanted: &str)
+    requires { before ≤ 2 ^ 40 }
+{
+    let mut history = open(rt, before, 1, 0);
+    run(rt, &mut history, steps, wanted);
+}
+
+// The same of the last file, whose log has as many bytes as it can.
+fn answers_at_limits(rt: &(impl AllocGlobal + Abort), before: u64, steps: &[Step], wanted: &str)
+    requires { before ≤ 2 ^ 40 }
+{
+    let mut history = open(rt, before, 1 << 40, (1 << 31) - 1);
+    run(rt, &mut history, steps, wanted);
+}
+
+const FIRST: Elem = Elem { array: 0, index: 0 };
+
+// It is there no more.
+const ABSENT: Elem = Elem { array: 0, index: 1 };
+
+const LAST: Elem = Elem { array: 0, index: 5 };
+
+// No array of the store has it.
+const NOWHERE: Elem = Elem { array: 7, index: 0 };
+
+// A tree of which nothing is kept.
+const TREE: Elem = Elem { array: 1, index: 2 };
+
+#[test]
+fn refused_memory_changes_no_answer_of_an_opened_history(rt: HostRuntime) {
+    let steps = [
+        Step::WhereIs(FIRST),
+        Step::WhereIs(ABSENT),
+        Step::WhereIs(LAST),
+        Step::WhereIs(TREE),
+        Step::Counts(FIRST),
+        Step::Counts(ABSENT),
+        Step::Counts(LAST),
+        Step::Counts(TREE),
+        Step::Pending,
+        Step::Next,
+        Step::Status(7, 0),
+        Step::Status(7, 1),
+        Step::Status(7, 2),
+        Step::Status(7, 3),
+        Step::Status(8, 1),
+        Step::Status(8, 2),
+        Step::Status(8, 3),
+        Step::Status(8, 9),
+        Step::Ask(7, 1),
+        Step::Ask(7, 2),
+        Step::Ask(8, 1),
+        Step::Ask(8, 10),
+        Step::TestSent(1, LAST, 2),
+        Step::Test(0, 8, 2),
+        Step::Test(1, 8, 2),
+        Step::Flush,
+        Step::Ask(7, 3),
+        Step::Flush,
+        Step::Status(7, 3),
+        Step::Deliver(1, 8, 2),
+        Step::Status(8, 2),
+        Step::Ask(8, 10),
+        Step::Status(8, 2),
+        Step::Status(8, 10),
+        Step::Flush,
+        Step::Status(8, 2),
+        Step::Status(8, 3),
+        Step::Status(8, 10),
+        Step::Counts(LAST),
+        Step::Pending,
+    ];
+    answers(
+        &rt,
+        0,
+        &steps,
+        "Some(0)\n\
+         None\n\
+         Some(1)\n\
+         None\n\
+         Some(0) sent 0 received 2\n\
+         None sent 1 received 3\n\
+         Some(1) sent 2 received 1\n\
+         None sent 0 received 0\n\
+         pending 3\n\
+         next 0 c7.2\n\
+         told past\n\
+         told replied 5\n\
+         told accepted\n\
+         told unknown\n\
+         told past\n\
+         told accepted\n\
+         told replied 3\n\
+         told replied 9\n\
+         told replied 5\n\
+         told accepted\n\
+         OutOfTurn 10\n\
+         Waiting\n\
+         Absent\n\
+         Elsewhere 1\n\
+         can\n\
+         durable 0\n\
+         told unknown\n\
+         durable 1\n\
+         told accepted\n\
+         done\n\
+         told accepted\n\
+         told unknown\n\
+         told accepted\n\
+         told unknown\n\
+         durable 3\n\
+         told past\n\
+         told replied 3\n\
+         told accepted\n\
+         Some(1) sent 2 received 2\n\
+         pending 4\n",
+    );
+}
+
+// With one event fewer than the most, one more is taken, and then none.
+#[test]
+fn refused_memory_changes_no_answer_at_the_last_event(rt: HostRuntime) {
+    let steps = [
+        Step::Test(0, 7, 2),
+        Step::Flush,
+        Step::Ask(7, 3),
+        Step::Flush,
+        Step::Status(7, 3),
+        Step::Ask(7, 3),
+        Step::Ask(7, 4),
+        Step::Ask(7, 5),
+        Step::Ask(8, 10),
+        Step::Ask(9, 1),
+        Step::Test(0, 7, 2),
+        Step::Test(2, 7, 2),
+        Step::Move(FIRST, 1),
+        Step::Flush,
+    ];
+    let wanted = "can\n\
+         durable 1099511627775\n\
+         told unknown\n\
+         durable 1099511627776\n\
+         told accepted\n\
+         told accepted\n\
+         HistoryFull\n\
+         OutOfTurn 4\n\
+         Waiting\n\
+         HistoryFull\n\
+         HistoryFull\n\
+         Elsewhere 0\n\
+         can with a blank of kind 1\n\
+         durable 1099511627776\n";
+    answers_at_limits(&rt, (1 << 40) - 1, &steps, wanted);
+}
+
+// What is assigned counts as an event, until it is released.
+#[test]
+fn assigned_deliveries_count_at_the_last_event(rt: HostRuntime) {
+    let steps = [
+        Step::Assign(0, 7, 2),
+        Step::Ask(7, 3),
+        Step::Test(1, 8, 2),
+        Step::Release(0),
+        Step::Deliver(1, 8, 2),
+        Step::Ask(8, 10),
+        Step::Flush,
+        Step::Status(8, 2),
+    ];
+    let wanted = "done\n\
+         HistoryFull\n\
+         HistoryFull\n\
+         done\n\
+         done\n\
+         HistoryFull\n\
+         durable 1099511627776\n\
+         told replied\n";
+    answers(&rt, (1 << 40) - 1, &steps, wanted);
+}
+
+#[test]
+fn histories_of_all_events_take_none(rt: HostRuntime) {
+    let steps = [
+        Step::Flush,
+        Step::Ask(7, 2),
+        Step::Ask(7, 3),
+        Step::Test(0, 7, 2),
+        Step::Flush,
+    ];
+    let wanted = "durable 1099511627776\n\
+         told accepted\n\
+         HistoryFull\n\
+         HistoryFull\n\
+         durable 1099511627776\n";
+    answers_at_limits(&rt, 1 << 40, &steps, wanted);
+}
+
+#[test]
+fn processors_are_1_to_64(rt: HostRuntime) {
+    for processors in [0u16, 65, 65535] {
+        let refused = opened(rt.alloc(), 0, 1, 0, processors);
+        assert!(rt; matches!(refused, Err(Refusal::BadPes)));
+    }
+    for processors in [1u16, 64] {
+        assert!(rt; opened(rt.alloc(), 0, 1, 0, processors).is_ok());
+    }
+}
+
+// Eight requests of a new client are taken. The third one is answered before the second and the first.
+#[test]
+fn refused_memory_changes_no_answer_of_a_window(rt: HostRuntime) {
+    let steps = [
+        Step::Ask(9, 0),
+        Step::Ask(9, 2),
+        Step::Ask(9, 1),
+        Step::Ask(9, 1),
+        Step::Ask(9, 3),
+        Step::Ask(9, 2),
+        Step::Ask(9, 3),
+        Step::Ask(9, 4),
+        Step::Ask(9, 5),
+        Step::Ask(9, 6),
+        Step::Ask(9, 7),
+        Step::Ask(9, 9),
+        Step::Ask(9, 8),
+        Step::Ask(9, 9),
+        Step::Ask(9, 10),
+        Step::Status(9, 8),
+        Step::Flush,
+        Step::Ask(9, 1),
+        Step::Ask(9, 8),
+        Step::Status(9, 9),
+        Step::Deliver(0, 9, 3),
+        Step::Ask(9, 9),
+        Step::Status(9, 3),
+        Step::Flush,
+        Step::Status(9, 2),
+        Step::Status(9, 3),
+        Step::Status(9, 4),
+        Step::Deliver(0, 9, 2),
+        Step::Ask(9, 9),
+        Step::Deliver(0, 9, 1),
+        Step::Ask(9, 9),
+        Step::Ask(9, 10),
+        Step::Ask(9, 11),
+        Step::Ask(9, 12),
+        Step::Ask(9, 1),
+        Step::Ask(9, 4),
+        Step::Status(9, 1),
+        Step::Status(9, 2),
+        Step::Status(9, 3),
+        Step::Status(9, 11),
+        Step::Flush,
+        Step::Status(9, 1),
+        Step::Status(9, 2),
+        Step::Status(9, 3),
+        Step::Status(9, 4),
+        Step::Status(9, 11),
+        Step::Status(9, 12),
+        Step::Counts(FIRST),
+    ];
+    let wanted = "OutOfTurn 1\n\
+         OutOfTurn 1\n\
+         told unknown\n\
+         told unknown\n\
+         OutOfTurn 2\n\
+         told unknown\n\
+         told unknown\n\
+         told unknown\n\
+         told unknown\n\
+         told unknown\n\
+         told unknown\n\
+         OutOfTurn 8\n\
+         told unknown\n\
+         Waiting\n\
+         OutOfTurn 9\n\
+         told unknown\n\
+         durable 8\n\
+         told accepted\n\
+         told accepted\n\
+         told unknown\n\
+         done\n\
+         Waiting\n\
+         told accepted\n\
+         durable 9\n\
+         told accepted\n\
+         told replied\n\
+         told accepted\n\
+         done\n\
+         Waiting\n\
+         done\n\
+         told unknown\n\
+         told unknown\n\
+         told unknown\n\
+         Waiting\n\
+         OutOfTurn 12\n\
+         told accepted\n\
+         told accepted\n\
+         told accepted\n\
+         told replied\n\
+         told unknown\n\
+         durable 14\n\
+         told past\n\
+         told past\n\
+         told past\n\
+         told accepted\n\
+         told accepted\n\
+         told unknown\n\
+         Some(0) sent 0 received 5\n";
+    answers(&rt, 0, &steps, wanted);
+}
+
+// The present window runs ahead of the durable one by eight requests, of which none is durable.
+#[test]
+fn refused_memory_changes_no_answer_of_a_durable_window(rt: HostRuntime) {
+    let mut history = open(&rt, 0, 1, 0);
+    for number in 1..9 {
+        run(&rt, &mut history, &[Step::Ask(9, number)], "told unknown\n");
+    }
+    run(&rt, &mut history, &[Step::Flush], "durable 8\n");
+    for number in 1..9 {
+        run(
+            &rt,
+            &mut history,
+            &[Step::Deliver(0, 9, number), Step::Ask(9, number + 8)],
+            "done\ntold unknown\n",
+        );
+    }
+    for number in 1..9 {
+        let steps = [
+            Step::Status(9, number),
+            Step::Status(9, number + 8),
+            Step::Ask(9, number + 8),
+            Step::Ask(9, number),
+        ];
+        let wanted = "told accepted\ntold unknown\ntold unknown\nOutOfTurn 17\n";
+        run(&rt, &mut history, &steps, wanted);
+    }
+    let flushed = [Step::Status(9, 0), Step::Ask(9, 17), Step::Flush];
+    run(
+        &rt,
+        &mut history,
+        &flushed,
+        "told past\nWaiting\ndurable 24\n",
+    );
+    for number in 1..9 {
+        let steps = [Step::Status(9, number), Step::Status(9, number + 8)];
+        run(&rt, &mut history, &steps, "told past\ntold accepted\n");
+    }
+}
+
+// Each call of a halted store, beside a message that was assigned before.
+#[test]
+fn halted_stores_refuse_each_call(rt: HostRuntime) {
+    let mut history = open(&rt, 0, 1, 0);
+    run(&rt, &mut history, &[Step::IsHalted], "halted false\n");
+    halts_before_the_commit(&rt, &mut history, 1, of_client(8, 2));
+    let steps = [
+        Step::IsHalted,
+        Step::Ask(7, 3),
+        Step::Ask(7, 2),
+        Step::Ask(7, 1),
+        Step::Ask(8, 10),
+        Step::Ask(9, 1),
+        Step::Construct(9, 2, NOWHERE, 513),
+        Step::Status(7, 1),
+        Step::Status(7, 3),
+        Step::Status(9, 0),
+        Step::Test(0, 7, 2),
+        Step::Test(1, 7, 2),
+        Step::Test(4, 7, 2),
+        Step::Test(0, 7, 3),
+        Step::Move(FIRST, 0),
+        Step::Move(FIRST, 1),
+        Step::Move(FIRST, 4),
+        Step::Move(NOWHERE, 3),
+        Step::Flush,
+        Step::Assigned(1),
+        Step::Release(1),
+        Step::Assigned(1),
+        Step::Release(1),
+        Step::Release(4),
+        Step::Test(1, 8, 2),
+        Step::Flush,
+        Step::Halt,
+        Step::IsHalted,
+        Step::WhereIs(LAST),
+        Step::Counts(LAST),
+        Step::Pending,
+        Step::Next,
+    ];
+    let wanted = "halted true\n\
+         Halted\n\
+         Halted\n\
+         Halted\n\
+         Halted\n\
+         Halted\n\
+         Halted\n\
+         Halted\n\
+         Halted\n\
+         Halted\n\
+         Halted\n\
+         Halted\n\
+         Halted\n\
+         Halted\n\
+         Halted\n\
+         Halted\n\
+         Halted\n\
+         Halted\n\
+         Halted\n\
+         assigned c8.2\n\
+         done\n\
+         assigned none\n\
+         done\n\
+         done\n\
+         Halted\n\
+         Halted\n\
+         done\n\
+         halted true\n\
+         Some(1)\n\
+         Some(1) sent 2 received 1\n\
+         pending 3\n\
+         next 0 c7.2\n";
+    run(&rt, &mut history, &steps, wanted);
+}
+
+// The same calls before the store is halted, each refused for another reason.
+#[test]
+fn running_stores_refuse_for_other_reasons(rt: HostRuntime) {
+    let steps = [
+        Step::Construct(9, 1, NOWHERE, 513),
+        Step::Construct(9, 1, TREE, 513),
+        Step::Construct(9, 1, TREE, 512),
+        Step::Test(3, 9, 1),
+        Step::Test(2, 9, 1),
+        Step::Test(4, 9, 1),
+        Step::Test(0, 9, 2),
+        Step::Assign(0, 7, 2),
+        Step::Test(0, 7, 2),
+        Step::Move(FIRST, 4),
+        Step::Move(ABSENT, 2),
+        Step::Move(FIRST, 0),
+        Step::Move(FIRST, 2),
+        Step::Move(LAST, 0),
+        Step::Move(LAST, 2),
+        Step::Next,
+    ];
+    let wanted = "NoArray\n\
+         TooLong\n\
+         told unknown\n\
+         can with a blank of kind 5\n\
+         Elsewhere 3\n\
+         BadPes\n\
+         NoMessage\n\
+         done\n\
+         Uncommitted\n\
+         BadPes\n\
+         Absent\n\
+         can\n\
+         Uncommitted\n\
+         Uncommitted\n\
+         can with a blank of kind 1\n\
+         next 0 c7.2\n";
+    answers(&rt, 0, &steps, wanted);
+}
+
+// An element that stood on its home moves, and its messages are delivered where it stands then.
+#[test]
+fn moved_elements_stand_elsewhere(rt: HostRuntime) {
+    let steps = [
+        Step::Relocate(FIRST, 2),
+        Step::WhereIs(FIRST),
+        Step::Next,
+        Step::Test(0, 7, 2),
+        Step::Deliver(2, 7, 2),
+        Step::Next,
+        Step::Relocate(ABSENT, 2),
+        Step::Relocate(LAST, 4),
+        Step::Assign(1, 8, 2),
+        Step::Relocate(FIRST, 1),
+        Step::Relocate(LAST, 1),
+        Step::Relocate(FIRST, 0),
+        Step::Counts(FIRST),
+        Step::Pending,
+        Step::Assigned(1),
+    ];
+    let wanted = "done\n\
+         Some(2)\n\
+         next 2 c7.2\n\
+         Elsewhere 2\n\
+         done\n\
+         next 1 c8.2\n\
+         Absent\n\
+         BadPes\n\
+         done\n\
+         Uncommitted\n\
+         done\n\
+         done\n\
+         Some(0) sent 0 received 3\n\
+         pending 2\n\
+         assigned c8.2\n";
+    answers(&rt, 0, &steps, wanted);
+}

@@ -1,0 +1,114 @@
+//! The replies to a client's last requests.
+
+ghost use Rattle.std.specs.Prelude.{◌≡◌, IfOk, option_copied};
+
+use crate::words::Words;
+use arrayvec::ArrayVec;
+use std::alloc::{AllocError, Global};
+use std::marker::Model;
+
+/// Up to eight items, the oldest first: each is the reply to a request, or none while there is no reply.
+/// A contract sees the list. None of its calls but `copy` takes memory.
+#[derive(Debug, Drop)]
+pub struct Window {
+    items: ArrayVec<Option<Words>, 8>,
+}
+
+impl Model for Window {
+    ghost use Rattle.std.specs.Prelude.{List, Option, ℕ};
+
+    ghost Value = { List (Option (List ℕ)) };
+
+    ghost view = { λ window. window.items.items };
+}
+
+impl Window {
+    ghost use Rattle.std.specs.Prelude.{◌≡◌, ◌↔◌, ◌<◌, ◌≤◌, ◌++◌, ◌∷◌, List, ℕ, [], length, slice_index_or, slice_set, IsTrue, Some, None, IfOk, option_copied};
+
+    /// A window with no items.
+    pub fn new() -> Self
+        ensures { result ≡ [] }
+    {
+        Window {
+            items: ArrayVec::new(),
+        }
+    }
+
+    /// How many items there are, at most eight.
+    pub fn len(&self) -> usize
+        ensures count { result ≡ length self.now }
+        ensures few { result ≤ 8 }
+    {
+        self.items.len()
+    }
+
+    /// Whether there is no item.
+    pub fn is_empty(&self) -> bool
+        ensures { IsTrue result ↔ (self.now ≡ []) }
+    {
+        self.items.is_empty()
+    }
+
+    /// The reply at a place, where there is one. Places count from 0, the oldest item's.
+    pub fn get(&self, place: usize) -> Option<&Words>
+        ensures { option_copied result ≡ slice_index_or self.now place None }
+    {
+        if place < self.items.len() {
+            self.items[place].as_ref()
+        } else {
+            None
+        }
+    }
+
+    /// Keeps the reply at a place.
+    pub fn set(&mut self, place: usize, reply: Words)
+        requires { place < length self.old }
+        ensures { self.new ≡ slice_set self.old place (Some reply) }
+    {
+        self.items[place] = Some(reply);
+    }
+
+    /// Puts an item after the others, where there are fewer than eight.
+    pub fn push(&mut self, item: Option<Words>)
+        requires { length self.old < 8 }
+        ensures { self.new ≡ self.old ++ item ∷ [] }
+    {
+        self.items.push(item);
+    }
+
+    /// Takes the oldest item out.
+    pub fn remove_first(&mut self) -> Option<Words>
+        requires { 0 < length self.old }
+        ensures { self.old ≡ result ∷ self.new }
+    {
+        self.items.remove(0)
+    }
+
+    /// The same items, in memory of their own. It fails only for want of memory.
+    pub fn copy(&self, alloc: Global) -> Result<Self, AllocError>
+        ensures { IfOk result (λ copy. copy ≡ self.now) }
+    {
+        let mut copy = Window::new();
+        for place in 0..self.len() {
+            copy.push(copy_of(alloc, self.get(place))?);
+        }
+        Ok(copy)
+    }
+
+    /// Takes all items out.
+    pub fn clear(&mut self)
+        ensures { self.new ≡ [] }
+    {
+        self.items.clear();
+    }
+}
+
+/// The same reply, if there is one, in memory of its own. It fails only for want of memory.
+fn copy_of(alloc: Global, reply: Option<&Words>) -> Result<Option<Words>, AllocError>
+    ensures { IfOk result (λ copy. copy ≡ option_copied reply.entry) }
+{
+    match reply {
+        Some(words) => Ok(Some(Words::from_slice(alloc, words.as_slice())?)),
+        None => Ok(None),
+    }
+}

@@ -1,0 +1,33 @@
+//! States that only contracts read.
+
+ghost use Rattle.std.specs.Prelude.{◌≡◌};
+ghost use Rattle.std.specs.Borrow.{ftrue};
+ghost use Rattle.charmlet_model.specs.declared.state.State.{State};
+
+use charmlet_chare::Chare;
+use std::marker::Model;
+
+/// The state in which an object was seen. It has no bytes, and only contracts read it: what ties the state to
+/// an object that has changed since are the clauses of whoever keeps it.
+#[derive(Drop)]
+pub(crate) struct SeenState {
+    pub ghost state: { State },
+}
+
+impl Model for SeenState {
+    ghost also_owns = { λ _. ftrue };
+}
+
+// It owns nothing, so threads may have it and share it.
+unsafe impl Send for SeenState {}
+
+unsafe impl Sync for SeenState {}
+
+impl SeenState {
+    /// The state in which an object is. It does nothing at run time.
+    pub(crate) fn of<C: Chare>(_object: &C) -> Self
+        ensures { result.state ≡ C.state _object.now }
+    {
+        SeenState {}
+    }
+}

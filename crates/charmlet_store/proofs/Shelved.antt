@@ -1,0 +1,258 @@
+-- The shelves of a store, one by one and all together.
+use Rattle.std.proofs.Common.{Vec, ◌≡◌, ℕ, ◌+◌, ◌<◌, ◌≤◌, ◌==◌, zero, suc, true, false, cond, List, [], ◌∷◌, length, get_or, refl, sym, ap, subst, ◌∙◌, arith}
+use Rattle.std.specs.Prelude.{Some, slice_set}
+use Rattle.std.specs.Cmp.{nat_eq_equiv}
+use Rattle.std.specs.BTreeMap.{insert_entry, is_at}
+use Rattle.std.specs.List.{All, AllByRecursion}
+use Rattle.std.specs.List.Sorted.{IsStrictlySortedBy}
+use Rattle.std.specs.Map.{lookup, keys_of}
+use Rattle.std.specs.Vec.{with_item}
+use Rattle.std.proofs.Math.Nat.{ℕ_set}
+use Rattle.std.proofs.Math.ListN.{get_or-map}
+use Rattle.std.proofs.Math.Path.{path_j}
+use Rattle.std.proofs.lemmas.List.{get_or-set_same, get_or-set_other, length-set, length-map, map-set, get_or_default}
+use Rattle.std.proofs.lemmas.List.Elements.{All-from_recursion, recursion_from_All, All-get_or, All-set}
+use Rattle.std.proofs.lemmas.List.Sums.{get_or-le-sum_by, sum_by-cons, sum_by-set}
+use Rattle.std.proofs.lemmas.Map.Views.{exact_unsigned_eq}
+use Rattle.charmlet_model.specs.declared.names.Elem.{Elem}
+use Rattle.charmlet_model.specs.declared.kind.Kind.{Kind}
+use Rattle.charmlet_model.specs.declared.state.Record.{Record}
+use Rattle.charmlet_model.specs.Names.{elem_cmp}
+use Rattle.charmlet_model.specs.World.{record_of}
+use Rattle.charmlet_model.specs.Core.{Blanks, Core, Move, Stepped, Steps, place_of, present, place_or_home}
+use Rattle.charmlet_model.specs.Sound.{new_world, opened}
+use Rattle.charmlet_model.specs.Shelves.{Shows, if_here, shelf_of, there_in}
+use Rattle.charmlet_chare.specs.declared.chare.Chare.{Ghosts}
+use Rattle.charmlet_history.specs.declared.history.History.{History}
+use Rattle.charmlet_history.specs.Kept.{IsConsistent, core_in, kept_in}
+use Rattle.charmlet_shelf.specs.Count.{is_newcomer_of, objects_on}
+use Rattle.charmlet_shelf.specs.Shelf.{View}
+use Rattle.charmlet_shelf.specs.declared.phase.Phase.TheVariants.{Idle}
+use Rattle.charmlet_stock.specs.declared.stock.Stock.{Stock}
+use Rattle.charmlet_stock.specs.declared.pile.Tally.{Tally}
+use Rattle.charmlet_stock.specs.Pile.{nothing}
+use Rattle.charmlet_stock.specs.Stock.{tally_in, supplied_to}
+use Rattle.charmlet_migrate.specs.Moving.{IsCountedAmong, IsIdle, ShowsPresent, numbers_of, objects_among, records_on}
+use Rattle.charmlet_migrate.proofs.CarriedShelves as carried
+use Rattle.charmlet_store.specs.Desk.{IsWithin, ShowsOn, IsDeskConsistent, desk_of, held_in}
+use Rattle.charmlet_store.specs.Store.{AreEmpty, AreNumbered, IsStoreConsistent, world_in}
+use Rattle.charmlet_store.specs.declared.store.Store.{Store}
+use Rattle.charmlet_store.proofs.Places.{Stays, stepped_core}
+use Rattle.charmlet_migrate.specs.Copying.{empty_shelf}
+
+-- ---- a list with one element written over
+
+-- an element that is written as it was
+module _ {X Z : Type 0} (v : Vec X Z) where
+  abbrev refilled : (items : List X) (fits : v.len ≡ length items) → Vec X Z
+  refilled items fits = record { ptr = v.ptr; len = v.len; cap = v.cap; alloc = v.alloc; items = items; ok = (fits, v.ok.1); small = v.small }
+
+  refilled_same : {items : List X} → v.items ≡ items → (fits : v.len ≡ length items) → refilled items fits ≡ v
+  refilled_same = path_j (λ items _. (fits : v.len ≡ length items) → refilled items fits ≡ v) (λ fits j. record { ptr = v.ptr; len = v.len; cap = v.cap; alloc = v.alloc; items = v.items; ok = (ℕ_set _ _ fits v.ok.0 j, v.ok.1); small = v.small })
+
+  pub same_item : (i : ℕ) (x : X) → slice_set v.items i x ≡ v.items → with_item v i x ≡ v
+  same_item i x same = refilled_same (sym same) (with_item v i x).ok.0
+
+-- each element is as before, or the one that was written
+module _ {X : Type 0} (xs : List X) (p : ℕ) (y : X) (within : p < length xs) where
+  pub each_or_one : (P : ℕ → X → Type 0) (d : X) → P p y → ((q : ℕ) → (p == q) ≡ false → P q (get_or xs q d)) → (q : ℕ) → P q (get_or (slice_set xs p y) q d)
+  each_or_one P d own others q = elim (p == q) as (λ b. (p == q) ≡ b → P q (get_or (slice_set xs p y) q d)) [
+    | true ↦ λ same.
+        subst (λ q. P q (get_or (slice_set xs p y) q d)) (exact_unsigned_eq p q same)
+        (subst (P p) (sym (get_or-set_same xs p y d within)) own)
+    | false ↦ λ apart.
+        let not_same : q ≡ p → ⊥ = λ same. (let itself = nat_eq_equiv.refl p in let bad : (p == p) ≡ false = ap (λ n. p == n) (sym same) ∙ apart in cc) in
+        subst (P q) (sym (get_or-set_other xs p q y d not_same)) (others q apart)
+  ] refl
+
+-- ---- one of the shelves
+
+-- its records
+pub records_at : (shelves : List View) (p : ℕ) (shelf : View) → p < length shelves → shelf_of (records_on shelves) p ≡ (get_or shelves p shelf).records
+records_at shelves p shelf within = carried.records_at shelves p ∙ ap (λ (v : View). v.records) (get_or_default shelves p (empty_shelf 0) shelf within)
+
+module _ {C : Type 0} {G : Ghosts C} (history : History) (shelves : List View) (stock : Stock C G) (numbers : AreNumbered shelves) (count : length shelves ≡ (core_in history).processors) (shows : ShowsPresent shelves history) (p : ℕ) (within : p < length shelves) (shelf : View) (is : shelf ≡ get_or shelves p shelf) where
+  pub number_is : shelf.number ≡ p
+  number_is = ap (λ (v : View). v.number) is ∙ numbers p shelf within
+
+  -- it shows its part of the world
+  pub shows_on : ShowsOn shelf.number shelf.records (core_in history).places (present (core_in history))
+  shows_on =
+      let records : shelf_of (records_on shelves) p ≡ shelf.records = records_at shelves p shelf within ∙ sym (ap (λ (v : View). v.records) is) in
+      subst (λ n. ShowsOn n shelf.records (core_in history).places (present (core_in history))) (sym number_is)
+      (subst (λ rs. ShowsOn p rs (core_in history).places (present (core_in history))) records (record {
+        rising = All-get_or (λ (rs : List (Elem × Record)). IsStrictlySortedBy elem_cmp (keys_of rs)) (records_on shelves) p [] (let same = length-map shelves (λ (v : View). v.records) in omega arith)
+            (All-from_recursion (λ (rs : List (Elem × Record)). IsStrictlySortedBy elem_cmp (keys_of rs)) (records_on shelves) shows.rising);
+        shown = λ x. shows.shown p x;
+      }))
+
+  -- its objects were supplied
+  pub within_supply : IsCountedAmong shelves stock → IsWithin shelf stock
+  within_supply counted = λ kind.
+      let all = counted kind in
+      let own : objects_on shelf kind ≤ objects_among shelves kind =
+      subst (λ (v : View). objects_on v kind ≤ objects_among shelves kind) (sym is) (get_or-le-sum_by (λ (v : View). objects_on v kind) shelves p shelf within) in
+      omega arith
+
+-- a shelf of a store that stands
+pub consistent_at : {C : Type 0} {G : Ghosts C} (store : Store C G) → IsStoreConsistent store → (p : ℕ) (shelf : View) → p < length store.shelves.items → shelf ≡ get_or store.shelves.items p shelf → IsDeskConsistent (desk_of store.history shelf store.stock)
+consistent_at store consistent p shelf within is =
+    let shelves = store.shelves.items in
+    let number = number_is store.history shelves store.stock consistent.numbers consistent.count consistent.objects p within shelf is in
+    record {
+      history = consistent.history;
+      shelf = record {
+        on = let count = consistent.count in omega arith;
+        objects = shows_on store.history shelves store.stock consistent.numbers consistent.count consistent.objects p within shelf is;
+      };
+      idle = ap (λ (v : View). v.phase) is ∙ All-get_or IsIdle shelves p shelf within consistent.idle;
+      census = within_supply store.history shelves store.stock consistent.numbers consistent.count consistent.objects p within shelf is consistent.census;
+    }
+
+-- what it shows of an element whose place is this processor
+pub seen_at : {C : Type 0} {G : Ghosts C} (store : Store C G) → IsStoreConsistent store → (p : ℕ) (shelf : View) → p < length store.shelves.items → shelf ≡ get_or store.shelves.items p shelf → (x : Elem) (place : ℕ) → p ≡ place →
+    place_of (core_in store.history) x ≡ Some place → lookup (is_at (elem_cmp x)) shelf.records ≡ if_here (Some place) place (record_of (world_in store) x)
+seen_at store consistent p shelf within is x place same on =
+    let number = number_is store.history store.shelves.items store.stock consistent.numbers consistent.count consistent.objects p within shelf is in
+    (consistent_at store consistent p shelf within is).shelf.objects.shown x ∙ (λ i. if_here (on i) ((number ∙ same) i) (record_of (world_in store) x))
+
+-- ---- the store once a delivery has ended on one of its shelves
+
+module _ {C : Type 0} {G : Ghosts C} (old new : Store C G) (consistent : IsStoreConsistent old) (p : ℕ) (within : p < length old.shelves.items) (before shelf : View)
+    (is : before ≡ get_or old.shelves.items p before) (written : new.shelves.items ≡ slice_set old.shelves.items p shelf)
+    (now : IsDeskConsistent (desk_of new.history shelf new.stock)) (number : shelf.number ≡ before.number) where
+  abbrev first : List View
+  first = old.shelves.items
+
+  abbrev last : List View
+  last = slice_set first p shelf
+
+  on : shelf.number ≡ p
+  on = number ∙ number_is old.history first old.stock consistent.numbers consistent.count consistent.objects p within before is
+
+  still_numbered : AreNumbered last
+  still_numbered q d less =
+      each_or_one first p shelf within (λ q (v : View). q < length first → v.number ≡ q) d (λ _. on) (λ q apart less. consistent.numbers q d less) q
+      (let same = length-set first p shelf in omega arith)
+
+  still_idle : All IsIdle last
+  still_idle = All-set IsIdle first p shelf now.idle consistent.idle
+
+  -- with the world of the new history, the others as before
+  still_shows : Stays p (core_in old.history) (core_in new.history) → ShowsPresent last new.history
+  still_shows stays =
+      let records_now : records_on last ≡ slice_set (records_on first) p shelf.records = map-set (λ (v : View). v.records) first p shelf in
+      let rows : p < length (records_on first) = let same = length-map first (λ (v : View). v.records) in omega arith in
+      let shown = λ (x : Elem).
+      each_or_one (records_on first) p shelf.records rows
+      (λ q (records : List (Elem × Record)). lookup (is_at (elem_cmp x)) records ≡ if_here (place_of (core_in new.history) x) q (record_of (present (core_in new.history)) x)) []
+      (subst (λ n. lookup (is_at (elem_cmp x)) shelf.records ≡ if_here (place_of (core_in new.history) x) n (record_of (present (core_in new.history)) x)) on (now.shelf.objects.shown x))
+      (λ q apart. consistent.objects.shown q x ∙ sym (stays.elsewhere q apart x)) in
+      subst (λ rows. Shows rows (core_in new.history).places (present (core_in new.history))) (sym records_now) (record {
+        rising = recursion_from_All (λ (rs : List (Elem × Record)). IsStrictlySortedBy elem_cmp (keys_of rs)) (slice_set (records_on first) p shelf.records)
+            (All-set (λ (rs : List (Elem × Record)). IsStrictlySortedBy elem_cmp (keys_of rs)) (records_on first) p shelf.records now.shelf.objects.rising
+            (All-from_recursion (λ (rs : List (Elem × Record)). IsStrictlySortedBy elem_cmp (keys_of rs)) (records_on first) consistent.objects.rising));
+        placed = λ x. (now.history.sound.placed x).there;
+        shown = λ q x. shown x q;
+      })
+
+  still_counted : held_in shelf new.stock ≡ held_in before old.stock → supplied_to new.stock ≡ supplied_to old.stock → IsCountedAmong last new.stock
+  still_counted held supplied = λ kind.
+      let here : held_in shelf new.stock kind ≡ held_in before old.stock kind = ap (λ (f : Kind → ℕ). f kind) held in
+      let all : supplied_to new.stock kind ≡ supplied_to old.stock kind = ap (λ (f : Kind → ℕ). f kind) supplied in
+      let sums : objects_among last kind + objects_on (get_or first p before) kind ≡ objects_among first kind + objects_on shelf kind = sum_by-set (λ (v : View). objects_on v kind) first p shelf before within in
+      let own : objects_on (get_or first p before) kind ≡ objects_on before kind = ap (λ (v : View). objects_on v kind) (sym is) in
+      let counted = consistent.census kind in
+      omega arith
+
+  pub delivered_consistent : Stays p (core_in old.history) (core_in new.history) → held_in shelf new.stock ≡ held_in before old.stock → supplied_to new.stock ≡ supplied_to old.stock → IsStoreConsistent new
+  delivered_consistent stays held supplied = record {
+    history = now.history;
+    count = ap length written ∙ length-set first p shelf ∙ consistent.count ∙ sym stays.processors;
+    numbers = subst AreNumbered (sym written) still_numbered;
+    idle = subst (All IsIdle) (sym written) still_idle;
+    objects = subst (λ shelves. ShowsPresent shelves new.history) (sym written) (still_shows stays);
+    census = subst (λ shelves. IsCountedAmong shelves new.stock) (sym written) (still_counted held supplied);
+  }
+
+-- ---- the store once an element was moved
+
+pub moved_consistent : {C : Type 0} {G : Ghosts C} (old new : Store C G) → IsStoreConsistent old → (shelves : List View) → new.shelves.items ≡ shelves → numbers_of shelves ≡ numbers_of old.shelves.items → IsConsistent (kept_in new.history) →
+    (core_in new.history).processors ≡ (core_in old.history).processors → All IsIdle shelves → ShowsPresent shelves new.history → IsCountedAmong shelves new.stock → IsStoreConsistent new
+moved_consistent old new consistent shelves is numbers history processors idle shows counted =
+    let number = λ (v : View). v.number in
+    let same : length shelves ≡ length old.shelves.items = sym (length-map shelves number) ∙ ap length numbers ∙ length-map old.shelves.items number in
+    record {
+      history = history;
+      count = ap length is ∙ same ∙ consistent.count ∙ sym processors;
+      numbers = subst AreNumbered (sym is)
+          (λ p shelf less.
+          sym (get_or-map number shelves p shelf) ∙ ap (λ ns. get_or ns p shelf.number) numbers ∙ get_or-map number old.shelves.items p shelf
+          ∙ consistent.numbers p shelf (omega arith));
+      idle = subst (All IsIdle) (sym is) idle;
+      objects = subst (λ shelves. ShowsPresent shelves new.history) (sym is) shows;
+      census = subst (λ shelves. IsCountedAmong shelves new.stock) (sym is) counted;
+    }
+
+-- a move leaves the number of processors
+pub move_processors : (core : Core) (blanks : Blanks) (x : Elem) (processor : ℕ) (last : Stepped) → Steps core blanks (Move x processor) last → last.core.processors ≡ core.processors
+move_processors core blanks x processor last steps =
+    stepped_core (λ (next : Core). next.processors ≡ core.processors) core blanks (Move x processor) refl refl
+    (elim (place_or_home core x == processor) as (λ b. (cond b core (record core { places = insert_entry elem_cmp core.places x processor })).processors ≡ core.processors) [ true ↦ refl | false ↦ refl ]) last steps
+
+-- ---- a new store
+
+-- there is nothing on the shelf
+abbrev IsBare : View → Type 0
+IsBare shelf = (shelf.records ≡ []) × (shelf.phase ≡ Idle)
+
+all_bare : (processors : ℕ) (shelves : List View) → AreEmpty processors shelves → AllByRecursion IsBare shelves
+all_bare processors shelves empty =
+    recursion_from_All IsBare shelves
+    (λ k shelf less.
+    let is : get_or shelves k shelf ≡ empty_shelf k = empty.empty k shelf (let count = empty.count in omega arith) in
+    (ap (λ (v : View). v.records) is, ap (λ (v : View). v.phase) is))
+
+bare_records : (shelves : List View) → AllByRecursion IsBare shelves → (q : ℕ) → shelf_of (records_on shelves) q ≡ []
+bare_records [] bare q = refl
+bare_records (shelf ∷ more) bare zero = bare.0.0
+bare_records (shelf ∷ more) bare (suc q) = bare_records more bare.1 q
+
+bare_rising : (shelves : List View) → AllByRecursion IsBare shelves → AllByRecursion (λ (records : List (Elem × Record)). IsStrictlySortedBy elem_cmp (keys_of records)) (records_on shelves)
+unfolding IsStrictlySortedBy
+bare_rising [] bare = tt
+bare_rising (shelf ∷ more) bare = (subst (λ (records : List (Elem × Record)). IsStrictlySortedBy elem_cmp (keys_of records)) (sym bare.0.0) tt, bare_rising more bare.1)
+
+bare_objects : (kind : Kind) (shelves : List View) → AllByRecursion IsBare shelves → objects_among shelves kind ≡ 0
+bare_objects kind [] bare = refl
+bare_objects kind (shelf ∷ more) bare =
+    let here : objects_on shelf kind ≡ 0 = λ i. there_in (bare.0.0 i) kind + cond (is_newcomer_of kind (bare.0.1 i)) 1 0 in
+    sum_by-cons (λ (v : View). objects_on v kind) shelf more ∙ (λ i. here i + bare_objects kind more bare.1 i)
+
+-- its shelves show the new world
+bare_shows : (shelves : List View) (processors : ℕ) (manifest : List (ℕ × Kind)) → AllByRecursion IsBare shelves → (core : Core) → core ≡ opened processors (new_world manifest) 0 1 0 → Shows (records_on shelves) core.places (present core)
+bare_shows shelves processors manifest bare core opens =
+    subst (λ (core : Core). Shows (records_on shelves) core.places (present core)) (sym opens) (record {
+      rising = bare_rising shelves bare;
+      placed = λ x. refl;
+      shown = λ q x. ap (lookup (is_at (elem_cmp x))) (bare_records shelves bare q);
+    })
+
+pub new_consistent : {C : Type 0} {G : Ghosts C} (store : Store C G) (processors : ℕ) (manifest : List (ℕ × Kind)) → core_in store.history ≡ opened processors (new_world manifest) 0 1 0 → IsConsistent (kept_in store.history) → AreEmpty processors store.shelves.items →
+    ((kind : Kind) → tally_in store.stock kind ≡ nothing) → IsStoreConsistent store
+new_consistent store processors manifest opens history empty none =
+    let shelves = store.shelves.items in
+    let bare = all_bare processors shelves empty in
+    record {
+      history = history;
+      count = empty.count ∙ sym (ap (λ (core : Core). core.processors) opens);
+      numbers = λ p shelf less. ap (λ (v : View). v.number) (empty.empty p shelf (let count = empty.count in omega arith));
+      idle = λ p shelf less. ap (λ (v : View). v.phase) (empty.empty p shelf (let count = empty.count in omega arith));
+      objects = bare_shows shelves processors manifest bare (core_in store.history) opens;
+      census = λ kind.
+          let supplied = ap (λ (t : Tally). t.supplied) (none kind) in
+          let in_stock = ap (λ (t : Tally). t.in_stock) (none kind) in
+          let retired = ap (λ (t : Tally). t.retired) (none kind) in
+          let shelved = bare_objects kind shelves bare in
+          omega arith;
+    }

@@ -1,0 +1,48 @@
+-- A delivery that is under way.
+use Rattle.std.specs.Prelude.{◌≡◌, ℕ, true, false, is_some, Some, Result, Ok, Err}
+use Rattle.charmlet_model.specs.declared.names.MsgId.{MsgId}
+use Rattle.charmlet_model.specs.declared.refusal.Refusal.{Refusal}
+use Rattle.charmlet_model.specs.World.{kind_of_array, record_of}
+use Rattle.charmlet_model.specs.Core.{Core, Assign, Done, present}
+use Rattle.charmlet_model.specs.Run.{StoreView, Goes, IsDelivered, IsNotDelivered}
+use Rattle.charmlet_chare.specs.declared.chare.Chare.{Ghosts}
+use Rattle.charmlet_history.specs.declared.history.History.{History}
+use Rattle.charmlet_history.specs.Kept.{HasRoom, IsConsistent, assigned_message, core_in, kept_in}
+use Rattle.charmlet_shelf.specs.Due.{Due, reaction_in}
+use Rattle.charmlet_shelf.specs.Shelf.{View}
+use Rattle.charmlet_shelf.specs.declared.phase.Phase.{Phase}
+use Rattle.charmlet_shelf.specs.declared.phase.Phase.TheVariants.{Assigned}
+use Rattle.charmlet_migrate.specs.Moving.{store_with}
+use Rattle.charmlet_store.specs.Desk.{Desk, IsWithin, ShowsPart}
+
+-- the core has assigned the delivery's message to the processor; its receiver is of this kind, has this record in the
+-- world, and reacts
+pub record IsUnderWay (core : Core) (processor : ℕ) (due : Due) : Type 0 where
+  pub message : assigned_message core processor ≡ Some due.message
+  pub kind : kind_of_array (present core) due.message.to.array ≡ Some due.kind
+  pub receiver : record_of (present core) due.message.to ≡ due.receiver
+  pub reacts : is_some (reaction_in due) ≡ true
+
+-- the shelf has this delivery in this phase; its objects show the world before it
+pub record IsDelivering (history : History) (shelf : View) (due : Due) (phase : Phase) : Type 0 where
+  pub phase_is : shelf.phase ≡ phase
+  pub under_way : IsUnderWay (core_in history) shelf.number due
+  pub part : ShowsPart history shelf
+
+-- and there is room for it in the history, which is consistent and isn't halted
+pub record IsBusyAt {C : Type 0} {G : Ghosts C} (desk : Desk C G) (due : Due) (phase : Phase) : Type 0 where
+  pub history : IsConsistent (kept_in desk.history)
+  pub running : (core_in desk.history).halted ≡ false
+  pub room : HasRoom desk.history desk.shelf.number
+  pub delivering : IsDelivering desk.history desk.shelf due phase
+  pub census : IsWithin desk.shelf desk.stock
+
+-- the message is assigned to the processor, in the history and on its shelf
+abbrev pub IsAssignedBy : {C : Type 0} {G : Ghosts C} → StoreView → ℕ → MsgId → Desk C G → Type 0
+IsAssignedBy store processor id desk =
+    Goes store (Assign processor id) Done (store_with desk.history desk.stock) × ((due : Due) × IsBusyAt desk due (Assigned due))
+
+-- how a delivery ends
+abbrev pub Ends : {T : Type 0} → StoreView → ℕ → MsgId → Result T Refusal → StoreView → Type 0
+Ends store processor id (Ok x) next = IsDelivered store processor id next
+Ends store processor id (Err refusal) next = IsNotDelivered store processor id refusal next

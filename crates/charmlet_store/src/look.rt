@@ -1,0 +1,91 @@
+//! What is seen of a store: its pending messages and its elements.
+
+ghost use Rattle.std.specs.Prelude.{◌≡◌, None, length, map, IfOk, IsOk};
+ghost use Rattle.charmlet_model.specs.Core.{place_of};
+ghost use Rattle.charmlet_model.specs.World.{record_of};
+ghost use Rattle.charmlet_history.specs.Kept.{core_in};
+ghost use Rattle.charmlet_store.specs.Look.{IsLook, StandsWith};
+ghost use Rattle.charmlet_store.specs.Store.{IsStoreConsistent, world_in};
+
+use crate::store::Store;
+use charmlet_chare::Chare;
+use charmlet_model::{Elem, MsgId};
+use std::alloc::AllocError;
+
+/// What is seen of an element: where it stands, if it is there, and how many messages it sent and
+/// received in its whole life.
+#[derive(Debug, Drop)]
+pub struct Look {
+    pub standing: Option<Standing>,
+    pub sent: u64,
+    pub received: u64,
+}
+
+/// The processor of an element that is there, and its packed state.
+#[derive(Debug, Drop)]
+pub struct Standing {
+    pub processor: u16,
+    pub packed: Vec<u8>,
+}
+
+impl<C: Chare> Store<C> {
+    /// How many messages are pending.
+    pub fn pending_count(&self) -> usize
+        requires { IsStoreConsistent self.now }
+        ensures { result ≡ length (world_in self.now).pending }
+    {
+        self.history.pending().len()
+    }
+
+    /// The ids of the pending messages, in order of birth.
+    pub fn pending(&self) -> Result<Vec<MsgId>, AllocError>
+        requires { IsStoreConsistent self.now }
+        ensures { IfOk result (λ ids. ids.items ≡ map (λ m. m.id) (world_in self.now).pending) }
+    {
+        let messages = self.history.pending();
+        messages
+            .iter()
+            .map(|message| message.id)
+            .collect(self.alloc)
+    }
+
+    /// What is seen of an element. It fails only for want of memory, which the packed state takes, and
+    /// so not where the element isn't there. Nothing changes.
+    pub fn look(&mut self, elem: Elem) -> Result<Look, AllocError>
+        requires { IsStoreConsistent self.old }
+        ensures same { self.new ≡ self.old }
+        ensures ok { IfOk result (IsLook (place_of (core_in self.old.history) elem) (record_of (world_in self.old) elem)) }
+        ensures absent { (record_of (world_in self.old) elem).state ≡ None → IsOk result }
+    {
+        let counts = self.history.element(elem);
+        let standing = self.standing_of(elem)?;
+        Ok(Look {
+            standing,
+            sent: counts.sent,
+            received: counts.received,
+        })
+    }
+
+    /// Where an element stands, if it is there. It fails only for want of memory. Nothing changes.
+    fn standing_of(&mut self, elem: Elem) -> Result<Option<Standing>, AllocError>
+        requires { IsStoreConsistent self.old }
+        ensures same { self.new ≡ self.old }
+        ensures ok { IfOk result (StandsWith (place_of (core_in self.old.history) elem) (record_of (world_in self.old) elem).state) }
+        ensures absent { (record_of (world_in self.old) elem).state ≡ None → IsOk result }
+    {
+        let Some(processor) = self.history.where_is(elem) else {
+            return Ok(None);
+        };
+        let Some(shelf) = self.shelves.get_mut(usize::from(processor)) else {
+            unreachable!()
+        };
+        let Ok(image) = shelf.image(elem) else {
+            return Err(AllocError);
+        };
+        let Some(image) = image else { unreachable!() };
+        Ok(Some(Standing {
+            processor,
+            packed: image.packed,
+        }))
+    }
+}
