@@ -10,7 +10,8 @@ use Rattle.charmlet_cli.specs.declared.stop.Stop.TheVariants as stops
 use Rattle.charmlet_cli.specs.Lines.{AreEnough}
 use Rattle.charmlet_cli.specs.Run.{IsCutOff, IsNotCreated}
 
--- A run that had enough objects ends early where its store isn't created, or where the output fails.
+-- A run that had enough objects ends early where its store isn't created, or where the output fails or memory for a
+-- line's text is refused.
 abbrev pub EndsRun : {C : Type 0} → Contents → (before after : Option Text) → RunError C → Type 0
 EndsRun script before after (TooFewBlanks back) = ⊥
 EndsRun script before after (NotCreated refusal) = IsNotCreated script refusal before after
@@ -18,7 +19,7 @@ EndsRun script before after Memory = ⊥
 EndsRun script before after (Output error) = IsCutOff script before after
 
 -- Where the objects are too few, and only there, all come back. Then the output stays as it was, and so it does where memory
--- is refused before there is a store.
+-- is refused before the store is to be created.
 abbrev pub Leaves : {C W : Type 0} → (C → State) → (W → Option Text) → List C → Contents → (before after : W) → RunError C → Type 0
 Leaves state contents objects script before after (TooFewBlanks back) = (back.items ≡ objects) × (after ≡ before) × ¬ AreEnough state objects script.lines
 Leaves state contents objects script before after Memory = AreEnough state objects script.lines × (after ≡ before)

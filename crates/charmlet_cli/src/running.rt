@@ -35,7 +35,7 @@ pub enum RunError<C: Chare> {
     TooFewBlanks(Vec<C>),
     /// The store wasn't created, for this reason, whose line is all that was written. No line was run.
     NotCreated(Refusal),
-    /// Memory was refused before the first line. Nothing was written.
+    /// Memory was refused before the store was to be created. Nothing was written.
     Memory,
     /// A line couldn't be written: the output failed, or memory for the line's text was refused. A beginning of what
     /// the script prints was written.

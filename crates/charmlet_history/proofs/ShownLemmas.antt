@@ -3,7 +3,7 @@ use Rattle.std.proofs.Common.{◌≡◌, ℕ, ◌≤◌, List, [], ◌∷◌, �
 use Rattle.std.specs.Prelude.{Option, None, if◌then◌else◌}
 use Rattle.charmlet_history.specs.Client.{shown}
 
--- items behind the others are not durable
+-- items after the others are not durable
 pub shown-append : (bs : List Bool) (xs ys : List (Option (List ℕ))) → length bs ≤ length xs → shown bs (xs ++ ys) ≡ shown bs xs
 shown-append [] xs ys h = refl
 shown-append (b ∷ bs) [] ys h = absurd (omega arith)

@@ -13,7 +13,7 @@ use charmlet_model::{Elem, Kind, Refusal};
 
 impl History {
     /// Whether the element can move to the processor, the stock aside; `Ok` says of which kind a blank is
-    /// wanted, and none is where the element is there already. Refused: `Halted`, `BadPes`, `Absent`,
+    /// needed, and none where the element is there already. Refused: `Halted`, `BadPes`, `Absent`,
     /// `Uncommitted`, the first that applies; `Uncommitted` only for a move to another processor.
     pub fn test_move(&self, elem: Elem, processor: u16) -> Result<Option<Kind>, Refusal>
         requires { IsConsistent (kept_in self.now) }
