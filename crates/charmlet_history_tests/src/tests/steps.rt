@@ -59,7 +59,7 @@ pub enum Answer {
     Pending(usize),
 }
 
-pub fn of_client(client: u32, number: u64) -> MsgId {
+pub(super) fn of_client(client: u32, number: u64) -> MsgId {
     MsgId {
         origin: Origin::Client(client),
         number,

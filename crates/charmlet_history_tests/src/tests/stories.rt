@@ -57,6 +57,7 @@ const NOWHERE: Elem = Elem { array: 7, index: 0 };
 // A tree of which nothing is kept.
 const TREE: Elem = Elem { array: 1, index: 2 };
 
+// What is looked at, and requests that aren't new.
 #[test]
 fn refused_memory_changes_no_answer_of_an_opened_history(rt: HostRuntime) {
     let steps = [
@@ -82,24 +83,6 @@ fn refused_memory_changes_no_answer_of_an_opened_history(rt: HostRuntime) {
         Step::Ask(7, 2),
         Step::Ask(8, 1),
         Step::Ask(8, 10),
-        Step::TestSent(1, LAST, 2),
-        Step::Test(0, 8, 2),
-        Step::Test(1, 8, 2),
-        Step::Flush,
-        Step::Ask(7, 3),
-        Step::Flush,
-        Step::Status(7, 3),
-        Step::Deliver(1, 8, 2),
-        Step::Status(8, 2),
-        Step::Ask(8, 10),
-        Step::Status(8, 2),
-        Step::Status(8, 10),
-        Step::Flush,
-        Step::Status(8, 2),
-        Step::Status(8, 3),
-        Step::Status(8, 10),
-        Step::Counts(LAST),
-        Step::Pending,
     ];
     answers(
         &rt,
@@ -126,8 +109,38 @@ fn refused_memory_changes_no_answer_of_an_opened_history(rt: HostRuntime) {
          told replied 5\n\
          told accepted\n\
          OutOfTurn 10\n\
-         Waiting\n\
-         Absent\n\
+         Waiting\n",
+    );
+}
+
+// Tests, a request, deliveries and flushes.
+#[test]
+fn refused_memory_changes_no_answer_of_steps_after_an_opening(rt: HostRuntime) {
+    let steps = [
+        Step::TestSent(1, LAST, 2),
+        Step::Test(0, 8, 2),
+        Step::Test(1, 8, 2),
+        Step::Flush,
+        Step::Ask(7, 3),
+        Step::Flush,
+        Step::Status(7, 3),
+        Step::Deliver(1, 8, 2),
+        Step::Status(8, 2),
+        Step::Ask(8, 10),
+        Step::Status(8, 2),
+        Step::Status(8, 10),
+        Step::Flush,
+        Step::Status(8, 2),
+        Step::Status(8, 3),
+        Step::Status(8, 10),
+        Step::Counts(LAST),
+        Step::Pending,
+    ];
+    answers(
+        &rt,
+        0,
+        &steps,
+        "Absent\n\
          Elsewhere 1\n\
          can\n\
          durable 0\n\
@@ -236,7 +249,7 @@ fn processors_are_1_to_64(rt: HostRuntime) {
     }
 }
 
-// Eight requests of a new client are taken. The third one is answered before the second and the first.
+// Eight requests of a new client are taken, and the ninth one waits.
 #[test]
 fn refused_memory_changes_no_answer_of_a_window(rt: HostRuntime) {
     let steps = [
@@ -260,6 +273,68 @@ fn refused_memory_changes_no_answer_of_a_window(rt: HostRuntime) {
         Step::Ask(9, 1),
         Step::Ask(9, 8),
         Step::Status(9, 9),
+    ];
+    let wanted = "OutOfTurn 1\n\
+         OutOfTurn 1\n\
+         told unknown\n\
+         told unknown\n\
+         OutOfTurn 2\n\
+         told unknown\n\
+         told unknown\n\
+         told unknown\n\
+         told unknown\n\
+         told unknown\n\
+         told unknown\n\
+         OutOfTurn 8\n\
+         told unknown\n\
+         Waiting\n\
+         OutOfTurn 9\n\
+         told unknown\n\
+         durable 8\n\
+         told accepted\n\
+         told accepted\n\
+         told unknown\n";
+    answers(&rt, 0, &steps, wanted);
+}
+
+// Eight requests of a new client are durable, and none is answered.
+fn with_eight_requests(rt: &(impl AllocGlobal + Abort)) -> History
+    ensures { IsConsistent (kept_in result) }
+{
+    let mut history = open(rt, 0, 1, 0);
+    let steps = [
+        Step::Ask(9, 1),
+        Step::Ask(9, 2),
+        Step::Ask(9, 3),
+        Step::Ask(9, 4),
+        Step::Ask(9, 5),
+        Step::Ask(9, 6),
+        Step::Ask(9, 7),
+        Step::Ask(9, 8),
+        Step::Flush,
+    ];
+    run(
+        rt,
+        &mut history,
+        &steps,
+        "told unknown\n\
+         told unknown\n\
+         told unknown\n\
+         told unknown\n\
+         told unknown\n\
+         told unknown\n\
+         told unknown\n\
+         told unknown\n\
+         durable 8\n",
+    );
+    history
+}
+
+// The third request is answered before the second and the first.
+#[test]
+fn refused_memory_changes_no_answer_out_of_order(rt: HostRuntime) {
+    let mut history = with_eight_requests(&rt);
+    let steps = [
         Step::Deliver(0, 9, 3),
         Step::Ask(9, 9),
         Step::Status(9, 3),
@@ -289,27 +364,7 @@ fn refused_memory_changes_no_answer_of_a_window(rt: HostRuntime) {
         Step::Status(9, 12),
         Step::Counts(FIRST),
     ];
-    let wanted = "OutOfTurn 1\n\
-         OutOfTurn 1\n\
-         told unknown\n\
-         told unknown\n\
-         OutOfTurn 2\n\
-         told unknown\n\
-         told unknown\n\
-         told unknown\n\
-         told unknown\n\
-         told unknown\n\
-         told unknown\n\
-         OutOfTurn 8\n\
-         told unknown\n\
-         Waiting\n\
-         OutOfTurn 9\n\
-         told unknown\n\
-         durable 8\n\
-         told accepted\n\
-         told accepted\n\
-         told unknown\n\
-         done\n\
+    let wanted = "done\n\
          Waiting\n\
          told accepted\n\
          durable 9\n\
@@ -337,17 +392,13 @@ fn refused_memory_changes_no_answer_of_a_window(rt: HostRuntime) {
          told accepted\n\
          told unknown\n\
          Some(0) sent 0 received 5\n";
-    answers(&rt, 0, &steps, wanted);
+    run(&rt, &mut history, &steps, wanted);
 }
 
 // The present window runs ahead of the durable one by eight requests, of which none is durable.
 #[test]
 fn refused_memory_changes_no_answer_of_a_durable_window(rt: HostRuntime) {
-    let mut history = open(&rt, 0, 1, 0);
-    for number in 1..9 {
-        run(&rt, &mut history, &[Step::Ask(9, number)], "told unknown\n");
-    }
-    run(&rt, &mut history, &[Step::Flush], "durable 8\n");
+    let mut history = with_eight_requests(&rt);
     for number in 1..9 {
         run(
             &rt,
@@ -379,7 +430,7 @@ fn refused_memory_changes_no_answer_of_a_durable_window(rt: HostRuntime) {
     }
 }
 
-// Each call of a halted store, beside a message that was assigned before.
+// Each step of a halted store but a release, beside a message that was assigned before.
 #[test]
 fn halted_stores_refuse_each_call(rt: HostRuntime) {
     let mut history = open(&rt, 0, 1, 0);
@@ -405,19 +456,6 @@ fn halted_stores_refuse_each_call(rt: HostRuntime) {
         Step::Move(FIRST, 4),
         Step::Move(NOWHERE, 3),
         Step::Flush,
-        Step::Assigned(1),
-        Step::Release(1),
-        Step::Assigned(1),
-        Step::Release(1),
-        Step::Release(4),
-        Step::Test(1, 8, 2),
-        Step::Flush,
-        Step::Halt,
-        Step::IsHalted,
-        Step::WhereIs(LAST),
-        Step::Counts(LAST),
-        Step::Pending,
-        Step::Next,
     ];
     let wanted = "halted true\n\
          Halted\n\
@@ -437,8 +475,31 @@ fn halted_stores_refuse_each_call(rt: HostRuntime) {
          Halted\n\
          Halted\n\
          Halted\n\
-         Halted\n\
-         assigned c8.2\n\
+         Halted\n";
+    run(&rt, &mut history, &steps, wanted);
+}
+
+// A message that was assigned before stays, and is released. What is only looked at is answered as before.
+#[test]
+fn halted_stores_release_and_show(rt: HostRuntime) {
+    let mut history = open(&rt, 0, 1, 0);
+    halts_before_the_commit(&rt, &mut history, 1, of_client(8, 2));
+    let steps = [
+        Step::Assigned(1),
+        Step::Release(1),
+        Step::Assigned(1),
+        Step::Release(1),
+        Step::Release(4),
+        Step::Test(1, 8, 2),
+        Step::Flush,
+        Step::Halt,
+        Step::IsHalted,
+        Step::WhereIs(LAST),
+        Step::Counts(LAST),
+        Step::Pending,
+        Step::Next,
+    ];
+    let wanted = "assigned c8.2\n\
          done\n\
          assigned none\n\
          done\n\

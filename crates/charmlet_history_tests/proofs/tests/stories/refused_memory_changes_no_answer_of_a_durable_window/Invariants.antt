@@ -9,6 +9,3 @@ invariant-loop-number-2 g l = IsConsistent (kept_in l.history)
 
 abbrev pub invariant-loop-number-3 : goal.invariant-loop-number-3
 invariant-loop-number-3 g l = IsConsistent (kept_in l.history)
-
-abbrev pub invariant-loop-number-4 : goal.invariant-loop-number-4
-invariant-loop-number-4 g l = IsConsistent (kept_in l.history)
