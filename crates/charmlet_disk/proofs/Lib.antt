@@ -1,0 +1,5 @@
+pub mod Leaving
+pub mod Moments
+pub mod Overlays
+pub mod Records
+pub mod Tears

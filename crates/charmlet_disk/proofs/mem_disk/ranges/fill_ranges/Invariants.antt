@@ -1,0 +1,7 @@
+use Rattle.std.proofs.Common.{take}
+use Rattle.charmlet_disk.specs.Overlay.{IsOverlaid}
+use Rattle.charmlet_disk.proofs.mem_disk.ranges.fill_ranges.Given as goal
+
+-- so many of the ranges are done
+abbrev pub invariant-loop-offset : goal.invariant-loop-offset
+invariant-loop-offset l = IsOverlaid (take l.offset-index l.ranges) (λ _. l.byte) l.initial.bytes l.bytes

@@ -1,0 +1,15 @@
+-- The definitions that contracts cite.
+pub mod File
+pub mod Crash
+pub mod Disk
+pub mod Torn
+pub mod Fuse
+pub mod FileDisk
+pub mod Memory
+pub mod MemDisk
+pub mod Overlay
+pub mod Sound
+pub mod Places
+pub mod Ends
+pub mod MemDiskLaws
+pub mod Laws

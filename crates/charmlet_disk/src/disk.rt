@@ -1,0 +1,96 @@
+//! A disk of two files, as its callers see it.
+ghost use Rattle.std.specs.Prelude.{◌≡◌, ◌≤◌, ◌+◌, List, ℕ, length, take, drop, is_ok, IfOk, OnOk, OnErr};
+ghost use Rattle.charmlet_model.specs.declared.half.Half.{Half};
+ghost use Rattle.charmlet_model.specs.Half.{other};
+ghost use Rattle.charmlet_disk.specs.File.{File, Outcome, IsOutcome, MayLeave, wrote, clean};
+ghost use Rattle.charmlet_disk.specs.Disk.{Elapses, SameFiles, faults_after};
+
+use charmlet_model::Half;
+
+/// The device failed. Nothing more is known: the disk's `failures` counts it.
+#[derive(Clone, Copy, Debug, PartialEq, Eq)]
+pub struct DeviceFault;
+
+/// Two files under one clock, of which nobody else writes to either.
+///
+/// What the clauses say of bytes and of crashes, they say of an honest disk: there a read gives what was written, and a crash
+/// leaves of each file its bytes at the last sync, but for any bytes in the ranges that were written since, and any length from the
+/// one at that sync to the greatest since. What they say of `failures` holds of every disk.
+///
+/// Each call answers [`DeviceFault`] where the device fails, and nothing else makes it fail on an honest disk. On any other disk a
+/// read past the end, or a write that begins past it, is a fault as well.
+pub trait Disk: Send + Drop {
+    /// The disk behaves as a disk should.
+    ghost honest: { Self → Type 0 };
+
+    /// Each half: what a read gives, what is sure, and what was written since the last sync.
+    ghost file: { Self → Half → File };
+
+    /// The moment, as a number that does not fall.
+    ghost moment: { Self → ℕ };
+
+    /// What a crash at some moment from that one on might have left, within a call or between two.
+    ghost since: { Self → ℕ → Outcome → Type 0 };
+
+    /// How often the device has failed, up to the largest count.
+    ghost faults: { Self → ℕ };
+
+    /// The length of a half in bytes.
+    fn len(&mut self, half: Half) -> Result<u64, DeviceFault>
+        ensures length { honest self.old → IfOk result (λ n. n ≡ length (file self.old half).now) }
+        ensures same { honest self.old → SameFiles (file self.old) (file self.new) }
+        ensures time { honest self.old → Elapses (moment self.old) (moment self.new)
+            (since self.old) (since self.new) (MayLeave (file self.new)) }
+        ensures honest { (honest self.old → honest self.new) × (honest self.new → honest self.old) }
+        ensures counted { faults self.new ≡ faults_after (is_ok result) (faults self.old) };
+
+    /// Reads as many bytes of a half as there is place for, from an offset on. After a fault `into` holds anything.
+    fn read_at(&mut self, half: Half, offset: u64, into: &mut [u8]) -> Result<(), DeviceFault>
+        requires { honest self.old → offset + length into.old ≤ length (file self.old half).now }
+        ensures bytes { honest self.old →
+            OnOk result (into.new ≡ take (length into.old) (drop offset (file self.old half).now)) }
+        ensures same { honest self.old → SameFiles (file self.old) (file self.new) }
+        ensures time { honest self.old → Elapses (moment self.old) (moment self.new)
+            (since self.old) (since self.new) (MayLeave (file self.new)) }
+        ensures honest { (honest self.old → honest self.new) × (honest self.new → honest self.old) }
+        ensures counted { faults self.new ≡ faults_after (is_ok result) (faults self.old) };
+
+    /// Writes bytes to a half from an offset on, over what is there and past its end. Until a sync of the half that succeeds, a
+    /// crash may leave any bytes in the range. A write that fails may have written any of it, and counts as a written range too.
+    fn write_at(&mut self, half: Half, offset: u64, bytes: &[u8]) -> Result<(), DeviceFault>
+        requires { honest self.old → offset ≤ length (file self.old half).now }
+        ensures written { honest self.old →
+            OnOk result (file self.new half ≡ wrote offset bytes.now (file self.old half)) }
+        ensures torn { honest self.old → (left : List ℕ) → IsOutcome (file self.new half) left
+            → IsOutcome (wrote offset bytes.now (file self.old half)) left }
+        ensures other { honest self.old → file self.new (other half) ≡ file self.old (other half) }
+        ensures time { honest self.old → Elapses (moment self.old) (moment self.new)
+            (since self.old) (since self.new) (MayLeave (file self.new)) }
+        ensures honest { (honest self.old → honest self.new) × (honest self.new → honest self.old) }
+        ensures counted { faults self.new ≡ faults_after (is_ok result) (faults self.old) };
+
+    /// Makes a half sure: from then on a crash leaves of it what a read gives, its length too. A sync that fails makes nothing sure.
+    fn sync(&mut self, half: Half) -> Result<(), DeviceFault>
+        ensures durable { honest self.old →
+            OnOk result (file self.new half ≡ clean (file self.old half).now) }
+        ensures failed { honest self.old → OnErr result (file self.new half ≡ file self.old half) }
+        ensures other { honest self.old → file self.new (other half) ≡ file self.old (other half) }
+        ensures time { honest self.old → Elapses (moment self.old) (moment self.new)
+            (since self.old) (since self.new) (MayLeave (file self.new)) }
+        ensures honest { (honest self.old → honest self.new) × (honest self.new → honest self.old) }
+        ensures counted { faults self.new ≡ faults_after (is_ok result) (faults self.old) };
+
+    /// How often a call has failed. Each fault adds one, up to 2^64-1; there it stays, and counts as grown.
+    fn failures(&self) -> u64
+        ensures { result ≡ faults self.now };
+
+    /// What a read gives is one of the outcomes.
+    ghost reads_are_left: { (disk : Self) → honest disk → (half : Half) → IsOutcome (file disk half) (file disk half).now };
+
+    /// This moment is one of those since an earlier one.
+    ghost counts_now: { (disk : Self) (t : ℕ) (c : Outcome) → honest disk → t ≤ moment disk
+        → MayLeave (file disk) c → since disk t c };
+
+    /// Since this moment there is no other.
+    ghost only_now: { (disk : Self) (c : Outcome) → honest disk → since disk (moment disk) c → MayLeave (file disk) c };
+}

@@ -1,0 +1,163 @@
+//! A disk over two files of a folder.
+ghost use Rattle.std.specs.Prelude.{◌≡◌, is_ok, IfOk};
+ghost use Rattle.charmlet_disk.specs.Disk.{faults_after};
+
+mod folder;
+mod half_file;
+
+use crate::{DeviceFault, Disk};
+use charmlet_model::Half;
+use folder::Folder;
+use std::alloc::AllocError;
+use std::io;
+
+/// A disk over the files `half0` and `half1` of a folder. Offsets and lengths are in bytes.
+///
+/// # Files
+///
+/// A file that is missing is empty, and its sync is `Ok`. Its first write makes it, and the sync after
+/// that also syncs the folder, so that the name is durable. Nothing is made by reading, and no other
+/// file is ever made.
+///
+/// Reads and writes are whole: a short one is continued, and one that a signal interrupts is tried
+/// again. A file that the process may not write is opened for reading alone, and its writes are faults.
+///
+/// # Lock
+///
+/// The folder itself carries the lock (`flock`), so there is no third file. The first call that finds
+/// the folder locks it, without waiting. The lock is held until the disk is dropped or the process
+/// ends. As long as another disk has it, in this process or in another one, each call is a fault, and
+/// the next call tries again. The lock binds only programs that ask for it.
+///
+/// # Faults
+///
+/// Each fault counts one more failure, up to 2^64 - 1, where the count stays. A call is a fault in these
+/// cases alone:
+///
+/// - The folder is missing or may not be read, or something else has its name, or another folder than
+///   the one that was locked. Once that one is back, the disk goes on.
+/// - Another disk has the lock.
+/// - The half isn't a regular file, but a folder or a link, say. Or it has a second name when it is
+///   opened, since the lock of another folder would not keep others from it. Or it was removed since.
+/// - A read isn't inside the file, or a write begins past its end.
+/// - The system refuses a call. There is no right to it, say, the device is full or broken, or the file
+///   has the greatest length that it may have.
+/// - A sync of this disk failed before.
+///
+/// A read that fails may have changed the buffer. A write that fails may have made the file, and
+/// written some of its bytes.
+///
+/// # Syncs
+///
+/// `sync` calls `fdatasync`. That writes out the contents, and of what else belongs to the file all that
+/// is needed to read them back, so the length too. Only times of access and change may be lost. Where
+/// the name may not be durable yet, `sync` also calls `fsync` for the folder. It does so once for a half
+/// that was made, and once for one that was found, since whoever made it may have ended before a sync.
+///
+/// After a sync that failed a system may take the pages that it lost for clean. The next sync would
+/// then succeed without them, so no call succeeds after one that failed: the disk is to be dropped.
+/// A file that is there is synced (`fsync`) when it is opened, before anything is read from it, so that
+/// an earlier failure that nobody was told of yet is a fault now. But a failure that a sync did tell
+/// isn't told again, and as long as the system keeps the lost pages, it shows them to whoever opens the
+/// file next. It can be asked to drop them (`posix_fadvise`), but not by what `std` has. So after a sync
+/// that failed restart the machine before the folder is opened again.
+///
+/// A file that is opened for reading alone is synced too. A file system that is mounted for reading
+/// alone mostly takes a sync; one that knows none gives faults.
+///
+/// # What is proved, and what is argued
+///
+/// It is proved that no call panics, that each ends if the system's calls do, and that faults are
+/// counted. No clause can say what a file holds, since other programs, the system and the device have a
+/// say in it. So this disk is never called honest, and the clauses on bytes, syncs and crashes, which
+/// speak of an honest disk, say nothing of it. They describe it as far as these premises hold, which
+/// nothing proves:
+///
+/// - No other program changes, moves or removes the folder or its files while the disk lives.
+/// - A read gives what was written last, or fails.
+/// - A crash leaves a half no shorter than it was at its last sync, and no longer than it has been since.
+///   It leaves each byte that was not written since as it was, those beside written ones too.
+/// - What a sync that succeeded wrote is there after a crash. So the device doesn't answer that it has
+///   written what is only in a cache that loses power.
+///
+/// The rest is the code, which is to be read: once `read_at`, `write_at` and `sync` have looked for the
+/// folder, the file and its length, each makes the call of the system that has its meaning.
+#[derive(Drop)]
+pub struct FileDisk {
+    folder: Folder,
+    faults: u64,
+}
+
+impl FileDisk {
+    ghost use Rattle.std.specs.Prelude.{◌≡◌, IfOk};
+    ghost use Rattle.charmlet_disk.specs.FileDisk.{faults_of};
+
+    /// A disk over the folder at this path, with no failure counted. It asks nothing of the system: the
+    /// first call looks for the folder, and each one after it does. A path that isn't absolute begins at
+    /// the current directory. The error is that there is no memory for the path.
+    pub fn new(rt: HostRuntime, folder: &str) -> Result<FileDisk, AllocError>
+        ensures { IfOk result (λ disk. faults_of disk ≡ 0) }
+    {
+        Ok(FileDisk {
+            folder: Folder::new(rt, folder)?,
+            faults: 0,
+        })
+    }
+}
+
+// The answer of the system, whose error is a fault, and counts.
+fn counted<T: Drop>(done: io::Result<T>, faults: &mut u64) -> Result<T, DeviceFault>
+    ensures answered { is_ok result ≡ is_ok done }
+    ensures value { IfOk result (λ value. done ≡ Ok value) }
+    ensures counted { faults.new ≡ faults_after (is_ok result) faults.old }
+{
+    match done {
+        Ok(value) => Ok(value),
+        Err(_) => {
+            *faults = faults.saturating_add(1);
+            Err(DeviceFault)
+        }
+    }
+}
+
+impl Disk for FileDisk {
+    ghost use Rattle.std.specs.Prelude.{[]};
+    ghost use Rattle.charmlet_disk.specs.File.{clean};
+    ghost use Rattle.charmlet_disk.specs.FileDisk.{faults_of};
+
+    ghost honest = { λ _. ⊥ };
+
+    ghost file = { λ _ _. clean [] };
+
+    ghost moment = { λ _. 0 };
+
+    ghost since = { λ _ _ _. ⊥ };
+
+    ghost faults = { faults_of };
+
+    ghost reads_are_left = { λ disk honest half. absurd honest };
+
+    ghost counts_now = { λ disk t c honest le left. absurd honest };
+
+    ghost only_now = { λ disk c honest left. absurd honest };
+
+    fn len(&mut self, half: Half) -> Result<u64, DeviceFault> {
+        counted(self.folder.len(half), &mut self.faults)
+    }
+
+    fn read_at(&mut self, half: Half, offset: u64, into: &mut [u8]) -> Result<(), DeviceFault> {
+        counted(self.folder.read_at(half, offset, into), &mut self.faults)
+    }
+
+    fn write_at(&mut self, half: Half, offset: u64, bytes: &[u8]) -> Result<(), DeviceFault> {
+        counted(self.folder.write_at(half, offset, bytes), &mut self.faults)
+    }
+
+    fn sync(&mut self, half: Half) -> Result<(), DeviceFault> {
+        counted(self.folder.sync(half), &mut self.faults)
+    }
+
+    fn failures(&self) -> u64 {
+        self.faults
+    }
+}

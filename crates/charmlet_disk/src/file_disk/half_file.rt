@@ -1,0 +1,141 @@
+//! One half as a file, which may be missing.
+ghost use Rattle.std.specs.Prelude.{◌+◌, ◌≤◌, ◌↔◌, IsTrue};
+
+use std::fs::{self, File, OpenOptions};
+use std::io::{self, ErrorKind};
+use std::os::fd::AsRawFd;
+use std::os::unix::fs::{FileExt, MetadataExt};
+
+/// A file of a folder. The first call that finds it opens it, and the first write makes it where it is
+/// missing.
+#[derive(Drop)]
+pub struct HalfFile {
+    path: String,
+    file: Option<File>,
+    /// The folder was synced since the file was opened or made, so that its name is durable too.
+    is_named: bool,
+}
+
+impl HalfFile {
+    /// A file of this name, which no call looks for yet.
+    pub fn new(path: String) -> HalfFile {
+        HalfFile {
+            path,
+            file: None,
+            is_named: false,
+        }
+    }
+
+    /// Opens the file, settled, if it is there and not open yet.
+    pub fn find(&mut self, rt: &HostRuntime) -> io::Result<()> {
+        if self.file.is_none() {
+            self.file = open(rt, self.path.as_str())?;
+        }
+        Ok(())
+    }
+
+    /// The length in bytes, which is 0 where the file is missing.
+    pub fn len(&mut self, rt: &HostRuntime) -> io::Result<u64> {
+        self.find(rt)?;
+        match &self.file {
+            Some(file) => len_of(file),
+            None => Ok(0),
+        }
+    }
+
+    /// Reads the bytes from an offset on. An error where some of them are past the end.
+    pub fn read_at(&mut self, rt: &HostRuntime, offset: u64, into: &mut [u8]) -> io::Result<()> {
+        let len = self.len(rt)?;
+        if !is_inside(offset, into.len(), len) {
+            return Err(ErrorKind::UnexpectedEof.into());
+        }
+        match &self.file {
+            Some(file) => file.read_exact_at(into, offset),
+            None => Ok(()),
+        }
+    }
+
+    /// Writes bytes from an offset on, and makes the file first where it is missing. An error where the
+    /// offset is past the end.
+    pub fn write_at(&mut self, rt: &HostRuntime, offset: u64, bytes: &[u8]) -> io::Result<()> {
+        let len = self.len(rt)?;
+        if !is_inside(offset, 0, len) {
+            return Err(ErrorKind::InvalidInput.into());
+        }
+        if let Some(file) = &self.file {
+            return file.write_all_at(bytes, offset);
+        }
+        let made = above_streams(File::create_new(rt, self.path.as_str())?)?;
+        let written = made.write_all_at(bytes, offset);
+        self.file = Some(made);
+        written
+    }
+
+    /// Makes what an open file holds durable, with its length, and once its name in the folder too.
+    pub fn sync(&mut self, folder: &File) -> io::Result<()> {
+        let Some(file) = &self.file else {
+            return Ok(());
+        };
+        len_of(file)?;
+        file.sync_data()?;
+        if !self.is_named {
+            folder.sync_all()?;
+            self.is_named = true;
+        }
+        Ok(())
+    }
+}
+
+// Whether so many bytes from an offset on are in a file of this length.
+fn is_inside(offset: u64, count: usize, len: u64) -> bool
+    ensures { IsTrue result ↔ (offset + count ≤ len) }
+{
+    offset <= len && count as u64 <= len - offset
+}
+
+// The file, synced, if it is there. It must be a regular file, and no link, and have no second name,
+// since the lock of another folder would not keep others from it. A pipe is not opened, since that waits.
+fn open(rt: &HostRuntime, path: &str) -> io::Result<Option<File>> {
+    match fs::symlink_metadata(rt, path) {
+        Ok(found) if found.is_file() && found.nlink() == 1 => {}
+        Ok(_) => return Err(ErrorKind::Unsupported.into()),
+        Err(error) if error.kind() == ErrorKind::NotFound => return Ok(None),
+        Err(error) => return Err(error),
+    }
+    let file = above_streams(open_for_all(rt, path)?)?;
+    // If an earlier write failed and nobody was told yet, the system tells it now.
+    file.sync_all()?;
+    Ok(Some(file))
+}
+
+// The file, for reading alone where it may not be written.
+fn open_for_all(rt: &HostRuntime, path: &str) -> io::Result<File> {
+    match OpenOptions::new().read(true).write(true).open(rt, path) {
+        Err(error) if is_denied(error.kind()) => fs::open(rt, path),
+        opened => opened,
+    }
+}
+
+fn is_denied(kind: ErrorKind) -> bool {
+    matches!(
+        kind,
+        ErrorKind::PermissionDenied | ErrorKind::ReadOnlyFilesystem
+    )
+}
+
+// What is meant for a standard stream that was closed must not land in the file.
+fn above_streams(file: File) -> io::Result<File> {
+    if file.as_raw_fd() <= 2 {
+        return file.try_clone();
+    }
+    Ok(file)
+}
+
+// The length of a file, which must not have lost its name.
+fn len_of(file: &File) -> io::Result<u64> {
+    let found = file.metadata()?;
+    if found.nlink() == 0 {
+        return Err(ErrorKind::NotFound.into());
+    }
+    Ok(found.len())
+}

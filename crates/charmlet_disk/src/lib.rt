@@ -1,0 +1,17 @@
+//! Two files, called halves, under one clock: what their calls do, and what a crash may leave of them.
+#![tactic(auto)]
+
+mod crash;
+mod disk;
+mod file_disk;
+mod fuse_disk;
+pub mod laws;
+mod mem_disk;
+mod through;
+
+pub use crate::crash::CrashChoice;
+pub use crate::disk::{DeviceFault, Disk};
+pub use crate::file_disk::FileDisk;
+pub use crate::fuse_disk::FuseDisk;
+pub use crate::mem_disk::{Call, MemDisk};
+pub use crate::through::{settle, write_through};

@@ -1,0 +1,213 @@
+// What a crash leaves of a disk in memory, by its bytes.
+use charmlet_disk::{CrashChoice, Disk, MemDisk, settle, write_through};
+use charmlet_model::Half;
+use std::alloc::{AllocError, AllocGlobal, Global};
+use std::process::Abort;
+use std::test::Fail;
+
+// A write at an offset.
+#[derive(Clone, Copy)]
+struct Write(u64, &'static [u8]);
+
+// Writes, where the offset is no further than the end.
+fn put<D: Disk>(disk: &mut D, half: Half, offset: u64, bytes: &[u8]) -> bool {
+    match disk.len(half) {
+        Ok(end) if offset <= end => disk.write_at(half, offset, bytes).is_ok(),
+        _ => false,
+    }
+}
+
+// All bytes of a half.
+fn all(alloc: Global, disk: &mut MemDisk, half: Half) -> Result<Vec<u8>, AllocError> {
+    let mut bytes = Vec::new(alloc);
+    if let Ok(end) = disk.len(half) {
+        bytes.resize(end as usize, 0)?;
+        let _ = disk.read_at(half, 0, &mut bytes);
+    }
+    Ok(bytes)
+}
+
+// A disk whose half has these bytes, and then was written in this way.
+fn written(rt: &(impl AllocGlobal + Abort), half: Half, old: &[u8], writes: &[Write]) -> MemDisk {
+    let mut disk = MemDisk::new(rt.alloc());
+    assert!(rt; put(&mut disk, half, 0, old));
+    assert!(rt; settle(&mut disk).is_ok());
+    for Write(offset, bytes) in writes {
+        assert!(rt; put(&mut disk, half, *offset, bytes));
+    }
+    disk
+}
+
+// Each choice leaves of the half what is wanted, all of it is sure, and the other half stays empty.
+fn leaves(
+    rt: &(impl AllocGlobal + Abort),
+    half: Half,
+    old: &[u8],
+    writes: &[Write],
+    wanted: &[&[u8]; 6],
+) -> Result<(), Fail> {
+    let alloc = rt.alloc();
+    for k in 0..6 {
+        let choice = CrashChoice::ALL[k];
+        let mut left = written(rt, half, old, writes).crash(choice);
+        assert_eq!(rt; all(alloc, &mut left, half)?.as_slice(), wanted[k]);
+        assert_eq!(rt; left.len(half.other()), Ok(0));
+        let mut again = left.crash(CrashChoice::Old);
+        assert_eq!(rt; all(alloc, &mut again, half)?.as_slice(), wanted[k]);
+    }
+    Ok(())
+}
+
+#[test]
+fn crashes_leave_overlapping_ranges(rt: HostRuntime) -> Result<(), Fail> {
+    let writes = [Write(2, b"CDEF"), Write(4, b"xyzw"), Write(7, b"12345")];
+    let wanted: [&[u8]; 6] = [
+        b"abcdefgh",
+        b"abCDxyz12345",
+        b"ab\0\0\0\0\0\0\0\0\0\0",
+        b"ab\x01\x01\x01\x01\x01\x01\x01\x01\x01\x01",
+        b"ab\x07\x07\x07\x07\x07\x07\x07\x07\x07\x07",
+        b"abCDxyg12",
+    ];
+    leaves(&rt, Half::Zero, b"abcdefgh", &writes, &wanted)?;
+    leaves(&rt, Half::One, b"abcdefgh", &writes, &wanted)
+}
+
+#[test]
+fn crashes_leave_ranges_apart(rt: HostRuntime) -> Result<(), Fail> {
+    let writes = [Write(6, b"GH"), Write(1, b"BCD"), Write(3, b"")];
+    let wanted: [&[u8]; 6] = [
+        b"abcdefghi",
+        b"aBCDefGHi",
+        b"a\0\0\0ef\0\0i",
+        b"a\x01\x01\x01ef\x01\x01i",
+        b"a\x07\x07\x07ef\x07\x07i",
+        b"aBcdefGhi",
+    ];
+    leaves(&rt, Half::One, b"abcdefghi", &writes, &wanted)
+}
+
+// The rest of a range is in the first half of an older one.
+#[test]
+fn first_half_counts_where_any_range_has_it(rt: HostRuntime) -> Result<(), Fail> {
+    let writes = [Write(0, b"AAAAAAAA"), Write(1, b"bc")];
+    let wanted: [&[u8]; 6] = [
+        b"01234567",
+        b"AbcAAAAA",
+        b"\0\0\0\0\0\0\0\0",
+        b"\x01\x01\x01\x01\x01\x01\x01\x01",
+        b"\x07\x07\x07\x07\x07\x07\x07\x07",
+        b"AbcA4567",
+    ];
+    leaves(&rt, Half::Zero, b"01234567", &writes, &wanted)
+}
+
+// Past the old end, what is in no first half is cut off, or 00 before one.
+#[test]
+fn crashes_cut_off_what_is_past_the_old_end(rt: HostRuntime) -> Result<(), Fail> {
+    let writes = [Write(4, b"EFGH"), Write(8, b"IJKLM"), Write(13, b"N")];
+    let wanted: [&[u8]; 6] = [
+        b"abcd",
+        b"abcdEFGHIJKLMN",
+        b"abcd\0\0\0\0\0\0\0\0\0\0",
+        b"abcd\x01\x01\x01\x01\x01\x01\x01\x01\x01\x01",
+        b"abcd\x07\x07\x07\x07\x07\x07\x07\x07\x07\x07",
+        b"abcdEF\0\0IJ",
+    ];
+    leaves(&rt, Half::Zero, b"abcd", &writes, &wanted)?;
+    let one = [Write(0, b"Z")];
+    let wanted: [&[u8]; 6] = [b"", b"Z", b"\0", b"\x01", b"\x07", b""];
+    leaves(&rt, Half::One, b"", &one, &wanted)
+}
+
+// A disk of whose half 0 all is sure, and of whose half 1 nothing is.
+fn half_sure(rt: &(impl AllocGlobal + Abort)) -> MemDisk {
+    let mut disk = written(rt, Half::Zero, b"sure", &[]);
+    assert!(rt; put(&mut disk, Half::One, 0, b"lost"));
+    assert!(rt; disk.sync(Half::Zero).is_ok());
+    disk
+}
+
+// A sync of one half makes nothing of the other one sure.
+#[test]
+fn crashes_leave_what_was_synced(rt: HostRuntime) -> Result<(), Fail> {
+    let mut left = half_sure(&rt).crash(CrashChoice::Old);
+    assert_eq!(rt;
+        all(rt.alloc(), &mut left, Half::Zero)?.as_slice(),
+        b"sure".as_slice()
+    );
+    assert_eq!(rt; left.len(Half::One), Ok(0));
+    Ok(())
+}
+
+#[test]
+fn bytes_written_through_are_sure(rt: HostRuntime) -> Result<(), Fail> {
+    let mut disk = half_sure(&rt).crash(CrashChoice::Sevens);
+    if let Ok(end) = disk.len(Half::One) {
+        assert!(rt; write_through(&mut disk, Half::One, end, b"kept").is_ok());
+    }
+    let mut left = disk.crash(CrashChoice::Old);
+    assert_eq!(rt;
+        all(rt.alloc(), &mut left, Half::One)?.as_slice(),
+        b"\x07\x07\x07\x07kept".as_slice()
+    );
+    Ok(())
+}
+
+// A write, a sync, a crash, and a second crash that changes nothing.
+#[test]
+fn calls_are_on_record(rt: HostRuntime) -> Result<(), Fail> {
+    let mut disk = MemDisk::new(rt.alloc());
+    assert!(rt; disk.calls().is_empty());
+    assert!(rt; put(&mut disk, Half::One, 0, b"a"));
+    assert!(rt; disk.sync(Half::One).is_ok());
+    assert!(rt; put(&mut disk, Half::One, 1, b"bc"));
+    let again = disk.crash(CrashChoice::New).crash(CrashChoice::Old);
+    let text = format!(in rt.alloc(); "{:?}", again.calls())?;
+    assert_eq!(rt;
+        text.as_str(),
+        "[Write(One, 0, [97]), Sync(One), Write(One, 1, [98, 99]), Crash(New)]"
+    );
+    Ok(())
+}
+
+// Whatever memory is refused, the answers and the failures tell what the disk has.
+#[test]
+fn refused_memory_is_a_fault_that_changes_nothing(rt: HostRuntime) {
+    let mut disk = MemDisk::new(rt.alloc());
+    let mut end = 0u64;
+    let mut faults = 0u64;
+    for _ in 0..8 {
+        if put(&mut disk, Half::One, end, b"abcd") {
+            end = end.saturating_add(4);
+        } else {
+            faults = faults.saturating_add(1);
+        }
+        if disk.sync(Half::One).is_err() {
+            faults = faults.saturating_add(1);
+        }
+        assert_eq!(rt; disk.len(Half::One), Ok(end));
+        assert_eq!(rt; disk.failures(), faults);
+    }
+    let mut left = disk.crash(CrashChoice::FirstHalves);
+    let last = left.len(Half::One);
+    assert!(rt; last == Ok(end) || last == Ok(end.saturating_sub(2)));
+}
+
+// Small writes after a large file cost what they write.
+#[test]
+fn small_writes_after_a_large_file(rt: HostRuntime) -> Result<(), Fail> {
+    let mut disk = MemDisk::new(rt.alloc());
+    let large = vec![in rt.alloc(); 7u8; 1_000_000]?;
+    assert!(rt; write_through(&mut disk, Half::One, 0, &large).is_ok());
+    for k in 0..20_000 {
+        assert!(rt; put(&mut disk, Half::One, 1_000_000 + k, &[1]));
+        if k % 8 == 0 {
+            assert!(rt; disk.sync(Half::One).is_ok());
+        }
+    }
+    assert_eq!(rt; disk.len(Half::One), Ok(1_020_000));
+    let mut left = disk.crash(CrashChoice::Old);
+    assert_eq!(rt; left.len(Half::One), Ok(1_019_993));
+    Ok(())
+}

@@ -1,0 +1,191 @@
+// The same calls of a disk of files and of one in memory give the same answers, and leave the same bytes.
+ghost use Rattle.std.specs.Prelude.{◌≤◌};
+
+use super::make_folder;
+use charmlet_disk::{DeviceFault, Disk, FileDisk, MemDisk};
+use charmlet_model::Half;
+use std::fs;
+use std::test::Fail;
+
+// No half grows longer, so that it has up to three pages of a file system.
+const MAX_LEN: usize = 9000;
+
+// A call. An offset is brought inside the half, or to its end. A read ends inside the half too, and a
+// write where the half has `MAX_LEN` bytes.
+#[derive(Clone, Copy, Debug)]
+enum Call {
+    Len(Half),
+    Read(Half, u64, usize),
+    Write(Half, u64, usize, u8),
+    Sync(Half),
+}
+
+// Numbers that look random, from a seed.
+#[derive(Drop)]
+struct Numbers(u64);
+
+impl Numbers {
+    fn next(&mut self) -> u64 {
+        self.0 = self.0.wrapping_add(0x9e37_79b9_7f4a_7c15);
+        let mixed = (self.0 ^ (self.0 >> 30)).wrapping_mul(0xbf58_476d_1ce4_e5b9);
+        let mixed = (mixed ^ (mixed >> 27)).wrapping_mul(0x94d0_49bb_1331_11eb);
+        mixed ^ (mixed >> 31)
+    }
+
+    fn half(&mut self) -> Half {
+        if self.next() % 2 == 0 {
+            Half::Zero
+        } else {
+            Half::One
+        }
+    }
+
+    // Mostly a few bytes, and sometimes more than a page.
+    fn count(&mut self) -> usize {
+        let most = if self.next() % 8 == 0 { 5000 } else { 40 };
+        (self.next() % most) as usize
+    }
+
+    fn call(&mut self) -> Call {
+        match self.next() % 16 {
+            0 => Call::Len(self.half()),
+            1..=4 => Call::Read(self.half(), self.next(), self.count()),
+            5 => Call::Sync(self.half()),
+            _ => Call::Write(
+                self.half(),
+                self.next(),
+                self.count(),
+                (self.next() % 256) as u8,
+            ),
+        }
+    }
+}
+
+// An offset inside a half of this length, or, one time in four, its end.
+fn within(offset: u64, len: u64) -> u64
+    ensures { result ≤ len }
+{
+    if offset % 4 == 0 {
+        len
+    } else {
+        offset % len.saturating_add(1)
+    }
+}
+
+// Makes the call, and answers with its number of bytes, or with the length that was asked for. The bytes
+// of a read come into the buffer.
+fn make<D: Disk>(disk: &mut D, call: Call, buffer: &mut [u8]) -> Result<u64, DeviceFault> {
+    match call {
+        Call::Len(half) => disk.len(half),
+        Call::Read(half, offset, count) => {
+            let len = disk.len(half)?;
+            let offset = within(offset, len);
+            let count = count.min(buffer.len());
+            let count = if len - offset < count as u64 {
+                (len - offset) as usize
+            } else {
+                count
+            };
+            disk.read_at(half, offset, &mut buffer[..count])?;
+            Ok(count as u64)
+        }
+        Call::Write(half, offset, count, first) => {
+            let len = disk.len(half)?;
+            let offset = within(offset, len);
+            let room = (buffer.len() as u64).saturating_sub(offset);
+            let count = if room < count as u64 {
+                room as usize
+            } else {
+                count
+            };
+            let mut byte = first;
+            for place in &mut buffer[..count] {
+                *place = byte;
+                byte = byte.wrapping_add(1);
+            }
+            disk.write_at(half, offset, &buffer[..count])?;
+            Ok(count as u64)
+        }
+        Call::Sync(half) => {
+            disk.sync(half)?;
+            Ok(0)
+        }
+    }
+}
+
+// The length of a half, and all its bytes in the buffer.
+fn contents<D: Disk>(disk: &mut D, half: Half, into: &mut [u8]) -> Result<u64, DeviceFault> {
+    let len = disk.len(half)?;
+    if len <= into.len() as u64 {
+        disk.read_at(half, 0, &mut into[..len as usize])?;
+    }
+    Ok(len)
+}
+
+#[test]
+fn files_answer_as_memory_does(rt: HostRuntime) -> Result<(), Fail> {
+    let folder = "file_disk_calls";
+    let mut numbers = Numbers(2718);
+    let (mut of_files, mut of_memory) = ([0; MAX_LEN], [0; MAX_LEN]);
+    for sequence in 0..200 {
+        make_folder(&rt, folder)?;
+        let mut files = FileDisk::new(rt, folder)?;
+        let mut memory = MemDisk::new(rt.alloc());
+        for number in 0..24 {
+            let call = numbers.call();
+            let answer = make(&mut files, call, &mut of_files);
+            assert!(rt; answer.is_ok(), "{sequence}, {number}: {call:?}");
+            assert_eq!(rt;
+                answer,
+                make(&mut memory, call, &mut of_memory),
+                "{sequence}, {number}: {call:?}"
+            );
+            assert!(rt; of_files == of_memory, "{sequence}, {number}: {call:?}");
+            assert_eq!(rt; files.failures(), memory.failures());
+            if numbers.next() % 8 == 0 {
+                drop(files);
+                files = FileDisk::new(rt, folder)?;
+            }
+        }
+        for half in [Half::Zero, Half::One] {
+            let len = contents(&mut files, half, &mut of_files);
+            assert!(rt; len.is_ok(), "{sequence}: {half}");
+            assert_eq!(rt;
+                len,
+                contents(&mut memory, half, &mut of_memory),
+                "{sequence}: {half}"
+            );
+            assert!(rt; of_files == of_memory, "{sequence}: {half}");
+        }
+        drop(files);
+        fs::remove_dir_all(&rt, folder)?;
+    }
+    Ok(())
+}
+
+// This holds also where any call of the system is refused that reads, writes or syncs a half.
+#[test]
+fn each_fault_counts_once(rt: HostRuntime) -> Result<(), Fail> {
+    let folder = "file_disk_count";
+    make_folder(&rt, folder)?;
+    let mut disk = FileDisk::new(rt, folder)?;
+    let mut numbers = Numbers(1828);
+    let mut buffer = [0; MAX_LEN];
+    let mut faults = 0u64;
+    for _ in 0..100 {
+        let call = numbers.call();
+        let answer = if numbers.next() % 4 == 0 {
+            disk.write_at(numbers.half(), 1 << 40, &buffer).map(|()| 0)
+        } else {
+            make(&mut disk, call, &mut buffer)
+        };
+        if answer.is_err() {
+            faults = faults.saturating_add(1);
+        }
+        assert_eq!(rt; disk.failures(), faults, "{call:?}");
+    }
+    assert!(rt; faults > 0);
+    drop(disk);
+    fs::remove_dir_all(&rt, folder)?;
+    Ok(())
+}

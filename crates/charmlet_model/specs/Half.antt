@@ -1,0 +1,8 @@
+-- The two halves of a store.
+use Rattle.charmlet_model.specs.declared.half.Half.{Half}
+use Rattle.charmlet_model.specs.declared.half.Half.TheVariants.{Zero, One}
+
+-- the half that this one is not
+abbrev pub other : Half → Half
+other Zero = One
+other One = Zero

@@ -1,0 +1,4 @@
+mod damage;
+mod memory;
+mod random;
+mod worked;
