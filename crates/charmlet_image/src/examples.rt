@@ -1,0 +1,48 @@
+//! Halves byte for byte, as contracts of functions that do nothing.
+
+ghost use Rattle.charmlet_image.specs.Examples.{EveryCut, NewStores, FlushedStores, CheckpointedStores, AlteredStores, CaughtStores, TwoHalves, Offsets, WaitingStores};
+
+/// A new store opens, and each cut of it is damaged where a field runs past its end.
+pub fn new_stores_are_read()
+    ensures { NewStores }
+{}
+
+/// A store after its first flush.
+pub fn flushed_stores_are_read()
+    ensures { FlushedStores }
+{}
+
+/// The image that is made of it.
+pub fn checkpointed_stores_are_read()
+    ensures { CheckpointedStores }
+{}
+
+/// A store in which one byte is another one.
+pub fn altered_stores_are_damaged()
+    ensures { AlteredStores }
+{}
+
+/// An image that was taken while deliveries went on.
+pub fn caught_stores_are_read()
+    ensures { CaughtStores }
+{}
+
+/// An image with a window of three items, pending messages, and an element that is gone.
+pub fn waiting_stores_are_read()
+    ensures { WaitingStores }
+{}
+
+/// Which of two halves is taken, and which fault is named.
+pub fn two_halves_are_read()
+    ensures { TwoHalves }
+{}
+
+/// Where records of these stores stand.
+pub fn records_have_offsets()
+    ensures { Offsets }
+{}
+
+/// The flushed store cut at every length.
+pub fn every_cut_is_damaged()
+    ensures { EveryCut }
+{}
