@@ -4,12 +4,21 @@ ghost use Rattle.charmlet_model.specs.declared.half.Half.{Half};
 ghost use Rattle.charmlet_model.specs.Half.{other};
 ghost use Rattle.charmlet_disk.specs.File.{File, Outcome, IsOutcome, MayLeave, wrote, clean};
 ghost use Rattle.charmlet_disk.specs.Disk.{Elapses, SameFiles, faults_after};
+ghost use Rattle.charmlet_model.specs.declared.refusal.Refusal.TheVariants.{Device};
 
-use charmlet_model::Half;
+use charmlet_model::{Half, Refusal};
 
 /// The device failed. Nothing more is known: the disk's `failures` counts it.
 #[derive(Clone, Copy, Debug, PartialEq, Eq)]
 pub struct DeviceFault;
+
+impl From<DeviceFault> for Refusal {
+    ghost from_gives = { λ _ refusal. refusal ≡ Device };
+
+    fn from(_fault: DeviceFault) -> Refusal {
+        Refusal::Device
+    }
+}
 
 /// Two files under one clock, of which nobody else writes to either.
 ///

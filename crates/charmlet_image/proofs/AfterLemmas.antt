@@ -17,6 +17,20 @@ abbrev pub AllAfter : {X : Type 0} → (List X → X → Type 0) → List X → 
 AllAfter Next before [] = Unit {0}
 AllAfter Next before (x ∷ xs) = Next before x × AllAfter Next (before ++ x ∷ []) xs
 
+-- what was read so, after those before it
+pub after_taken : {X : Type 0} {Next : List X → X → Type 0} {spell : X → List ℕ} {read : List X → Reads X} → ((before : List X) → Lawful (Next before) spell (read before)) → (before : List X) (n : ℕ) (bytes : List ℕ) (y : List X × List ℕ) → IsBytes bytes → read_after read n before bytes ≡ Ok y →
+    (xs : List X) × (y.0 ≡ before ++ xs) × (bytes ≡ flat_map spell xs ++ y.1) × (length xs ≡ n) × AllAfter Next before xs
+unfolding read_after then_read
+after_taken f before zero bytes y fits e =
+    let made = ok_parts before bytes y e in
+    ([], sym made.0 ∙ sym (append-nil before), made.1, refl, tt)
+after_taken {spell = spell} {read = read} f before (suc n) bytes y fits e =
+    let a = go_ok (read before bytes) (λ x. read_after read n (before ++ x ∷ [])) y e in
+    let first = (f before).spelled_so bytes a.0 fits a.1 in
+    let others = after_taken f (before ++ a.0.0 ∷ []) n a.0.1 y (IsBytes-after bytes (spell a.0.0) a.0.1 first.0 fits) a.2 in
+    let text = first.0 ∙ ap (λ (t : List ℕ). spell a.0.0 ++ t) others.2 ∙ sym (append_assoc (spell a.0.0) (flat_map spell others.0) y.1) in
+    (a.0.0 ∷ others.0, others.1 ∙ append_assoc before (a.0.0 ∷ []) others.0, text, ap suc others.3, (first.1, others.4))
+
 -- so many items, each by those before it
 pub after-lawful : {X : Type 0} {Next : List X → X → Type 0} {spell : X → List ℕ} {read : List X → Reads X} → ((before : List X) → Lawful (Next before) spell (read before)) →
     (n : ℕ) → Lawful (λ xs. (length xs ≡ n) × AllAfter Next [] xs) (flat_map spell) (read_after read n [])
@@ -24,7 +38,7 @@ unfolding read_after then_read
 after-lawful {X = X} {Next = Next} {spell = spell} {read = read} f n = record {
   read_back = λ xs rest is. subst (λ (k : ℕ). read_after read k [] (flat_map spell xs ++ rest) ≡ Ok (xs, rest)) is.0 (again [] xs rest is.1);
   spelled_so = λ bytes xs fits e.
-      let t = taken [] n bytes xs fits e in
+      let t = after_taken f [] n bytes xs fits e in
       subst (λ (ys : List X). (bytes ≡ flat_map spell ys ++ xs.1) × ((length ys ≡ n) × AllAfter Next [] ys)) (sym t.1) (t.2, (t.3, t.4));
 }
   where
@@ -34,18 +48,6 @@ after-lawful {X = X} {Next = Next} {spell = spell} {read = read} f n = record {
         ap (read_after read (suc (length xs)) before) (append_assoc (spell x) (flat_map spell xs) rest)
         ∙ rw ((f before).read_back x (flat_map spell xs ++ rest) all.0) (again (before ++ x ∷ []) xs rest all.1)
         ∙ ap (λ (ys : List X). Ok (ys, rest)) (append_assoc before (x ∷ []) xs)
-
-    taken : (before : List X) (n : ℕ) (bytes : List ℕ) (y : List X × List ℕ) → IsBytes bytes → read_after read n before bytes ≡ Ok y →
-        (xs : List X) × (y.0 ≡ before ++ xs) × (bytes ≡ flat_map spell xs ++ y.1) × (length xs ≡ n) × AllAfter Next before xs
-    taken before zero bytes y fits e =
-        let made = ok_parts before bytes y e in
-        ([], sym made.0 ∙ sym (append-nil before), made.1, refl, tt)
-    taken before (suc n) bytes y fits e =
-        let a = go_ok (read before bytes) (λ x. read_after read n (before ++ x ∷ [])) y e in
-        let first = (f before).spelled_so bytes a.0 fits a.1 in
-        let others = taken (before ++ a.0.0 ∷ []) n a.0.1 y (IsBytes-after bytes (spell a.0.0) a.0.1 first.0 fits) a.2 in
-        let text = first.0 ∙ ap (λ (t : List ℕ). spell a.0.0 ++ t) others.2 ∙ sym (append_assoc (spell a.0.0) (flat_map spell others.0) y.1) in
-        (a.0.0 ∷ others.0, others.1 ∙ append_assoc before (a.0.0 ∷ []) others.0, text, ap suc others.3, (first.1, others.4))
 
 -- such a list after its length
 pub list_after-lawful : {X : Type 0} {Next : List X → X → Type 0} {spell : X → List ℕ} {read : List X → Reads X} (low high : ℕ) → high < 256 ^ 4 → ((before : List X) → Lawful (Next before) spell (read before)) →

@@ -43,18 +43,18 @@ use Rattle.charmlet_image.specs.FitImages.{image_of, FitWorldsHaveImages}
 use Rattle.charmlet_image.proofs.Lists.{all_join}
 
 -- what holds of what each key finds holds of each entry
-all_entries : {K V : Type 0} (cmp : K → K → Ordering) → IsTotalOrder cmp → (Q : K → V → Type 0) (es : List (K × V)) (d : V) → IsStrictlySortedBy cmp (keys_of es) →
+pub all_entries : {K V : Type 0} (cmp : K → K → Ordering) → IsTotalOrder cmp → (Q : K → V → Type 0) (es : List (K × V)) (d : V) → IsStrictlySortedBy cmp (keys_of es) →
     ((q : K) → Q q (unwrap_or (lookup (is_at (cmp q)) es) d)) → AllByRecursion (λ (e : K × V). Q e.0 e.1) es
 all_entries {K = K} {V = V} cmp order Q es d sorted f =
     AllByRecursion-map (Contains es) (λ (e : K × V). Q e.0 e.1) es
     (λ e has. subst (λ (o : Option V). Q e.0 (unwrap_or o d)) (lookup-from_Contains (eq_by_cmp_equiv order) e.0 e.1 es (IsDistinct-from_sorted cmp (keys_of es) sorted) has) (f e.0))
     (recursion_from_All (Contains es) es (All-contains_itself es))
 
-by_keys : {K V : Type 0} (P : K → Type 0) (es : List (K × V)) → AllByRecursion P (keys_of es) → AllByRecursion (λ (e : K × V). P e.0) es
+pub by_keys : {K V : Type 0} (P : K → Type 0) (es : List (K × V)) → AllByRecursion P (keys_of es) → AllByRecursion (λ (e : K × V). P e.0) es
 by_keys P [] all = tt
 by_keys P (e ∷ es) all = (all.0, by_keys P es all.1)
 
-by_values : {K V : Type 0} (P : V → Type 0) (es : List (K × V)) → AllByRecursion P (values_of es) → AllByRecursion (λ (e : K × V). P e.1) es
+pub by_values : {K V : Type 0} (P : V → Type 0) (es : List (K × V)) → AllByRecursion P (values_of es) → AllByRecursion (λ (e : K × V). P e.1) es
 by_values P [] all = tt
 by_values P (e ∷ es) all = (all.0, by_values P es all.1)
 
@@ -75,20 +75,20 @@ message_is w fit m is = (origin_is w fit m.id.origin m.id.number is.origin is.se
 
 -- ---- clients
 
-client_is : (e : ℕ × ClientRow) → e.0 < 2 ^ 32 → IsRow e.1 → 0 < length e.1.window → IsClient Second e
+pub client_is : (e : ℕ × ClientRow) → e.0 < 2 ^ 32 → IsRow e.1 → 0 < length e.1.window → IsClient Second e
 client_is e small is some =
     (small, omega (arith, is.last), omega (arith, some, is.numbered), (record { above = omega (arith, some); below = omega (arith, is.few, is.numbered) }, is.replies))
 
 -- ---- elements
 
-kept_is : (state : Option State) (received : ℕ) → IsSome state ⊎ (0 < received) → least_flag received ≤ option_flag state
+pub kept_is : (state : Option State) (received : ℕ) → IsSome state ⊎ (0 < received) → least_flag received ≤ option_flag state
 kept_is (Some s) zero kept = omega arith
 kept_is (Some s) (suc n) kept = let later : eqb (suc n) 0 ≡ false = ne_eqb (suc n) 0 (λ e. absurd (omega (arith, e))) in rw later (omega arith)
 kept_is None zero (inl some) = absurd cc
 kept_is None zero (inr more) = absurd (omega (arith, more))
 kept_is None (suc n) kept = let later : eqb (suc n) 0 ≡ false = ne_eqb (suc n) 0 (λ e. absurd (omega (arith, e))) in rw later (omega arith)
 
-state_is : (kinds : Option Kind) (other : Kind) (state : Option State) → IfSome state (λ s. (kinds ≡ Some (kind_of s)) × IsState s) → IfSome state (λ s. IsState s × (kind_of s ≡ unwrap_or kinds other))
+pub state_is : (kinds : Option Kind) (other : Kind) (state : Option State) → IfSome state (λ s. (kinds ≡ Some (kind_of s)) × IsState s) → IfSome state (λ s. IsState s × (kind_of s ≡ unwrap_or kinds other))
 state_is kinds other None is = tt
 state_is kinds other (Some s) is = (is.1, sym (ap (λ (k : Option Kind). unwrap_or k other) is.0))
 
@@ -97,11 +97,11 @@ entry_is w fit e elem is kept =
     (elem_is w fit e.0 elem, omega (arith, is.sent), omega (arith, is.received), kept_is e.1.state e.1.received kept, state_is (kind_of_array w e.0.array) _ e.1.state is.state)
 
 -- items that take a byte or more are no more than their bytes
-no_more : {X : Type 0} (spell : X → List ℕ) → ((x : X) → 1 ≤ length (spell x)) → (xs : List X) → length xs ≤ length (flat_map spell xs)
+pub no_more : {X : Type 0} (spell : X → List ℕ) → ((x : X) → 1 ≤ length (spell x)) → (xs : List X) → length xs ≤ length (flat_map spell xs)
 no_more spell some [] = omega arith
 no_more spell some (x ∷ xs) = omega (arith, some x, no_more spell some xs, length-append (spell x) (flat_map spell xs))
 
-message_long : (m : Message) → 1 ≤ length (spell_message m)
+pub message_long : (m : Message) → 1 ≤ length (spell_message m)
 unfolding spell_message spell_id spell_origin
 message_long m =
     let tag = number_bytes 1 (origin_tag m.id.origin) in
@@ -117,10 +117,10 @@ entry_long e =
     let others = number_bytes 8 e.1.sent ++ (number_bytes 8 e.1.received ++ spell_option spell_state e.1.state) in
     omega (arith, length-append (array ++ index) others, length-append array index, length-number_bytes 2 e.0.array)
 
-abbrev FewIn : Image → ℕ → Type 0
+abbrev pub FewIn : Image → ℕ → Type 0
 FewIn i size = (length i.pending ≤ size) × (length i.records ≤ size)
 
-few_in : (mark : Mark) (i : Image) → FewIn i (length (spell_image mark i))
+pub few_in : (mark : Mark) (i : Image) → FewIn i (length (spell_image mark i))
 unfolding spell_image
 few_in mark i =
     let a = spell_list spell_array i.manifest in

@@ -7,12 +7,13 @@ use Rattle.charmlet_record.specs.Reading.{then_read, ◌>>=◌, yield, exactly, 
 use Rattle.std.specs.List.{flat_map, AllByRecursion}
 use Rattle.std.proofs.lemmas.List.{append-nil}
 use Rattle.std.proofs.lemmas.List.Concat.{flat_map-append}
+use Rattle.charmlet_model.specs.declared.half.Half.TheVariants.{Zero, One}
 use Rattle.charmlet_model.specs.declared.logged.Logged.{Logged}
 use Rattle.charmlet_model.specs.Spelling.{spell_batch, spell_open, spell_log}
 use Rattle.charmlet_record.specs.Written.{IsBatch}
 use Rattle.charmlet_record.specs.Lawful.{IsBytes}
 use Rattle.charmlet_record.proofs.Formats.{go_ok, ok_parts, exactly-lawful, IsBytes-drop, IsBytes-after}
-use Rattle.charmlet_record.proofs.Records.{logs_are_read, read_logs_were_spelled}
+use Rattle.charmlet_record.proofs.Records.{logs_are_read, logs_end, read_logs_were_spelled}
 use Rattle.charmlet_image.specs.declared.header.Header.{Header}
 use Rattle.charmlet_image.specs.Images.{Saved, spell_image, spell_header, spell_half}
 use Rattle.charmlet_image.specs.Reading.{read_image, read_header}
@@ -22,14 +23,14 @@ use Rattle.charmlet_image.proofs.ImageLemmas.{image-lawful, header-lawful}
 
 -- ---- the image and the batches
 
-body_again : (s : Saved) (gate : ℕ) (rest : List ℕ) → IsSaved s → gate < 256 → gate ≢ 1 →
-    read_saved s.header (spell_image s.header.mark s.image ++ (spell_log s.batches ++ (number_bytes 1 gate ++ rest))) ≡ Ok (s, rest)
+body_again : (s : Saved) (closing rest : List ℕ) → IsSaved s → read_log s.image.manifest (spell_log s.batches ++ closing) ≡ Ok (s.batches, rest) →
+    read_saved s.header (spell_image s.header.mark s.image ++ (spell_log s.batches ++ closing)) ≡ Ok (s, rest)
 unfolding read_saved read_body then_read
-body_again s gate rest is lt closed =
-    let after = spell_log s.batches ++ (number_bytes 1 gate ++ rest) in
+body_again s closing rest is log =
+    let after = spell_log s.batches ++ closing in
     let room : leb s.header.size (length (spell_image s.header.mark s.image ++ after)) ≡ true =
     le-leb _ _ (omega (arith, is.size, length-append (spell_image s.header.mark s.image) after)) in
-    rw (room, (exactly-lawful (image-lawful s.header.mark) s.header.size).read_back s.image after (is.image, is.size), logs_are_read s.image.manifest s.batches gate rest is.batches lt closed) refl
+    rw (room, (exactly-lawful (image-lawful s.header.mark) s.header.size).read_back s.image after (is.image, is.size), log) refl
 
 abbrev Follows : Header → List ℕ → Saved × List ℕ → Type 0
 Follows h bytes x =
@@ -62,17 +63,26 @@ top_again h rest is some =
     let long : leb (length (1 ∷ (spell_header h ++ rest))) 1 ≡ false = lt-leb _ _ (omega (arith, length-append (spell_header h) rest)) in
     rw (long, header-lawful.read_back h rest is) refl
 
-pub halves_are_read : HalvesAreRead
+-- a half is found where its log ends
+half_again : (s : Saved) (closing rest : List ℕ) → IsSaved s → 1 ≤ length closing → read_log s.image.manifest (spell_log s.batches ++ closing) ≡ Ok (s.batches, rest) →
+    found (spell_half s ++ closing) ≡ Open s
 unfolding spell_half
-halves_are_read = λ s gate rest is lt closed.
-    let closing = number_bytes 1 gate ++ rest in
+half_again s closing rest is some log =
     let image = spell_image s.header.mark s.image in
     let after = image ++ (spell_log s.batches ++ closing) in
-    let some : 1 ≤ length after = omega (arith, length-append image (spell_log s.batches ++ closing), length-append (spell_log s.batches) closing, length-append (number_bytes 1 gate) rest, length-number_bytes 1 gate) in
+    let long : 1 ≤ length after = omega (arith, some, length-append image (spell_log s.batches ++ closing), length-append (spell_log s.batches) closing) in
     let regrouped : (1 ∷ (spell_header s.header ++ (image ++ spell_log s.batches))) ++ closing ≡ 1 ∷ (spell_header s.header ++ after) = ap (λ (t : List ℕ). 1 ∷ t) (simp append_assoc) in
     ap found regrouped
-    ∙ ap (found_from (length (1 ∷ (spell_header s.header ++ after)))) (top_again s.header after is.header some)
-    ∙ ap (named (length (1 ∷ (spell_header s.header ++ after)))) (body_again s gate rest is lt closed)
+    ∙ ap (found_from (length (1 ∷ (spell_header s.header ++ after)))) (top_again s.header after is.header long)
+    ∙ ap (named (length (1 ∷ (spell_header s.header ++ after)))) (body_again s closing rest is log)
+
+pub halves_are_read : HalvesAreRead
+halves_are_read = λ s gate rest is lt closed.
+    half_again s (number_bytes 1 gate ++ rest) rest is (omega (arith, length-append (number_bytes 1 gate) rest, length-number_bytes 1 gate)) (logs_are_read s.image.manifest s.batches gate rest is.batches lt closed)
+
+-- the same before any first item that isn't an open gate
+pub halves_end : (s : Saved) (gate : ℕ) (rest : List ℕ) → IsSaved s → gate ≢ 1 → found (spell_half s ++ (gate ∷ rest)) ≡ Open s
+halves_end s gate rest is closed = half_again s (gate ∷ rest) rest is (omega arith) (logs_end s.image.manifest s.batches gate rest is.batches closed)
 
 named_open : (size : ℕ) (r : Result (Saved × List ℕ) ℕ) (s : Saved) → named size r ≡ Open s → (left : List ℕ) × (r ≡ Ok (s, left))
 named_open size (Ok x) s e = (x.1, let same : x.0 ≡ s = cc in ap (λ (y : Saved). Ok (y, x.1)) same)
@@ -135,7 +145,7 @@ pub record Opens (bytes : List ℕ) (s : Saved) : Type 0 where
   pub begins : top bytes ≡ Begun s.header rest
   pub read : found_from (length bytes) (Begun s.header rest) ≡ Open s
 
-opens : (bytes : List ℕ) (s : Saved) → found bytes ≡ Open s → Opens bytes s
+pub opens : (bytes : List ℕ) (s : Saved) → found bytes ≡ Open s → Opens bytes s
 opens bytes s e =
     let t = from_open (length bytes) (top bytes) s e in
     let same = store_header t.0 t.1 (s, t.2) t.4 in
@@ -148,10 +158,10 @@ later_halves_are_taken = λ first second s t open_s open_t.
     let b = opens second t open_t in
     let start : taken first second ≡ choice (length first) (Begun s.header a.rest) (length second) (Begun t.header b.rest) = λ i. choice (length first) (a.begins i) (length second) (b.begins i) in (
       λ next. let is : eqb t.header.generation (s.header.generation + 1) ≡ true = eq-eqb _ _ next in
-          start ∙ rw is (ap (taken_half 1) b.read),
+          start ∙ rw is (ap (taken_half One) b.read),
       λ next. let no : eqb t.header.generation (s.header.generation + 1) ≡ false = ne_eqb _ _ (λ e. absurd (omega (arith, e, next))) in
           let is : eqb s.header.generation (t.header.generation + 1) ≡ true = eq-eqb _ _ next in
-          start ∙ rw (no, is) (ap (taken_half 0) a.read),
+          start ∙ rw (no, is) (ap (taken_half Zero) a.read),
     )
 
 -- ---- one more batch

@@ -71,7 +71,7 @@ array-lawful before =
     from_as (field (checked-lawful (rises nat_cmp before) (number-lawful 2)) (λ e is. is) (λ array is_a.
     last {part = λ (e : ℕ × Kind). e.1} (λ kind. (array, kind)) kind-lawful (λ e is. (tt, λ i. (sym is.1 i, e.1))) (λ kind is_k. ((is_a, refl), refl))))
 
-manifest-lawful : Lawful IsManifest (spell_list spell_array) (read_list_after 1 64 read_array)
+pub manifest-lawful : Lawful IsManifest (spell_list spell_array) (read_list_after 1 64 read_array)
 manifest-lawful =
     meaning (λ es is. let p = after_is_pairs small (Below nat_cmp) test tests es is.1 in record { count = is.0; small = p.0; rising = sorted_from_pairs nat_cmp es p.1 })
     (λ es is. (is.count, pairs_are_after small (Below nat_cmp) test tests es is.small (pairs_from_sorted nat_cmp es is.rising)))
@@ -136,7 +136,7 @@ client-lawful mark before =
     (λ e is. (subst (λ (n : ℕ). IsWindow mark n e.1.window) is.1 is.0.0.0.3, λ i. (sym is.0.1 i, record { last = sym is.1 i; window = e.1.window })))
     (λ window is_w. (((((is_c.0, is_n.0, leb-true _ _ is_n.1, is_w), is_c.1), refl), refl), refl)))))
 
-clients-lawful : (mark : Mark) → Lawful (AreClients mark) (spell_list (spell_client mark)) (read_list_after 0 1024 (read_client mark))
+pub clients-lawful : (mark : Mark) → Lawful (AreClients mark) (spell_list (spell_client mark)) (read_list_after 0 1024 (read_client mark))
 clients-lawful mark =
     meaning (λ es is. let p = after_is_pairs (IsClient mark) (Below nat_cmp) test tests es is.1 in record { few = is.0.below; each = p.0; rising = sorted_from_pairs nat_cmp es p.1 })
     (λ es is. (record { above = omega arith; below = is.few }, pairs_are_after (IsClient mark) (Below nat_cmp) test tests es is.each (pairs_from_sorted nat_cmp es is.rising)))
@@ -150,7 +150,7 @@ clients-lawful mark =
 
 -- ---- pending messages
 
-pending-lawful : (kinds : Kinds) → Lawful (ArePending kinds) (spell_list spell_message) (read_list_after 0 greatest_count (read_pending kinds))
+pub pending-lawful : (kinds : Kinds) → Lawful (ArePending kinds) (spell_list spell_message) (read_list_after 0 greatest_count (read_pending kinds))
 pending-lawful kinds =
     meaning (λ ms is. let p = after_is_pairs (IsMessage kinds) Apart test fresh_tests ms is.1 in record { few = omega (arith, is.0.below); each = p.0; distinct = distinct_from_pairs ms p.1 })
     (λ ms is. (record { above = omega arith; below = omega (arith, is.few) }, pairs_are_after (IsMessage kinds) Apart test fresh_tests ms is.each (pairs_from_distinct ms is.distinct)))
@@ -221,7 +221,7 @@ entry-lawful kinds before =
     ))
     (λ state is_st. ((((((is_x.0, is_s, is_r, is_st.0, is_st.1), is_x.1), refl), refl), refl), refl))))))
 
-records-lawful : (kinds : Kinds) → Lawful (AreRecords kinds) (spell_list spell_entry) (read_list_after 0 greatest_count (read_entry kinds))
+pub records-lawful : (kinds : Kinds) → Lawful (AreRecords kinds) (spell_list spell_entry) (read_list_after 0 greatest_count (read_entry kinds))
 records-lawful kinds =
     meaning (λ es is. let p = after_is_pairs (IsEntry kinds) (Below elem_cmp) test tests es is.1 in record { few = omega (arith, is.0.below); each = p.0; rising = sorted_from_pairs elem_cmp es p.1 })
     (λ es is. (record { above = omega arith; below = omega (arith, is.few) }, pairs_are_after (IsEntry kinds) (Below elem_cmp) test tests es is.each (pairs_from_sorted elem_cmp es is.rising)))
@@ -235,7 +235,7 @@ records-lawful kinds =
 
 -- ---- the whole
 
-all_caught_up-lawful : (kinds : Kinds) → Lawful (AreCaughtUp kinds) (spell_list spell_caught_up) (read_list 0 greatest_count (read_caught_up kinds))
+pub all_caught_up-lawful : (kinds : Kinds) → Lawful (AreCaughtUp kinds) (spell_list spell_caught_up) (read_list 0 greatest_count (read_caught_up kinds))
 all_caught_up-lawful kinds =
     meaning (λ cs is. record { few = omega (arith, is.0.below); each = is.1 }) (λ cs is. (record { above = omega arith; below = omega (arith, is.few) }, is.each))
     (list-lawful 0 greatest_count (omega arith) (caught_up-lawful kinds))

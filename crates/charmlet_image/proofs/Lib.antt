@@ -7,3 +7,13 @@ pub mod HalfLemmas
 pub mod ReachLemmas
 pub mod PlaceLemmas
 pub mod FitImageLemmas
+pub mod Ids
+pub mod Counting
+pub mod Rising
+pub mod PackedSizes
+pub mod PlacedLemmas
+pub mod LogViews
+pub mod HalfViews
+pub mod Tops
+pub mod NewStoreLemmas
+pub mod SpelledLemmas

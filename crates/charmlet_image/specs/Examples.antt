@@ -1,5 +1,6 @@
 -- Halves byte for byte.
 use Rattle.std.specs.Prelude.{◌≡◌, ℕ, zero, suc, ◌+◌, List, [], ◌∷◌, ◌++◌, length, take, drop, Option, Some, None}
+use Rattle.charmlet_model.specs.declared.half.Half.TheVariants.{Zero, One}
 use Rattle.charmlet_model.specs.declared.names.Elem.{Elem}
 use Rattle.charmlet_model.specs.declared.names.Origin.TheVariants.{Client}
 use Rattle.charmlet_model.specs.declared.message.Message.{Message}
@@ -258,14 +259,14 @@ pub record WaitingStores : Type 0 where
 -- two halves together
 pub record TwoHalves : Type 0 where
   pub none : taken (1 ∷ []) [] ≡ NothingHere
-  pub first_alone : taken new_store [] ≡ Takes 0 new
-  pub later : taken flushed_store image_store ≡ Takes 1 imaged
-  pub later_first : taken image_store flushed_store ≡ Takes 0 imaged
-  pub apart : taken new_store (altered image_store 5 3) ≡ DamagedAt 1 5
-  pub items : taken flushed_store (altered image_store 49 9) ≡ DamagedAt 1 49
-  pub other_unread : taken (altered flushed_store 54 0) image_store ≡ Takes 1 imaged
-  pub first_header : taken (altered flushed_store 12 1) (altered image_store 12 1) ≡ DamagedAt 0 5
-  pub second_header : taken flushed_store (altered image_store 12 1) ≡ DamagedAt 1 5
+  pub first_alone : taken new_store [] ≡ Takes Zero new
+  pub later : taken flushed_store image_store ≡ Takes One imaged
+  pub later_first : taken image_store flushed_store ≡ Takes Zero imaged
+  pub apart : taken new_store (altered image_store 5 3) ≡ DamagedAt One 5
+  pub items : taken flushed_store (altered image_store 49 9) ≡ DamagedAt One 49
+  pub other_unread : taken (altered flushed_store 54 0) image_store ≡ Takes One imaged
+  pub first_header : taken (altered flushed_store 12 1) (altered image_store 12 1) ≡ DamagedAt Zero 5
+  pub second_header : taken flushed_store (altered image_store 12 1) ≡ DamagedAt One 5
 
 -- where records of these stores stand
 pub record Offsets : Type 0 where

@@ -1,5 +1,6 @@
 -- The definitions that contracts cite.
 pub mod Images
+pub mod Ids
 pub mod After
 pub mod Reading
 pub mod Written
@@ -7,3 +8,8 @@ pub mod Halves
 pub mod Places
 pub mod FitImages
 pub mod Examples
+pub mod Counted
+pub mod Placed
+pub mod Views
+pub mod NewStores
+pub mod Spelled

@@ -2,6 +2,7 @@
 
 ghost use Rattle.std.specs.Prelude.{◌≡◌};
 ghost use Rattle.charmlet_record.specs.Gives.{GivesExactly};
+ghost use Rattle.charmlet_image.specs.Images.{mark_number};
 ghost use Rattle.charmlet_image.specs.Reading.{read_header, read_mark};
 
 use charmlet_model::MAX_EVENTS;
@@ -22,6 +23,18 @@ pub const MAX_GENERATION: u64 = 1 << 40;
 pub enum Mark {
     First,
     Second,
+}
+
+impl Mark {
+    /// The letters of the mark as a number, its lowest byte first.
+    pub fn number(self) -> u32
+        ensures { result ≡ mark_number self }
+    {
+        match self {
+            Mark::First => FIRST_MARK,
+            Mark::Second => SECOND_MARK,
+        }
+    }
 }
 
 /// What stands before an image: its mark, its generation, how many events came before it, and how many

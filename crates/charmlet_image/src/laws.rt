@@ -8,7 +8,9 @@ ghost use Rattle.charmlet_image.specs.Images.{spell_image, spell_header};
 ghost use Rattle.charmlet_image.specs.Reading.{read_image, read_header};
 ghost use Rattle.charmlet_image.specs.Written.{IsImage, IsHeader};
 ghost use Rattle.charmlet_image.specs.Places.{RecordsStandThere};
+ghost use Rattle.charmlet_image.specs.NewStores.{NewStoresOpen};
 ghost use Rattle.charmlet_image.specs.FitImages.{FitWorldsHaveImages};
+ghost use Rattle.charmlet_image.specs.Spelled.{ClosedIsShut, FoundIsSpelled, SpelledIsFound};
 ghost use Rattle.charmlet_image.specs.Halves.{BatchesAreAppended, HalvesAreRead, HalvesAreOne, ReadHalvesWereSpelled, LaterHalvesAreTaken, read_saved};
 
 /// Images and headers are read as they are spelled, whatever follows, and were spelled so.
@@ -46,4 +48,17 @@ pub fn records_stand_there()
 /// A fit world that is not too large has an image that can be written.
 pub fn fit_worlds_have_images()
     ensures { FitWorldsHaveImages }
+{}
+
+/// A new store opens once its gate does, as the image of its arrays and no events.
+pub fn new_stores_open()
+    ensures { NewStoresOpen }
+{}
+
+/// A file that begins with a half before any closed gate says that half, and files of bytes say nothing else. A half is closed where
+/// it has no second byte, or its first byte isn't an open gate.
+pub fn files_begin_with_halves()
+    ensures found { SpelledIsFound }
+    ensures spelled { FoundIsSpelled }
+    ensures closed { (bytes : List ℕ) → ClosedIsShut bytes }
 {}

@@ -4,12 +4,22 @@
 
 mod catch_up;
 mod clients;
+mod entries;
 pub mod examples;
+mod half;
 mod header;
+mod image;
 pub mod laws;
+mod log;
 mod manifest;
+mod pending;
+mod writing;
 
-pub use crate::catch_up::read_catch_up;
-pub use crate::clients::read_clients;
-pub use crate::header::{Header, MAX_GENERATION, Mark, read_header};
-pub use crate::manifest::read_arrays;
+pub use crate::entries::Entry;
+pub use crate::half::{Beginning, HalfView, OpenHalf, read_half, read_top};
+pub use crate::header::{Header, MAX_GENERATION, Mark};
+pub use crate::image::ImageView;
+pub use crate::log::{LogBatches, LogView};
+pub use crate::writing::{
+    entry_size, new_store, write_arrays, write_client, write_entry, write_header,
+};

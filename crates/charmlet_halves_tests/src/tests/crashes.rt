@@ -1,0 +1,134 @@
+// Each call of the disk fails in turn, and each choice of a crash follows: the old store is there or the new one.
+ghost use Rattle.std.specs.Prelude.{◌≤◌};
+ghost use Rattle.charmlet_halves.specs.Bytes.{EndsClosed};
+
+use super::{batch, create_on, image, later_image};
+use charmlet_disk::{CrashChoice, Disk, FuseDisk, MemDisk};
+use charmlet_halves::{Halves, survey};
+use charmlet_model::Refusal;
+use std::alloc::AllocGlobal;
+use std::process::Abort;
+use std::test::Fail;
+
+// A store by its generation, and how many events its log has.
+#[derive(Clone, Copy, Debug, PartialEq, Eq)]
+struct Store {
+    generation: u64,
+    logged: u64,
+}
+
+// What is there before each step of `work`, and after the last one. Before the first one nothing is.
+const STORES: [Store; 8] = [
+    Store {
+        generation: 0,
+        logged: 0,
+    },
+    Store {
+        generation: 1,
+        logged: 0,
+    },
+    Store {
+        generation: 1,
+        logged: 2,
+    },
+    Store {
+        generation: 1,
+        logged: 2,
+    },
+    Store {
+        generation: 2,
+        logged: 0,
+    },
+    Store {
+        generation: 2,
+        logged: 2,
+    },
+    Store {
+        generation: 2,
+        logged: 2,
+    },
+    Store {
+        generation: 3,
+        logged: 0,
+    },
+];
+
+// A batch and then an image with its gate, until a call is refused: how many of the three steps were done, and the refusal.
+fn round<D: Disk>(halves: &mut Halves<D>, image: &[u8]) -> (usize, Result<(), Refusal>)
+    requires { EndsClosed image.now }
+    ensures { result.0 ≤ 3 }
+{
+    let appended = halves.append_batch(batch());
+    if appended.is_err() {
+        return (0, appended);
+    }
+    let prepared = halves.prepare_image(image);
+    if prepared.is_err() {
+        return (1, prepared);
+    }
+    let opened = halves.open_gate();
+    if opened.is_err() {
+        return (2, opened);
+    }
+    (3, Ok(()))
+}
+
+// Two such rounds.
+fn work<D: Disk>(halves: &mut Halves<D>) -> (usize, Result<(), Refusal>)
+    ensures { result.0 ≤ 7 }
+{
+    let (first, last) = round(halves, image());
+    if last.is_err() {
+        return (1 + first, last);
+    }
+    let (second, last) = round(halves, later_image());
+    (4 + second, last)
+}
+
+// The store that is found on a disk.
+fn found(rt: &(impl AllocGlobal + Abort), disk: &mut MemDisk) -> Store {
+    match survey(rt.alloc(), disk) {
+        Ok(survey) => Store {
+            generation: survey.contents.header.generation,
+            logged: survey.contents.logged,
+        },
+        Err(Refusal::NothingHere) => STORES[0],
+        Err(refusal) => panic!(rt; "{refusal}"),
+    }
+}
+
+// How many steps are done on a disk that passes so many calls, and what these leave of it by a crash.
+fn left_after(rt: &(impl AllocGlobal + Abort), calls: u64, choice: CrashChoice) -> (usize, MemDisk)
+    ensures { result.0 ≤ 7 }
+{
+    let disk = FuseDisk::new(MemDisk::new(rt.alloc()), calls);
+    let (done, disk) = match create_on(rt, disk) {
+        Ok(mut halves) => {
+            let (done, last) = work(&mut halves);
+            if last.is_err() {
+                assert_eq!(rt; last, Err(Refusal::Device));
+                assert_eq!(rt; halves.append_batch(batch()), Err(Refusal::Halted));
+                assert_eq!(rt; halves.prepare_image(image()), Err(Refusal::Halted));
+            }
+            (done, halves.into_disk())
+        }
+        Err(refused) => {
+            assert_eq!(rt; refused.refusal, Refusal::Device);
+            (0, refused.disk)
+        }
+    };
+    (done, disk.inner().crash(choice))
+}
+
+#[test]
+fn each_crash_leaves_the_old_store_or_the_new_one(rt: HostRuntime) {
+    for calls in 0..27 {
+        for choice in CrashChoice::ALL {
+            let (done, mut left) = left_after(&rt, calls, choice);
+            let store = found(&rt, &mut left);
+            let next = STORES[(done + 1).min(7)];
+            assert!(rt; store == STORES[done] || store == next);
+            assert_eq!(rt; done == 7, calls >= 26);
+        }
+    }
+}
