@@ -1,5 +1,5 @@
 -- Two halves: what is taken of them, and what a crash may leave of each write.
-use Rattle.std.specs.Prelude.{◌≡◌, ◌⊎◌, ℕ, ◌+◌, ◌-◌, Bool, false, List, ◌∷◌, ◌++◌, take, drop, Option, None}
+use Rattle.std.specs.Prelude.{◌≡◌, ◌⊎◌, ℕ, ◌+◌, ◌-◌, Bool, true, false, List, ◌∷◌, ◌++◌, take, drop, Option, None}
 use Rattle.charmlet_model.specs.declared.half.Half.{Half}
 use Rattle.charmlet_model.specs.Half.{other}
 use Rattle.charmlet_disk.specs.declared.disk.Disk.{Ghosts}
@@ -26,6 +26,10 @@ end_of halves = halves.log_end
 -- an earlier call met a failure of the device
 abbrev pub is_halted : {D : Type 0} {G : Ghosts D} → Halves D G → Bool
 is_halted halves = halves.halted
+
+-- the first gate of the other half is there and closed
+abbrev pub is_spare_closed : {D : Type 0} {G : Ghosts D} → Halves D G → Bool
+is_spare_closed halves = halves.spare_closed
 
 -- where the log of the image that is prepared will begin
 abbrev pub prepared_end : {D : Type 0} {G : Ghosts D} → Halves D G → Option ℕ
@@ -68,6 +72,13 @@ pub record SameTaken {D : Type 0} {G : Ghosts D} (old new : Halves D G) : Type 0
   pub generation : new.generation ≡ old.generation
   pub log_end : new.log_end ≡ old.log_end
   pub going : new.halted ≡ false
+
+-- the halves are halted, and else what is taken stays
+pub record HaltsOnly {D : Type 0} {G : Ghosts D} (old new : Halves D G) : Type 0 where
+  pub taken : new.taken ≡ old.taken
+  pub generation : new.generation ≡ old.generation
+  pub log_end : new.log_end ≡ old.log_end
+  pub halted : new.halted ≡ true
 
 -- the other half is taken, at the next generation, and its log begins at this place
 pub record TakesOther {D : Type 0} {G : Ghosts D} (old new : Halves D G) (at : ℕ) : Type 0 where

@@ -21,12 +21,15 @@ pub length-spell_array : (e : ℕ × Kind) → length (spell_array e) ≡ 4
 unfolding spell_array
 length-spell_array e = omega (arith, length-append (number_bytes 2 e.0) (number_bytes 2 (kind_number e.1)), length-number_bytes 2 e.0, length-number_bytes 2 (kind_number e.1))
 
-length-arrays : (kinds : Kinds) → length (flat_map spell_array kinds) ≡ 4 * length kinds
+pub length-arrays : (kinds : Kinds) → length (flat_map spell_array kinds) ≡ 4 * length kinds
 length-arrays [] = refl
 length-arrays (e ∷ es) = omega (arith, length-append (spell_array e) (flat_map spell_array es), length-spell_array e, length-arrays es)
 
 pub length-spell_arrays : (kinds : Kinds) → length (spell_list spell_array kinds) ≡ 4 + 4 * length kinds
 length-spell_arrays kinds = omega (arith, length-append (number_bytes 4 (length kinds)) (flat_map spell_array kinds), length-number_bytes 4 (length kinds), length-arrays kinds)
+
+-- how long the spelling of arrays is, without opening it
+pub ruleset array_lengths = (length-append, length-number_bytes, length-arrays)
 
 -- one more item of a list, as a loop over it comes to it
 pub one_more : {X : Type 0} (spell : X → List ℕ) (xs : List X) (i : ℕ) (d : X) → i < length xs → flat_map spell (take (i + 1) xs) ≡ flat_map spell (take i xs) ++ spell (get_or xs i d)

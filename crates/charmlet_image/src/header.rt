@@ -17,6 +17,9 @@ const SECOND_MARK: u32 = 844122947;
 /// The last generation that a header may have.
 pub const MAX_GENERATION: u64 = 1 << 40;
 
+/// How many bytes a header takes.
+pub const HEADER_SIZE: usize = 24;
+
 /// The mark of a half, by which its clients are read: by the first one, `CKP1`, a client has one item,
 /// and by the second one, `CKP2`, a window of them. Halves are written with the second one.
 #[derive(Clone, Copy, Debug, PartialEq, Eq)]

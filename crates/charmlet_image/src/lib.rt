@@ -13,13 +13,13 @@ pub mod laws;
 mod log;
 mod manifest;
 mod pending;
+mod sizes;
 mod writing;
 
 pub use crate::entries::Entry;
 pub use crate::half::{Beginning, HalfView, OpenHalf, read_half, read_top};
-pub use crate::header::{Header, MAX_GENERATION, Mark};
+pub use crate::header::{HEADER_SIZE, Header, MAX_GENERATION, Mark};
 pub use crate::image::ImageView;
 pub use crate::log::{LogBatches, LogView};
-pub use crate::writing::{
-    entry_size, new_store, write_arrays, write_client, write_entry, write_header,
-};
+pub use crate::sizes::{arrays_size, client_size, entry_size};
+pub use crate::writing::{new_store, write_arrays, write_client, write_entry, write_header};

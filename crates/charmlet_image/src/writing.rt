@@ -10,18 +10,19 @@ ghost use Rattle.charmlet_image.specs.Images.{mark_number, spell_array, spell_cl
 ghost use Rattle.charmlet_image.specs.NewStores.{empty_lists, new_half, spell_packed_entry};
 
 use crate::entries::Entry;
-use crate::header::{Header, Mark};
+use crate::header::{HEADER_SIZE, Header, Mark};
 use charmlet_model::{ClientRow, Kind, Manifest, Window, Words};
 use charmlet_record::{
     write_bytes, write_elem, write_u8, write_u16, write_u32, write_u64, write_words,
 };
 use std::alloc::{AllocError, Global};
 
-/// Writes a header into the room that there is: 24 bytes.
+/// Writes a header into the room that there is.
 #[tactic(auto, using(charmlet_record::proofs::Lengths::lengths), unfolding(crate::specs::Images::spell_header))]
 pub fn write_header(out: &mut Vec<u8>, header: &Header)
-    requires { vec_len out.old + 24 ≤ vec_capacity out.old }
+    requires { vec_len out.old + HEADER_SIZE ≤ vec_capacity out.old }
     ensures bytes { out.new.items ≡ out.old.items ++ spell_header header.now }
+    ensures size { vec_len out.new ≡ vec_len out.old + HEADER_SIZE }
     ensures capacity { vec_capacity out.old ≤ vec_capacity out.new }
 {
     write_u32(out, header.mark.number());
@@ -98,18 +99,6 @@ pub fn write_client(out: &mut Vec<u8>, client: u32, row: &ClientRow)
     write_u64(out, row.last);
     write_u8(out, row.window.len() as u8);
     write_items(out, &row.window);
-}
-
-/// How many bytes an entry takes.
-#[tactic(auto, using(charmlet_record::proofs::Lengths::lengths), unfolding(crate::specs::NewStores::spell_packed_entry, charmlet_pup::specs::Fields::byte_list))]
-pub fn entry_size(entry: &Entry<'_>) -> usize
-    requires { IfSome entry.now.packed (λ packed. length packed.now < 2 ^ 32) }
-    ensures { result ≡ length (spell_packed_entry entry.now) }
-{
-    match entry.packed {
-        None => 27,
-        Some(packed) => 31 + packed.len(),
-    }
 }
 
 /// Writes an entry into the room that there is. Its packed bytes go as they stand.

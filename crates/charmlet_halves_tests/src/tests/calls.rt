@@ -2,7 +2,7 @@
 ghost use Rattle.charmlet_disk.specs.Disk.{IsSettled};
 ghost use Rattle.charmlet_disk.specs.MemDisk.{files};
 
-use super::{batch, bytes_of, create_on, disk_of, image};
+use super::{NEW_STORE, batch, bytes_of, create_on, disk_of, image, later_image};
 use charmlet_disk::{Call, Disk, MemDisk};
 use charmlet_halves::Halves;
 use charmlet_model::{Half, Refusal};
@@ -10,10 +10,11 @@ use std::alloc::AllocGlobal;
 use std::process::Abort;
 use std::test::Fail;
 
-// A call that changes a disk: a write of so many bytes from an offset on, or a sync.
+// A call that changes a disk: a write of so many bytes from an offset on, or of one byte, a gate, or a sync.
 #[derive(Clone, Copy, Debug, PartialEq, Eq)]
 enum Made {
     Write(Half, usize, usize),
+    Gate(Half, usize, u8),
     Sync(Half),
     Crash,
 }
@@ -21,7 +22,10 @@ enum Made {
 // What a call was.
 fn made_by(call: &Call) -> Made {
     match call {
-        Call::Write(half, offset, bytes) => Made::Write(*half, *offset, bytes.len()),
+        Call::Write(half, offset, bytes) => match bytes.as_slice() {
+            [gate] => Made::Gate(*half, *offset, *gate),
+            bytes => Made::Write(*half, *offset, bytes.len()),
+        },
         Call::Sync(half) => Made::Sync(*half),
         Call::Crash(_) => Made::Crash,
     }
@@ -48,20 +52,22 @@ fn created(rt: &(impl AllocGlobal + Abort), disk: MemDisk) -> Halves<MemDisk>
 
 #[test]
 fn a_new_store_and_a_batch_take_ten_calls(rt: HostRuntime) {
+    let mut disk = created(&rt, MemDisk::new(rt.alloc())).into_disk();
+    assert_eq!(rt; bytes_of(&rt, &mut disk, Half::Zero).as_slice(), NEW_STORE);
     let mut halves = created(&rt, MemDisk::new(rt.alloc()));
     assert_eq!(rt; halves.append_batch(batch()), Ok(()));
     assert_eq!(rt; halves.log_end(), 122);
     let half = Half::Zero;
     let wanted = [
-        Made::Write(half, 0, 1),
+        Made::Gate(half, 0, 0),
         Made::Sync(half),
         Made::Write(half, 1, 49),
         Made::Sync(half),
-        Made::Write(half, 0, 1),
+        Made::Gate(half, 0, 1),
         Made::Sync(half),
         Made::Write(half, 50, 73),
         Made::Sync(half),
-        Made::Write(half, 49, 1),
+        Made::Gate(half, 49, 1),
         Made::Sync(half),
     ];
     assert_made(&rt, &halves.into_disk(), 0, &wanted);
@@ -82,15 +88,15 @@ fn an_image_takes_six_calls(rt: HostRuntime) {
     assert_eq!(rt; halves.prepare_image(image()), Ok(()));
     let (zero, one) = (Half::Zero, Half::One);
     let wanted = [
-        Made::Write(one, 0, 1),
+        Made::Gate(one, 0, 0),
         Made::Sync(one),
         Made::Write(one, 1, 106),
         Made::Sync(one),
         Made::Write(one, 1, 106),
         Made::Sync(one),
-        Made::Write(one, 0, 1),
+        Made::Gate(one, 0, 1),
         Made::Sync(one),
-        Made::Write(zero, 0, 1),
+        Made::Gate(zero, 0, 0),
         Made::Sync(zero),
         Made::Write(zero, 1, 106),
         Made::Sync(zero),
@@ -98,17 +104,58 @@ fn an_image_takes_six_calls(rt: HostRuntime) {
     assert_made(&rt, &halves.into_disk(), 6, &wanted);
 }
 
+// After two checkpoints half 0 is taken again, and its log grows.
+#[test]
+fn checkpoints_go_to_and_fro(rt: HostRuntime) {
+    let mut halves = created(&rt, MemDisk::new(rt.alloc()));
+    assert_eq!(rt; halves.prepare_image(image()), Ok(()));
+    assert_eq!(rt; halves.open_gate(), Ok(()));
+    assert_eq!(rt; halves.prepare_image(later_image()), Ok(()));
+    assert_eq!(rt; halves.open_gate(), Ok(()));
+    assert_eq!(rt; halves.append_batch(batch()), Ok(()));
+    assert_eq!(rt;
+        (halves.taken(), halves.generation(), halves.log_end()),
+        (Half::Zero, 3, 179)
+    );
+    let half = Half::Zero;
+    let wanted = [
+        Made::Gate(half, 0, 0),
+        Made::Sync(half),
+        Made::Write(half, 1, 106),
+        Made::Sync(half),
+        Made::Gate(half, 0, 1),
+        Made::Sync(half),
+        Made::Write(half, 107, 73),
+        Made::Sync(half),
+        Made::Gate(half, 106, 1),
+        Made::Sync(half),
+    ];
+    assert_made(&rt, &halves.into_disk(), 12, &wanted);
+}
+
+#[test]
+fn half_0_is_settled_first(rt: HostRuntime) {
+    let disk = disk_of(&rt, b"some", b"other");
+    let wanted = [
+        Made::Write(Half::Zero, 0, 4),
+        Made::Write(Half::One, 0, 5),
+        Made::Sync(Half::Zero),
+        Made::Sync(Half::One),
+    ];
+    assert_made(&rt, &disk, 0, &wanted);
+}
+
 // A gate that is closed already is not closed again, and half 1 isn't touched.
 #[test]
 fn closed_gates_stay_closed(rt: HostRuntime) {
-    let disk = disk_of(&rt, b"\x02and more", b"\x07too");
+    let disk = disk_of(&rt, b"\x02and more", b"\x07");
     let earlier = disk.calls().len();
     let mut halves = created(&rt, disk);
     assert_eq!(rt; halves.prepare_image(image()), Ok(()));
     let wanted = [
         Made::Write(Half::Zero, 1, 49),
         Made::Sync(Half::Zero),
-        Made::Write(Half::Zero, 0, 1),
+        Made::Gate(Half::Zero, 0, 1),
         Made::Sync(Half::Zero),
         Made::Write(Half::One, 1, 106),
         Made::Sync(Half::One),
@@ -124,13 +171,13 @@ fn lone_gates_are_closed_first(rt: HostRuntime) {
     let mut halves = created(&rt, disk);
     assert_eq!(rt; halves.prepare_image(image()), Ok(()));
     let wanted = [
-        Made::Write(Half::Zero, 0, 1),
+        Made::Gate(Half::Zero, 0, 0),
         Made::Sync(Half::Zero),
         Made::Write(Half::Zero, 1, 49),
         Made::Sync(Half::Zero),
-        Made::Write(Half::Zero, 0, 1),
+        Made::Gate(Half::Zero, 0, 1),
         Made::Sync(Half::Zero),
-        Made::Write(Half::One, 0, 1),
+        Made::Gate(Half::One, 0, 0),
         Made::Sync(Half::One),
         Made::Write(Half::One, 1, 106),
         Made::Sync(Half::One),

@@ -1,8 +1,10 @@
 // Each call of the disk fails in turn, and each choice of a crash follows: the old store is there or the new one.
 ghost use Rattle.std.specs.Prelude.{◌≤◌};
+ghost use Rattle.charmlet_disk.specs.Disk.{IsSettled};
+ghost use Rattle.charmlet_disk.specs.MemDisk.{files};
 ghost use Rattle.charmlet_halves.specs.Bytes.{EndsClosed};
 
-use super::{batch, create_on, image, later_image};
+use super::{batch, create_on, disk_of, image, later_image};
 use charmlet_disk::{CrashChoice, Disk, FuseDisk, MemDisk};
 use charmlet_halves::{Halves, survey};
 use charmlet_model::Refusal;
@@ -98,10 +100,16 @@ fn found(rt: &(impl AllocGlobal + Abort), disk: &mut MemDisk) -> Store {
 }
 
 // How many steps are done on a disk that passes so many calls, and what these leave of it by a crash.
-fn left_after(rt: &(impl AllocGlobal + Abort), calls: u64, choice: CrashChoice) -> (usize, MemDisk)
+fn left_after(
+    rt: &(impl AllocGlobal + Abort),
+    disk: MemDisk,
+    calls: u64,
+    choice: CrashChoice,
+) -> (usize, MemDisk)
+    requires { IsSettled (files disk) }
     ensures { result.0 ≤ 7 }
 {
-    let disk = FuseDisk::new(MemDisk::new(rt.alloc()), calls);
+    let disk = FuseDisk::new(disk, calls);
     let (done, disk) = match create_on(rt, disk) {
         Ok(mut halves) => {
             let (done, last) = work(&mut halves);
@@ -120,15 +128,26 @@ fn left_after(rt: &(impl AllocGlobal + Abort), calls: u64, choice: CrashChoice) 
     (done, disk.inner().crash(choice))
 }
 
-#[test]
-fn each_crash_leaves_the_old_store_or_the_new_one(rt: HostRuntime) {
-    for calls in 0..27 {
+// Each of so many calls fails in turn, on a disk whose halves have these bytes at first.
+fn assert_old_or_new(rt: &(impl AllocGlobal + Abort), zero: &[u8], one: &[u8], all: u64) {
+    for calls in 0..=all {
         for choice in CrashChoice::ALL {
-            let (done, mut left) = left_after(&rt, calls, choice);
-            let store = found(&rt, &mut left);
+            let (done, mut left) = left_after(rt, disk_of(rt, zero, one), calls, choice);
+            let store = found(rt, &mut left);
             let next = STORES[(done + 1).min(7)];
             assert!(rt; store == STORES[done] || store == next);
-            assert_eq!(rt; done == 7, calls >= 26);
+            assert_eq!(rt; done == 7, calls == all);
         }
     }
+}
+
+#[test]
+fn each_crash_leaves_the_old_store_or_the_new_one(rt: HostRuntime) {
+    assert_old_or_new(&rt, b"", b"", 26);
+}
+
+// After closed gates anything may stand, as what an earlier store left.
+#[test]
+fn so_it_is_over_closed_halves(rt: HostRuntime) {
+    assert_old_or_new(&rt, b"\x02and more than that", b"\x07too", 22);
 }

@@ -1,4 +1,6 @@
 // What is found in two files.
+ghost use Rattle.std.specs.Prelude.{◌≤◌, IfOk, length};
+
 use super::{BATCH, NEW_STORE, batch, bytes_of, disk_of, image};
 use charmlet_disk::MemDisk;
 use charmlet_halves::{Halves, Surveyed, survey};
@@ -51,7 +53,9 @@ fn assert_found(
     wanted: Result<Seen, Refusal>,
 ) {
     assert_surveyed(rt, zero, one, wanted);
-    let mut disk = match Halves::open(rt.alloc(), disk_of(rt, zero, one)) {
+    let disk = disk_of(rt, zero, one);
+    let calls = disk.calls().len();
+    let mut disk = match Halves::open(rt.alloc(), disk) {
         Ok(opened) => {
             assert_eq!(rt; Ok(seen_by(&opened.survey)), wanted);
             opened.halves.into_disk()
@@ -61,12 +65,15 @@ fn assert_found(
             refused.disk
         }
     };
+    assert_eq!(rt; disk.calls().len(), calls);
     assert_eq!(rt; bytes_of(rt, &mut disk, Half::Zero).as_slice(), zero);
     assert_eq!(rt; bytes_of(rt, &mut disk, Half::One).as_slice(), one);
 }
 
 // The bytes of a store with an image, and a log of one batch, of this generation.
-fn store(rt: &(impl AllocGlobal + Abort), generation: u8) -> Result<Vec<u8>, AllocError> {
+fn store(rt: &(impl AllocGlobal + Abort), generation: u8) -> Result<Vec<u8>, AllocError>
+    ensures { IfOk result (λ bytes. 50 ≤ length bytes.items) }
+{
     let mut bytes = Vec::new(rt.alloc());
     bytes.extend_from_slice(NEW_STORE)?;
     assert!(rt; bytes.len() == 50);
@@ -172,6 +179,24 @@ fn torn_gates_are_closed_but_for_one_byte(rt: HostRuntime) -> Result<(), Fail> {
     }
     bytes[49] = 1;
     assert_found(&rt, &bytes, b"", Ok(seen_in(Half::Zero, 1)));
+    Ok(())
+}
+
+// No image comes after the last generation, 2^40, and nothing is written then.
+#[test]
+fn the_last_generation_takes_no_image(rt: HostRuntime) -> Result<(), Fail> {
+    let mut bytes = store(&rt, 0)?;
+    bytes[10] = 1;
+    let disk = disk_of(&rt, &bytes, b"");
+    let calls = disk.calls().len();
+    let mut halves = match Halves::open(rt.alloc(), disk) {
+        Ok(opened) => opened.halves,
+        Err(refused) => panic!(rt; "{}", refused.refusal),
+    };
+    assert_eq!(rt; halves.generation(), 1 << 40);
+    assert_eq!(rt; halves.prepare_image(image()), Err(Refusal::ImageFull));
+    assert!(rt; !halves.is_halted());
+    assert_eq!(rt; halves.into_disk().calls().len(), calls);
     Ok(())
 }
 
