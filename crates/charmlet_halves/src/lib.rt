@@ -13,5 +13,4 @@ mod writing;
 pub use crate::finding::{Contents, Surveyed, survey};
 pub use crate::halves::Halves;
 pub use crate::opening::{Opened, Refused};
-pub use crate::writing::MAX_HALF;
 pub use charmlet_disk::settle;

@@ -181,6 +181,7 @@ module _ (k : Kept) (consistent : IsConsistent k) where
       pending = consistent.pending;
       clients = consistent.clients;
       durable_rows = consistent.durable_rows;
+      backlog = consistent.backlog;
     }
 
   -- ---- an assignment
@@ -199,6 +200,7 @@ module _ (k : Kept) (consistent : IsConsistent k) where
           pending = room.pending;
           clients = room.clients;
           durable_rows = room.durable_rows;
+          backlog = room.backlog;
         }
 
   -- ---- a release

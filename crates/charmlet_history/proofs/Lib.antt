@@ -12,3 +12,5 @@ pub mod Delivering
 pub mod Moves
 pub mod Openings
 pub mod Rooms
+pub mod Unwritten
+pub mod RecordLists

@@ -108,6 +108,7 @@ module _ (k : Kept) (consistent : IsConsistent k) (x : Elem) (processor : ℕ) w
         pending = consistent.pending;
         clients = consistent.clients;
         durable_rows = consistent.durable_rows;
+        backlog = consistent.backlog;
       }
 
     -- it is there

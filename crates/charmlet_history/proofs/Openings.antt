@@ -23,6 +23,7 @@ use Rattle.charmlet_model.proofs.Maps.{elem_total}
 use Rattle.charmlet_model.proofs.OpenedLemmas.{opened_sound}
 use Rattle.charmlet_history.specs.declared.element.Element.{Element}
 use Rattle.charmlet_history.specs.Client.{Rows, same_rows}
+use Rattle.charmlet_record.specs.Backlog.{Batched, IsBacklog}
 use Rattle.charmlet_history.specs.Kept.{Kept, IsConsistent, IsCountedBy, core_of, client_at, element_at, new_client, no_element, places_of, present_rows, with_place}
 use Rattle.charmlet_history.specs.Opened.{opened_client, opened_element, with_clients, with_elements, with_made}
 
@@ -113,7 +114,7 @@ durable_are c (e ∷ es) = elim (is_at (nat_cmp c) e.0) as
 
 -- ---- what is kept of an opening world
 
-module _ (processors : ℕ) (w : World) (before generation log_end : ℕ) where
+module _ (processors : ℕ) (w : World) (before generation log_end : ℕ) (backlog : Batched) where
   abbrev pub opened_kept : Kept
   opened_kept = record {
     opening = w;
@@ -127,6 +128,7 @@ module _ (processors : ℕ) (w : World) (before generation log_end : ℕ) where
     clients = with_clients [] w.clients;
     events = [];
     durable = 0;
+    backlog = backlog;
     assigned = [];
   }
 
@@ -143,12 +145,13 @@ module _ (processors : ℕ) (w : World) (before generation log_end : ℕ) where
         let places = ap places_of elements_are ∙ places_are_homes processors w.records in
         λ i. record (opened processors w before generation log_end) { places = places i }
 
-    pub opened_consistent : 1 ≤ processors → processors ≤ 64 → before ≤ 2 ^ 40 → 1 ≤ generation → generation ≤ 2 ^ 40 → log_end < 2 ^ 31 → IsConsistent opened_kept
-    opened_consistent some few small_before some_generation few_generations small_end = record {
-      sound = subst IsSound (sym opened_core) (opened_sound processors w before generation log_end some few fit small_before some_generation few_generations small_end);
+    pub opened_consistent : 1 ≤ processors → processors ≤ 64 → before ≤ 2 ^ 40 → 1 ≤ generation → generation ≤ 2 ^ 40 → IsBacklog backlog [] → IsConsistent opened_kept
+    opened_consistent some few small_before some_generation few_generations empty = record {
+      sound = subst IsSound (sym opened_core) (opened_sound processors w before generation log_end some few fit small_before some_generation few_generations);
       rising = subst (IsStrictlySortedBy elem_cmp) (sym (ap keys_of elements_are ∙ keys_of-made elem_cmp elem_total (opened_element processors) w.records)) fit.rising_records;
       counts = λ x. subst (λ es. IsCountedBy (record_at w.records x) (element_at es x)) (sym elements_are) (counts_are processors x w.records);
       pending = refl;
       clients = ap present_rows clients_are ∙ present_are w.clients;
       durable_rows = λ c. ap (λ cs. (client_at cs c).durable) clients_are ∙ durable_are c w.clients;
+      backlog = empty;
     }

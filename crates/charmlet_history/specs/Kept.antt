@@ -20,11 +20,13 @@ use Rattle.charmlet_model.specs.World.{World, record_of, client_of, message_amon
 use Rattle.charmlet_model.specs.declared.refusal.Refusal.TheVariants as refusals
 use Rattle.charmlet_model.specs.declared.TheConstants.{CONSTRUCT}
 use Rattle.charmlet_model.specs.Reaction.{capped, greatest}
-use Rattle.charmlet_model.specs.Core.{Core, present, durable_world, pending_message, assigned_to, home, place_or_home, Blanks, Gate, When, CoreAnswer, Tells, Counts, Refuses}
+use Rattle.charmlet_model.specs.Core.{Core, present, durable_world, unwritten, end_of_flush, pending_message, assigned_to, home, place_or_home, Blanks, Gate, When, CoreAnswer, Tells, Counts, Refuses}
 use Rattle.charmlet_model.specs.Told.{told_of}
 use Rattle.charmlet_model.specs.Row.{no_client, in_window, follows_last, has_place, with_request}
 use Rattle.charmlet_model.specs.Sound.{IsSound}
 use Rattle.std.specs.Vec.{vec_len, vec_capacity}
+use Rattle.charmlet_record.specs.Backlog.{Batched, IsBacklog}
+use Rattle.charmlet_record.specs.Backlog as backlogs
 use Rattle.charmlet_chare.specs.declared.output.Output.{Output}
 use Rattle.charmlet_chare.specs.Output.{output_of}
 use Rattle.charmlet_history.specs.declared.element.Element.{Element}
@@ -63,6 +65,10 @@ client_at clients c = unwrap_or (lookup (is_at (nat_cmp c)) clients) new_client
 abbrev pub present_rows : List (ℕ × Rows) → List (ℕ × ClientRow)
 present_rows = map (λ e. (e.0, e.1.present))
 
+-- a backlog, its room aside
+abbrev pub roomless : Batched → Batched
+roomless b = record b { spare_bytes = 0; spare_starts = 0 }
+
 -- what a history keeps, its room aside
 pub record Kept : Type 0 where
   pub opening : World
@@ -76,6 +82,7 @@ pub record Kept : Type 0 where
   pub clients : List (ℕ × Rows)
   pub events : List Event
   pub durable : ℕ
+  pub backlog : Batched
   pub assigned : List (ℕ × MsgId)
 
 abbrev pub kept_in : History → Kept
@@ -91,6 +98,7 @@ kept_in h = record {
   clients = h.clients.entries;
   events = h.events.items;
   durable = h.durable;
+  backlog = roomless h.backlog;
   assigned = h.assigned.entries;
 }
 
@@ -113,7 +121,8 @@ core_of k = record {
 abbrev pub core_in : History → Core
 core_in h = core_of (kept_in h)
 
--- what is kept is the present world, the places of its elements, and the durable rows of its clients
+-- What is kept is the present world, the places of its elements, the durable rows of its clients, and the bytes of the events that
+-- aren't durable.
 pub record IsConsistent (k : Kept) : Type 0 where
   pub sound : IsSound (core_of k)
   pub rising : IsStrictlySortedBy elem_cmp (keys_of k.elements)
@@ -121,6 +130,7 @@ pub record IsConsistent (k : Kept) : Type 0 where
   pub pending : k.pending ≡ (present (core_of k)).pending
   pub clients : present_rows k.clients ≡ (present (core_of k)).clients
   pub durable_rows : (c : ℕ) → (client_at k.clients c).durable ≡ client_of (durable_world (core_of k)) c
+  pub backlog : IsBacklog k.backlog (unwritten (core_of k))
 
 -- the refusal, if there is one
 abbrev pub refusal_in : {T : Type 0} → Result T Refusal → Option Refusal
@@ -170,9 +180,10 @@ told_by k client number = told_of (client_at k.clients client).durable number
 abbrev pub with_row : List (ℕ × Rows) → ℕ → ClientRow → List (ℕ × Rows)
 with_row clients c row = insert_entry nat_cmp clients c (with_present (client_at clients c) row)
 
--- a request is accepted
-abbrev pub accepted : Kept → ℕ → ℕ → Elem → ℕ → List ℕ → Kept
-accepted k client number to entry words = record k {
+-- a request is accepted, after which the backlog is this one
+abbrev pub accepted : Kept → Batched → ℕ → ℕ → Elem → ℕ → List ℕ → Kept
+accepted k backlog client number to entry words = record k {
+  backlog = backlog;
   pending = k.pending ++ request client number to entry words ∷ [];
   clients = with_row k.clients client (with_request (client_at k.clients client).present number);
   events = k.events ++ Accept client number to entry words ∷ [];
@@ -219,9 +230,10 @@ assigned_reaction core processor = option_and_then (reaction_of (present core)) 
 abbrev pub IsOutcome : Core → ℕ → Output → Type 0
 IsOutcome core processor output = (r : Reaction) × (assigned_reaction core processor ≡ Some r) × (output ≡ output_of r)
 
--- room for the event of a delivery and for all that it may send
+-- room for the event of a delivery and its bytes, and for all that it may send
 abbrev pub HasSpace : History → Type 0
-HasSpace h = (vec_len h.events < vec_capacity h.events) × (vec_len h.pending + 16 ≤ vec_capacity h.pending)
+HasSpace h =
+    (vec_len h.events < vec_capacity h.events) × (vec_len h.pending + 16 ≤ vec_capacity h.pending) × backlogs.HasRoomFor h.backlog 1
 
 -- and for its receiver
 pub record HasRoomFor (h : History) (id : MsgId) : Type 0 where

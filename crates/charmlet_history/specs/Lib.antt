@@ -2,5 +2,6 @@
 pub mod Client
 pub mod Kept
 pub mod Flushed
+pub mod Records
 pub mod Delivered
 pub mod Opened

@@ -3,6 +3,7 @@
 ghost use Rattle.std.specs.Prelude.{◌≡◌, ◌+◌, ◌≤◌, not};
 ghost use Rattle.charmlet_model.specs.Reaction.{greatest};
 ghost use Rattle.charmlet_history.specs.Delivered.{counted, lacks_count};
+ghost use Rattle.charmlet_history.specs.Records.{has_record};
 
 use charmlet_model::MAX_SENDS;
 
@@ -21,6 +22,13 @@ impl Element {
         ensures { result ≡ not (lacks_count self.now) }
     {
         self.received < u64::MAX && self.sent <= u64::MAX - MAX_SENDS as u64
+    }
+
+    /// Whether its world has a record of it: it is there, or it received a message.
+    pub fn has_record(&self) -> bool
+        ensures { result ≡ has_record self.now }
+    {
+        self.place.is_some() || self.received > 0
     }
 
     /// Counts one more delivery, by which it sent so many messages and after which it stands here, or

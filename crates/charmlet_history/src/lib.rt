@@ -6,11 +6,13 @@ mod delivery;
 mod element;
 mod flush;
 mod history;
+mod look;
 mod moving;
 mod next;
 mod opening;
 mod request;
 
+pub use crate::client::Client;
 pub use crate::delivery::RefusedCommit;
 pub use crate::element::Element;
 pub use crate::history::History;

@@ -161,7 +161,7 @@ pending-lawful kinds =
 
 -- ---- elements
 
-length-packed : (s : State) → IsState s → length (pupped s) < 2 ^ 32
+pub length-packed : (s : State) → IsState s → length (pupped s) < 2 ^ 32
 unfolding words_bytes
 length-packed (Counter n) is = omega (arith, length-number_bytes 8 n)
 length-packed (Ring next seen) is = omega (arith, length-append (number_bytes 8 next) (number_bytes 8 seen), length-number_bytes 8 next, length-number_bytes 8 seen)

@@ -1,6 +1,6 @@
 //! The elements of an image from bytes, with their objects packed.
 
-ghost use Rattle.std.specs.Prelude.{◌≡◌, [], IsOk, is_ok, map, option_map};
+ghost use Rattle.std.specs.Prelude.{◌≡◌, [], IfOk, IfSome, IsOk, is_ok, map, option_map};
 ghost use Rattle.charmlet_record.specs.Gives.{GivesAs, GivesExactly};
 ghost use Rattle.charmlet_model.specs.Names.{elem_cmp};
 ghost use Rattle.charmlet_model.specs.Packed.{reads_packed};
@@ -8,7 +8,7 @@ ghost use Rattle.charmlet_model.specs.declared.kind.Kind.TheVariants.{Tape};
 ghost use Rattle.charmlet_model.specs.Unpacked.{state_at};
 ghost use Rattle.charmlet_image.specs.After.{read_after, read_list_after};
 ghost use Rattle.charmlet_image.specs.Reading.{greatest_count, is_less, kind_in, least_flag, read_entry, read_object, read_option, rises};
-ghost use Rattle.charmlet_image.specs.Views.{GivesExactlyAs, entry_said};
+ghost use Rattle.charmlet_image.specs.Views.{ArePacked, GivesExactlyAs, IsPacked, entry_said};
 ghost use Rattle.charmlet_image.specs.declared.entries.Entry.{Entry};
 ghost use Rattle.charmlet_record.specs.Reading.{Kinds, checked, read_elem};
 
@@ -55,8 +55,9 @@ fn is_packed(kind: Kind, bytes: &[u8]) -> bool
 /// Reads an object of this kind, and leaves it packed.
 #[tactic(auto, unfolding(crate::specs::Reading::read_object, crate::specs::Reading::read_packed, charmlet_record::specs::Reading::read_length, charmlet_record::specs::Reading::then_read))]
 fn read_object<'a>(reader: &mut Reader<'a>, kind: Kind) -> Result<&'a [u8], Fault>
-    ensures { GivesExactlyAs (λ packed. state_at kind packed.now) result reader.new
+    ensures gives { GivesExactlyAs (λ packed. state_at kind packed.now) result reader.new
         (read_object kind reader.old) }
+    ensures packed { IfOk result (λ packed. IsOk (reads_packed kind packed.now)) }
 {
     let left = reader.left();
     let size = reader.u32()? as usize;
@@ -78,9 +79,11 @@ fn read_presence<'a>(
     kind: Kind,
     received: u64,
 ) -> Result<Option<&'a [u8]>, Fault>
-    ensures { GivesExactlyAs (λ packed. option_map (λ bytes. state_at kind bytes.now) packed)
+    ensures gives { GivesExactlyAs (λ packed. option_map (λ bytes. state_at kind bytes.now) packed)
         result reader.new
         (read_option (least_flag received) (read_object kind) reader.old) }
+    ensures packed { IfOk result
+        (λ packed. IfSome packed (λ bytes. IsOk (reads_packed kind bytes.now))) }
 {
     let left = reader.left();
     match reader.u8()? {
@@ -142,8 +145,9 @@ fn read_entry<'a>(
     manifest: &Manifest,
     before: &[Entry<'a>],
 ) -> Result<Entry<'a>, Fault>
-    ensures { GivesExactlyAs (entry_said manifest.now) result reader.new
+    ensures gives { GivesExactlyAs (entry_said manifest.now) result reader.new
         (read_entry manifest.now (map (entry_said manifest.now) before.now) reader.old) }
+    ensures packed { IfOk result (IsPacked manifest.now) }
 {
     let element = read_next_element(reader, manifest, before)?;
     let sent = reader.u64()?;
@@ -165,8 +169,9 @@ fn entries_of<'a>(
     manifest: &Manifest,
     count: u32,
 ) -> Result<Vec<Entry<'a>>, ReadError>
-    ensures { GivesAs (λ entries. map (entry_said manifest.now) entries.items) result reader.new
-        (read_after (read_entry manifest.now) count [] reader.old) }
+    ensures gives { GivesAs (λ entries. map (entry_said manifest.now) entries.items) result
+        reader.new (read_after (read_entry manifest.now) count [] reader.old) }
+    ensures packed { IfOk result (λ entries. ArePacked manifest.now entries.items) }
 {
     let mut entries = Vec::new(alloc);
     for _ in 0..count {
@@ -186,8 +191,9 @@ pub fn read_entries<'a>(
     alloc: Global,
     manifest: &Manifest,
 ) -> Result<Vec<Entry<'a>>, ReadError>
-    ensures { GivesAs (λ entries. map (entry_said manifest.now) entries.items) result reader.new
-        (read_list_after 0 greatest_count (read_entry manifest.now) reader.old) }
+    ensures gives { GivesAs (λ entries. map (entry_said manifest.now) entries.items) result
+        reader.new (read_list_after 0 greatest_count (read_entry manifest.now) reader.old) }
+    ensures packed { IfOk result (λ entries. ArePacked manifest.now entries.items) }
 {
     let count = reader.u32()?;
     entries_of(reader, alloc, manifest, count)

@@ -1,2 +1,3 @@
 pub mod PlainWorlds
 pub mod Readings
+pub mod RisingMaps

@@ -7,5 +7,5 @@ mod packed;
 mod world;
 
 pub use crate::kind_table::react;
-pub use crate::packed::{pack_state, read_state};
+pub use crate::packed::{pack_state, read_state, state_at};
 pub use crate::world::PlainWorld;

@@ -126,9 +126,9 @@ fn exactly(bytes: &[u8], width: usize) -> Result<usize, PupFault>
     }
 }
 
-/// The state whose fields stand at their places in the bytes. It fails only for want of memory.
+/// The state of an object of this kind, whose packed form the bytes are. It fails only for want of memory.
 #[tactic(auto, using(crate::proofs::Readings::lengths_of_states))]
-fn state_at(alloc: Global, kind: Kind, bytes: &[u8]) -> Result<State, AllocError>
+pub fn state_at(alloc: Global, kind: Kind, bytes: &[u8]) -> Result<State, AllocError>
     requires { IsOk (reads_packed kind bytes.now) }
     ensures { IfOk result (λ state. state ≡ state_at kind bytes.now) }
 {

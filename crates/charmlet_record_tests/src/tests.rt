@@ -1,3 +1,4 @@
+mod backlog;
 mod damage;
 mod memory;
 mod random;

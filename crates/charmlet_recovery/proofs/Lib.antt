@@ -26,3 +26,5 @@ pub mod Offsets
 pub mod Sealed
 pub mod Rising
 pub mod Replies
+pub mod Writing
+pub mod LawfulRestarts

@@ -22,7 +22,7 @@ stored_is_recovered outcome w count generation is =
     ∙ ap (Found w count) is.has_generation
 
 -- what a half that is found means
-record FoundFrom (s : Saved) (m : Meaning) (w : World) (count generation : ℕ) : Type 0 where
+pub record FoundFrom (s : Saved) (m : Meaning) (w : World) (count generation : ℕ) : Type 0 where
   pub means : m ≡ Whole w count
   pub has_generation : s.header.generation ≡ generation
 
@@ -31,7 +31,7 @@ found-by half s (Faulty place) w count generation e = absurd cc
 found-by half s (Whole v n) w count generation e =
     let a : v ≡ w = cc in let b : n ≡ count = cc in record { means = λ i. Whole (a i) (b i); has_generation = cc }
 
-found-from : (outcome : Half → List ℕ) (t : Taken) (w : World) (count generation : ℕ) → recovered_from t ≡ Found w count generation → taken (outcome Zero) (outcome One) ≡ t →
+pub found-from : (outcome : Half → List ℕ) (t : Taken) (w : World) (count generation : ℕ) → recovered_from t ≡ Found w count generation → taken (outcome Zero) (outcome One) ≡ t →
     (half : Half) × (s : Saved) × (taken (outcome Zero) (outcome One) ≡ Takes half s) × FoundFrom s (meaning_of s) w count generation
 found-from outcome NothingHere w count generation e is = absurd cc
 found-from outcome (DamagedAt half offset) w count generation e is = absurd cc

@@ -16,3 +16,4 @@ pub mod Outcomes
 pub mod FileLaws
 pub mod RestartLaws
 pub mod Examples
+pub mod WritingLaws

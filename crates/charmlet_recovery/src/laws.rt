@@ -2,6 +2,7 @@
 
 ghost use Rattle.charmlet_recovery.specs.Laws.{AppendedEventsRecover, DeliveriesGrow, FaultlessIsSound, HistoriesRecover, MomentsOfShelves, SealsRecover};
 ghost use Rattle.charmlet_recovery.specs.FileLaws.{BatchesAreSaved, ClosedIsNothing, FilesOfHistoriesRecover, HistoriesAreSaved, KeptIsLawful, LawfulGrows, LawfulIsKept, LawfulJoins, LawfulParts, NothingIsClosed, OpenedIsLawful, RecoveredIsFit, SealedImagesAreWritten, SpelledIsSuperseded, RecoveredIsTaken, RecoveredWasStored, StoredIsOne, StoredIsRecovered, StoredIsTaken, TakenWasStored, ToldIsRecovered};
+ghost use Rattle.charmlet_recovery.specs.WritingLaws.{BatchesLengthen, BatchesStand, CheckpointsAreStored, CreationsAreStored, FlushesAreStored, HalvesHaveSize, ImagesHaveSize, ImagesStand, LawfulLacksBlanksAlone, LegalHistoriesJoin, LegalHistoriesPart, NewStoresStand, NothingIsRefused, StandingIsStored, StoredIsStanding};
 ghost use Rattle.charmlet_recovery.specs.RestartLaws.{FaultsStandThere, FoundLacksBlanksAlone, LeastShortIsFound, OffsetsRise, RestartsAreRefusedForCause, RestartsAreTaken};
 ghost use Rattle.charmlet_recovery.specs.FaultLaws.{CatchUpGoesOn, EventsGoOn, FaultsArePlaces, FaultsStay, PendingGoesOn, RoundsEnd};
 ghost use Rattle.charmlet_recovery.specs.BlankLaws.{BlanksAreThoseMade, BlanksSuffice, BlanksSufficeNext};
@@ -133,4 +134,37 @@ pub fn restarts_are_refused_for_cause()
 pub fn faults_stand_there()
     ensures there { FaultsStandThere }
     ensures rise { OffsetsRise }
+{}
+
+/// How many bytes an image of a world takes, and a half with a batch more.
+pub fn halves_have_sizes()
+    ensures image { ImagesHaveSize }
+    ensures half { HalvesHaveSize }
+    ensures batch { BatchesLengthen }
+{}
+
+/// A history is legal if and only if its first part is, and the rest from the world after that.
+pub fn legal_histories_have_parts()
+    ensures part { LegalHistoriesPart }
+    ensures join { LegalHistoriesJoin }
+{}
+
+/// What a half that is spelled so stores beside a spare one, whichever step of a flush, of a checkpoint or of
+/// a creation a crash comes in: the world before, or the one after.
+pub fn written_worlds_are_stored()
+    ensures stands { StandingIsStored }
+    ensures stored { StoredIsStanding }
+    ensures batch { BatchesStand }
+    ensures flush { FlushesAreStored }
+    ensures image { ImagesStand }
+    ensures checkpoint { CheckpointsAreStored }
+    ensures new_store { NewStoresStand }
+    ensures creation { CreationsAreStored }
+{}
+
+/// Lawful outcomes are refused to a restart for blanks that lack, and for nothing else; where nothing was
+/// created, there is nothing.
+pub fn lawful_outcomes_restart()
+    ensures nothing { NothingIsRefused }
+    ensures lawful { LawfulLacksBlanksAlone }
 {}

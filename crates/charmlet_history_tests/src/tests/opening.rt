@@ -28,7 +28,6 @@ pub fn opened(
     requires before { before ≤ 2 ^ 40 }
     requires some_generation { 1 ≤ generation }
     requires few_generations { generation ≤ 2 ^ 40 }
-    requires log_end { log_end < 2 ^ 31 }
     ensures { IfOk result (λ history. IsConsistent (kept_in history)) }
 {
     let world = opening_world(alloc)?;

@@ -6,7 +6,7 @@ ghost use Rattle.charmlet_history.specs.Kept.{IsConsistent, kept_in};
 use super::opening::opened;
 use super::steps::{Step, halts_before_the_commit, of_client, run};
 use charmlet_history::History;
-use charmlet_model::{Elem, Refusal};
+use charmlet_model::{Elem, Kind, Refusal};
 use std::process::Abort;
 
 // The history that opens with the small world on four processors. Where memory is refused it opens at the second try.
@@ -14,7 +14,6 @@ fn open(rt: &(impl AllocGlobal + Abort), before: u64, generation: u64, log_end: 
     requires before { before ≤ 2 ^ 40 }
     requires some_generation { 1 ≤ generation }
     requires few_generations { generation ≤ 2 ^ 40 }
-    requires log_end { log_end < 2 ^ 31 }
     ensures { IsConsistent (kept_in result) }
 {
     let first = opened(rt.alloc(), before, generation, log_end, 4);
@@ -36,13 +35,23 @@ fn answers(rt: &(impl AllocGlobal + Abort), before: u64, steps: &[Step], wanted:
     run(rt, &mut history, steps, wanted);
 }
 
-// The same of the last file, whose log has as many bytes as it can.
-fn answers_at_limits(rt: &(impl AllocGlobal + Abort), before: u64, steps: &[Step], wanted: &str)
+// The same of the last file, whose log has room for so many bytes more.
+fn answers_at_limits(
+    rt: &(impl AllocGlobal + Abort),
+    before: u64,
+    room: u32,
+    steps: &[Step],
+    wanted: &str,
+)
     requires { before ≤ 2 ^ 40 }
 {
-    let mut history = open(rt, before, 1 << 40, (1 << 31) - 1);
+    let end = ((1u64 << 31) - 1).saturating_sub(room as u64);
+    let mut history = open(rt, before, 1 << 40, end);
     run(rt, &mut history, steps, wanted);
 }
+
+// How many bytes a batch of one request with one word takes.
+const ONE_REQUEST: u32 = 46;
 
 const FIRST: Elem = Elem { array: 0, index: 0 };
 
@@ -194,7 +203,7 @@ fn refused_memory_changes_no_answer_at_the_last_event(rt: HostRuntime) {
          Elsewhere 0\n\
          can with a blank of kind 1\n\
          durable 1099511627776\n";
-    answers_at_limits(&rt, (1 << 40) - 1, &steps, wanted);
+    answers_at_limits(&rt, (1 << 40) - 1, ONE_REQUEST, &steps, wanted);
 }
 
 // What is assigned counts as an event, until it is released.
@@ -235,7 +244,75 @@ fn histories_of_all_events_take_none(rt: HostRuntime) {
          HistoryFull\n\
          HistoryFull\n\
          durable 1099511627776\n";
-    answers_at_limits(&rt, 1 << 40, &steps, wanted);
+    answers_at_limits(&rt, 1 << 40, 0, &steps, wanted);
+}
+
+// A log that is full by one byte takes no batch, and all else goes on.
+#[test]
+fn full_logs_refuse_a_flush(rt: HostRuntime) {
+    let steps = [
+        Step::Flush,
+        Step::Ask(7, 3),
+        Step::Flush,
+        Step::Status(7, 3),
+        Step::Deliver(0, 7, 2),
+        Step::Flush,
+        Step::Status(7, 2),
+        Step::Pending,
+    ];
+    let wanted = "durable 5\n\
+         told unknown\n\
+         LogFull\n\
+         told unknown\n\
+         done\n\
+         LogFull\n\
+         told accepted\n\
+         pending 3\n";
+    answers_at_limits(&rt, 5, ONE_REQUEST - 1, &steps, wanted);
+}
+
+// Two batches fill a log to its last byte, and then it takes none.
+#[test]
+fn logs_fill_to_their_last_byte(rt: HostRuntime) {
+    let steps = [
+        Step::Ask(7, 3),
+        Step::Flush,
+        Step::Ask(9, 1),
+        Step::Flush,
+        Step::Flush,
+        Step::Ask(10, 1),
+        Step::Flush,
+        Step::Status(9, 1),
+    ];
+    let wanted = "told unknown\n\
+         durable 6\n\
+         told unknown\n\
+         durable 7\n\
+         durable 7\n\
+         told unknown\n\
+         LogFull\n\
+         told accepted\n";
+    answers_at_limits(&rt, 5, 2 * ONE_REQUEST, &steps, wanted);
+}
+
+// What a history keeps is shown, and what isn't durable is what a flush would write.
+#[test]
+fn histories_show_what_they_keep(rt: HostRuntime) {
+    let mut history = open(&rt, 5, 3, 100);
+    assert_eq!(rt; history.manifest().kind_of(1), Some(Kind::Tree));
+    assert_eq!(rt; (history.clients().len(), history.elements().len()), (2, 3));
+    assert_eq!(rt; history.generation(), 3);
+    assert_eq!(rt; (history.event_count(), history.durable_count()), (5, 5));
+    assert!(rt; history.backlog().is_empty());
+    assert_eq!(rt; history.test_flush(), Ok(100));
+    run(&rt, &mut history, &[Step::Ask(7, 3)], "told unknown\n");
+    assert_eq!(rt; (history.event_count(), history.durable_count()), (6, 5));
+    assert_eq!(rt; history.backlog().size(), ONE_REQUEST as usize);
+    assert_eq!(rt; history.test_flush(), Ok(100 + ONE_REQUEST as u64));
+    run(&rt, &mut history, &[Step::Flush], "durable 6\n");
+    assert_eq!(rt; (history.event_count(), history.durable_count()), (6, 6));
+    assert!(rt; history.backlog().is_empty());
+    assert_eq!(rt; history.test_flush(), Ok(100 + ONE_REQUEST as u64));
 }
 
 #[test]

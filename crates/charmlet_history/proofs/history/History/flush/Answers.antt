@@ -1,18 +1,17 @@
-use Rattle.std.proofs.Common.{rules, ◌≡◌, ◌-◌, ◌≤◌, ◌∙◌, length, sym, ap, subst, arith}
-use Rattle.std.specs.Prelude.{drop}
-use Rattle.std.proofs.lemmas.List.{length-drop, take_all}
-use Rattle.charmlet_history.specs.Flushed.{flushed_rows}
-use Rattle.charmlet_history.specs.Kept.{IsConsistent, kept_in}
-use Rattle.charmlet_history.proofs.Flushes.{all_durable_consistent}
+use Rattle.std.proofs.Common.{◌≡◌, sym, subst, ◌∙◌, ap}
+use Rattle.std.specs.Prelude.{None}
+use Rattle.charmlet_model.specs.Core.{end_of_flush, first_refusal, gates}
+use Rattle.charmlet_model.specs.Core as core
+use Rattle.charmlet_history.specs.Flushed.{all_durable}
+use Rattle.charmlet_history.specs.Kept.{IsConsistent, core_of, kept_in, plenty}
+use Rattle.charmlet_history.proofs.Flushes.{flushed_consistent}
 use Rattle.charmlet_history.proofs.history.History.flush.Goals as goal
 
 pub returns-clause-consistent : goal.returns-clause-consistent
 returns-clause-consistent c =
     let k = kept_in c.args.self.now in
-    let events = c.deref.result.now in
-    let all : events ≡ k.events = c.deref.ensures.value in
-    let enough : length (drop k.durable events) ≤ length events - k.durable = let count = length-drop k.durable events in omega arith in
-    let rows : c.flush_rows.new.clients.entries ≡ flushed_rows k.clients (drop k.durable k.events) =
-    c.flush_rows.ensures ∙ ap (flushed_rows k.clients) (take_all (length events - k.durable) (drop k.durable events) enough ∙ ap (drop k.durable) all) in
-    let count : c.len-self.result ≡ length k.events = search rules in
-    subst IsConsistent (λ i. record k { clients = sym rows i; durable = sym count i }) (all_durable_consistent k c.requires c.if-self.false)
+    let b = (kept_in c.make_durable.new.self).backlog in
+    let passes : first_refusal (gates (core_of k) plenty core.Flush) ≡ None = sym c.in_ok-log_end.ensures.refused in
+    let made : kept_in c.make_durable.new.self ≡ all_durable k (end_of_flush (core_of k)) b =
+    c.make_durable.ensures.durable ∙ ap (λ end. all_durable k end b) c.in_ok-log_end.ensures.ok in
+    subst IsConsistent (sym made) (flushed_consistent k b c.requires c.make_durable.ensures.empty passes)

@@ -1,0 +1,6 @@
+-- Lemmas on what halves keep.
+pub mod Closed
+pub mod Parts
+pub mod Resting
+pub mod FlushLemmas
+pub mod Turning
