@@ -4,3 +4,5 @@ pub mod Parts
 pub mod Resting
 pub mod FlushLemmas
 pub mod Turning
+pub mod Making
+pub mod Quietness

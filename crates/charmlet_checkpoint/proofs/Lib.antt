@@ -1,0 +1,4 @@
+pub mod Lists
+pub mod Entries
+pub mod Whole
+pub mod SealedBytes

@@ -1,0 +1,2 @@
+-- Lemmas on the steps of a store of counters.
+pub mod Counters

@@ -1,0 +1,4 @@
+mod crashes;
+mod flushes;
+mod refusals;
+mod stores;

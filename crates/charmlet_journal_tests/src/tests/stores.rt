@@ -1,0 +1,224 @@
+//! A store of counters on a disk, its steps, and what is found on the disk afterwards.
+
+ghost use Rattle.std.specs.Prelude.{◌≡◌, IfOk};
+ghost use Rattle.charmlet_model.specs.Sound.{new_world};
+ghost use Rattle.charmlet_model.specs.Fit.{IsFit};
+ghost use Rattle.charmlet_disk.specs.Disk.{IsSettled};
+ghost use Rattle.charmlet_disk.specs.MemDisk.{files};
+ghost use Rattle.charmlet_chare.specs.Output.{empty_output};
+ghost use Rattle.charmlet_history.specs.Kept.{IsConsistent, core_in, kept_in};
+ghost use Rattle.charmlet_journal.specs.Quiet.{Quiet};
+ghost use Rattle.charmlet_journal_tests.specs.Standing.{IsStanding};
+
+use charmlet_chare::Output;
+use charmlet_disk::{Disk, MemDisk, settle};
+use charmlet_halves::Refused;
+use charmlet_history::{History, Request};
+use charmlet_journal::{Created, create, flush};
+use charmlet_model::{
+    CONSTRUCT, Elem, Event, Half, Kind, Manifest, MsgId, Origin, Refusal, Sends, Words,
+};
+use charmlet_plain::PlainWorld;
+use charmlet_plain_recovery::{Recovered, recover};
+use std::alloc::{AllocGlobal, Global};
+use std::process::Abort;
+use std::test::Fail;
+
+// What a store is asked to do.
+#[derive(Clone, Copy)]
+pub enum Step {
+    // This client's request of this number, which constructs the counter of this index.
+    Ask(u32, u64, u64),
+    // The delivery of this client's request of this number.
+    Deliver(u32, u64),
+    Flush,
+}
+
+// Counters in array 0.
+pub fn counters(rt: &(impl AllocGlobal + Abort)) -> Manifest
+    ensures { IsFit (new_world result) }
+{
+    match Manifest::of(rt.alloc(), &[(0, 1)]) {
+        Ok(Some(manifest)) => manifest,
+        _ => panic!(rt; "there is memory for a manifest"),
+    }
+}
+
+// A new store of them on a disk.
+pub fn created_on<D: Disk>(
+    rt: &(impl AllocGlobal + Abort),
+    disk: D,
+) -> Result<Created<D>, Refused<D>>
+    requires { D.honest disk → IsSettled (D.file disk) }
+    ensures { IfOk result IsStanding }
+{
+    create(rt.alloc(), disk, counters(rt), 1)
+}
+
+fn request_of(client: u32, number: u64) -> MsgId {
+    MsgId {
+        origin: Origin::Client(client),
+        number,
+    }
+}
+
+fn counter_at(index: u64) -> Elem {
+    Elem { array: 0, index }
+}
+
+// Asks for a counter.
+fn ask(history: &mut History, client: u32, number: u64, index: u64) -> Result<(), Refusal>
+    requires { IsConsistent (kept_in history.old) }
+    ensures consistent { IsConsistent (kept_in history.new) }
+    ensures quiet { Quiet (core_in history.old) (core_in history.new) }
+{
+    let request = Request {
+        client,
+        number,
+        to: counter_at(index),
+        entry: CONSTRUCT,
+        words: &[index],
+    };
+    history.request(&request)?;
+    Ok(())
+}
+
+// What comes of the construction of a counter. It takes no memory.
+fn nothing(alloc: Global) -> Output
+    ensures { result ≡ empty_output }
+{
+    Output {
+        sends: Sends::new(Vec::new(alloc)),
+        reply: Words::new(Vec::new(alloc)),
+        is_destroyed: false,
+    }
+}
+
+// Delivers a request that constructs a counter.
+fn deliver(history: &mut History, alloc: Global, id: MsgId) -> Result<(), Refusal>
+    requires { IsConsistent (kept_in history.old) }
+    ensures consistent { IsConsistent (kept_in history.new) }
+    ensures quiet { Quiet (core_in history.old) (core_in history.new) }
+{
+    let Some(Kind::Counter) = history.test_delivery(0, id)? else {
+        return Err(Refusal::Strayed);
+    };
+    history.assign(0, id)?;
+    match history.commit(0, nothing(alloc)) {
+        Ok(()) => Ok(()),
+        Err(refused) => Err(refused.refusal),
+    }
+}
+
+// Takes a step.
+pub fn take<D: Disk>(store: &mut Created<D>, alloc: Global, step: Step) -> Result<(), Refusal>
+    requires { IsStanding store.old }
+    ensures { IsStanding store.new }
+{
+    match step {
+        Step::Ask(client, number, index) => ask(&mut store.history, client, number, index),
+        Step::Deliver(client, number) => {
+            deliver(&mut store.history, alloc, request_of(client, number))
+        }
+        Step::Flush => {
+            flush(&mut store.history, &mut store.halves)?;
+            Ok(())
+        }
+    }
+}
+
+// The event of a step, if it is one.
+fn event_of(alloc: Global, step: Step) -> Result<Option<Event>, Fail> {
+    let event = match step {
+        Step::Ask(client, number, index) => Event::Accept {
+            client,
+            number,
+            to: counter_at(index),
+            entry: CONSTRUCT,
+            words: Words::from_slice(alloc, &[index])?,
+        },
+        Step::Deliver(client, number) => Event::Deliver(request_of(client, number)),
+        Step::Flush => return Ok(None),
+    };
+    Ok(Some(event))
+}
+
+// The world after the first so many events of the steps, as a text.
+fn world_after(
+    rt: &(impl AllocGlobal + Abort),
+    steps: &[Step],
+    count: u64,
+) -> Result<String, Fail> {
+    let alloc = rt.alloc();
+    let mut world = PlainWorld::new(alloc, counters(rt));
+    let mut left = count;
+    for step in steps {
+        if let Some(event) = event_of(alloc, *step)? {
+            if left == 0 {
+                break;
+            }
+            assert!(rt; world.after(&event)?);
+            left -= 1;
+        }
+    }
+    assert_eq!(rt; left, 0);
+    Ok(format!(in alloc; "{world:?}")?)
+}
+
+// Writes these bytes to a half, from its beginning on.
+fn put(rt: &(impl AllocGlobal + Abort), disk: &mut MemDisk, half: Half, bytes: &[u8]) {
+    assert!(rt; disk.write_at(half, 0, bytes).is_ok());
+}
+
+// A disk in memory on which the halves have these bytes.
+pub fn disk_of(rt: &(impl AllocGlobal + Abort), zero: &[u8], one: &[u8]) -> MemDisk
+    ensures { IsSettled (files result) }
+{
+    let mut disk = MemDisk::new(rt.alloc());
+    put(rt, &mut disk, Half::Zero, zero);
+    put(rt, &mut disk, Half::One, one);
+    assert!(rt; settle(&mut disk).is_ok());
+    disk
+}
+
+// All bytes of a half.
+fn bytes_of(rt: &(impl AllocGlobal + Abort), disk: &mut MemDisk, half: Half) -> Vec<u8> {
+    let mut bytes = Vec::new(rt.alloc());
+    if let Ok(length) = disk.len(half) {
+        assert!(rt; bytes.resize(length as usize, 0).is_ok());
+        assert!(rt; disk.read_at(half, 0, &mut bytes).is_ok());
+    }
+    bytes
+}
+
+// What the disk recovers to.
+fn recovered(rt: &(impl AllocGlobal + Abort), disk: MemDisk) -> Result<Recovered, Fail> {
+    let mut disk = disk;
+    let zero = bytes_of(rt, &mut disk, Half::Zero);
+    let one = bytes_of(rt, &mut disk, Half::One);
+    Ok(recover(rt.alloc(), zero.as_slice(), one.as_slice())?)
+}
+
+// How many events the store has that the disk recovers to, or nothing where there is no store. It has generation 1, and its
+// world is the one after that many events of the steps.
+pub fn events_found(
+    rt: &(impl AllocGlobal + Abort),
+    disk: MemDisk,
+    steps: &[Step],
+) -> Result<Option<u64>, Fail> {
+    match recovered(rt, disk)? {
+        Recovered::Nothing => Ok(None),
+        Recovered::Damaged { half, offset } => panic!(rt; "{half} is damaged at {offset}"),
+        Recovered::Found {
+            world,
+            events,
+            generation,
+        } => {
+            assert_eq!(rt; generation, 1);
+            let text = format!(in rt.alloc(); "{world:?}")?;
+            let wanted = world_after(rt, steps, events)?;
+            assert_eq!(rt; text.as_str(), wanted.as_str());
+            Ok(Some(events))
+        }
+    }
+}
