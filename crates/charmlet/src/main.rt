@@ -1,22 +1,25 @@
 //! `charmlet`: runs scripts over a store of migratable objects.
 #![tactic(auto)]
 
+ghost use Rattle.charmlet_disk.specs.Disk.{IsSettled};
+
 use charmlet_chare::Chare;
 use charmlet_cli::{Failure, Stop, end_program, open_script, run_script};
 use charmlet_command::{Command, command_of};
+use charmlet_disk::{Disk, FileDisk, MemDisk};
 use charmlet_kinds::{Account, Counter, Ring, Sum, Tape, Tree};
 use charmlet_model::Kind;
-use charmlet_script::read_script;
+use charmlet_script::{Script, read_script};
 use std::io::{BufWriter, Write};
 use std::process::ExitCode;
 use std::rt::Runtime;
 use std::{env, io};
 
-/// Runs a script over a store in memory, with its lines on standard output.
-fn run<R: Runtime + AllocGlobal>(rt: &R, path: &str) -> Result<(), Stop> {
+/// Runs a script over a store on this disk, with its lines on standard output.
+fn run_on<R: Runtime + AllocGlobal, D: Disk>(rt: &R, disk: D, script: &Script) -> Result<(), Stop>
+    requires { D.honest disk → IsSettled (D.file disk) }
+{
     let alloc = rt.alloc();
-    let mut file = open_script(rt, path)?;
-    let script = read_script(alloc, &mut file)?;
     let mut blanks: Vec<Box<dyn Chare + Send>> = Vec::new(alloc);
     for kind in &Kind::ALL {
         for _ in 0..script.blanks(*kind) {
@@ -32,9 +35,20 @@ fn run<R: Runtime + AllocGlobal>(rt: &R, path: &str) -> Result<(), Stop> {
         }
     }
     let mut writer = BufWriter::new(alloc, io::writer(rt))?;
-    run_script(alloc, &script, blanks, &mut writer)?;
+    run_script(alloc, disk, script, blanks, &mut writer).result?;
     writer.flush()?;
     Ok(())
+}
+
+/// Reads a script, and then runs it over a store in the two files of a folder, or in memory without one.
+fn run(rt: HostRuntime, path: &str, dir: Option<&str>) -> Result<(), Stop> {
+    let alloc = rt.alloc();
+    let mut file = open_script(&rt, path)?;
+    let script = read_script(alloc, &mut file)?;
+    match dir {
+        Some(dir) => run_on(&rt, FileDisk::new(rt, dir)?, &script),
+        None => run_on(&rt, MemDisk::new(alloc), &script),
+    }
 }
 
 /// The words of the command line, the first of which is the program's name.
@@ -43,15 +57,15 @@ fn words<R: Runtime + AllocGlobal>(rt: &R) -> io::Result<Vec<String>> {
 }
 
 /// Does what the command line asks for.
-fn charmlet<R: Runtime + AllocGlobal>(rt: &R) -> Result<(), Failure> {
-    let words = words(rt)?;
-    let Command::Run { script } = command_of(rt.alloc(), words.as_slice())?;
-    run(rt, script)?;
+fn charmlet(rt: HostRuntime) -> Result<(), Failure> {
+    let words = words(&rt)?;
+    let Command::Run { script, dir } = command_of(rt.alloc(), words.as_slice())?;
+    run(rt, script, dir)?;
     Ok(())
 }
 
 fn main(rt: HostRuntime) -> ExitCode {
     // Where nothing can be said, the status alone tells of the failure.
-    let (status, _) = end_program(&charmlet(&rt), &mut rt.stderr());
+    let (status, _) = end_program(&charmlet(rt), &mut rt.stderr());
     ExitCode::from(status)
 }

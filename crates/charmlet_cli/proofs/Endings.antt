@@ -1,15 +1,15 @@
--- How a run that had enough objects ends early.
+-- How a run ends early.
 use Rattle.std.proofs.Common.{◌≡◌, List, Option, Result, Ok, Err, OnOk, OnErr, refl, sym, subst}
 use Rattle.std.specs.Result.{IfErr, IsErrAnd}
-use Rattle.std.specs.declared.io.Error.{Error}
+use Rattle.charmlet_model.specs.declared.refusal.Refusal.{Refusal}
 use Rattle.charmlet_model.specs.declared.state.State.{State}
+use Rattle.charmlet_model.specs.Core.{Core}
 use Rattle.charmlet_model.specs.Texts.{Text}
 use Rattle.charmlet_script.specs.Script.{Contents}
 use Rattle.charmlet_cli.specs.declared.running.RunError.{RunError}
 use Rattle.charmlet_cli.specs.declared.running.RunError.TheVariants.{TooFewBlanks, NotCreated, Memory, Output}
 use Rattle.charmlet_cli.specs.Lines.{AreEnough}
-use Rattle.charmlet_cli.specs.Run.{IsCutOff}
-use Rattle.charmlet_cli.specs.RunError.{EndsRun, Leaves}
+use Rattle.charmlet_cli.specs.RunError.{EndsRun, Lacks, Leaves}
 
 pub on_ok : {T E P : Type 0} (r : Result T E) → P → OnOk r P
 on_ok (Ok x) holds = holds
@@ -19,23 +19,25 @@ pub on_err : {T E P : Type 0} (r : Result T E) → P → OnErr r P
 on_err (Ok x) holds = tt
 on_err (Err e) holds = holds
 
--- memory was refused before there was a store
-pub memory_ends : {C W T : Type 0} (state : C → State) (contents : W → Option Text) (objects : List C) (script : Contents) (writer : W) (r : Result T (RunError C)) →
-    AreEnough state objects script.lines → IsErrAnd r (λ e. e ≡ Memory) → IfErr r (Leaves state contents objects script writer writer)
-memory_ends state contents objects script writer (Ok x) enough is = tt
-memory_ends state contents objects script writer (Err e) enough is = subst (Leaves state contents objects script writer writer) (sym is) (enough, refl)
+-- memory was refused although there were enough objects
+pub memory_ends : {C T : Type 0} (state : C → State) (objects : List C) (script : Contents) (r : Result T (RunError C)) →
+    AreEnough state objects script.lines → IsErrAnd r (λ e. e ≡ Memory) → IfErr r (Lacks state objects script)
+memory_ends state objects script (Ok x) enough is = tt
+memory_ends state objects script (Err e) enough is = subst (Lacks state objects script) (sym is) enough
 
--- the output failed
-pub output_ends : {C T : Type 0} (script : Contents) (before after : Option Text) (error : Error) (r : Result T (RunError C)) →
-    IsErrAnd r (λ e. e ≡ Output error) → IsCutOff script before after → IfErr r (EndsRun script before after)
-output_ends script before after error (Ok x) is cut = tt
-output_ends script before after error (Err e) is cut = subst (EndsRun script before after) (sym is) cut
+-- no run began, and the disk and the output are as they were
+pub lacks_leaves : {C W : Type 0} (state : C → State) (contents : W → Option Text) (Same : Type 0) (Stands : Core → Type 0) (Back : Refusal → Type 0) (objects : List C) (script : Contents) (writer : W) (error : RunError C) →
+    Same → Lacks state objects script error → Leaves state contents Same Stands Back objects script writer writer error
+lacks_leaves state contents Same Stands Back objects script writer (TooFewBlanks back) same lacks = (same, lacks.0, refl, lacks.1)
+lacks_leaves state contents Same Stands Back objects script writer Memory same lacks = (same, lacks, refl)
+lacks_leaves state contents Same Stands Back objects script writer (NotCreated refusal) same lacks = absurd lacks
+lacks_leaves state contents Same Stands Back objects script writer (Output error) same lacks = absurd lacks
 
--- the run ended early
-pub run_ends : {C W T : Type 0} (state : C → State) (contents : W → Option Text) (objects : List C) (script : Contents) (before after : W) (r : Result T (RunError C)) →
-    AreEnough state objects script.lines → IfErr r (EndsRun script (contents before) (contents after)) → IfErr r (Leaves state contents objects script before after)
-run_ends state contents objects script before after (Ok x) enough ends = tt
-run_ends state contents objects script before after (Err (TooFewBlanks back)) enough ends = absurd ends
-run_ends state contents objects script before after (Err (NotCreated refusal)) enough ends = (enough, ends)
-run_ends state contents objects script before after (Err Memory) enough ends = absurd ends
-run_ends state contents objects script before after (Err (Output error)) enough ends = (enough, ends)
+-- a run that had enough objects ended early
+pub run_ends : {C W T : Type 0} (state : C → State) (contents : W → Option Text) (Same : Type 0) (Stands : Core → Type 0) (Back : Refusal → Type 0) (objects : List C) (script : Contents) (before after : W) (r : Result T (RunError C)) →
+    AreEnough state objects script.lines → IfErr r (EndsRun Stands Back script (contents before) (contents after)) → IfErr r (Leaves state contents Same Stands Back objects script before after)
+run_ends state contents Same Stands Back objects script before after (Ok x) enough ends = tt
+run_ends state contents Same Stands Back objects script before after (Err (TooFewBlanks back)) enough ends = absurd ends
+run_ends state contents Same Stands Back objects script before after (Err (NotCreated refusal)) enough ends = (enough, ends.0, ends.1)
+run_ends state contents Same Stands Back objects script before after (Err Memory) enough ends = absurd ends
+run_ends state contents Same Stands Back objects script before after (Err (Output error)) enough ends = (enough, ends)

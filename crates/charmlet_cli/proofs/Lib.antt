@@ -2,3 +2,5 @@ pub mod Endings
 pub mod Openings
 pub mod Printing
 pub mod Showings
+pub mod Standings
+pub mod Drainings

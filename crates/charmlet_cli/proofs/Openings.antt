@@ -3,16 +3,16 @@ use Rattle.std.proofs.Common.{◌≡◌, ℕ, List, Some, [], sym, ap, ◌∙◌
 use Rattle.std.specs.Prelude.{unwrap_or}
 use Rattle.charmlet_model.specs.declared.kind.Kind.{Kind}
 use Rattle.charmlet_model.specs.Manifest.{manifest_of}
-use Rattle.charmlet_model.specs.Sound.{new_world, opened}
+use Rattle.charmlet_journal.specs.NewStores.{new_core}
 use Rattle.charmlet_script.specs.Script.{Contents, pairs_of, processors_of}
 use Rattle.charmlet_cli.specs.Lines.{Ledger, opening_of}
 
 -- a new store has the script's processors and arrays, and nothing else
 pub opens : (script : Contents) (manifest : List (ℕ × Kind)) (processors : ℕ) (ledger : Ledger) → manifest_of (pairs_of script.arrays) ≡ Some manifest → processors ≡ processors_of script →
-    ledger.store.core ≡ opened processors (new_world manifest) 0 1 0 → ((kind : Kind) → ledger.store.blanks kind ≡ 0) → ((kind : Kind) → ledger.supplied kind ≡ 0) → ledger ≡ opening_of script
+    ledger.store.core ≡ new_core processors manifest → ((kind : Kind) → ledger.store.blanks kind ≡ 0) → ((kind : Kind) → ledger.supplied kind ≡ 0) → ledger ≡ opening_of script
 opens script manifest processors ledger is count core blanks supplied = λ i. record {
   store = record {
-    core = (core ∙ ap (λ n. opened n (new_world manifest) 0 1 0) count ∙ ap (λ m. opened (processors_of script) (new_world m) 0 1 0) (sym (ap (λ o. unwrap_or o []) is))) i;
+    core = (core ∙ ap (λ n. new_core n manifest) count ∙ ap (λ m. new_core (processors_of script) m) (sym (ap (λ o. unwrap_or o []) is))) i;
     blanks = λ kind. blanks kind i;
   };
   supplied = λ kind. supplied kind i;

@@ -11,7 +11,6 @@ use Rattle.charmlet_model.specs.declared.step.Answer.TheVariants.{Refused}
 use Rattle.charmlet_model.specs.Manifest.{manifest_of}
 use Rattle.charmlet_model.specs.Texts.{Text, answer_text}
 use Rattle.charmlet_model.specs.Run.{StoreView, Does}
-use Rattle.charmlet_model.specs.Sound.{new_world, opened}
 use Rattle.charmlet_script.specs.declared.script.Line.{Line}
 use Rattle.charmlet_script.specs.declared.script.Line.TheVariants.{Supply, Drain, State, Pending, Census, Step}
 use Rattle.charmlet_script.specs.Printed.{pending_text, supplied_text}
@@ -20,11 +19,15 @@ use Rattle.charmlet_model.specs.declared.state.State as states
 use Rattle.charmlet_model.specs.Core.{present, place_or_home}
 use Rattle.charmlet_model.specs.Shelves.{count_of}
 use Rattle.charmlet_model.specs.World.{record_of}
+use Rattle.charmlet_chare.specs.declared.chare.Chare as chares
 use Rattle.charmlet_chare.specs.declared.chare.Chare.{Ghosts}
+use Rattle.charmlet_disk.specs.declared.disk.Disk as disks
+use Rattle.charmlet_record.specs.Reading.{Kinds}
+use Rattle.charmlet_journal.specs.NewStores.{new_core}
+use Rattle.charmlet_engine.specs.declared.engine.Engine.{Engine}
+use Rattle.charmlet_engine.specs.Engine.{supplied_of, view_of}
 use Rattle.charmlet_stock.specs.declared.stock.Stock.{Stock}
 use Rattle.charmlet_stock.specs.Stock.{blanks_in, part_of}
-use Rattle.charmlet_store.specs.declared.store.Store.{Store}
-use Rattle.charmlet_store.specs.Store.{store_in, supplied_in}
 use Rattle.charmlet_cli.specs.Drain.{DrainsUpTo, drain_texts}
 use Rattle.charmlet_cli.specs.Shown.{IsWhole, all_kinds, counted_in, counted_texts, record_text}
 use Rattle.charmlet_cli.specs.Writing.{AppendsBeginning, Writes}
@@ -42,14 +45,18 @@ pub record Ledger : Type 0 where
   pub store : StoreView
   pub supplied : Kind → ℕ
 
--- of a store that runs
-abbrev pub ledger_in : {C : Type 0} {G : Ghosts C} → Store C G → Ledger
-ledger_in store = record { store = store_in store; supplied = supplied_in store }
+-- of an engine that runs
+abbrev pub ledger_in : {D C : Type 0} {G : disks.Ghosts D} {H : chares.Ghosts C} → Engine D C G H → Ledger
+ledger_in engine = record { store = view_of engine; supplied = supplied_of engine }
+
+-- the script's arrays, each with its kind
+abbrev pub kinds_of : Contents → Kinds
+kinds_of script = unwrap_or (manifest_of (pairs_of script.arrays)) []
 
 -- before the first line: the script's processors and arrays, and nothing else
 abbrev pub opening_of : Contents → Ledger
 opening_of script = record {
-  store = record { core = opened (processors_of script) (new_world (unwrap_or (manifest_of (pairs_of script.arrays)) [])) 0 1 0; blanks = λ _. 0 };
+  store = record { core = new_core (processors_of script) (kinds_of script); blanks = λ _. 0 };
   supplied = λ _. 0;
 }
 
@@ -112,8 +119,8 @@ abbrev pub AreRun : Ledger → List Line → Ledger → (before after : Option T
 AreRun first lines last before after = (texts : List Text) × Prints first lines texts last × Appends before after (in_lines texts)
 
 -- some lines are run and their texts written, and the next line is run and a beginning of its texts written
-abbrev pub BreakOff : Ledger → List Line → (before after : Option Text) → Type 0
-BreakOff first lines before after =
+abbrev pub BreakOff : Ledger → List Line → Ledger → (before after : Option Text) → Type 0
+BreakOff first lines last before after =
     (whole : List Line) × (line : Line) × (rest : List Line) × (lines ≡ whole ++ line ∷ rest)
     × (mid : Ledger) × (between : Option Text) × AreRun first whole mid before between
-    × (texts : List Text) × (last : Ledger) × Follows mid line texts last × AppendsBeginning between after (in_lines texts)
+    × (texts : List Text) × Follows mid line texts last × AppendsBeginning between after (in_lines texts)

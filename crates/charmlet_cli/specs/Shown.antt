@@ -12,8 +12,9 @@ use Rattle.charmlet_model.specs.Run.{StoreView}
 use Rattle.charmlet_model.specs.Texts.{Text}
 use Rattle.charmlet_script.specs.declared.printed.Counted.{Counted}
 use Rattle.charmlet_script.specs.Printed.{absent_text, counted_text, standing_text}
-use Rattle.charmlet_chare.specs.declared.chare.Chare.{Ghosts}
-use Rattle.charmlet_store.specs.declared.store.Store.{Store}
+use Rattle.charmlet_chare.specs.declared.chare.Chare as chares
+use Rattle.charmlet_disk.specs.declared.disk.Disk as disks
+use Rattle.charmlet_engine.specs.declared.engine.Engine.{Engine}
 use Rattle.charmlet_store.specs.Census.{census_in}
 use Rattle.charmlet_store.specs.There.{there_of}
 
@@ -40,14 +41,14 @@ counted_in store supplied retired kind = record {
   retired = retired kind;
 }
 
--- the numbers of a kind that a store counts
-abbrev pub counted_of : {C : Type 0} {G : Ghosts C} → Store C G → Kind → Counted
-counted_of store kind = record {
+-- the numbers of a kind that an engine counts
+abbrev pub counted_of : {D C : Type 0} {G : disks.Ghosts D} {H : chares.Ghosts C} → Engine D C G H → Kind → Counted
+counted_of engine kind = record {
   kind = kind;
-  supplied = (census_in store kind).supplied;
-  on_shelves = (census_in store kind).on_shelves;
-  in_stock = (census_in store kind).in_stock;
-  retired = (census_in store kind).retired;
+  supplied = (census_in engine.store kind).supplied;
+  on_shelves = (census_in engine.store kind).on_shelves;
+  in_stock = (census_in engine.store kind).in_stock;
+  retired = (census_in engine.store kind).retired;
 }
 
 -- what was supplied is on shelves, in the stock, or retired

@@ -11,7 +11,7 @@ mod writing;
 
 pub use crate::ending::{Failure, end_program};
 pub use crate::files::open_script;
-pub use crate::running::{RunError, run_script};
+pub use crate::running::{Ran, RunError, run_script};
 pub use crate::showing::{census_line, pending_line, state_line};
 pub use crate::stop::Stop;
 pub use crate::writing::{write_line, write_memory_refused};

@@ -8,21 +8,25 @@ ghost use Rattle.charmlet_model.specs.Shelves.{count_of};
 ghost use Rattle.charmlet_model.specs.Sound.{new_world};
 ghost use Rattle.charmlet_script.specs.Script.{blanks_in, blanks_of, pairs_of};
 ghost use Rattle.charmlet_script.specs.declared.script.Line.TheVariants as lines;
-ghost use Rattle.charmlet_store.specs.Store.{IsStoreConsistent};
+ghost use Rattle.charmlet_engine.specs.Engine.{IsEngineConsistent};
 ghost use Rattle.charmlet_stock.specs.Stock.{part_of};
-ghost use Rattle.charmlet_cli.specs.Lines.{AreEnough, AreRun, BreakOff, IsPrinted, blanks_left, ledger_in};
-ghost use Rattle.charmlet_cli.specs.RunError.{EndsRun, Leaves};
-ghost use Rattle.charmlet_cli.specs.Run.{IsRun};
+ghost use Rattle.charmlet_cli.specs.Lines.{AreEnough, AreRun, BreakOff, IsPrinted, blanks_left, Ledger, ledger_in};
+ghost use Rattle.charmlet_cli.specs.RunError.{EndsRun, Lacks, Leaves};
+ghost use Rattle.charmlet_cli.specs.Run.{IsHandedBack, IsRun, Stands};
+ghost use Rattle.charmlet_disk.specs.Disk.{IsSettled};
+ghost use Rattle.charmlet_engine.specs.Advances.{Advances};
 ghost use Rattle.charmlet_cli.specs.declared.running.RunError.TheVariants as errors;
 
 use crate::draining::drain_line;
 use crate::showing::{census_line, pending_line, state_line};
 use crate::writing::{write_answer, write_line, write_memory_refused};
 use charmlet_chare::Chare;
+use charmlet_disk::Disk;
+use charmlet_engine::Engine;
+use charmlet_halves::Refused;
 use charmlet_model::{Answer, Kind, Manifest, Refusal};
 use charmlet_script::{Line, Script, Supplied};
 use charmlet_stock::{Stock, count_of};
-use charmlet_store::Store;
 use std::alloc::{AllocError, Global};
 use std::io;
 use std::io::Write;
@@ -58,31 +62,82 @@ impl<C: Chare> From<io::Error> for RunError<C> {
     }
 }
 
-/// Runs a script over a store in memory, and writes what its lines print: all that a line prints is
-/// written before the next line is run. `blanks` are the objects that the script's
-/// lines supply; those beyond are dropped at the end. A refusal is an answer, and the run goes on.
+/// How a script was run: the disk, which comes back in any case, and whether each line was run.
+#[derive(Drop)]
+pub struct Ran<D: Disk, C: Chare> {
+    pub disk: D,
+    pub result: Result<(), RunError<C>>,
+}
+
+/// Makes the script's store on a disk, runs its lines there, and writes what they print: all that a line
+/// prints is written before the next line is run. `blanks` are the objects that the script's lines supply;
+/// those beyond are dropped at the end. A refusal is an answer, and the run goes on. The disk has to be
+/// settled, and comes back in any case.
 ///
-/// There is no store where the script's number of processors is outside 1 to 64, `BadPes`, or memory for its
-/// shelves is refused, `Memory`. Then the refusal is written, no line is run, and all objects are dropped.
+/// There is no store where the script's number of processors is outside 1 to 64, `BadPes`; a half of the
+/// disk is open, `AlreadyHere`; memory is refused, `Memory`; or the device fails, `Device`. Then the refusal
+/// is written, no line is run, and all objects are dropped.
+///
+/// On an honest disk a crash at any moment of the run leaves files that recover to nothing, or to the world
+/// after some of the run's history; and from its end on, whether each line was run or not, to one that has all
+/// durable events.
 ///
 /// `RunError` says what each error means; where there are too few objects, it comes before the test of the
 /// number of processors.
-pub fn run_script<C: Chare, W: Write>(
+pub fn run_script<D: Disk, C: Chare, W: Write>(
     alloc: Global,
+    disk: D,
     script: &Script,
     blanks: Vec<C>,
     writer: &mut W,
-) -> Result<(), RunError<C>>
+) -> Ran<D, C>
+    requires settled { D.honest disk → IsSettled (D.file disk) }
+    ensures enough { OnOk result.result (AreEnough C.state blanks.items script.now.lines) }
+    ensures ran { OnOk result.result ((last : Ledger) × IsRun script.now last
+        (W.contents writer.old) (W.contents writer.new)
+        × Stands D.honest D.file D.moment D.since disk result.disk last.store.core) }
+    ensures err { IfErr result.result (Leaves C.state W.contents (result.disk ≡ disk)
+        (Stands D.honest D.file D.moment D.since disk result.disk)
+        (IsHandedBack D.honest D.file D.moment D.since disk result.disk script.now)
+        blanks.items script.now writer.old writer.new) }
+{
+    match prepare(alloc, script, blanks) {
+        Ok(prepared) => run_in_new_store(alloc, disk, script, prepared, writer),
+        Err(error) => Ran {
+            disk,
+            result: Err(error),
+        },
+    }
+}
+
+/// What a store is made of: its arrays, and the blanks that its script supplies.
+#[derive(Drop)]
+struct Prepared<C: Chare> {
+    manifest: Manifest,
+    source: Stock<C>,
+}
+
+/// The arrays of a script's store, and a stock of the objects that its lines supply. `TooFewBlanks` where
+/// there aren't as many, and `Memory`.
+fn prepare<C: Chare>(
+    alloc: Global,
+    script: &Script,
+    blanks: Vec<C>,
+) -> Result<Prepared<C>, RunError<C>>
     ensures enough { OnOk result (AreEnough C.state blanks.items script.now.lines) }
-    ensures ran { OnOk result (IsRun script.now (W.contents writer.old) (W.contents writer.new)) }
-    ensures err { IfErr result (Leaves C.state W.contents blanks.items script.now writer.old writer.new) }
+    ensures manifest { IfOk result (λ prepared. manifest_of (pairs_of script.now.arrays)
+        ≡ Some prepared.manifest) }
+    ensures fit { IfOk result (λ prepared. IsFit (new_world prepared.manifest)) }
+    ensures left { IfOk result (λ prepared. (kind : Kind) →
+        blanks_of kind script.now.lines ≤ blanks_left prepared.source kind) }
+    ensures err { IfErr result (Lacks C.state blanks.items script.now) }
 {
     if !has_enough(script, blanks.as_slice()) {
         return Err(RunError::TooFewBlanks(blanks));
     }
     let manifest = script.manifest(alloc)?;
-    let mut source = stock_of(alloc, blanks)?;
-    run_in_new_store(alloc, script, manifest, &mut source, writer)
+    let source = stock_of(alloc, blanks)?;
+    Ok(Prepared { manifest, source })
 }
 
 /// A stock with these objects. It fails only for want of memory.
@@ -97,93 +152,127 @@ fn stock_of<C: Chare>(alloc: Global, objects: Vec<C>) -> Result<Stock<C>, AllocE
 }
 
 /// Creates the script's store and runs its lines there, or writes why there is no store.
-fn run_in_new_store<C: Chare, W: Write>(
+fn run_in_new_store<D: Disk, C: Chare, W: Write>(
     alloc: Global,
+    disk: D,
     script: &Script,
-    manifest: Manifest,
-    source: &mut Stock<C>,
+    prepared: Prepared<C>,
     writer: &mut W,
-) -> Result<(), RunError<C>>
-    requires manifest { manifest_of (pairs_of script.now.arrays) ≡ Some manifest }
-    requires fit { IsFit (new_world manifest) }
-    requires enough { (kind : Kind) → blanks_of kind script.now.lines ≤ blanks_left source.old kind }
-    ensures ran { OnOk result (IsRun script.now (W.contents writer.old) (W.contents writer.new)) }
-    ensures err { IfErr result (EndsRun script.now (W.contents writer.old) (W.contents writer.new)) }
+) -> Ran<D, C>
+    requires settled { D.honest disk → IsSettled (D.file disk) }
+    requires manifest { manifest_of (pairs_of script.now.arrays) ≡ Some prepared.manifest }
+    requires fit { IsFit (new_world prepared.manifest) }
+    requires enough { (kind : Kind) → blanks_of kind script.now.lines
+        ≤ blanks_left prepared.source kind }
+    ensures ran { OnOk result.result ((last : Ledger) × IsRun script.now last
+        (W.contents writer.old) (W.contents writer.new)
+        × Stands D.honest D.file D.moment D.since disk result.disk last.store.core) }
+    ensures err { IfErr result.result (EndsRun
+        (Stands D.honest D.file D.moment D.since disk result.disk)
+        (IsHandedBack D.honest D.file D.moment D.since disk result.disk script.now)
+        script.now (W.contents writer.old) (W.contents writer.new)) }
 {
-    match Store::new(alloc, manifest, script.processors()) {
-        Ok(mut store) => {
-            run_lines(alloc, &mut store, source, script.lines(), writer)?;
-            Ok(())
+    let Prepared {
+        manifest,
+        mut source,
+    } = prepared;
+    match Engine::create(alloc, disk, manifest, script.processors()) {
+        Ok(mut engine) => {
+            let lines = script.lines();
+            match run_lines(alloc, &mut engine, &mut source, lines, writer) {
+                Ok(()) => Ran {
+                    disk: engine.into_disk(),
+                    result: Ok(()),
+                },
+                Err(error) => Ran {
+                    disk: engine.into_disk(),
+                    result: Err(RunError::Output(error)),
+                },
+            }
         }
-        Err(refusal) => {
-            write_answer(alloc, writer, &Answer::Refused(refusal))?;
-            Err(RunError::NotCreated(refusal))
+        Err(Refused { refusal, disk }) => {
+            match write_answer(alloc, writer, &Answer::Refused(refusal)) {
+                Ok(()) => Ran {
+                    disk,
+                    result: Err(RunError::NotCreated(refusal)),
+                },
+                Err(error) => Ran {
+                    disk,
+                    result: Err(RunError::Output(error)),
+                },
+            }
         }
     }
 }
 
 /// Runs lines one after another.
-fn run_lines<C: Chare, W: Write>(
+fn run_lines<D: Disk, C: Chare, W: Write>(
     alloc: Global,
-    store: &mut Store<C>,
+    engine: &mut Engine<D, C>,
     source: &mut Stock<C>,
     lines: &[Line],
     writer: &mut W,
 ) -> io::Result<()>
-    requires consistent { IsStoreConsistent store.old }
+    requires consistent { IsEngineConsistent engine.old }
     requires enough { (kind : Kind) → blanks_of kind lines.now ≤ blanks_left source.old kind }
-    ensures prints { OnOk result (AreRun (ledger_in store.old) lines.now (ledger_in store.new) (W.contents writer.old) (W.contents writer.new)) }
-    ensures breaks_off { OnErr result (BreakOff (ledger_in store.old) lines.now (W.contents writer.old) (W.contents writer.new)) }
+    ensures consistent { IsEngineConsistent engine.new }
+    ensures prints { OnOk result (AreRun (ledger_in engine.old) lines.now (ledger_in engine.new)
+        (W.contents writer.old) (W.contents writer.new)) }
+    ensures breaks_off { OnErr result (BreakOff (ledger_in engine.old) lines.now
+        (ledger_in engine.new) (W.contents writer.old) (W.contents writer.new)) }
+    ensures advances { Advances engine.old engine.new }
 {
     for line in lines {
-        run_line(alloc, store, source, line, writer)?;
+        run_line(alloc, engine, source, line, writer)?;
     }
     Ok(())
 }
 
 /// Runs one line, and writes what it answers.
-fn run_line<C: Chare, W: Write>(
+fn run_line<D: Disk, C: Chare, W: Write>(
     alloc: Global,
-    store: &mut Store<C>,
+    engine: &mut Engine<D, C>,
     source: &mut Stock<C>,
     line: &Line,
     writer: &mut W,
 ) -> io::Result<()>
-    requires consistent { IsStoreConsistent store.old }
+    requires consistent { IsEngineConsistent engine.old }
     requires enough { (kind : Kind) → blanks_in kind line.now ≤ blanks_left source.old kind }
-    ensures consistent { IsStoreConsistent store.new }
-    ensures prints { IsPrinted result (ledger_in store.old) line.now (ledger_in store.new) (W.contents writer.old) (W.contents writer.new) }
+    ensures consistent { IsEngineConsistent engine.new }
+    ensures prints { IsPrinted result (ledger_in engine.old) line.now (ledger_in engine.new) (W.contents writer.old) (W.contents writer.new) }
     ensures left { OnOk result ((kind : Kind) → blanks_left source.old kind ≤ blanks_left source.new kind + blanks_in kind line.now) }
+    ensures advances { Advances engine.old engine.new }
 {
     let step = match line {
         Line::Supply { kind, count } => return supply_line(
-            alloc, store, source, *kind, *count, writer,
+            alloc, engine, source, *kind, *count, writer,
         ),
-        Line::Drain { count } => return drain_line(alloc, store, *count, writer),
-        Line::State(elem) => return state_line(alloc, store, *elem, writer),
-        Line::Pending => return pending_line(alloc, store, writer),
-        Line::Census => return census_line(alloc, store, writer),
+        Line::Drain { count } => return drain_line(alloc, engine, *count, writer),
+        Line::State(elem) => return state_line(alloc, engine, *elem, writer),
+        Line::Pending => return pending_line(alloc, engine, writer),
+        Line::Census => return census_line(alloc, engine, writer),
         Line::Step(step) => step,
     };
-    write_answer(alloc, writer, &store.step(step))
+    write_answer(alloc, writer, &engine.step(step))
 }
 
 /// Supplies so many objects of a kind, and writes that it did, or that memory was refused.
-fn supply_line<C: Chare, W: Write>(
+fn supply_line<D: Disk, C: Chare, W: Write>(
     alloc: Global,
-    store: &mut Store<C>,
+    engine: &mut Engine<D, C>,
     source: &mut Stock<C>,
     kind: Kind,
     count: u32,
     writer: &mut W,
 ) -> io::Result<()>
-    requires consistent { IsStoreConsistent store.old }
+    requires consistent { IsEngineConsistent engine.old }
     requires enough { count ≤ blanks_left source.old kind }
-    ensures consistent { IsStoreConsistent store.new }
-    ensures prints { IsPrinted result (ledger_in store.old) (lines.Supply kind count) (ledger_in store.new) (W.contents writer.old) (W.contents writer.new) }
+    ensures consistent { IsEngineConsistent engine.new }
+    ensures prints { IsPrinted result (ledger_in engine.old) (lines.Supply kind count) (ledger_in engine.new) (W.contents writer.old) (W.contents writer.new) }
     ensures left { OnOk result ((k : Kind) → blanks_left source.old k ≤ blanks_left source.new k + part_of kind count k) }
+    ensures advances { Advances engine.old engine.new }
 {
-    if store.draw(source, kind, count as usize).is_err() {
+    if engine.draw(source, kind, count as usize).is_err() {
         return write_memory_refused(writer);
     }
     write_line(alloc, writer, &Supplied { kind, count })

@@ -1,7 +1,8 @@
--- From clap's matches and faults to the script that a line asks to run.
+-- From clap's matches and faults to the run that a line asks for.
 use Rattle.std.proofs.Common.{◌≡◌, ◌∙◌, ◌∷◌, [], List, true, Option, Some, None, codes, refl, inl, inr, option_and_then, option_map, Result, Ok, Err, IfErr}
 use Rattle.std.specs.Str.{bytes_eq}
-use Rattle.clap.specs.Walk.{Row, Text, first_of}
+use Rattle.clap.specs.Matches.{first_value}
+use Rattle.clap.specs.Walk.{Row, Text, rows_of}
 use Rattle.std.specs.Prelude.{Box, IsErrAnd}
 use Rattle.std.specs.Box.{box_value}
 use Rattle.clap.specs.Simple.{App, is_simple, subcommand_of, subcommand_rows}
@@ -13,8 +14,10 @@ use Rattle.clap.specs.Values.{kind_of}
 use Rattle.clap.specs.declared.error.Error.{Error}
 use Rattle.clap.specs.declared.error.kind.ErrorKind.{ErrorKind}
 use Rattle.clap.specs.declared.error.kind.ErrorKind.TheVariants.{MissingSubcommand}
+use Rattle.clap.specs.declared.parser.matches.Found.{Found}
 use Rattle.clap.proofs.OnLiterals.{clap_on_literals}
-use Rattle.charmlet_command.specs.CommandLine.{AsksNothing, IsErrorOf, asked_script, charmlet_line, script_of}
+use Rattle.clap.proofs.WalkLemmas.{first_value-rows}
+use Rattle.charmlet_command.specs.CommandLine.{AsksNothing, IsErrorOf, asked_by, asked_run, charmlet_line, run_of}
 use Rattle.charmlet_command.specs.declared.CommandError.{CommandError}
 use Rattle.charmlet_command.specs.declared.CommandError.TheVariants.{Memory, Line}
 
@@ -28,12 +31,22 @@ charmlet_is_simple : is_simple charmlet_line ≡ true
 unfolding clap_on_literals
 charmlet_is_simple = refl
 
+-- the script and the folder, as the getters have them, make the run
+pub run_of_values : (found : Found) (script dir : Option Text)
+    → script ≡ first_value found (codes "script") → dir ≡ first_value found (codes "dir")
+    → option_map (λ script. record { script = script; dir = dir }) script ≡ run_of (rows_of found)
+run_of_values found script dir s d = rw (s ∙ first_value-rows found (codes "script"), d ∙ first_value-rows found (codes "dir")) refl
+
+-- and where there is no script, there is no run
+pub no_run_of : (found : Found) → None ≡ first_value found (codes "script") → None ≡ run_of (rows_of found)
+no_run_of found s = rw (← first_value-rows found (codes "script"), ← s) refl
+
 -- the name and the values of the subcommand that was met
-pub script_is : (found : Option (Text × List Row)) (name : Text) (rows : List Row)
+pub run_is : (found : Option (Text × List Row)) (name : Text) (rows : List Row)
     → Some name ≡ option_map (λ p. p.0) found → Some rows ≡ option_map (λ p. p.1) found → bytes_eq name (codes "run") ≡ true
-    → first_of (codes "script") rows ≡ option_and_then script_of found
-script_is None name rows n r run = absurd (cc)
-script_is (Some (met, values)) name rows n r run =
+    → run_of rows ≡ option_and_then asked_by found
+run_is None name rows n r run = absurd (cc)
+run_is (Some (met, values)) name rows n r run =
     let same_name : name ≡ met = cc in
     let same_rows : rows ≡ values = cc in
     rw (← same_name, ← same_rows, run) refl
@@ -48,16 +61,16 @@ module _ {Z : Type 0} where
 pub asked_is : (app : App) (words : List Text) (others : Type 0) (found : Option (Text × List Row)) → app ≡ charmlet_line
     → (is_simple_and_free app ≡ true → fault_of app words ≡ [])
     → (is_simple app ≡ true → others × (found ≡ subcommand_of app words))
-    → asked_script words ≡ option_and_then script_of found
-unfolding asked_script
+    → asked_run words ≡ option_and_then asked_by found
+unfolding asked_run
 asked_is app words others found is none met =
     let no_fault : fault_of charmlet_line words ≡ [] = rw is at none charmlet_is_free in
     let same : found ≡ subcommand_of charmlet_line words = (rw is at met charmlet_is_simple).1 in
     rw (no_fault, same) refl
 
 -- where it finds one, nothing is asked
-nothing_asked : (words : List Text) (kind : ErrorKind) (faults : Kinds) → fault_of charmlet_line words ≡ faults → IsAmong kind faults → asked_script words ≡ None
-unfolding asked_script
+nothing_asked : (words : List Text) (kind : ErrorKind) (faults : Kinds) → fault_of charmlet_line words ≡ faults → IsAmong kind faults → asked_run words ≡ None
+unfolding asked_run
 nothing_asked words kind [] e among = absurd among
 nothing_asked words kind (k ∷ ks) e among = rw e refl
 
@@ -78,15 +91,15 @@ answered words error (Line text) kinds is = elim kinds [
       (nothing_asked words (kind_of text) _ refl told, told_by (kind_of text) _ _ told)
 ]
 
--- where clap finds no fault, and no script is asked for, the error tells the want of a subcommand
+-- where clap finds no fault, and no run is asked for, the error tells the want of a subcommand
 pub missing_is : (words : List Text) (app : App) (others : Type 0) (found : Option (Text × List Row)) (error : Error) → app ≡ charmlet_line
     → (is_simple_and_free app ≡ true → fault_of app words ≡ [])
     → (is_simple app ≡ true → others × (found ≡ subcommand_of app words))
-    → option_and_then script_of found ≡ None → kind_of error ≡ MissingSubcommand
+    → option_and_then asked_by found ≡ None → kind_of error ≡ MissingSubcommand
     → AsksNothing words (Line error)
-missing_is words app others found error is none met no_script kind =
+missing_is words app others found error is none met no_run kind =
     let no_fault : fault_of charmlet_line words ≡ [] = rw is at none charmlet_is_free in
-    (asked_is app words others found is none met ∙ no_script, rw no_fault (inl kind))
+    (asked_is app words others found is none met ∙ no_run, rw no_fault (inl kind))
 
 -- what clap's error becomes is an answer to words that ask for nothing
 pub error_is : {T : Type 0} (app : App) (words : List Text) (error : Error) (r : Result T CommandError) → app ≡ charmlet_line

@@ -1,5 +1,5 @@
 -- What a command line asks for, by clap's meaning of its words.
-use Rattle.std.specs.Prelude.{◌≡◌, ◌≢◌, Bool, List, [], ◌∷◌, Option, Some, None, codes, true, if◌then◌else◌, option_and_then}
+use Rattle.std.specs.Prelude.{◌≡◌, ◌≢◌, Bool, List, [], ◌∷◌, Option, Some, None, codes, true, if◌then◌else◌, option_and_then, option_map}
 use Rattle.std.specs.Str.{bytes_eq}
 use Rattle.clap.specs.Walk.{Row, Rule, Text, first_of}
 use Rattle.clap.specs.Simple.{App, new_app, new_rule, on_top, subcommand_of, with_rule, with_subcommand}
@@ -24,31 +24,49 @@ has_globals parser = (out-Command parser).has_globals
 abbrev pub script_word : Rule
 script_word = record (new_rule (codes "script")) { value_names = 1; required = true; action = Some Set }
 
--- `run SCRIPT`
+-- `--dir DIR`, which names the store's folder
+abbrev pub dir_option : Rule
+dir_option = record (new_rule (codes "dir")) { long = Some (codes "dir"); value_names = 1; action = Some Set }
+
+-- `run SCRIPT [--dir DIR]`
 abbrev pub run_line : App
-run_line = with_rule (new_app (codes "run")) script_word
+run_line = with_rule (with_rule (new_app (codes "run")) script_word) dir_option
 
 -- `charmlet`, which wants a subcommand
 abbrev pub charmlet_line : App
 charmlet_line =
     with_subcommand (on_top (λ top. record top { subcommand_required = true }) (new_app (codes "charmlet"))) run_line.top
 
--- the script that a subcommand and its values ask to run
-abbrev pub script_of : Text × List Row → Option Text
-script_of found = if bytes_eq found.0 (codes "run") then first_of (codes "script") found.1 else None
+-- what a run is asked for: a script, and maybe a folder for its store
+pub record Asked : Type 0 where
+  pub script : Text
+  pub dir : Option Text
+
+-- the run that a subcommand's values name
+abbrev pub run_of : List Row → Option Asked
+run_of rows =
+    option_map (λ script. record { script = script; dir = first_of (codes "dir") rows }) (first_of (codes "script") rows)
+
+-- the run that a subcommand and its values ask for
+abbrev pub asked_by : Text × List Row → Option Asked
+asked_by found = if bytes_eq found.0 (codes "run") then run_of found.1 else None
 
 -- nothing is asked where clap finds a fault
-abbrev pub unless_faulty : Kinds → Option Text → Option Text
+abbrev pub unless_faulty : Kinds → Option Asked → Option Asked
 unless_faulty [] asked = asked
 unless_faulty (fault ∷ faults) asked = None
 
--- the script that the words ask to run
-unfoldable pub asked_script : List Text → Option Text
-asked_script words = unless_faulty (fault_of charmlet_line words) (option_and_then script_of (subcommand_of charmlet_line words))
+-- the run that the words ask for
+unfoldable pub asked_run : List Text → Option Asked
+asked_run words = unless_faulty (fault_of charmlet_line words) (option_and_then asked_by (subcommand_of charmlet_line words))
+
+-- what a command runs
+abbrev pub asked_in : Command → Asked
+asked_in (Run script dir) = record { script = script.now; dir = option_map (λ dir. dir.now) dir }
 
 -- the words ask for the command
 abbrev pub Asks : List Text → Command → Type 0
-Asks words (Run script) = asked_script words ≡ Some script.now
+Asks words command = asked_run words ≡ Some (asked_in command)
 
 -- why words ask for nothing: clap's faults, and where it finds none, the want of a subcommand
 abbrev pub faults_of : List Text → Kinds
@@ -57,7 +75,7 @@ faults_of words = or_else (fault_of charmlet_line words) (MissingSubcommand ∷ 
 -- the words ask for no command, and the error tells why, want of memory aside
 abbrev pub AsksNothing : List Text → CommandError → Type 0
 AsksNothing words Memory = Unit {0}
-AsksNothing words (Line error) = (asked_script words ≡ None) × IsAmong (kind_of error) (faults_of words)
+AsksNothing words (Line error) = (asked_run words ≡ None) × IsAmong (kind_of error) (faults_of words)
 
 -- what clap's error becomes: want of memory has no text
 pub record IsErrorOf (error : Error) (answer : CommandError) : Type 0 where

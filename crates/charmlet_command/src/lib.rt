@@ -2,8 +2,10 @@
 #![tactic(auto)]
 
 ghost use Rattle.std.specs.Prelude.{◌≡◌, map, IfOk, IfErr, option_map, option_and_then, false};
+ghost use Rattle.clap.specs.Matches.{found_of};
 ghost use Rattle.clap.specs.Simple.{app_of, subcommand_rows_of};
-ghost use Rattle.charmlet_command.specs.CommandLine.{Asks, AsksNothing, charmlet_line, has_globals, run_line, script_of};
+ghost use Rattle.clap.specs.Walk.{rows_of, rule_of};
+ghost use Rattle.charmlet_command.specs.CommandLine.{Asks, AsksNothing, asked_by, asked_in, charmlet_line, dir_option, has_globals, run_line, run_of, script_word};
 
 use clap::error::ErrorKind;
 use clap::{Arg, ArgAction, ArgMatches};
@@ -14,8 +16,11 @@ use thiserror::Error;
 /// What a command line asks for.
 #[derive(Clone, Copy, Debug, PartialEq, Eq)]
 pub enum Command<'a> {
-    /// Run the script in this file.
-    Run { script: &'a str },
+    /// Run the script in the file `script`, over a store in the folder `dir`, or in memory without one.
+    Run {
+        script: &'a str,
+        dir: Option<&'a str>,
+    },
 }
 
 /// Why a command line asks for nothing.
@@ -77,7 +82,8 @@ Lines, of which 'array' and 'pes' come first:
   drain N            delivers what can be delivered, oldest first, up to N messages, at
                      most 1000000, or up to a refusal
   move A I PE        element I of array A goes to processor PE
-  flush              makes all events durable; stores live in memory so far
+  flush              makes all events durable
+  checkpoint         writes an image of the whole store, which takes the place of its log
   state A I          shows where element I of array A stands, and its state
   pending            shows the pending messages
   census             shows where the objects of each kind are
@@ -102,21 +108,48 @@ Exit status:
   1  no store could be created, or memory or the output failed
   2  a bad command line, a call for help, or a script that is malformed or can't be read";
 
-/// `run SCRIPT`.
+const DIR_HELP: &str = "Keep the store in the files half0 and half1 of this folder";
+
+const DIR_LONG_HELP: &str = "\
+Keep the store in the files half0 and half1 of this folder, which has to exist;
+without it the store lives in memory. A store that is there already is refused";
+
+/// `SCRIPT`.
+fn script_arg<'a>(alloc: Global) -> Arg<'a>
+    ensures reads { rule_of result ≡ script_word }
+    ensures local { result.global ≡ false }
+{
+    Arg::new(alloc, "script")
+        .value_name("SCRIPT")
+        .help("The file of the script")
+        .required(true)
+        .action(ArgAction::Set)
+}
+
+/// `--dir DIR`.
+fn dir_arg<'a>(alloc: Global) -> Arg<'a>
+    ensures reads { rule_of result ≡ dir_option }
+    ensures local { result.global ≡ false }
+{
+    Arg::new(alloc, "dir")
+        .long("dir")
+        .value_name("DIR")
+        .help(DIR_HELP)
+        .long_help(DIR_LONG_HELP)
+        .action(ArgAction::Set)
+}
+
+/// `run SCRIPT [--dir DIR]`.
 fn run_parser<'a>(alloc: Global) -> Result<clap::Command<'a>, AllocError>
     ensures reads { IfOk result (λ parser. app_of parser ≡ run_line) }
     ensures local { IfOk result (λ parser. has_globals parser ≡ false) }
 {
-    let script = Arg::new(alloc, "script")
-        .value_name("SCRIPT")
-        .help("The file of the script")
-        .required(true)
-        .action(ArgAction::Set);
     clap::Command::new(alloc, "run")
         .about(RUN_ABOUT)
         .long_about(RUN_LONG_ABOUT)
         .after_help(STATUSES)
-        .arg(script)
+        .arg(script_arg(alloc))?
+        .arg(dir_arg(alloc))
 }
 
 /// The whole command line.
@@ -131,29 +164,36 @@ fn parser<'a>(alloc: Global) -> Result<clap::Command<'a>, AllocError>
         .subcommand(run_parser(alloc)?)
 }
 
-/// The script that the matches of a line ask to run.
-fn script_in<'a>(matches: &ArgMatches<'a>) -> Option<&'a str>
-    ensures { option_map (λ script. script.now) result ≡ option_and_then script_of (subcommand_rows_of matches.now) }
+/// The run that the values of its line name.
+fn run_in<'a>(values: &ArgMatches<'a>) -> Option<Command<'a>>
+    ensures { option_map asked_in result ≡ run_of (rows_of (found_of values.now)) }
 {
-    let (name, inner) = matches.subcommand()?;
-    if name == "run" {
-        inner.get_str("script")
-    } else {
-        None
-    }
+    let script = values.get_str("script")?;
+    let dir = values.get_str("dir");
+    Some(Command::Run { script, dir })
 }
 
-/// What the words ask for; the first is the program's name. Only `run SCRIPT` is a command; every
-/// other line, a call for help among them, is answered by `CommandError::Line` with clap's text and
-/// a kind of error that clap's meaning of the words has, and want of memory by `CommandError::Memory`.
+/// The command that the matches of a line ask for.
+fn command_in<'a>(matches: &ArgMatches<'a>) -> Option<Command<'a>>
+    ensures { option_map asked_in result
+        ≡ option_and_then asked_by (subcommand_rows_of matches.now) }
+{
+    let (name, values) = matches.subcommand()?;
+    if name == "run" { run_in(values) } else { None }
+}
+
+/// What the words ask for; the first is the program's name. Only `run SCRIPT`, with or without `--dir DIR`,
+/// is a command; every other line, a call for help among them, is answered by `CommandError::Line` with
+/// clap's text and a kind of error that clap's meaning of the words has, and want of memory by
+/// `CommandError::Memory`.
 pub fn command_of<'a, S: AsStr>(alloc: Global, words: &'a [S]) -> Result<Command<'a>, CommandError>
     ensures ok { IfOk result (Asks (map S.text words.entry.now)) }
     ensures err { IfErr result (AsksNothing (map S.text words.entry.now)) }
 {
     let mut parser = parser(alloc)?;
     let matches = parser.try_get_matches_from_mut(words)?;
-    match script_in(&matches) {
-        Some(script) => Ok(Command::Run { script }),
+    match command_in(&matches) {
+        Some(command) => Ok(command),
         None => {
             let error = parser.error(ErrorKind::MissingSubcommand, "no script to run")?;
             Err(CommandError::Line(error))

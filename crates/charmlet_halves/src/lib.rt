@@ -10,6 +10,7 @@ mod reading;
 mod taken;
 mod writing;
 
+pub use crate::creating::test_closed;
 pub use crate::finding::{Contents, Surveyed, survey};
 pub use crate::halves::Halves;
 pub use crate::opening::{Opened, Refused};

@@ -7,12 +7,13 @@ use Rattle.charmlet_model.specs.declared.names.Elem.{Elem}
 use Rattle.charmlet_model.specs.declared.names.MsgId.{MsgId}
 use Rattle.charmlet_model.specs.declared.refusal.Refusal.{Refusal}
 use Rattle.charmlet_model.specs.Core.{Core, CoreStep, Request, Status, Assign, Commit, Finish, Release, Move, Flush, Checkpoint, Blanks, Stepped, Steps, assigned_to, committed, durable_world, failed, first_refusal, gates, is_repeat, next_core, place_or_home, stepped_unless}
+use Rattle.charmlet_model.specs.CoreLaws.{IsQuiet}
 use Rattle.charmlet_model.specs.World.{World, world}
 use Rattle.charmlet_recovery.specs.Stores.{Stores}
 use Rattle.charmlet_disk.specs.declared.disk.Disk.{Ghosts}
 use Rattle.charmlet_disk.specs.File.{Outcome}
 use Rattle.charmlet_halves.specs.declared.halves.Halves.{Halves}
-use Rattle.charmlet_journal.specs.Quiet.{Quiet, IsQuiet}
+use Rattle.charmlet_journal.specs.Quiet.{Quiet}
 use Rattle.charmlet_journal.specs.Rest.{Agrees, IsAtRest, IsKept, Rests, keeps_durable}
 
 module _ (core : Core) where

@@ -1,7 +1,7 @@
 -- Steps that write nothing.
 use Rattle.std.specs.Prelude.{◌≡◌, false, List, ◌++◌}
 use Rattle.charmlet_model.specs.declared.event.Event.{Event}
-use Rattle.charmlet_model.specs.Core.{Core, CoreStep, Flush, Checkpoint}
+use Rattle.charmlet_model.specs.Core.{Core}
 
 -- Events are only added, none of them is durable yet, and the file is the same.
 pub record Quiet (old new : Core) : Type 0 where
@@ -13,9 +13,3 @@ pub record Quiet (old new : Core) : Type 0 where
   pub generation : new.generation ≡ old.generation
   pub log_end : new.log_end ≡ old.log_end
   pub going : new.halted ≡ false → old.halted ≡ false
-
--- a step writes to no file
-abbrev pub IsQuiet : CoreStep → Type 0
-IsQuiet Flush = ⊥
-IsQuiet Checkpoint = ⊥
-IsQuiet _ = Unit {0}

@@ -8,7 +8,7 @@ use Rattle.charmlet_model.specs.declared.kind.Kind.{Kind}
 use Rattle.charmlet_model.specs.declared.names.MsgId.{MsgId}
 use Rattle.charmlet_model.specs.declared.names.Origin.TheVariants.{Client, Element}
 use Rattle.charmlet_model.specs.declared.step.Step.{Step}
-use Rattle.charmlet_model.specs.declared.step.Step.TheVariants.{Request, Status, Deliver, Move, Flush}
+use Rattle.charmlet_model.specs.declared.step.Step.TheVariants.{Request, Status, Deliver, Move, Flush, Checkpoint}
 use Rattle.charmlet_model.specs.Kind.{numbered_kind}
 use Rattle.charmlet_model.specs.Texts.{Text}
 use Rattle.charmlet_script.specs.declared.script.ArrayLine.{ArrayLine}
@@ -174,6 +174,11 @@ unfoldable pub flush_of : List Text → Option Step
 flush_of [] = Some Flush
 flush_of _ = None
 
+-- what follows `checkpoint`: nothing
+unfoldable pub checkpoint_of : List Text → Option Step
+checkpoint_of [] = Some Checkpoint
+checkpoint_of _ = None
+
 -- the step that a first word and the words after it spell
 unfoldable pub step_of : Text → List Text → Option Step
 step_of name words =
@@ -181,7 +186,8 @@ step_of name words =
     else (if bytes_eq name (codes "status") then status_of words
     else (if bytes_eq name (codes "deliver") then deliver_of words
     else (if bytes_eq name (codes "move") then move_of words
-    else (if bytes_eq name (codes "flush") then flush_of words else None))))
+    else (if bytes_eq name (codes "flush") then flush_of words
+    else (if bytes_eq name (codes "checkpoint") then checkpoint_of words else None)))))
 
 -- the line behind the header that a first word and the words after it spell
 unfoldable pub line_of : Text → List Text → Option Line

@@ -3,8 +3,8 @@
 //! A script is at most 1,048,576 bytes of ASCII. Its lines end with a line feed, which the last may
 //! lack; an empty line and one that begins with `#` are skipped. First stands the header, 1 to 64 lines
 //! `array A K` and at most one line `pes N`, in any order; then any number of these: `supply K N`,
-//! `req C N A I E W..`, `status C N`, `deliver PE ID`, `drain N`, `move A I PE`, `flush`, `state A I`,
-//! `pending` and `census`. Words are parted by spaces, numbers are decimal, and an ID is `cC.N` for
+//! `req C N A I E W..`, `status C N`, `deliver PE ID`, `drain N`, `move A I PE`, `flush`, `checkpoint`,
+//! `state A I`, `pending` and `census`. Words are parted by spaces, numbers are decimal, and an ID is `cC.N` for
 //! message N of client C, or `eA.I.N` for that of the element (A, I).
 #![tactic(auto)]
 

@@ -2,7 +2,7 @@
 
 ghost use Rattle.std.specs.Prelude.{◌≡◌, map, nat_lt};
 ghost use Rattle.std.specs.List.{list_all};
-ghost use Rattle.charmlet_script.specs.Line.{array_of, census_of, deliver_of, drain_of, flush_of, is_skipped, item_of, line_of, move_of, pending_of, pes_of, request_of, spelled_by, state_of, status_of, step_of, supply_of};
+ghost use Rattle.charmlet_script.specs.Line.{array_of, census_of, checkpoint_of, deliver_of, drain_of, flush_of, is_skipped, item_of, line_of, move_of, pending_of, pes_of, request_of, spelled_by, state_of, status_of, step_of, supply_of};
 ghost use Rattle.charmlet_script.specs.Reading.{Spells};
 
 use crate::error::LineFault;
@@ -189,6 +189,18 @@ fn flush_of(words: &[&[u8]]) -> Option<Step>
     }
 }
 
+/// What follows `checkpoint`: nothing.
+#[tactic(auto, unfolding(crate::specs::Line::checkpoint_of))]
+fn checkpoint_of(words: &[&[u8]]) -> Option<Step>
+    ensures { result ≡ checkpoint_of (map (λ word. word.now) words.now) }
+{
+    if words.is_empty() {
+        Some(Step::Checkpoint)
+    } else {
+        None
+    }
+}
+
 /// The step that a first word and the words after it spell.
 #[tactic(auto, unfolding(crate::specs::Line::step_of))]
 fn step_of(alloc: Global, name: &[u8], words: &[&[u8]]) -> Result<Step, LineFault>
@@ -204,6 +216,8 @@ fn step_of(alloc: Global, name: &[u8], words: &[&[u8]]) -> Result<Step, LineFaul
         move_of(words).ok_or(LineFault::Malformed)
     } else if name == b"flush".as_slice() {
         flush_of(words).ok_or(LineFault::Malformed)
+    } else if name == b"checkpoint".as_slice() {
+        checkpoint_of(words).ok_or(LineFault::Malformed)
     } else {
         Err(LineFault::Malformed)
     }

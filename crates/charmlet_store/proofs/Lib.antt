@@ -6,3 +6,5 @@ pub mod Shelved
 pub mod Showing
 pub mod Looks
 pub mod Theres
+pub mod Lifting
+pub mod Residents

@@ -35,7 +35,7 @@ use Rattle.charmlet_stock.specs.Stock.{tally_in, supplied_to}
 use Rattle.charmlet_migrate.specs.Moving.{IsCountedAmong, IsIdle, ShowsPresent, numbers_of, objects_among, records_on}
 use Rattle.charmlet_migrate.proofs.CarriedShelves as carried
 use Rattle.charmlet_store.specs.Desk.{IsWithin, ShowsOn, IsDeskConsistent, desk_of, held_in}
-use Rattle.charmlet_store.specs.Store.{AreEmpty, AreNumbered, IsStoreConsistent, world_in}
+use Rattle.charmlet_store.specs.Store.{AreEmpty, AreNumbered, IsNew, IsStoreConsistent, world_in}
 use Rattle.charmlet_store.specs.declared.store.Store.{Store}
 use Rattle.charmlet_store.proofs.Places.{Stays, stepped_core}
 use Rattle.charmlet_migrate.specs.Copying.{empty_shelf}
@@ -230,25 +230,26 @@ bare_objects kind (shelf ∷ more) bare =
     sum_by-cons (λ (v : View). objects_on v kind) shelf more ∙ (λ i. here i + bare_objects kind more bare.1 i)
 
 -- its shelves show the new world
-bare_shows : (shelves : List View) (processors : ℕ) (manifest : List (ℕ × Kind)) → AllByRecursion IsBare shelves → (core : Core) → core ≡ opened processors (new_world manifest) 0 1 0 → Shows (records_on shelves) core.places (present core)
-bare_shows shelves processors manifest bare core opens =
+bare_shows : (shelves : List View) (processors : ℕ) (manifest : List (ℕ × Kind)) (log_end : ℕ) → AllByRecursion IsBare shelves → (core : Core) → core ≡ opened processors (new_world manifest) 0 1 log_end → Shows (records_on shelves) core.places (present core)
+bare_shows shelves processors manifest log_end bare core opens =
     subst (λ (core : Core). Shows (records_on shelves) core.places (present core)) (sym opens) (record {
       rising = bare_rising shelves bare;
       placed = λ x. refl;
       shown = λ q x. ap (lookup (is_at (elem_cmp x))) (bare_records shelves bare q);
     })
 
-pub new_consistent : {C : Type 0} {G : Ghosts C} (store : Store C G) (processors : ℕ) (manifest : List (ℕ × Kind)) → core_in store.history ≡ opened processors (new_world manifest) 0 1 0 → IsConsistent (kept_in store.history) → AreEmpty processors store.shelves.items →
+pub new_consistent : {C : Type 0} {G : Ghosts C} (store : Store C G) → IsNew (core_in store.history) → IsConsistent (kept_in store.history) → AreEmpty (core_in store.history).processors store.shelves.items →
     ((kind : Kind) → tally_in store.stock kind ≡ nothing) → IsStoreConsistent store
-new_consistent store processors manifest opens history empty none =
+new_consistent store new history empty none =
+    let processors = (core_in store.history).processors in
     let shelves = store.shelves.items in
     let bare = all_bare processors shelves empty in
     record {
       history = history;
-      count = empty.count ∙ sym (ap (λ (core : Core). core.processors) opens);
+      count = empty.count;
       numbers = λ p shelf less. ap (λ (v : View). v.number) (empty.empty p shelf (let count = empty.count in omega arith));
       idle = λ p shelf less. ap (λ (v : View). v.phase) (empty.empty p shelf (let count = empty.count in omega arith));
-      objects = bare_shows shelves processors manifest bare (core_in store.history) opens;
+      objects = bare_shows shelves processors new.manifest new.log_end bare (core_in store.history) new.is;
       census = λ kind.
           let supplied = ap (λ (t : Tally). t.supplied) (none kind) in
           let in_stock = ap (λ (t : Tally). t.in_stock) (none kind) in

@@ -5,3 +5,4 @@ pub mod Store
 pub mod Census
 pub mod Look
 pub mod There
+pub mod Dismantled

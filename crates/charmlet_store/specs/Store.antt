@@ -1,14 +1,11 @@
 -- What a store is, and what is true of it.
-use Rattle.std.specs.Prelude.{◌≡◌, ℕ, ◌<◌, List, get_or, length, Result, Ok, Err}
+use Rattle.std.specs.Prelude.{◌≡◌, ℕ, ◌<◌, List, get_or, length}
 use Rattle.std.specs.List.{All}
 use Rattle.charmlet_model.specs.declared.kind.Kind.{Kind}
-use Rattle.charmlet_model.specs.declared.refusal.Refusal.{Refusal}
-use Rattle.charmlet_model.specs.declared.told.Told.{Told}
-use Rattle.charmlet_model.specs.declared.step.Answer.{Answer}
-use Rattle.charmlet_model.specs.declared.step.Answer.TheVariants as answers
 use Rattle.charmlet_model.specs.World.{World}
-use Rattle.charmlet_model.specs.Core.{present}
+use Rattle.charmlet_model.specs.Core.{Core, present}
 use Rattle.charmlet_model.specs.Run.{StoreView}
+use Rattle.charmlet_model.specs.Sound.{new_world, opened}
 use Rattle.charmlet_chare.specs.declared.chare.Chare.{Ghosts}
 use Rattle.charmlet_history.specs.Kept.{IsConsistent, core_in, kept_in}
 use Rattle.charmlet_shelf.specs.Shelf.{View}
@@ -16,6 +13,12 @@ use Rattle.charmlet_store.specs.declared.store.Store.{Store}
 use Rattle.charmlet_migrate.specs.Moving.{IsCountedAmong, IsIdle, ShowsPresent, store_with}
 use Rattle.charmlet_stock.specs.Stock.{supplied_to}
 use Rattle.charmlet_migrate.specs.Copying.{empty_shelf}
+
+-- nothing has happened in the store, and nothing came before its opening world
+pub record IsNew (core : Core) : Type 0 where
+  pub manifest : List (ℕ × Kind)
+  pub log_end : ℕ
+  pub is : core ≡ opened core.processors (new_world manifest) 0 1 log_end
 
 -- the store as a core and the blanks of its stock
 abbrev pub store_in : {C : Type 0} {G : Ghosts C} → Store C G → StoreView
@@ -42,11 +45,6 @@ pub record IsStoreConsistent {C : Type 0} {G : Ghosts C} (store : Store C G) : T
   pub idle : All IsIdle store.shelves.items
   pub objects : ShowsPresent store.shelves.items store.history
   pub census : IsCountedAmong store.shelves.items store.stock
-
--- the answer to a request or a status
-abbrev pub client_answer : Result Told Refusal → Answer
-client_answer (Ok told) = answers.Told told
-client_answer (Err refusal) = answers.Refused refusal
 
 -- so many of them, one of each processor
 pub record AreEmpty (processors : ℕ) (shelves : List View) : Type 0 where

@@ -1,11 +1,13 @@
-//! Stores in memory, on 1 to 64 processors, with the plainest lists.
+//! Stores in memory, on 1 to 64 processors: a history, and the objects that it makes.
 #![tactic(auto)]
 
 mod census;
 mod delivery;
+mod dismantling;
 mod look;
 mod store;
 
 pub use crate::census::Census;
+pub use crate::dismantling::Dismantled;
 pub use crate::look::{Look, Standing};
-pub use crate::store::Store;
+pub use crate::store::{Store, empty_shelves};

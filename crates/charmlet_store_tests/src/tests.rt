@@ -1,3 +1,4 @@
+mod dismantle;
 mod migrate;
 mod packing;
 mod shelf;

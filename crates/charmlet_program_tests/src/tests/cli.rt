@@ -1,21 +1,24 @@
 mod beginnings;
 mod census;
+mod disks;
 mod ending;
 mod flushing;
 mod probe;
+mod roomy;
 mod steps;
 mod worked;
 
 ghost use Rattle.std.specs.Prelude.{IfOk, IfSome};
-ghost use Rattle.charmlet_store.specs.Store.{IsStoreConsistent};
+ghost use Rattle.charmlet_engine.specs.Engine.{IsEngineConsistent};
 
 use self::worked::FIRST_RUN;
 use charmlet_chare::Chare;
 use charmlet_cli::{RunError, Stop, run_script};
+use charmlet_disk::{Disk, MemDisk};
+use charmlet_engine::Engine;
 use charmlet_kinds::Counter;
 use charmlet_model::{CONSTRUCT, Elem, Kind, Manifest, MsgId, Origin, Step, Words};
 use charmlet_script::{Script, read_script};
-use charmlet_store::Store;
 use std::alloc::{AllocError, Global};
 use std::io;
 use std::io::Write;
@@ -44,6 +47,16 @@ fn counters(alloc: Global, script: &Script) -> Result<Vec<Counter>, AllocError> 
     Ok(counters)
 }
 
+// Runs a script on a new disk in memory.
+fn run_anew<C: Chare, W: Write>(
+    alloc: Global,
+    script: &Script,
+    blanks: Vec<C>,
+    writer: &mut W,
+) -> Result<(), RunError<C>> {
+    run_script(alloc, MemDisk::new(alloc), script, blanks, writer).result
+}
+
 // Objects that are fewer than the script supplies come back, and nothing is written, also where there could be no store.
 #[test]
 fn too_few_objects_come_back(rt: HostRuntime) -> Result<(), Fail> {
@@ -55,7 +68,7 @@ fn too_few_objects_come_back(rt: HostRuntime) -> Result<(), Fail> {
         let script = read_script(alloc, &mut text.as_bytes())?;
         assert_eq!(rt; script.blanks(Kind::Counter), 3);
         let mut output = Vec::new(alloc);
-        match run_script(alloc, &script, two_counters(alloc)?, &mut output) {
+        match run_anew(alloc, &script, two_counters(alloc)?, &mut output) {
             Err(RunError::TooFewBlanks(blanks)) => assert_eq!(rt; blanks.len(), 2),
             _ => panic!(rt; "three blanks are wanted"),
         }
@@ -95,7 +108,7 @@ fn failed_output_ends_the_run(rt: HostRuntime) -> Result<(), Fail> {
         taken: Vec::new(alloc),
         room: 40,
     };
-    let ran = run_script(alloc, &script, counters(alloc, &script)?, &mut output);
+    let ran = run_anew(alloc, &script, counters(alloc, &script)?, &mut output);
     assert!(rt; matches!(ran, Err(RunError::Output(_))));
     assert!(rt; wanted.as_bytes().starts_with(output.taken.as_slice()));
     assert!(rt; output.taken.starts_with(b"supplied 1 1\ntold unknown\n"));
@@ -109,16 +122,14 @@ fn failed_output_ends_the_run(rt: HostRuntime) -> Result<(), Fail> {
     Ok(())
 }
 
-// A store with an array of counters.
-fn new_store<C: Chare>(alloc: Global) -> Result<Option<Store<C>>, AllocError>
-    ensures { IfOk result (λ store. IfSome store (IsStoreConsistent)) }
+// An engine with an array of this kind, on a new disk in memory.
+fn new_engine<C: Chare>(alloc: Global, kind: Kind) -> Result<Option<Engine<MemDisk, C>>, AllocError>
+    ensures { IfOk result (λ engine. IfSome engine IsEngineConsistent) }
 {
-    let manifest = Manifest::of(alloc, &[(0, 1)])?;
-    let Some(manifest) = manifest else {
+    let Some(manifest) = Manifest::of(alloc, &[(0, kind.number())])? else {
         return Ok(None);
     };
-    let store = Store::new(alloc, manifest, 1);
-    Ok(store.ok())
+    Ok(Engine::create(alloc, MemDisk::new(alloc), manifest, 1).ok())
 }
 
 // A request with no words.
@@ -133,34 +144,34 @@ fn request(alloc: Global, client: u32, index: u64, entry: u16) -> Step {
 }
 
 // The message that can be delivered next, with its processor.
-fn next_of<C: Chare>(alloc: Global, store: &Store<C>) -> Result<String, AllocError>
-    requires { IsStoreConsistent store.now }
+fn next_of<D: Disk, C: Chare>(alloc: Global, engine: &Engine<D, C>) -> Result<String, AllocError>
+    requires { IsEngineConsistent engine.now }
 {
-    match store.next() {
+    match engine.next() {
         Some((processor, id)) => format!(in alloc; "{processor} {id}\n"),
         None => String::from_str(alloc, "none\n"),
     }
 }
 
-// What is next in a new store, behind a message that waits for its receiver, once that is to be
+// What is next in a new engine, behind a message that waits for its receiver, once that is to be
 // constructed, and once it is.
 fn nexts<C: Chare>(alloc: Global, blanks: Vec<C>) -> Result<String, AllocError> {
-    let store = new_store(alloc)?;
-    let Some(mut store) = store else {
+    let engine = new_engine(alloc, Kind::Counter)?;
+    let Some(mut engine) = engine else {
         return String::from_str(alloc, "no store\n");
     };
-    let mut nexts = next_of(alloc, &store)?;
-    let _ = store.supply(blanks);
-    let _ = store.step(&request(alloc, 8, 3, 0));
-    nexts.push_str(next_of(alloc, &store)?.as_str())?;
-    let _ = store.step(&request(alloc, 7, 3, CONSTRUCT));
-    nexts.push_str(next_of(alloc, &store)?.as_str())?;
+    let mut nexts = next_of(alloc, &engine)?;
+    let _ = engine.supply(blanks);
+    let _ = engine.step(&request(alloc, 8, 3, 0));
+    nexts.push_str(next_of(alloc, &engine)?.as_str())?;
+    let _ = engine.step(&request(alloc, 7, 3, CONSTRUCT));
+    nexts.push_str(next_of(alloc, &engine)?.as_str())?;
     let id = MsgId {
         origin: Origin::Client(7),
         number: 1,
     };
-    let _ = store.step(&Step::Deliver { processor: 0, id });
-    nexts.push_str(next_of(alloc, &store)?.as_str())?;
+    let _ = engine.step(&Step::Deliver { processor: 0, id });
+    nexts.push_str(next_of(alloc, &engine)?.as_str())?;
     Ok(nexts)
 }
 

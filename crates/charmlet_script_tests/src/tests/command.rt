@@ -6,7 +6,32 @@ use std::test::Fail;
 fn run_names_its_script(rt: HostRuntime) -> Result<(), Fail> {
     let words = ["charmlet", "run", "a.charmlet"];
     let script = "a.charmlet";
-    assert_eq!(rt; command_of(rt.alloc(), &words)?, Command::Run { script });
+    assert_eq!(rt;
+        command_of(rt.alloc(), &words)?,
+        Command::Run { script, dir: None }
+    );
+    Ok(())
+}
+
+#[test]
+fn run_names_its_folder(rt: HostRuntime) -> Result<(), Fail> {
+    for (words, dir) in [
+        (["charmlet", "run", "a", "--dir", "b"].as_slice(), "b"),
+        (&["charmlet", "run", "a", "--dir=b"], "b"),
+        (&["charmlet", "run", "a", "--dir=b=c"], "b=c"),
+        (&["charmlet", "run", "a", "--dir="], ""),
+        (&["charmlet", "run", "--dir", "b", "a"], "b"),
+        (&["charmlet", "run", "--dir=b c", "a"], "b c"),
+        (&["charmlet", "run", "--dir", "run", "--", "a"], "run"),
+    ] {
+        let dir = Some(dir);
+        let script = "a";
+        assert_eq!(rt;
+            command_of(rt.alloc(), words)?,
+            Command::Run { script, dir },
+            "{words:?}"
+        );
+    }
     Ok(())
 }
 
@@ -18,6 +43,39 @@ fn other_lines_are_refused(rt: HostRuntime) {
         (&["charmlet", "run"], ErrorKind::MissingRequiredArgument),
         (&["charmlet", "run", "a", "b"], ErrorKind::UnknownArgument),
         (&["charmlet", "run", "a", "--b"], ErrorKind::UnknownArgument),
+        (&["charmlet", "run", "a", "--dir"], ErrorKind::InvalidValue),
+        (
+            &["charmlet", "run", "--dir", "a"],
+            ErrorKind::MissingRequiredArgument,
+        ),
+        (
+            &["charmlet", "run", "a", "--dir", "b", "c"],
+            ErrorKind::UnknownArgument,
+        ),
+        (
+            &["charmlet", "run", "a", "--dir", "b", "--dir", "b"],
+            ErrorKind::ArgumentConflict,
+        ),
+        (
+            &["charmlet", "run", "a", "--dir=b", "--dir", "c"],
+            ErrorKind::ArgumentConflict,
+        ),
+        (
+            &["charmlet", "run", "a", "--dir", "--b"],
+            ErrorKind::UnknownArgument,
+        ),
+        (
+            &["charmlet", "run", "a", "-d", "b"],
+            ErrorKind::UnknownArgument,
+        ),
+        (
+            &["charmlet", "run", "a", "--di", "b"],
+            ErrorKind::UnknownArgument,
+        ),
+        (
+            &["charmlet", "--dir", "b", "run", "a"],
+            ErrorKind::UnknownArgument,
+        ),
         (&["charmlet", "-h"], ErrorKind::DisplayHelp),
         (&["charmlet", "help", "run"], ErrorKind::DisplayHelp),
     ] {

@@ -135,6 +135,19 @@ fn moves_are_read(rt: HostRuntime) -> Result<(), Fail> {
 }
 
 #[test]
+fn flushes_and_checkpoints_are_read(rt: HostRuntime) -> Result<(), Fail> {
+    let text = "array 0 1\nflush\ncheckpoint\n  checkpoint  \nflush\ncheckpoint";
+    let script = read(rt.alloc(), text.as_bytes())?;
+    let lines = lines_of(rt.alloc(), &script)?;
+    assert_eq!(rt;
+        lines.as_str(),
+        "[Step(Flush), Step(Checkpoint), Step(Checkpoint), Step(Flush), Step(Checkpoint)]"
+    );
+    assert!(rt; matches!(script.lines(), [_, Line::Step(Step::Checkpoint), ..]));
+    Ok(())
+}
+
+#[test]
 fn six_kinds_have_numbers(rt: HostRuntime) -> Result<(), Fail> {
     let text = "array 11 1\narray 12 2\narray 13 3\narray 14 4\narray 15 5\narray 16 6\n\
         supply 1 10\nsupply 2 20\nsupply 3 30\nsupply 4 40\nsupply 5 50\nsupply 6 60\n";
@@ -168,6 +181,7 @@ fn the_first_malformed_line_is_named(rt: HostRuntime) {
         ("pes 2\nmove 0 0 1\n", 1),
         // an array line that may not stand there
         ("array 0 1\nflush\narray 1 1\n", 3),
+        ("array 0 1\ncheckpoint\narray 1 1\n", 3),
         ("census\narray 0 1\n", 2),
         // a line of processors that may not stand there
         ("pes 2\narray 0 1\npes 2\n", 3),
@@ -176,10 +190,12 @@ fn the_first_malformed_line_is_named(rt: HostRuntime) {
         ("array 0 1\nsupply 1 1\npes 2\n", 3),
         ("array 0 1\npending\npes 1\n", 3),
         ("array 0 1\nflush\npes 2\n", 3),
+        ("array 0 1\ncheckpoint\npes 2\n", 3),
         // no line of the language
         ("bad\narray 0 1\n", 1),
         ("array 0 1\n   \n", 2),
         ("array 0 1\nflush\r\n", 2),
+        ("array 0 1\ncheckpoint\r\n", 2),
         ("array 0 1\n\nbad\nworse\n", 3),
     ] {
         assert_eq!(rt; malformed(alloc, text.as_bytes()), line, "{text:?}");
@@ -221,6 +237,13 @@ pending 1
 census 1
 CENSUS
 pendings
+checkpoint 1
+checkpoint now
+checkpoint checkpoint
+Checkpoint
+CHECKPOINT
+checkpoints
+check
 deliver 0 c7
 deliver 0 e1.2
 deliver 0 c.1

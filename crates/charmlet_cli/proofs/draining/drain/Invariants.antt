@@ -1,8 +1,10 @@
 use Rattle.std.proofs.Common.{◌≡◌}
-use Rattle.charmlet_store.specs.Store.{IsStoreConsistent, store_in, supplied_in}
+use Rattle.charmlet_engine.specs.Advances.{Advances}
+use Rattle.charmlet_engine.specs.Engine.{IsEngineConsistent, view_of, supplied_of}
 use Rattle.charmlet_cli.specs.Drain.{Drains}
 use Rattle.charmlet_cli.proofs.draining.drain.Given as goal
 
 -- so many were delivered
 abbrev pub invariant-loop-delivered : goal.invariant-loop-delivered
-invariant-loop-delivered g l = IsStoreConsistent l.store × Drains (store_in l.initial.store) l.delivered (store_in l.store) × (supplied_in l.store ≡ supplied_in l.initial.store)
+invariant-loop-delivered g l = IsEngineConsistent l.engine × Drains (view_of l.initial.engine) l.delivered (view_of l.engine) × (supplied_of l.engine ≡ supplied_of l.initial.engine)
+    × Advances {G = g.D.Disk} {H = g.C.Chare} l.fn.engine l.engine

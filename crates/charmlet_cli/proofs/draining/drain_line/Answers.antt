@@ -6,7 +6,7 @@ use Rattle.charmlet_model.specs.declared.step.Answer.TheVariants.{Refused}
 use Rattle.charmlet_model.specs.Run.{StoreView}
 use Rattle.charmlet_model.specs.Texts.{Text, answer_text}
 use Rattle.charmlet_script.specs.Printed.{drained_text}
-use Rattle.charmlet_store.specs.Store.{store_in}
+use Rattle.charmlet_engine.specs.Engine.{view_of}
 use Rattle.charmlet_cli.specs.Drain.{DrainsUpTo, drain_text, drain_texts}
 use Rattle.charmlet_cli.specs.Lines.{in_lines}
 use Rattle.charmlet_cli.specs.Writing.{AppendsBeginning}
@@ -22,7 +22,7 @@ pub returns-in_err-write_line-clause-prints : goal.returns-in_err-write_line-cla
 returns-in_err-write_line-clause-prints g c =
     let old = g.W.Write.contents c.args.writer.now in
     let mid = g.W.Write.contents c.write_line.new.writer in
-    let last = store_in c.drain-delivered.new.store in
+    let last = view_of c.drain-delivered.new.engine in
     let k = c.drain-delivered.result.0 in
     let refusal = c.drain-delivered.result.1 in
     let begins : AppendsBeginning old mid (in_lines (drain_text k last ∷ [])) =
@@ -36,8 +36,8 @@ pub returns-in_default-clause-prints : goal.returns-in_default-clause-prints
 returns-in_default-clause-prints g c =
     let old = g.W.Write.contents c.args.writer.now in
     let mid = g.W.Write.contents c.write_line.new.writer in
-    let before = store_in c.args.store.now in
-    let last = store_in c.drain-delivered.new.store in
+    let before = view_of c.args.engine.now in
+    let last = view_of c.drain-delivered.new.engine in
     let k = c.drain-delivered.result.0 in
     let drains = subst (λ refusal. DrainsUpTo before c.args.most k refusal last) c.in_default.is c.drain-delivered.ensures.drains in (
       drain_text k last ∷ [],
@@ -50,8 +50,8 @@ returns-clause-prints g c =
     let old = g.W.Write.contents c.args.writer.now in
     let mid = g.W.Write.contents c.write_line.new.writer in
     let new = g.W.Write.contents c.write_answer.new.writer in
-    let before = store_in c.args.store.now in
-    let last = store_in c.drain-delivered.new.store in
+    let before = view_of c.args.engine.now in
+    let last = view_of c.drain-delivered.new.engine in
     let k = c.drain-delivered.result.0 in
     let drains = subst (λ refusal. DrainsUpTo before c.args.most k refusal last) c.in-Some.is c.drain-delivered.ensures.drains in
     let refused = answer_text (Refused c.in-Some.refusal) in

@@ -4,6 +4,8 @@ use Rattle.charmlet_model.specs.Kind.{kind_number}
 use Rattle.charmlet_model.specs.Texts.{answer_text}
 use Rattle.charmlet_script.specs.declared.script.Line.TheVariants.{Supply}
 use Rattle.charmlet_script.specs.Script.{blanks_in}
+use Rattle.charmlet_engine.specs.Engine.{disk_in}
+use Rattle.charmlet_engine.proofs.Advancing.{advances_still}
 use Rattle.charmlet_cli.specs.Lines.{Follows, IsPrinted, blanks_left, ledger_in}
 use Rattle.charmlet_cli.proofs.running.run_line.Goals as goal
 
@@ -17,13 +19,25 @@ supply_line-requires-clause-enough g c κs within =
 
 pub returns-in-Supply-clause-prints : goal.returns-in-Supply-clause-prints
 returns-in-Supply-clause-prints g c =
-    subst (λ line. IsPrinted c.supply_line.result (ledger_in c.args.store.now) line (ledger_in c.supply_line.new.store) (g.W.Write.contents c.args.writer.now) (g.W.Write.contents c.supply_line.new.writer))
+    subst (λ line. IsPrinted c.supply_line.result (ledger_in c.args.engine.now) line (ledger_in c.supply_line.new.engine) (g.W.Write.contents c.args.writer.now) (g.W.Write.contents c.supply_line.new.writer))
     (sym c.in-Supply.is) c.supply_line.ensures.prints
 
 pub returns-clause-prints : goal.returns-clause-prints
 returns-clause-prints g c =
-    let before = ledger_in c.args.store.now in
+    let before = ledger_in c.args.engine.now in
     let next = ledger_in c.step.new.self in
     let text = answer_text c.step.result in
     let follows : Follows before c.args.line.now (text ∷ []) next = subst (λ line. Follows before line (text ∷ []) next) (sym c.in-Step.is) (c.step.result, c.step.ensures.does, c.step.ensures.supplied, refl) in
     (text ∷ [], follows, c.write_answer.ensures)
+
+pub returns-in-Pending-clause-advances : goal.returns-in-Pending-clause-advances
+returns-in-Pending-clause-advances g c =
+    let laws = g.met.D.Disk g.world.𝓛 g.world.𝓜 g.world.𝓡 ((λ s x. x), (λ x. x), (λ x. x), (λ x. x)) in
+    let engine = c.args.engine.now in
+    advances_still {G = g.D.Disk} {H = g.C.Chare} engine engine c.requires.consistent refl refl (λ honest o left. laws.only_now (disk_in engine) o honest left)
+
+pub returns-in-Census-clause-advances : goal.returns-in-Census-clause-advances
+returns-in-Census-clause-advances g c =
+    let laws = g.met.D.Disk g.world.𝓛 g.world.𝓜 g.world.𝓡 ((λ s x. x), (λ x. x), (λ x. x), (λ x. x)) in
+    let engine = c.args.engine.now in
+    advances_still {G = g.D.Disk} {H = g.C.Chare} engine engine c.requires.consistent refl refl (λ honest o left. laws.only_now (disk_in engine) o honest left)

@@ -1,9 +1,11 @@
-use Rattle.std.proofs.Common.{◌≡◌, ◌+◌, ◌≤◌, List, [], ◌∷◌, ◌++◌, sym, ap, subst, ◌∙◌, arith}
+use Rattle.std.proofs.Common.{rules, refl, ◌≡◌, ◌+◌, ◌≤◌, List, [], ◌∷◌, ◌++◌, sym, ap, subst, ◌∙◌, arith}
 use Rattle.std.specs.Prelude.{drop, take, get_or}
 use Rattle.std.proofs.lemmas.List.{take_more}
 use Rattle.std.proofs.lemmas.List.Sums.{sum_by-drop_more}
 use Rattle.charmlet_model.specs.Texts.{Text}
 use Rattle.charmlet_script.specs.Script.{blanks_in, blanks_of}
+use Rattle.charmlet_engine.specs.Engine.{disk_in}
+use Rattle.charmlet_engine.proofs.Advancing.{advances_after, advances_still}
 use Rattle.charmlet_cli.specs.Lines.{Prints, blanks_left, ledger_in}
 use Rattle.charmlet_cli.proofs.Endings.{on_err}
 use Rattle.charmlet_cli.proofs.Printing.{lines_then, prints_more, split_at}
@@ -19,11 +21,10 @@ returns-in_err-run_line-clause-breaks_off g c =
       c.line-item.result,
       drop (at + 1) lines,
       split_at lines at c.line-item.result c.loop-line-test.true ∙ ap (λ line. take at lines ++ line ∷ drop (at + 1) lines) (sym c.line-item.is),
-      ledger_in c.loop-line.store,
+      ledger_in c.loop-line.engine,
       g.W.Write.contents c.loop-line.writer,
       c.loop-line.invariant.1,
       printed.0,
-      ledger_in c.run_line.new.store,
       printed.1,
       printed.2,
     )
@@ -32,9 +33,9 @@ pub loop-line-preserved : goal.loop-line-preserved
 loop-line-preserved g c =
     let lines = c.args.lines.now in
     let at = c.loop-line.line-index in
-    let first = ledger_in c.args.store.now in
-    let before = ledger_in c.loop-line.store in
-    let next = ledger_in c.run_line.new.store in
+    let first = ledger_in c.args.engine.now in
+    let before = ledger_in c.loop-line.engine in
+    let next = ledger_in c.run_line.new.engine in
     let so_far = c.loop-line.invariant.1 in
     let printed = c.in_ok-run_line.ensures.prints in
     let more : take (at + 1) lines ≡ take at lines ++ c.line-item.result ∷ [] =
@@ -51,4 +52,18 @@ loop-line-preserved g c =
           let enough : blanks_of kind (drop at lines) ≤ blanks_left c.loop-line.source kind = c.loop-line.invariant.2 kind in
           let left : blanks_left c.loop-line.source kind ≤ blanks_left c.run_line.new.source kind + blanks_in kind c.line-item.result = c.in_ok-run_line.ensures.left kind in
           omega arith,
+      advances_after {G = g.D.Disk} {H = g.C.Chare} c.args.engine.now c.loop-line.engine c.run_line.new.engine c.loop-line.invariant.3 c.run_line.ensures.advances,
+    )
+
+pub returns-in_err-run_line-clause-advances : goal.returns-in_err-run_line-clause-advances
+returns-in_err-run_line-clause-advances g c = advances_after {G = g.D.Disk} {H = g.C.Chare} c.args.engine.now c.loop-line.engine c.run_line.new.engine c.loop-line.invariant.3 c.run_line.ensures.advances
+
+pub loop-line-init : goal.loop-line-init
+loop-line-init g c =
+    let laws = g.met.D.Disk g.world.𝓛 g.world.𝓜 g.world.𝓡 ((λ s x. x), (λ x. x), (λ x. x), (λ x. x)) in
+    let engine = c.args.engine.now in (
+      c.requires.consistent,
+      search rules,
+      c.requires.enough,
+      advances_still {G = g.D.Disk} {H = g.C.Chare} engine engine c.requires.consistent refl refl (λ honest o left. laws.only_now (disk_in engine) o honest left),
     )

@@ -1,44 +1,13 @@
-use Rattle.std.proofs.Common.{rules, ◌≡◌, ◌≤◌, true, false, refl, sym, subst}
-use Rattle.std.proofs.lemmas.Bool.{iff_false}
-use Rattle.charmlet_script.specs.Script.{blanks_of}
-use Rattle.charmlet_cli.specs.Lines.{AreEnough}
-use Rattle.charmlet_cli.proofs.Endings.{memory_ends, on_ok, run_ends}
+use Rattle.std.proofs.Common.{◌≡◌}
+use Rattle.charmlet_cli.specs.Run.{IsHandedBack, Stands}
+use Rattle.charmlet_cli.proofs.Endings.{run_ends}
 use Rattle.charmlet_cli.proofs.running.run_script.Goals as goal
 
-pub returns-then-not-has_enough-clause-err : goal.returns-then-not-has_enough-clause-err
-returns-then-not-has_enough-clause-err g c =
-    let not_enough : c.has_enough.result ≡ false = search rules in
-    let items = c.as_slice.ensures.value in (
-      refl,
-      refl,
-      λ enough. iff_false c.has_enough.ensures not_enough (subst (λ items. AreEnough g.C.Chare.state items c.args.script.now.lines) (sym items) enough),
-    )
-
-pub returns-in_err-manifest-clause-err : goal.returns-in_err-manifest-clause-err
-returns-in_err-manifest-clause-err g c =
-    let is : c.has_enough.result ≡ true = search rules in
-    memory_ends g.C.Chare.state g.W.Write.contents c.args.blanks.items c.args.script.now c.args.writer.now c.from_residual.result
-    (subst (λ items. AreEnough g.C.Chare.state items c.args.script.now.lines) c.as_slice.ensures.value (c.has_enough.ensures.0 is)) c.from_residual.ensures.1
-
-pub returns-in_err-source-clause-err : goal.returns-in_err-source-clause-err
-returns-in_err-source-clause-err g c =
-    let is : c.has_enough.result ≡ true = search rules in
-    memory_ends g.C.Chare.state g.W.Write.contents c.args.blanks.items c.args.script.now c.args.writer.now c.from_residual-in_err-source.result
-    (subst (λ items. AreEnough g.C.Chare.state items c.args.script.now.lines) c.as_slice.ensures.value (c.has_enough.ensures.0 is)) c.from_residual-in_err-source.ensures.1
-
-pub run_in_new_store-requires-clause-enough : goal.run_in_new_store-requires-clause-enough
-run_in_new_store-requires-clause-enough g c κs within = λ kind.
-    let is : c.has_enough.result ≡ true = search rules in
-    let enough = subst (λ items. AreEnough g.C.Chare.state items c.args.script.now.lines) c.as_slice.ensures.value (c.has_enough.ensures.0 is) in
-    subst (λ n. blanks_of kind c.args.script.now.lines ≤ n) (sym (c.in_ok-source.ensures kind)) (enough kind)
-
-pub returns-clause-enough : goal.returns-clause-enough
-returns-clause-enough g c =
-    let is : c.has_enough.result ≡ true = search rules in
-    on_ok c.run_in_new_store.result (subst (λ items. AreEnough g.C.Chare.state items c.args.script.now.lines) c.as_slice.ensures.value (c.has_enough.ensures.0 is))
-
-pub returns-clause-err : goal.returns-clause-err
-returns-clause-err g c =
-    let is : c.has_enough.result ≡ true = search rules in
-    run_ends g.C.Chare.state g.W.Write.contents c.args.blanks.items c.args.script.now c.args.writer.now c.run_in_new_store.new.writer c.run_in_new_store.result
-    (subst (λ items. AreEnough g.C.Chare.state items c.args.script.now.lines) c.as_slice.ensures.value (c.has_enough.ensures.0 is)) c.run_in_new_store.ensures.err
+pub returns-in-Ok-clause-err : goal.returns-in-Ok-clause-err
+returns-in-Ok-clause-err g c =
+    let ran = c.run_in_new_store.result in
+    let script = c.args.script.now in
+    run_ends g.C.Chare.state g.W.Write.contents (ran.disk ≡ c.args.disk)
+    (Stands g.D.Disk.honest g.D.Disk.file g.D.Disk.moment g.D.Disk.since c.args.disk ran.disk)
+    (IsHandedBack g.D.Disk.honest g.D.Disk.file g.D.Disk.moment g.D.Disk.since c.args.disk ran.disk script)
+    c.args.blanks.items script c.args.writer.now c.run_in_new_store.new.writer ran.result c.in-Ok.ensures.enough c.run_in_new_store.ensures.err

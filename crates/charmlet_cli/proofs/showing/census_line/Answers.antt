@@ -17,7 +17,7 @@ loop-kind-init g c = appends_nothing (g.W.Write.contents c.args.writer.now)
 
 pub loop-kind-preserved : goal.loop-kind-preserved
 loop-kind-preserved g c =
-    let of : Kind → List Text = λ kind. counted_texts (counted_of c.args.store.now kind) in
+    let of : Kind → List Text = λ kind. counted_texts (counted_of c.args.engine.now kind) in
     let old = g.W.Write.contents c.args.writer.now in
     let mid = g.W.Write.contents c.loop-kind.writer in
     let new = g.W.Write.contents c.count_line.new.writer in
@@ -28,22 +28,22 @@ loop-kind-preserved g c =
 
 pub returns-in_err-count_line : goal.returns-in_err-count_line
 returns-in_err-count_line g c =
-    let of : Kind → List Text = λ kind. counted_texts (counted_of c.args.store.now kind) in
+    let of : Kind → List Text = λ kind. counted_texts (counted_of c.args.engine.now kind) in
     let old = g.W.Write.contents c.args.writer.now in
     let mid = g.W.Write.contents c.loop-kind.writer in
     let new = g.W.Write.contents c.count_line.new.writer in
     let begins = lines_begin of old mid new all_kinds c.loop-kind.kind-index kinds.Counter c.loop-kind-test.true c.loop-kind.invariant c.in_err-count_line.ensures in (
       flat_map of all_kinds,
-      (census_shown c.args.store.now c.requires, refl),
+      (census_shown c.args.engine.now c.requires.shows, refl),
       beginning_written c.from_residual.result _ old new (in_lines (flat_map of all_kinds)) c.from_residual.ensures.1 begins,
     )
 
 pub returns : goal.returns
 returns g c =
-    let of : Kind → List Text = λ kind. counted_texts (counted_of c.args.store.now kind) in
+    let of : Kind → List Text = λ kind. counted_texts (counted_of c.args.engine.now kind) in
     let old = g.W.Write.contents c.args.writer.now in
     let new = g.W.Write.contents c.loop-kind.writer in (
       flat_map of all_kinds,
-      (census_shown c.args.store.now c.requires, refl),
+      (census_shown c.args.engine.now c.requires.shows, refl),
       subst (λ kinds. Appends old new (in_lines (flat_map of kinds))) (take_all c.loop-kind.kind-index all_kinds c.loop-kind-test.false) c.loop-kind.invariant,
     )

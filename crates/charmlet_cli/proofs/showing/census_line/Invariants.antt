@@ -9,4 +9,4 @@ use Rattle.charmlet_cli.proofs.showing.census_line.Given as goal
 abbrev pub invariant-loop-kind : goal.invariant-loop-kind
 invariant-loop-kind g l =
     Appends (g.W.Write.contents l.initial.writer) (g.W.Write.contents l.writer)
-    (in_lines (flat_map (λ kind. counted_texts (counted_of l.store kind)) (take l.kind-index l.kind-items)))
+    (in_lines (flat_map (λ kind. counted_texts (counted_of l.engine kind)) (take l.kind-index l.kind-items)))

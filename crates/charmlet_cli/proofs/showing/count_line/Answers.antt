@@ -21,5 +21,5 @@ returns g c =
     } in
     let counted = of c.census-census.result in
     let some : counted_texts counted ≡ counted_text counted ∷ [] = ap (λ b. cond b (counted_text counted ∷ []) []) (lt-ltb 0 c.census-census.result.supplied (omega arith)) in
-    let same : counted ≡ counted_of c.args.store.now c.args.kind = ap of c.census-census.ensures.counts in
+    let same : counted ≡ counted_of c.args.engine.now c.args.kind = ap of c.census-census.ensures.counts in
     subst (λ texts. Writes c.write_line.result old new (in_lines texts)) (sym some ∙ ap counted_texts same) c.write_line.ensures

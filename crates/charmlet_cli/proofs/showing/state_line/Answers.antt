@@ -1,14 +1,14 @@
 use Rattle.std.proofs.Common.{ap, inl, inr, ◌∷◌, [], refl}
 use Rattle.charmlet_model.specs.World.{record_of}
 use Rattle.charmlet_script.specs.Printed.{shown_text}
-use Rattle.charmlet_store.specs.Store.{world_in}
+use Rattle.charmlet_engine.specs.Engine.{world_of}
 use Rattle.charmlet_cli.specs.Lines.{ledger_in, memory_text}
 use Rattle.charmlet_cli.proofs.Showings.{is_some_unless}
 use Rattle.charmlet_cli.proofs.showing.state_line.Goals as goal
 
 pub returns-in_default-clause-prints : goal.returns-in_default-clause-prints
 returns-in_default-clause-prints g c =
-    let r = record_of (world_in c.args.store.now) c.args.elem in
+    let r = record_of (world_of c.args.engine.now) c.args.elem in
     let there = is_some_unless r.state (λ none. let ok = c.in_default.ensures.absent none in let never : ⊥ = cc in never) in
     (memory_text ∷ [], (memory_text, inr (there, refl), refl, ap ledger_in c.shown.ensures.same), c.write_memory_refused.ensures)
 

@@ -1,8 +1,8 @@
 //! What is printed where the output fails.
 
 use super::worked::FIRST_RUN;
-use super::{counters, parts};
-use charmlet_cli::{RunError, run_script};
+use super::{counters, parts, run_anew};
+use charmlet_cli::RunError;
 use charmlet_script::read_script;
 use std::io;
 use std::io::{ErrorKind, Write};
@@ -44,7 +44,7 @@ fn all_is_written_that_there_is_room_for(rt: HostRuntime) -> Result<(), Fail> {
             room,
             is_ready: true,
         };
-        let ran = run_script(alloc, &script, counters(alloc, &script)?, &mut output);
+        let ran = run_anew(alloc, &script, counters(alloc, &script)?, &mut output);
         assert_eq!(rt; output.taken.as_slice(), &wanted.as_bytes()[..room]);
         let is_whole = room == wanted.len();
         assert!(rt; ran.is_ok() == is_whole);

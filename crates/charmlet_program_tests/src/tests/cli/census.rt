@@ -1,10 +1,10 @@
-//! What a store counts.
+//! What an engine counts.
 
-use super::request;
+use super::{new_engine, request};
 use charmlet_chare::Chare;
 use charmlet_kinds::{Counter, Tree};
-use charmlet_model::{CONSTRUCT, Kind, Manifest, MsgId, Origin, Step};
-use charmlet_store::{Census, Store};
+use charmlet_model::{CONSTRUCT, Kind, MsgId, Origin, Step};
+use charmlet_store::Census;
 use std::alloc::{AllocError, Global};
 use std::test::Fail;
 
@@ -24,22 +24,19 @@ fn censuses<C: Chare>(
     blanks: Vec<C>,
 ) -> Result<Vec<Census>, AllocError> {
     let mut censuses = Vec::new(alloc);
-    let Some(manifest) = Manifest::of(alloc, &[(0, kind.number())])? else {
+    let Some(mut engine) = new_engine(alloc, kind)? else {
         return Ok(censuses);
     };
-    let Ok(mut store) = Store::new(alloc, manifest, 1) else {
-        return Ok(censuses);
-    };
-    let _ = store.supply(blanks);
-    censuses.push(store.census(kind))?;
+    let _ = engine.supply(blanks);
+    censuses.push(engine.census(kind))?;
     for (client, entry) in [(7, CONSTRUCT), (8, 0)] {
-        let _ = store.step(&request(alloc, client, 3, entry));
+        let _ = engine.step(&request(alloc, client, 3, entry));
         let id = MsgId {
             origin: Origin::Client(client),
             number: 1,
         };
-        let _ = store.step(&Step::Deliver { processor: 0, id });
-        censuses.push(store.census(kind))?;
+        let _ = engine.step(&Step::Deliver { processor: 0, id });
+        censuses.push(engine.census(kind))?;
     }
     Ok(censuses)
 }

@@ -1,7 +1,7 @@
 //! How the program ends.
 
-use super::{FullOutput, counters};
-use charmlet_cli::{Failure, RunError, Stop, end_program, run_script};
+use super::{FullOutput, counters, run_anew};
+use charmlet_cli::{Failure, RunError, Stop, end_program};
 use charmlet_command::{CommandError, command_of};
 use charmlet_kinds::Counter;
 use charmlet_script::{ReadError, read_script};
@@ -22,7 +22,7 @@ fn ending(rt: &(impl AllocGlobal + Abort), ran: &Result<(), Failure>) -> (u8, Ve
 // Does with a script what the program does, for counters.
 fn run<W: Write>(alloc: Global, text: &str, output: &mut W) -> Result<(), Stop> {
     let script = read_script(alloc, &mut text.as_bytes())?;
-    run_script(alloc, &script, counters(alloc, &script)?, output)?;
+    run_anew(alloc, &script, counters(alloc, &script)?, output)?;
     Ok(())
 }
 

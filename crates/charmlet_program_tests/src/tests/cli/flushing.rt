@@ -1,7 +1,8 @@
 //! When what is printed reaches its reader.
 
 use super::probe::{Notes, probes};
-use charmlet_cli::{RunError, run_script};
+use super::run_anew;
+use charmlet_cli::RunError;
 use charmlet_script::read_script;
 use std::io;
 use std::io::{BufWriter, ErrorKind, Write};
@@ -75,7 +76,7 @@ fn each_line_is_flushed_before_the_next_one_runs(rt: HostRuntime) -> Result<(), 
         notes,
     };
     let mut writer = BufWriter::new(alloc, output)?;
-    let ran = run_script(alloc, &script, blanks, &mut writer);
+    let ran = run_anew(alloc, &script, blanks, &mut writer);
     assert!(rt; ran.is_ok());
     assert_eq!(rt; writer.get_ref().at.as_slice(), REACHED.as_slice());
     Ok(())
@@ -93,7 +94,7 @@ fn failed_flush_ends_the_run(rt: HostRuntime) -> Result<(), Fail> {
         most: 1,
         notes: notes.clone()?,
     };
-    let ran = run_script(alloc, &script, blanks, &mut output);
+    let ran = run_anew(alloc, &script, blanks, &mut output);
     assert!(rt; matches!(ran, Err(RunError::Output(_))));
     assert_eq!(rt;
         output.taken.as_slice(),

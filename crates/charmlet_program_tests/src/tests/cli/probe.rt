@@ -1,15 +1,16 @@
 //! Objects that note what is done with them.
 
-ghost use Rattle.charmlet_store.specs.Store.{IsStoreConsistent};
+ghost use Rattle.charmlet_engine.specs.Engine.{IsEngineConsistent};
 
-use super::{parts, request};
+use super::{new_engine, parts, request, run_anew};
 use charmlet_chare::{Chare, Outbox};
-use charmlet_cli::{RunError, run_script};
+use charmlet_cli::RunError;
+use charmlet_disk::Disk;
+use charmlet_engine::Engine;
 use charmlet_kinds::{Counter, Tree};
-use charmlet_model::{CONSTRUCT, Elem, Kind, Manifest, MsgId, Origin, Refusal, Step};
+use charmlet_model::{CONSTRUCT, Elem, Kind, MsgId, Origin, Refusal, Step};
 use charmlet_pup::PupFault;
 use charmlet_script::read_script;
-use charmlet_store::Store;
 use std::alloc::{AllocError, Global};
 use std::process::Abort;
 use std::sync::Arc;
@@ -148,7 +149,7 @@ fn run_of(
     let script = read_script(alloc, &mut text.as_bytes())?;
     let blanks = probes(alloc, &notes, count)?;
     let mut output = Vec::new(alloc);
-    let ran = run_script(alloc, &script, blanks, &mut output);
+    let ran = run_anew(alloc, &script, blanks, &mut output);
     assert!(rt; ran.is_ok());
     assert_eq!(rt; output.as_slice(), wanted.as_bytes());
     Ok((notes, output))
@@ -231,7 +232,7 @@ fn objects_are_dropped_where_there_is_no_store(rt: HostRuntime) -> Result<(), Fa
     let script = read_script(alloc, &mut b"pes 65\narray 0 1\nsupply 1 2\n".as_slice())?;
     let blanks = probes(alloc, &notes, 3)?;
     let mut output = Vec::new(alloc);
-    let ran = run_script(alloc, &script, blanks, &mut output);
+    let ran = run_anew(alloc, &script, blanks, &mut output);
     assert!(rt; matches!(ran, Err(RunError::NotCreated(Refusal::BadPes))));
     assert_eq!(rt; output.as_slice(), b"refused 17 BadPes\n".as_slice());
     assert_eq!(rt; notes.entries.load(Ordering::SeqCst), 0);
@@ -240,27 +241,25 @@ fn objects_are_dropped_where_there_is_no_store(rt: HostRuntime) -> Result<(), Fa
 }
 
 // A request of the client is delivered.
-fn deliver<C: Chare>(alloc: Global, store: &mut Store<C>, client: u32, entry: u16)
-    requires { IsStoreConsistent store.old }
-    ensures { IsStoreConsistent store.new }
+fn deliver<D: Disk, C: Chare>(alloc: Global, engine: &mut Engine<D, C>, client: u32, entry: u16)
+    requires { IsEngineConsistent engine.old }
+    ensures { IsEngineConsistent engine.new }
 {
-    let _ = store.step(&request(alloc, client, 0, entry));
+    let _ = engine.step(&request(alloc, client, 0, entry));
     let id = MsgId {
         origin: Origin::Client(client),
         number: 1,
     };
-    let _ = store.step(&Step::Deliver { processor: 0, id });
+    let _ = engine.step(&Step::Deliver { processor: 0, id });
 }
 
 #[test]
 fn destroyed_objects_are_dropped_at_once(rt: HostRuntime) -> Result<(), Fail> {
     let alloc = rt.alloc();
     let notes = Arc::new(alloc, Notes::new())?;
-    let manifest = Manifest::of(alloc, &[(0, Kind::Tree.number())])?;
-    let Some(manifest) = manifest else {
+    let Some(mut engine) = new_engine(alloc, Kind::Tree)? else {
         panic!(rt; "kind 5 is a tree's");
     };
-    let mut store = Store::new(alloc, manifest, 1)?;
     let notes_of_probe = notes.clone()?;
     let object = Tree::blank();
     let probe = Probe {
@@ -269,11 +268,11 @@ fn destroyed_objects_are_dropped_at_once(rt: HostRuntime) -> Result<(), Fail> {
     };
     let mut blanks = Vec::new(alloc);
     blanks.push(probe)?;
-    let supplied = store.supply(blanks);
+    let supplied = engine.supply(blanks);
     assert!(rt; supplied.is_ok());
-    deliver(alloc, &mut store, 7, CONSTRUCT);
+    deliver(alloc, &mut engine, 7, CONSTRUCT);
     assert_eq!(rt; notes.drops.load(Ordering::SeqCst), 0);
-    deliver(alloc, &mut store, 8, 0);
+    deliver(alloc, &mut engine, 8, 0);
     assert_eq!(rt; notes.drops.load(Ordering::SeqCst), 1);
     assert_eq!(rt; notes.entries.load(Ordering::SeqCst), 2);
     Ok(())

@@ -1,15 +1,17 @@
 //! Runs line by line, in which lines that are refused memory are tried again.
 
-ghost use Rattle.charmlet_store.specs.Store.{IsStoreConsistent};
+ghost use Rattle.charmlet_engine.specs.Engine.{IsEngineConsistent};
 
-use super::worked::{FIRST_RUN, MOVE, RING_OF_THREE, TREE};
+use super::roomy::RoomyDisk;
+use super::worked::{CHECKPOINTS, FIRST_RUN, MOVE, RING_OF_THREE, TREE};
 use super::{one_counter, parts, two_counters};
 use charmlet_chare::Chare;
 use charmlet_cli::{Stop, census_line, pending_line, state_line, write_line, write_memory_refused};
+use charmlet_disk::Disk;
+use charmlet_engine::Engine;
 use charmlet_kinds::{Counter, Ring, Tree};
 use charmlet_model::{Answer, Kind, Refusal, Step};
 use charmlet_script::{Drained, Line, Supplied, read_script};
-use charmlet_store::Store;
 use std::alloc::{AllocError, Global};
 use std::io;
 use std::test::Fail;
@@ -53,19 +55,19 @@ census 2 supplied 4 shelves 3 stock 0 retired 1
 const MEMORY_REFUSED: &[u8] = b"refused 1 Memory\n";
 
 // Runs a supply line. Where memory is refused it is tried again, so many times in all.
-fn supply<C: Chare>(
+fn supply<D: Disk, C: Chare>(
     alloc: Global,
-    store: &mut Store<C>,
+    engine: &mut Engine<D, C>,
     supplied: Supplied,
     mut blanks: Vec<C>,
     tries: usize,
     output: &mut Vec<u8>,
 ) -> io::Result<()>
-    requires { IsStoreConsistent store.old }
-    ensures { IsStoreConsistent store.new }
+    requires { IsEngineConsistent engine.old }
+    ensures { IsEngineConsistent engine.new }
 {
     for _ in 0..tries {
-        match store.supply(blanks) {
+        match engine.supply(blanks) {
             Ok(()) => return write_line(alloc, output, &supplied),
             Err(refused) => blanks = refused,
         }
@@ -74,12 +76,12 @@ fn supply<C: Chare>(
 }
 
 // The answer to a step. Where memory is refused it is tried again, so many times in all.
-fn answer<C: Chare>(store: &mut Store<C>, step: &Step, tries: usize) -> Answer
-    requires { IsStoreConsistent store.old }
-    ensures { IsStoreConsistent store.new }
+fn answer<D: Disk, C: Chare>(engine: &mut Engine<D, C>, step: &Step, tries: usize) -> Answer
+    requires { IsEngineConsistent engine.old }
+    ensures { IsEngineConsistent engine.new }
 {
     for _ in 0..tries {
-        let Ok(mut answers) = store.run(std::slice::from_ref(step)) else {
+        let Ok(mut answers) = engine.run(std::slice::from_ref(step)) else {
             continue;
         };
         match answers.pop() {
@@ -91,93 +93,93 @@ fn answer<C: Chare>(store: &mut Store<C>, step: &Step, tries: usize) -> Answer
 }
 
 // Runs a drain line, with each delivery tried so many times.
-fn drain<C: Chare>(
+fn drain<D: Disk, C: Chare>(
     alloc: Global,
-    store: &mut Store<C>,
+    engine: &mut Engine<D, C>,
     most: u32,
     tries: usize,
     output: &mut Vec<u8>,
 ) -> io::Result<()>
-    requires { IsStoreConsistent store.old }
-    ensures { IsStoreConsistent store.new }
+    requires { IsEngineConsistent engine.old }
+    ensures { IsEngineConsistent engine.new }
 {
     let mut delivered = 0u32;
     for _ in 0..most {
-        let Some((processor, id)) = store.next() else {
+        let Some((processor, id)) = engine.next() else {
             break;
         };
         let step = Step::Deliver { processor, id };
-        let answer = answer(store, &step, tries);
+        let answer = answer(engine, &step, tries);
         if matches!(answer, Answer::Delivered(_)) {
             delivered = delivered.saturating_add(1);
         }
     }
-    let left = store.pending_count() as u64;
+    let left = engine.pending_count() as u64;
     write_line(alloc, output, &Drained { delivered, left })
 }
 
 // Runs a line that shows something.
-fn show<C: Chare>(
+fn show<D: Disk, C: Chare>(
     alloc: Global,
-    store: &mut Store<C>,
+    engine: &mut Engine<D, C>,
     line: &Line,
     output: &mut Vec<u8>,
 ) -> io::Result<()>
-    requires { IsStoreConsistent store.old }
-    ensures { IsStoreConsistent store.new }
+    requires { IsEngineConsistent engine.old }
+    ensures { IsEngineConsistent engine.new }
 {
     match line {
-        Line::State(elem) => state_line(alloc, store, *elem, output),
-        Line::Pending => pending_line(alloc, store, output),
-        _ => census_line(alloc, store, output),
+        Line::State(elem) => state_line(alloc, engine, *elem, output),
+        Line::Pending => pending_line(alloc, engine, output),
+        _ => census_line(alloc, engine, output),
     }
 }
 
 // Runs a line that shows something. Where memory is refused it is tried again, so many times in all.
-fn show_again<C: Chare>(
+fn show_again<D: Disk, C: Chare>(
     alloc: Global,
-    store: &mut Store<C>,
+    engine: &mut Engine<D, C>,
     line: &Line,
     tries: usize,
     output: &mut Vec<u8>,
 ) -> io::Result<()>
-    requires { IsStoreConsistent store.old }
-    ensures { IsStoreConsistent store.new }
+    requires { IsEngineConsistent engine.old }
+    ensures { IsEngineConsistent engine.new }
 {
-    show(alloc, store, line, output)?;
+    show(alloc, engine, line, output)?;
     for _ in 1..tries {
         if !output.ends_with(MEMORY_REFUSED) {
             break;
         }
         output.truncate(output.len().saturating_sub(MEMORY_REFUSED.len()));
-        show(alloc, store, line, output)?;
+        show(alloc, engine, line, output)?;
     }
     Ok(())
 }
 
 // Runs a line.
-fn run<C: Chare>(
+fn run<D: Disk, C: Chare>(
     alloc: Global,
-    store: &mut Store<C>,
+    engine: &mut Engine<D, C>,
     blanks: &mut Vec<C>,
     line: &Line,
     tries: usize,
     output: &mut Vec<u8>,
 ) -> io::Result<()>
-    requires { IsStoreConsistent store.old }
-    ensures { IsStoreConsistent store.new }
+    requires { IsEngineConsistent engine.old }
+    ensures { IsEngineConsistent engine.new }
 {
     let (kind, count) = match line {
         Line::Supply { kind, count } => (*kind, *count),
-        Line::Drain { count } => return drain(alloc, store, *count, tries, output),
-        Line::Step(step) => return write_line(alloc, output, &answer(store, step, tries)),
-        _ => return show_again(alloc, store, line, tries, output),
+        Line::Drain { count } => return drain(alloc, engine, *count, tries, output),
+        Line::Step(step) => return write_line(alloc, output, &answer(engine, step, tries)),
+        _ => return show_again(alloc, engine, line, tries, output),
     };
     let left = blanks.len().saturating_sub(count as usize);
     let objects = blanks.split_off(left)?;
     supply(
         alloc,
-        store,
+        engine,
         Supplied { kind, count },
         objects,
         tries,
@@ -186,11 +188,11 @@ fn run<C: Chare>(
 }
 
 // Whether what was supplied of each kind is on shelves, in the stock, or retired.
-fn adds_up<C: Chare>(store: &Store<C>) -> bool
-    requires { IsStoreConsistent store.now }
+fn adds_up<D: Disk, C: Chare>(engine: &Engine<D, C>) -> bool
+    requires { IsEngineConsistent engine.now }
 {
     for kind in &Kind::ALL {
-        let census = store.census(*kind);
+        let census = engine.census(*kind);
         if census.supplied != census.on_shelves + census.in_stock + census.retired {
             return false;
         }
@@ -207,13 +209,14 @@ fn printed<C: Chare>(
 ) -> Result<Vec<u8>, Stop> {
     let script = read_script(alloc, &mut text.as_bytes())?;
     let manifest = script.manifest(alloc)?;
-    let Ok(mut store) = Store::new(alloc, manifest, script.processors()) else {
+    let disk = RoomyDisk::new(alloc)?;
+    let Ok(mut engine) = Engine::create(alloc, disk, manifest, script.processors()) else {
         return Err(Stop::NotCreated);
     };
     let mut output = Vec::with_capacity(alloc, 4096)?;
     for line in script.lines() {
-        run(alloc, &mut store, &mut blanks, line, tries, &mut output)?;
-        if !adds_up(&store) {
+        run(alloc, &mut engine, &mut blanks, line, tries, &mut output)?;
+        if !adds_up(&engine) {
             output.extend_from_slice(b"the census doesn't add up\n")?;
         }
     }
@@ -248,11 +251,12 @@ fn trees(alloc: Global, count: usize) -> Result<Vec<Tree>, AllocError> {
     Ok(trees)
 }
 
-// Whether runs of three kinds, and two in which an element moves, print what they have to.
+// Whether runs of three kinds, one with checkpoints, and two in which an element moves, print what they have to.
 fn are_as_wanted(alloc: Global, tries: usize) -> Result<bool, Stop> {
     let moved = is_as_wanted(alloc, MOVED_RING, rings(alloc, 4)?, tries)?
         && is_as_wanted(alloc, MOVE, two_counters(alloc)?, tries)?;
-    let counters = is_as_wanted(alloc, FIRST_RUN, one_counter(alloc)?, tries)?;
+    let counters = is_as_wanted(alloc, FIRST_RUN, one_counter(alloc)?, tries)?
+        && is_as_wanted(alloc, CHECKPOINTS, one_counter(alloc)?, tries)?;
     let rings = is_as_wanted(alloc, RING_OF_THREE, rings(alloc, 3)?, tries)?;
     let trees = is_as_wanted(alloc, TREE, trees(alloc, 8)?, tries)?;
     Ok(moved && counters && rings && trees)

@@ -1,8 +1,7 @@
 //! Worked runs, each of which shows one thing: a script's lines, which stand after `> `, and what they print.
 
-use super::parts;
+use super::{parts, run_anew};
 use charmlet_chare::Chare;
-use charmlet_cli::run_script;
 use charmlet_kinds::{Account, Counter, Ring, Tree};
 use charmlet_model::Kind;
 use charmlet_script::read_script;
@@ -33,6 +32,33 @@ flushed 4
 told replied 8
 > status 7 1
 told replied
+";
+
+// A checkpoint makes all events durable, as a flush does, and each one's image has the next generation.
+pub(super) const CHECKPOINTS: &str = "\
+> array 0 1
+> supply 1 1
+supplied 1 1
+> req 7 1 0 0 65535 5
+told unknown
+> deliver 0 c7.1
+delivered c7.1
+> checkpoint
+checkpoint 2
+> status 7 1
+told replied
+> req 7 2 0 0 0 3
+told unknown
+> deliver 0 c7.2
+delivered c7.2
+> status 7 2
+told unknown
+> checkpoint
+checkpoint 3
+> status 7 2
+told replied 8
+> flush
+flushed 4
 ";
 
 // A counter goes to the greatest number.
@@ -280,8 +306,9 @@ refused 9 Absent
 ";
 
 // What each run shows, and its transcript.
-const WORKED: [(&str, &str); 9] = [
+const WORKED: [(&str, &str); 10] = [
     ("first run", FIRST_RUN),
+    ("checkpoints", CHECKPOINTS),
     ("boundary sum", BOUNDARY_SUM),
     ("repeats", REPEATS),
     ("eight requests", EIGHT_REQUESTS),
@@ -311,7 +338,7 @@ fn worked_runs_print_what_they_have_to(rt: HostRuntime) -> Result<(), Fail> {
             }
         }
         let mut output = Vec::new(alloc);
-        let ran = run_script(alloc, &script, blanks, &mut output);
+        let ran = run_anew(alloc, &script, blanks, &mut output);
         assert!(rt; ran.is_ok(), "{name}");
         let printed = std::str::from_utf8(&output)?;
         assert_eq!(rt; printed, wanted.as_str(), "{name}");

@@ -1,6 +1,6 @@
-use Rattle.charmlet_store.specs.Store.{IsStoreConsistent}
+use Rattle.charmlet_engine.specs.Engine.{IsEngineConsistent}
 use Rattle.charmlet_program_tests.proofs.tests.cli.steps.supply.Given as goal
 
--- what the store is stands
+-- the engine stays consistent
 abbrev pub invariant-loop : goal.invariant-loop
-invariant-loop g l = IsStoreConsistent l.store
+invariant-loop g l = IsEngineConsistent l.engine

@@ -1,0 +1,33 @@
+-- What a crash leaves of a disk on which a store is made.
+use Rattle.std.proofs.Common.{inl, inr, ⊎_elim, subst, sym}
+use Rattle.charmlet_model.specs.declared.half.Half.TheVariants.{Zero, One}
+use Rattle.charmlet_model.specs.Fit.{IsFit}
+use Rattle.charmlet_model.specs.Sound.{new_world}
+use Rattle.charmlet_disk.specs.declared.disk.Disk.{Ghosts}
+use Rattle.charmlet_disk.specs.Disk.{IsSettled, LeavesOnly}
+use Rattle.charmlet_disk.specs.File.{MayLeave, Outcome}
+use Rattle.charmlet_disk.proofs.Moments.{weaker}
+use Rattle.charmlet_image.specs.Spelled.{IsClosed}
+use Rattle.charmlet_record.specs.Reading.{Kinds}
+use Rattle.charmlet_recovery.proofs.Stored.{stored_is_recovered}
+use Rattle.charmlet_recovery.proofs.Writing.{creations_are_stored}
+use Rattle.charmlet_halves.proofs.Standing.{is_left}
+use Rattle.charmlet_journal.specs.NewStores.{NothingOrNewWorld}
+use Rattle.charmlet_engine.specs.Outcomes.{IsNothingOrNew}
+
+recovers : (kinds : Kinds) (o : Outcome) → NothingOrNewWorld kinds o → IsNothingOrNew kinds o
+recovers kinds o so = ⊎_elim (λ none. inl none) (λ stores. inr (stored_is_recovered o (new_world kinds) 0 1 stores)) so
+
+module _ {D : Type 0} (G : Ghosts D) (kinds : Kinds) (old new : D) where
+  -- what the files store is recovered
+  pub leaves_new : LeavesOnly G.moment G.since old new (NothingOrNewWorld kinds) → LeavesOnly G.moment G.since old new (IsNothingOrNew kinds)
+  leaves_new leaves = weaker G.moment G.since old new (NothingOrNewWorld kinds) (IsNothingOrNew kinds) leaves (recovers kinds)
+
+  -- where nothing is written, there is nothing
+  pub leaves_nothing : IsFit (new_world kinds) → IsSettled (G.file old) → IsClosed (G.file old Zero).now → IsClosed (G.file old One).now →
+      LeavesOnly G.moment G.since old new (MayLeave (G.file old)) → LeavesOnly G.moment G.since old new (IsNothingOrNew kinds)
+  leaves_nothing fit settled zero_closed one_closed leaves =
+      weaker G.moment G.since old new (MayLeave (G.file old)) (IsNothingOrNew kinds) leaves
+      (λ o left.
+      let same = is_left (G.file old) settled o left in
+      recovers kinds o (creations_are_stored o kinds fit (subst IsClosed (sym (same One)) one_closed) (inl (subst IsClosed (sym (same Zero)) zero_closed))))

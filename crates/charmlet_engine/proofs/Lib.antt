@@ -1,0 +1,6 @@
+pub mod Onward
+pub mod Lawful
+pub mod Written
+pub mod Quiets
+pub mod Fresh
+pub mod Advancing

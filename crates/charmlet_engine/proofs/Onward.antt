@@ -1,0 +1,69 @@
+-- Later cores of one store.
+use Rattle.std.proofs.Common.{◌≡◌, ◌≢◌, ℕ, ◌≤◌, List, [], ◌∷◌, ◌++◌, length, refl, sym, ap, subst, ◌∙◌, arith, append_assoc, true, false}
+use Rattle.std.proofs.lemmas.List.{append-nil}
+use Rattle.charmlet_model.specs.declared.event.Event.{Event}
+use Rattle.charmlet_model.specs.declared.refusal.Refusal.{Refusal}
+use Rattle.charmlet_model.specs.declared.refusal.Refusal.TheVariants as refusals
+use Rattle.charmlet_model.specs.declared.step.Answer.{Answer}
+use Rattle.charmlet_model.specs.Core.{Core, Flush, Checkpoint, Blanks, Stepped, Steps, halted_core, next_core}
+use Rattle.charmlet_model.specs.World.{World}
+use Rattle.charmlet_journal.specs.Quiet.{Quiet}
+use Rattle.charmlet_recovery.specs.Outcomes.{IsLawful}
+use Rattle.charmlet_recovery.proofs.Outcomes.{kept_is_lawful, lawful_grows}
+use Rattle.charmlet_disk.specs.Disk.{faults_after}
+use Rattle.charmlet_disk.specs.File.{Outcome}
+use Rattle.charmlet_journal.specs.Rest.{keeps_durable}
+use Rattle.charmlet_store.proofs.Places.{stepped_core}
+use Rattle.charmlet_engine.specs.Outcomes.{Onward, ends_with_image, faults_through, is_image, is_lawful_since, is_no_fault, not_device}
+
+pub onward_self : (core : Core) → Onward core core
+onward_self core = record { more = []; grows = sym (append-nil core.history); opening = refl; before = refl; no_fewer = omega arith }
+
+pub onward_quiet : (old new : Core) → Quiet old new → Onward old new
+onward_quiet old new quiet = record { more = quiet.more; grows = quiet.grows; opening = quiet.opening; before = quiet.before; no_fewer = (let same = quiet.durable in omega arith) }
+
+pub onward_after : (first mid last : Core) → Onward first mid → Onward mid last → Onward first last
+onward_after first mid last a b = record {
+  more = a.more ++ b.more;
+  grows = b.grows ∙ ap (λ (l : List Event). l ++ b.more) a.grows ∙ append_assoc first.history a.more b.more;
+  opening = b.opening ∙ a.opening;
+  before = b.before ∙ a.before;
+  no_fewer = (let p = a.no_fewer in let q = b.no_fewer in omega arith);
+}
+
+same_history : (core : Core) (new : Core) → new.history ≡ core.history → new.opening ≡ core.opening → new.before ≡ core.before → core.durable ≤ new.durable → Onward core new
+same_history core new grows opening before no_fewer = record { more = []; grows = grows ∙ sym (append-nil core.history); opening = opening; before = before; no_fewer = no_fewer }
+
+pub onward_flush : (core : Core) (blanks : Blanks) (last : Stepped) → core.durable ≤ length core.history → Steps core blanks Flush last → Onward core last.core
+onward_flush core blanks last within s =
+    stepped_core (Onward core) core blanks Flush (onward_self core) (same_history core (halted_core core) refl refl refl (omega arith)) (same_history core (next_core core Flush) refl refl refl within) last s
+
+pub onward_checkpoint : (core : Core) (blanks : Blanks) (last : Stepped) → core.durable ≤ length core.history → Steps core blanks Checkpoint last → Onward core last.core
+onward_checkpoint core blanks last within s =
+    stepped_core (Onward core) core blanks Checkpoint (onward_self core) (same_history core (halted_core core) refl refl refl (omega arith)) (same_history core (next_core core Checkpoint) refl refl refl within) last s
+
+-- what is lawful stays so
+pub lawful_onward : (old new : Core) → Onward old new → (durable fewer : ℕ) → fewer ≤ durable → (o : Outcome) → IsLawful old.opening old.before old.history durable o → IsLawful new.opening new.before new.history fewer o
+lawful_onward old new on durable fewer less o lawful =
+    subst (λ (w : World). IsLawful w new.before new.history fewer o) (sym on.opening)
+    (subst (λ (n : ℕ). IsLawful old.opening n new.history fewer o) (sym on.before)
+    (subst (λ (l : List Event). IsLawful old.opening old.before l fewer o) (sym on.grows) (lawful_grows old.opening old.before old.history on.more durable fewer o less lawful)))
+
+-- and what is kept becomes it
+pub kept_onward : (old new : Core) → Onward old new → (o : Outcome) → keeps_durable old o → is_lawful_since old new o
+kept_onward old new on o keeps = lawful_onward old new on old.durable old.durable (omega arith) o (kept_is_lawful old.opening old.before old.history old.durable o keeps)
+
+-- one answer more
+pub faults_more : (answers : List Answer) (answer : Answer) (faults : ℕ) → faults_through (answers ++ answer ∷ []) faults ≡ faults_after (is_no_fault answer) (faults_through answers faults)
+faults_more [] answer faults = refl
+faults_more (first ∷ answers) answer faults = faults_more answers answer (faults_after (is_no_fault first) faults)
+
+-- the last answer of all
+pub ends_more : (answers : List Answer) (answer : Answer) → ends_with_image (answers ++ answer ∷ []) ≡ is_image answer
+ends_more [] answer = refl
+ends_more (first ∷ []) answer = refl
+ends_more (first ∷ next ∷ answers) answer = ends_more (next ∷ answers) answer
+
+-- a refusal that isn't the device's
+pub apart : (refusal : Refusal) → not_device refusal ≡ true → refusal ≢ refusals.Device
+apart refusal other is = (let no : false ≡ true = sym (ap not_device is) ∙ other in cc)

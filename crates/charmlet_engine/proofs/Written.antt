@@ -1,0 +1,55 @@
+-- Engines whose history was written to the disk.
+use Rattle.std.proofs.Common.{refl, sym, ◌∙◌}
+use Rattle.charmlet_model.specs.Core.{CoreAnswer, Flush, Steps}
+use Rattle.charmlet_chare.specs.declared.chare.Chare as chares
+use Rattle.charmlet_disk.specs.declared.disk.Disk as disks
+use Rattle.charmlet_halves.specs.declared.halves.Halves.{Halves}
+use Rattle.charmlet_halves.specs.Halves.{disk_of}
+use Rattle.charmlet_history.specs.declared.history.History.{History}
+use Rattle.charmlet_history.specs.Kept.{IsConsistent, core_in, kept_in}
+use Rattle.charmlet_journal.specs.Quiet.{Quiet}
+use Rattle.charmlet_journal.specs.Rest.{Agrees, IsKept}
+use Rattle.charmlet_journal.proofs.Quietness.{still_agrees, still_kept}
+use Rattle.charmlet_store.specs.declared.store.Store.{Store}
+use Rattle.charmlet_migrate.specs.Moving.{records_on}
+use Rattle.charmlet_store.specs.Store.{IsStoreConsistent}
+use Rattle.charmlet_store.proofs.Showing.{flush_shows}
+use Rattle.charmlet_engine.specs.declared.engine.Engine.{Engine}
+use Rattle.charmlet_engine.specs.Engine.{IsEngineConsistent}
+
+module _ {D C : Type 0} {G : disks.Ghosts D} {H : chares.Ghosts C} (old : Engine D C G H) (consistent : IsEngineConsistent old) (history : History) (halves : Halves D G) where
+  abbrev pub written : Engine D C G H
+  written = record { store = record old.store { history = history }; halves = halves }
+
+  -- a flush changes no object
+  pub flushed_consistent : (answer : CoreAnswer) → IsConsistent (kept_in history) →
+      Steps (core_in old.store.history) (λ _. 0) Flush (record { answer = answer; core = core_in history; blanks = λ _. 0 }) → Agrees (core_in history) halves →
+      (G.honest (disk_of halves) → IsKept (core_in history) halves) → IsEngineConsistent written
+  flushed_consistent answer same steps agrees kept =
+      let before = core_in old.store.history in
+      let shows = flush_shows (records_on old.store.shelves.items) before.processors before (λ _. 0) (record { answer = answer; core = core_in history; blanks = λ _. 0 })
+      (record { processors = refl; shows = consistent.shows.objects }) steps in
+      record {
+        shows = record {
+          history = same;
+          count = consistent.shows.count ∙ sym shows.processors;
+          numbers = consistent.shows.numbers;
+          idle = consistent.shows.idle;
+          objects = shows.shows;
+          census = consistent.shows.census;
+        };
+        agrees = agrees;
+        keeps = kept;
+      }
+
+module _ {D C : Type 0} {G : disks.Ghosts D} {H : chares.Ghosts C} (old : Engine D C G H) (consistent : IsEngineConsistent old) (store : Store C H) where
+  -- steps that write nothing leave the halves as they are
+  pub quiet_consistent : IsStoreConsistent store → Quiet (core_in old.store.history) (core_in store.history) → IsEngineConsistent {G = G} (record { store = store; halves = old.halves })
+  quiet_consistent shows quiet =
+      let before = core_in old.store.history in
+      let after = core_in store.history in
+      record {
+        shows = shows;
+        agrees = still_agrees {G = G} before after quiet old.halves consistent.agrees;
+        keeps = λ honest. still_kept {G = G} before after quiet consistent.shows.history.sound.durable old.halves (consistent.keeps honest);
+      }

@@ -1,0 +1,37 @@
+use Rattle.charmlet_history.specs.Kept.{core_in}
+use Rattle.charmlet_engine.specs.Engine.{disk_in}
+use Rattle.std.proofs.Common.{ap, ◌≡◌, ◌+◌, [], length, subst, sym}
+use Rattle.charmlet_model.specs.Core.{Core, present}
+use Rattle.charmlet_image.specs.Images.{spell_half}
+use Rattle.charmlet_recovery.specs.Stores.{saved_of}
+use Rattle.charmlet_halves.specs.Halves.{disk_of, text_of}
+use Rattle.charmlet_engine.proofs.Onward.{apart, onward_checkpoint}
+use Rattle.charmlet_engine.proofs.Lawful.{leaves_lawful}
+use Rattle.charmlet_engine.proofs.engine.Engine.checkpoint.Goals as goal
+
+pub returns-in-Ok-clause-image : goal.returns-in-Ok-clause-image
+returns-in-Ok-clause-image g c = λ honest _.
+    subst (λ (core : Core). text_of c.checkpoint.new.halves ≡ spell_half (saved_of (present core) (core.before + length core.history) core.generation [])) (sym c.in-Ok.ensures.sealed) (c.in-Ok.ensures.text honest)
+
+pub returns-in-Ok-clause-advances : goal.returns-in-Ok-clause-advances
+returns-in-Ok-clause-advances g c =
+    let old = core_in c.args.self.now.store.history in
+    let on = onward_checkpoint old (λ _. 0) _ c.requires.shows.history.sound.durable (c.checkpoint.ensures.steps (λ _. 0)) in
+    record {
+      onward = on;
+      any_moment = λ honest. leaves_lawful g.D.Disk old (core_in c.checkpoint.new.history) on (disk_in c.args.self.now) (disk_of c.checkpoint.new.halves) (c.checkpoint.ensures.any_moment honest);
+      honest = c.checkpoint.ensures.honest;
+    }
+
+pub returns-in-Err-clause-advances : goal.returns-in-Err-clause-advances
+returns-in-Err-clause-advances g c =
+    let old = core_in c.args.self.now.store.history in
+    let on = onward_checkpoint old (λ _. 0) _ c.requires.shows.history.sound.durable (c.checkpoint.ensures.steps (λ _. 0)) in
+    record {
+      onward = on;
+      any_moment = λ honest. leaves_lawful g.D.Disk old (core_in c.checkpoint.new.history) on (disk_in c.args.self.now) (disk_of c.checkpoint.new.halves) (c.checkpoint.ensures.any_moment honest);
+      honest = c.checkpoint.ensures.honest;
+    }
+
+pub returns-in-Err-clause-still : goal.returns-in-Err-clause-still
+returns-in-Err-clause-still g c = λ other. ap (disk_of {G = g.D.Disk}) (c.in-Err.ensures.refused (apart c.in-Err.refusal other)).1

@@ -1,0 +1,85 @@
+use Rattle.std.proofs.Common.{rules, ◌≡◌, ◌+◌, ◌<◌, [], ◌∷◌, ◌++◌, List, length, refl, sym, ap, subst, ◌∙◌, arith, true, false}
+use Rattle.std.specs.Prelude.{get_or, take}
+use Rattle.std.proofs.lemmas.List.{take_more}
+use Rattle.charmlet_model.specs.declared.step.Answer.{Answer}
+use Rattle.charmlet_model.specs.declared.step.Step.{Step}
+use Rattle.charmlet_model.specs.Run.{Runs}
+use Rattle.charmlet_model.specs.RunLaws.{AllTold}
+use Rattle.charmlet_model.proofs.RunLemmas.{runs_join}
+use Rattle.charmlet_model.proofs.RunTruths.{all_told_join, all_told_later, does_between, sure}
+use Rattle.charmlet_disk.specs.Disk.{faults_after}
+use Rattle.charmlet_engine.specs.Engine.{core_of, disk_in, view_of}
+use Rattle.charmlet_engine.specs.Outcomes.{ends_with_image, faults_through, is_no_fault}
+use Rattle.charmlet_engine.proofs.Advancing.{advances_after, advances_still}
+use Rattle.charmlet_engine.proofs.Lawful.{lawful_now}
+use Rattle.charmlet_engine.proofs.Onward.{ends_more, faults_more}
+use Rattle.charmlet_engine.proofs.engine.Engine.run.Goals as goal
+
+pub returns-in_err-answers-clause-advances : goal.returns-in_err-answers-clause-advances
+returns-in_err-answers-clause-advances g c =
+    let laws = g.met.D.Disk g.world.𝓛 g.world.𝓜 g.world.𝓡 ((λ s x. x), (λ x. x), (λ x. x), (λ x. x)) in
+    let old = c.args.self.now in
+    advances_still {G = g.D.Disk} {H = g.C.Chare} old old c.requires refl refl (λ honest o left. laws.only_now (disk_in old) o honest left)
+
+pub returns-in_err-answers-clause-now : goal.returns-in_err-answers-clause-now
+returns-in_err-answers-clause-now g c = λ honest o left.
+    let old = c.args.self.now in
+    lawful_now {G = g.D.Disk} (core_of old) old.halves (c.requires.keeps honest) o left
+
+pub loop-step-init : goal.loop-step-init
+loop-step-init g c =
+    let laws = g.met.D.Disk g.world.𝓛 g.world.𝓜 g.world.𝓡 ((λ s x. x), (λ x. x), (λ x. x), (λ x. x)) in
+    let old = c.args.self.now in
+    let empty : c.in_ok-answers.answers.items ≡ [] = search rules in
+    record {
+      consistent = c.requires;
+      runs = search rules;
+      told = search rules;
+      advances = advances_still {G = g.D.Disk} {H = g.C.Chare} old old c.requires refl refl (λ honest o left. laws.only_now (disk_in old) o honest left);
+      image = λ honest is. (let none : false ≡ true = ap ends_with_image (sym empty) ∙ is in absurd cc);
+      supplied = refl;
+      counted = search rules;
+      count = search rules;
+      room = search rules;
+    }
+
+pub loop-step-preserved : goal.loop-step-preserved
+loop-step-preserved g c =
+    let old = c.args.self.now in
+    let mid = c.loop-step.self in
+    let new = c.step-answer.new.self in
+    let so_far = c.loop-step.invariant in
+    let first = view_of {G = g.D.Disk} {H = g.C.Chare} old in
+    let before = view_of {G = g.D.Disk} {H = g.C.Chare} mid in
+    let next = view_of {G = g.D.Disk} {H = g.C.Chare} new in
+    let step = c.step-item.result in
+    let answer = c.step-answer.result in
+    let steps = c.args.steps.now in
+    let answers = c.loop-step.answers.items in
+    let done = c.step-answer.ensures in
+    let more : take (c.loop-step.step-index + 1) steps ≡ take c.loop-step.step-index steps ++ step ∷ [] =
+    let within : c.loop-step.step-index < length steps = search rules in
+    let is : get_or steps c.loop-step.step-index step ≡ step = search rules in
+    take_more steps c.loop-step.step-index step within ∙ ap (λ s. take c.loop-step.step-index steps ++ s ∷ []) is in
+    let pushed : c.push.new.self.items ≡ answers ++ answer ∷ [] = c.in_ok-push.ensures.items in
+    let reached = does_between before next step answer so_far.consistent.shows.history.sound done.consistent.shows.history.sound done.does in
+    let runs = runs_join first before next (take c.loop-step.step-index steps) (step ∷ []) answers (answer ∷ []) so_far.runs (next, done.does, refl) in
+    let told = all_told_join next.core.opening (sure next.core) (take c.loop-step.step-index steps) (step ∷ []) answers (answer ∷ [])
+    (all_told_later before.core next.core (take c.loop-step.step-index steps) answers reached so_far.told) (done.told, tt) in
+    record {
+      consistent = done.consistent;
+      runs = subst (λ (l : List Step). Runs first l c.push.new.self.items next) (sym more) (subst (λ (l : List Answer). Runs first (take c.loop-step.step-index steps ++ step ∷ []) l next) (sym pushed) runs);
+      told = subst (λ (l : List Step). AllTold next.core.opening (sure next.core) l c.push.new.self.items) (sym more) (subst (λ (l : List Answer). AllTold next.core.opening (sure next.core) (take c.loop-step.step-index steps ++ step ∷ []) l) (sym pushed) told);
+      advances = advances_after {G = g.D.Disk} {H = g.C.Chare} old mid new so_far.advances done.advances;
+      image = λ honest is. done.image (so_far.advances.honest.0 honest) (sym (ends_more answers answer) ∙ ap ends_with_image (sym pushed) ∙ is);
+      supplied = done.supplied ∙ so_far.supplied;
+      counted = done.counted ∙ ap (faults_after (is_no_fault answer)) so_far.counted ∙ sym (faults_more answers answer (g.D.Disk.faults (disk_in old))) ∙ ap (λ (l : List Answer). faults_through l (g.D.Disk.faults (disk_in old))) (sym pushed);
+      count = let count = so_far.count in let pushed = c.in_ok-push.ensures.len in omega arith;
+      room = let room = so_far.room in let grown = c.push.ensures.capacity in omega arith;
+    }
+
+pub returns-clause-now : goal.returns-clause-now
+returns-clause-now g c = λ honest o left.
+    let new = c.loop-step.self in
+    let so_far = c.loop-step.invariant in
+    lawful_now {G = g.D.Disk} (core_of new) new.halves (so_far.consistent.keeps (so_far.advances.honest.0 honest)) o left

@@ -1,0 +1,4 @@
+-- The definitions that contracts cite.
+pub mod Outcomes
+pub mod Engine
+pub mod Advances

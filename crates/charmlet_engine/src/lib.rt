@@ -1,0 +1,12 @@
+//! The engine: a store on the two files of a disk, which survives a crash at any moment.
+#![tactic(auto)]
+
+mod closing;
+mod creating;
+mod engine;
+mod memory;
+mod running;
+mod seen;
+
+pub use crate::closing::Closed;
+pub use crate::engine::Engine;

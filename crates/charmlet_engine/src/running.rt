@@ -1,0 +1,130 @@
+//! Steps and runs.
+
+ghost use Rattle.std.specs.Prelude.{◌≡◌, take, true, IfOk, OnErr};
+ghost use Rattle.charmlet_model.specs.declared.step.Step.TheVariants as steps;
+ghost use Rattle.charmlet_model.specs.Run.{Does, Runs};
+ghost use Rattle.charmlet_model.specs.RunLaws.{AllTold, IsToldTrue};
+ghost use Rattle.charmlet_disk.specs.Disk.{faults_after};
+ghost use Rattle.charmlet_disk.specs.File.{MayLeave, Outcome};
+ghost use Rattle.charmlet_migrate.specs.Moving.{ShowsPresent};
+ghost use Rattle.charmlet_engine.specs.Advances.{Advances};
+ghost use Rattle.charmlet_engine.specs.Engine.{HasImage, IsEngineConsistent, core_of, disk_in, supplied_of, view_of};
+ghost use Rattle.charmlet_engine.specs.Outcomes.{ends_with_image, faults_through, is_image, is_lawful_now, is_no_fault, is_still};
+
+use crate::engine::Engine;
+use crate::memory::answer_in_memory;
+use charmlet_chare::Chare;
+use charmlet_checkpoint::checkpoint;
+use charmlet_disk::Disk;
+use charmlet_journal::flush;
+use charmlet_model::{Answer, Step};
+use std::alloc::AllocError;
+
+impl<D: Disk, C: Chare> Engine<D, C> {
+    /// Runs one step. A refusal is an answer, and leaves all as it was, but for `Device`: then the engine is
+    /// halted. After a checkpoint the half that is taken has an image of all events and a log without a batch.
+    ///
+    /// On an honest disk a crash at any moment of the call leaves files that recover to the world after some
+    /// of the history, with all events among it that were durable before; and from then on with all that are
+    /// durable after it.
+    pub fn step(&mut self, step: &Step) -> Answer
+        requires { IsEngineConsistent self.old }
+        ensures consistent { IsEngineConsistent self.new }
+        ensures does { Does (view_of self.old) step.now result (view_of self.new) }
+        ensures told { IsToldTrue (core_of self.new).opening
+            (take (core_of self.new).durable (core_of self.new).history) step.now result }
+        ensures advances { Advances self.old self.new }
+        ensures now { D.honest (disk_in self.old) → (outcome : Outcome) →
+            MayLeave (D.file (disk_in self.new)) outcome → is_lawful_now (core_of self.new) outcome }
+        ensures image { D.honest (disk_in self.old) → is_image result ≡ true → HasImage self.new }
+        ensures still { is_still result ≡ true → disk_in self.new ≡ disk_in self.old }
+        ensures supplied { supplied_of self.new ≡ supplied_of self.old }
+        ensures counted { D.faults (disk_in self.new) ≡ faults_after (is_no_fault result)
+            (D.faults (disk_in self.old)) }
+    {
+        match step {
+            Step::Flush => self.flush(),
+            Step::Checkpoint => self.checkpoint(),
+            _ => {
+                let Some(answer) = answer_in_memory(&mut self.store, step) else {
+                    unreachable!()
+                };
+                answer
+            }
+        }
+    }
+
+    /// Makes all events durable.
+    fn flush(&mut self) -> Answer
+        requires { IsEngineConsistent self.old }
+        ensures consistent { IsEngineConsistent self.new }
+        ensures does { Does (view_of self.old) steps.Flush result (view_of self.new) }
+        ensures advances { Advances self.old self.new }
+        ensures still { is_still result ≡ true → disk_in self.new ≡ disk_in self.old }
+        ensures supplied { supplied_of self.new ≡ supplied_of self.old }
+        ensures counted { D.faults (disk_in self.new) ≡ faults_after (is_no_fault result)
+            (D.faults (disk_in self.old)) }
+    {
+        match flush(&mut self.store.history, &mut self.halves) {
+            Ok(durable) => Answer::Flushed(durable),
+            Err(refusal) => Answer::Refused(refusal),
+        }
+    }
+
+    /// Makes all events durable by an image, which takes the place of the store.
+    fn checkpoint(&mut self) -> Answer
+        requires { IsEngineConsistent self.old }
+        ensures consistent { IsEngineConsistent self.new }
+        ensures does { Does (view_of self.old) steps.Checkpoint result (view_of self.new) }
+        ensures advances { Advances self.old self.new }
+        ensures image { D.honest (disk_in self.old) → is_image result ≡ true → HasImage self.new }
+        ensures still { is_still result ≡ true → disk_in self.new ≡ disk_in self.old }
+        ensures supplied { supplied_of self.new ≡ supplied_of self.old }
+        ensures counted { D.faults (disk_in self.new) ≡ faults_after (is_no_fault result)
+            (D.faults (disk_in self.old)) }
+    {
+        let shelves = self.store.shelves.as_mut_slice();
+        match checkpoint(
+            self.store.alloc,
+            &mut self.store.history,
+            &mut self.halves,
+            shelves,
+        ) {
+            Ok(generation) => Answer::Checkpointed(generation),
+            Err(refusal) => Answer::Refused(refusal),
+        }
+    }
+
+    /// Runs the steps one after another, and gives an answer for each. Room for all answers is made first;
+    /// where it is refused, no step was done.
+    ///
+    /// All that clients are told in the run is true of the events that are durable when it ends. On an honest
+    /// disk a crash at any moment of the run leaves files that recover to the world after some of the history,
+    /// with all events among it that were durable before the run; and from then on with all that are durable
+    /// when it ends. `Device` is answered only where the disk's count of failures grew.
+    pub fn run(&mut self, steps: &[Step]) -> Result<Vec<Answer>, AllocError>
+        requires { IsEngineConsistent self.old }
+        ensures consistent { IsEngineConsistent self.new }
+        ensures ok { IfOk result (λ answers. Runs (view_of self.old) steps.now answers.items
+            (view_of self.new)) }
+        ensures told { IfOk result (λ answers. AllTold (core_of self.new).opening
+            (take (core_of self.new).durable (core_of self.new).history) steps.now answers.items) }
+        ensures advances { Advances self.old self.new }
+        ensures now { D.honest (disk_in self.old) → (outcome : Outcome) →
+            MayLeave (D.file (disk_in self.new)) outcome → is_lawful_now (core_of self.new) outcome }
+        ensures image { D.honest (disk_in self.old) → IfOk result (λ answers.
+            ends_with_image answers.items ≡ true → HasImage self.new) }
+        ensures shows { ShowsPresent self.new.store.shelves.items self.new.store.history }
+        ensures supplied { supplied_of self.new ≡ supplied_of self.old }
+        ensures counted { IfOk result (λ answers. D.faults (disk_in self.new)
+            ≡ faults_through answers.items (D.faults (disk_in self.old))) }
+        ensures err { OnErr result (self.new ≡ self.old) }
+    {
+        let mut answers = Vec::with_capacity(self.store.alloc, steps.len())?;
+        for step in steps {
+            let answer = self.step(step);
+            answers.push(answer)?;
+        }
+        Ok(answers)
+    }
+}

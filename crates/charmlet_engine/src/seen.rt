@@ -1,0 +1,145 @@
+//! What an engine has, and blanks for its stock.
+
+ghost use Rattle.std.specs.Prelude.{◌≡◌, ◌+◌, ◌≤◌, None, length, map, IfErr, IfOk, IsOk, OnErr, OnOk};
+ghost use Rattle.charmlet_model.specs.declared.kind.Kind as kinds;
+ghost use Rattle.charmlet_model.specs.Core.{place_of};
+ghost use Rattle.charmlet_model.specs.Shelves.{count_of};
+ghost use Rattle.charmlet_model.specs.World.{record_of};
+ghost use Rattle.charmlet_history.specs.Kept.{next_in};
+ghost use Rattle.charmlet_stock.specs.ByKind.{with_at};
+ghost use Rattle.charmlet_stock.specs.Pile.{with_out};
+ghost use Rattle.charmlet_stock.specs.Stock.{blanks_in, census_of, part_of, tally_in};
+ghost use Rattle.charmlet_store.specs.Census.{census_in};
+ghost use Rattle.charmlet_store.specs.Look.{IsLook};
+ghost use Rattle.charmlet_engine.specs.Advances.{Advances};
+ghost use Rattle.charmlet_engine.specs.Engine.{IsEngineConsistent, core_of, disk_in, supplied_of, view_of, world_of};
+
+use crate::engine::Engine;
+use charmlet_chare::Chare;
+use charmlet_disk::Disk;
+use charmlet_model::{Elem, Kind, MsgId};
+use charmlet_stock::Stock;
+use charmlet_store::{Census, Look};
+use std::alloc::AllocError;
+
+impl<D: Disk, C: Chare> Engine<D, C> {
+    /// Takes blank objects into the stock. Where memory is refused it hands all of them back, and nothing
+    /// has changed. It makes no call of the disk.
+    pub fn supply(&mut self, blanks: Vec<C>) -> Result<(), Vec<C>>
+        requires { IsEngineConsistent self.old }
+        ensures consistent { IsEngineConsistent self.new }
+        ensures core { core_of self.new ≡ core_of self.old }
+        ensures ok { OnOk result ((kind : kinds.Kind) → (view_of self.new).blanks kind
+            ≡ (view_of self.old).blanks kind + count_of C.state blanks.items kind) }
+        ensures supplied { OnOk result ((kind : kinds.Kind) → supplied_of self.new kind
+            ≡ supplied_of self.old kind + count_of C.state blanks.items kind) }
+        ensures err { IfErr result (λ objects. (objects.items ≡ blanks.items)
+            × ((view_of self.new).blanks ≡ (view_of self.old).blanks)
+            × (supplied_of self.new ≡ supplied_of self.old)) }
+        ensures disk { disk_in self.new ≡ disk_in self.old }
+        ensures advances { Advances self.old self.new }
+    {
+        self.store.supply(blanks)
+    }
+
+    /// Draws so many blanks of a kind into the stock from another one, which has them. Where memory is
+    /// refused, both are as before. It makes no call of the disk.
+    pub fn draw(
+        &mut self,
+        source: &mut Stock<C>,
+        kind: Kind,
+        count: usize,
+    ) -> Result<(), AllocError>
+        requires consistent { IsEngineConsistent self.old }
+        requires enough { count ≤ blanks_in source.old kind }
+        ensures consistent { IsEngineConsistent self.new }
+        ensures core { core_of self.new ≡ core_of self.old }
+        ensures drawn { OnOk result ((k : kinds.Kind) → (view_of self.new).blanks k
+            ≡ (view_of self.old).blanks k + part_of kind count k) }
+        ensures left { OnOk result ((k : kinds.Kind) → blanks_in source.old k
+            ≡ blanks_in source.new k + part_of kind count k) }
+        ensures source { OnOk result (census_of source.new
+            ≡ with_at (census_of source.old) kind (with_out (tally_in source.old kind) count)) }
+        ensures supplied { OnOk result ((k : kinds.Kind) → supplied_of self.new k
+            ≡ supplied_of self.old k + part_of kind count k) }
+        ensures err { OnErr result ((view_of self.new ≡ view_of self.old)
+            × (supplied_of self.new ≡ supplied_of self.old)
+            × (census_of source.new ≡ census_of source.old)) }
+        ensures disk { disk_in self.new ≡ disk_in self.old }
+        ensures advances { Advances self.old self.new }
+    {
+        self.store.draw(source, kind, count)
+    }
+
+    /// The oldest message that can be delivered, and before it the processor that is to deliver it: the
+    /// place of its receiver, or the home of one that isn't there. None exactly where no message can be
+    /// delivered.
+    pub fn next(&self) -> Option<(u16, MsgId)>
+        requires { IsEngineConsistent self.now }
+        ensures { result ≡ next_in (core_of self.now) }
+    {
+        self.store.next()
+    }
+
+    /// How many messages are pending.
+    pub fn pending_count(&self) -> usize
+        requires { IsEngineConsistent self.now }
+        ensures { result ≡ length (world_of self.now).pending }
+    {
+        self.store.pending_count()
+    }
+
+    /// The ids of the pending messages, in order of birth. It fails only for want of memory.
+    pub fn pending(&self) -> Result<Vec<MsgId>, AllocError>
+        requires { IsEngineConsistent self.now }
+        ensures { IfOk result (λ ids. ids.items ≡ map (λ m. m.id) (world_of self.now).pending) }
+    {
+        self.store.pending()
+    }
+
+    /// What is seen of an element. It fails only for want of memory, which the packed state takes, and
+    /// so not where the element isn't there. Nothing changes.
+    pub fn look(&mut self, elem: Elem) -> Result<Look, AllocError>
+        requires { IsEngineConsistent self.old }
+        ensures same { self.new ≡ self.old }
+        ensures advances { Advances self.old self.new }
+        ensures ok { IfOk result (IsLook (place_of (core_of self.old) elem)
+            (record_of (world_of self.old) elem)) }
+        ensures absent { (record_of (world_of self.old) elem).state ≡ None → IsOk result }
+    {
+        self.store.look(elem)
+    }
+
+    /// How many objects of the kind were supplied, are on the shelves, are in the stock, and were retired.
+    /// Each object that was supplied is in one of the three.
+    pub fn census(&self, kind: Kind) -> Census
+        requires { IsEngineConsistent self.now }
+        ensures counts { result ≡ census_in self.now.store kind }
+        ensures adds_up { result.supplied ≡ result.on_shelves + result.in_stock + result.retired }
+    {
+        self.store.census(kind)
+    }
+
+    /// The generation of the image in the half that is taken.
+    pub fn generation(&self) -> u64
+        requires { IsEngineConsistent self.now }
+        ensures { result ≡ (core_of self.now).generation }
+    {
+        self.store.history.generation()
+    }
+
+    /// How many events are durable, those before the opening world among them.
+    pub fn durable(&self) -> u64
+        requires { IsEngineConsistent self.now }
+        ensures { result ≡ (core_of self.now).before + (core_of self.now).durable }
+    {
+        self.store.history.durable_count()
+    }
+
+    /// Whether the device failed in an earlier call. Then each step is refused.
+    pub fn is_halted(&self) -> bool
+        ensures { result ≡ (core_of self.now).halted }
+    {
+        self.store.history.is_halted()
+    }
+}

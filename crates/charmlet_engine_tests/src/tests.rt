@@ -1,0 +1,7 @@
+mod close;
+mod engines;
+mod faults;
+mod full;
+mod looks;
+mod memory;
+mod rows;

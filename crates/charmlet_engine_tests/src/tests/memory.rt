@@ -1,0 +1,149 @@
+// Refused memory: a step that lacks it changes nothing, and the same step again gives the answer.
+
+ghost use Rattle.std.specs.Prelude.{IfSome};
+ghost use Rattle.charmlet_model.specs.Fit.{IsFit};
+ghost use Rattle.charmlet_model.specs.Sound.{new_world};
+ghost use Rattle.charmlet_engine.specs.Engine.{IsEngineConsistent};
+
+use super::engines::{Plan, blanks, counters, step_of};
+use charmlet_disk::MemDisk;
+use charmlet_engine::Engine;
+use charmlet_kinds::Counter;
+use charmlet_model::{Answer, Kind, Manifest, Refusal, Step};
+use charmlet_store::Census;
+use std::alloc::AllocGlobal;
+use std::process::Abort;
+
+// An engine of counters on a disk in memory.
+type Counters = Engine<MemDisk, Counter>;
+
+// The arrays, at the second try where memory is refused.
+fn manifest(rt: &(impl AllocGlobal + Abort)) -> Manifest
+    ensures { IsFit (new_world result) }
+{
+    match Manifest::of(rt.alloc(), &[(0, Kind::Counter.number())]) {
+        Ok(Some(manifest)) => manifest,
+        _ => counters(rt),
+    }
+}
+
+// A new engine without blanks, at the second try where memory is refused. None where the disk lacked it.
+fn created(rt: &(impl AllocGlobal + Abort)) -> Option<Counters>
+    ensures { IfSome result IsEngineConsistent }
+{
+    let alloc = rt.alloc();
+    let first = Engine::create(alloc, MemDisk::new(alloc), manifest(rt), 1);
+    let refused = match first {
+        Ok(engine) => return Some(engine),
+        Err(refused) => refused,
+    };
+    if refused.refusal == Refusal::Device {
+        return None;
+    }
+    assert_eq!(rt; refused.refusal, Refusal::Memory);
+    assert!(rt; refused.disk.calls().is_empty());
+    Engine::create(alloc, refused.disk, manifest(rt), 1).ok()
+}
+
+// A blank is supplied, at the second try where memory is refused.
+fn supply(rt: &(impl AllocGlobal + Abort), engine: &mut Counters)
+    requires { IsEngineConsistent engine.old }
+    ensures { IsEngineConsistent engine.new }
+{
+    let blanks = match blanks(rt.alloc(), 1) {
+        Ok(blanks) => blanks,
+        Err(_) => blanks(rt.alloc(), 1).expect(rt, "memory"),
+    };
+    if let Err(back) = engine.supply(blanks) {
+        assert!(rt; engine.supply(back).is_ok());
+    }
+}
+
+// The whole step, at the second try where memory is refused.
+fn step(rt: &(impl AllocGlobal + Abort), plan: Plan) -> Step {
+    match step_of(rt.alloc(), plan) {
+        Ok(step) => step,
+        Err(_) => step_of(rt.alloc(), plan).expect(rt, "memory"),
+    }
+}
+
+// What is seen of an engine.
+fn seen(engine: &Counters) -> (u64, u64, usize, Census)
+    requires { IsEngineConsistent engine.now }
+{
+    let census = engine.census(Kind::Counter);
+    (
+        engine.durable(),
+        engine.generation(),
+        engine.pending_count(),
+        census,
+    )
+}
+
+// Runs one step.
+fn run_one(rt: &impl Abort, engine: &mut Counters, step: &[Step; 1]) -> Answer
+    requires { IsEngineConsistent engine.old }
+    ensures { IsEngineConsistent engine.new }
+{
+    match engine.run(step) {
+        Ok(mut answers) => answers.pop().expect(rt, "an answer"),
+        Err(_) => Answer::Refused(Refusal::Memory),
+    }
+}
+
+// Runs one step, once more where it lacked memory; then nothing had changed.
+fn take(rt: &(impl AllocGlobal + Abort), engine: &mut Counters, plan: Plan) -> Answer
+    requires { IsEngineConsistent engine.old }
+    ensures { IsEngineConsistent engine.new }
+{
+    let step = [step(rt, plan)];
+    let before = seen(engine);
+    let first = run_one(rt, engine, &step);
+    if !matches!(first, Answer::Refused(Refusal::Memory)) {
+        return first;
+    }
+    assert!(rt; seen(engine) == before);
+    run_one(rt, engine, &step)
+}
+
+// Takes a step that writes, which answers this count. Or the disk lacks memory, and halts the engine; then so many events are
+// durable still. Whether it goes on.
+fn writes(rt: &(impl AllocGlobal + Abort), engine: &mut Counters, plan: Plan, wanted: u64) -> bool
+    requires { IsEngineConsistent engine.old }
+    ensures { IsEngineConsistent engine.new }
+{
+    let durable = engine.durable();
+    match take(rt, engine, plan) {
+        Answer::Flushed(count) => assert_eq!(rt; count, wanted),
+        Answer::Checkpointed(generation) => assert_eq!(rt; generation, wanted),
+        answer => {
+            assert!(rt; matches!(answer, Answer::Refused(Refusal::Device)));
+            assert_eq!(rt; engine.durable(), durable);
+        }
+    }
+    !engine.is_halted()
+}
+
+// A counter is constructed, a flush and an image are written, and the counter gets another request.
+#[test]
+fn refused_memory_changes_no_answer_of_an_engine(rt: HostRuntime) {
+    let Some(mut engine) = created(&rt) else {
+        return;
+    };
+    supply(&rt, &mut engine);
+    let asked = take(&rt, &mut engine, Plan::Make(7, 1, 0, 5));
+    assert!(rt; matches!(asked, Answer::Told(_)));
+    let delivered = take(&rt, &mut engine, Plan::Deliver(0, 7, 1));
+    assert!(rt; matches!(delivered, Answer::Delivered(_)));
+    if !writes(&rt, &mut engine, Plan::Flush, 2) {
+        return;
+    }
+    let asked = take(&rt, &mut engine, Plan::Add(7, 2, 0, 4));
+    assert!(rt; matches!(asked, Answer::Told(_)));
+    if !writes(&rt, &mut engine, Plan::Checkpoint, 2) {
+        return;
+    }
+    assert_eq!(rt; engine.durable(), 3);
+    let delivered = take(&rt, &mut engine, Plan::Deliver(0, 7, 2));
+    assert!(rt; matches!(delivered, Answer::Delivered(_)));
+}

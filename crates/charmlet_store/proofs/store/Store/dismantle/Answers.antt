@@ -1,0 +1,14 @@
+use Rattle.std.proofs.Common.{sym, subst}
+use Rattle.std.specs.List.{All}
+use Rattle.charmlet_migrate.specs.Moving.{IsIdle}
+use Rattle.charmlet_store.proofs.Residents.{residents_counted, residents_show}
+use Rattle.charmlet_store.proofs.store.Store.dismantle.Goals as goal
+
+pub lift_all-requires-clause-idle : goal.lift_all-requires-clause-idle
+lift_all-requires-clause-idle g c κs within = subst (All IsIdle) (sym c.as_mut_slice.ensures.value) c.requires.idle
+
+pub returns-clause-shows : goal.returns-clause-shows
+returns-clause-shows g c = residents_show g.C.Chare.state c.args.self c.requires c.lift_all.new.residents.items c.lift_all.ensures
+
+pub returns-clause-counted : goal.returns-clause-counted
+returns-clause-counted g c = residents_counted g.C.Chare.state c.args.self c.requires c.lift_all.new.residents.items c.lift_all.ensures

@@ -1,0 +1,124 @@
+//! A store that is taken apart.
+
+ghost use Rattle.std.specs.Prelude.{◌≡◌, ◌++◌, ◌<◌, ◌≤◌, ◌+◌, [], ◌∷◌, length, IfErr, IfOk, IsOk, Some};
+ghost use Rattle.std.specs.List.{All};
+ghost use Rattle.std.specs.BTreeMap.{is_at};
+ghost use Rattle.std.specs.Map.{lookup};
+ghost use Rattle.std.specs.Vec.{vec_capacity, vec_len};
+ghost use Rattle.charmlet_model.specs.Core.{present};
+ghost use Rattle.charmlet_model.specs.Names.{elem_cmp};
+ghost use Rattle.charmlet_model.specs.Shelves.{ShowsAll, record_in, records_of};
+ghost use Rattle.charmlet_history.specs.Kept.{IsConsistent, core_in, kept_in, places_of};
+ghost use Rattle.charmlet_migrate.specs.Copying.{shelf_at};
+ghost use Rattle.charmlet_migrate.specs.Moving.{IsIdle, ShowsPresent};
+ghost use Rattle.charmlet_store.specs.Dismantled.{IsCountedIn, IsOnShelf, standing, without};
+ghost use Rattle.charmlet_store.specs.Store.{IsStoreConsistent, world_in};
+
+use crate::store::Store;
+use charmlet_chare::Chare;
+use charmlet_history::{Element, History};
+use charmlet_model::{Elem, Resident};
+use charmlet_shelf::Shelf;
+use charmlet_stock::Stock;
+use std::collections::BTreeMap;
+
+/// What a store was made of: each element that is there with its object and its counts, in rising
+/// order, and the stock.
+#[derive(Drop)]
+pub struct Dismantled<C: Chare> {
+    pub residents: Vec<(Elem, Resident<C>)>,
+    pub stock: Stock<C>,
+}
+
+impl<C: Chare> Store<C> {
+    /// Takes the store apart, also a halted one. Each object that was supplied is then among the
+    /// residents, in the stock, or retired. It fails only for want of memory, which the list of the
+    /// residents takes, and so not where no element is there; then the store comes back as it was.
+    pub fn dismantle(self) -> Result<Dismantled<C>, Store<C>>
+        requires { IsStoreConsistent self }
+        ensures shows { IfOk result (λ parts.
+            ShowsAll (records_of C.state parts.residents.items) (world_in self)) }
+        ensures stock { IfOk result (λ parts. parts.stock ≡ self.stock) }
+        ensures counted { IfOk result (IsCountedIn C.state) }
+        ensures nothing { (core_in self.history).places ≡ [] → IsOk result }
+        ensures err { IfErr result (λ back. back ≡ self) }
+    {
+        let count = count_placed(self.history.elements());
+        let Ok(mut residents) = Vec::with_capacity(self.alloc, count) else {
+            return Err(self);
+        };
+        let Store {
+            history,
+            mut shelves,
+            stock,
+            ..
+        } = self;
+        lift_all(&mut residents, &history, shelves.as_mut_slice());
+        Ok(Dismantled { residents, stock })
+    }
+}
+
+/// How many of the elements have a place.
+fn count_placed(elements: &BTreeMap<Elem, Element>) -> usize
+    ensures { result ≡ length (places_of elements.now.entries) }
+{
+    let mut count = 0;
+    for (_elem, element) in elements {
+        if element.place.is_some() {
+            count += 1;
+        }
+    }
+    count
+}
+
+/// Takes each element that is there from its shelf into the list, in rising order. The list has room
+/// for them.
+fn lift_all<C: Chare>(
+    residents: &mut Vec<(Elem, Resident<C>)>,
+    history: &History,
+    shelves: &mut [Shelf<C>],
+)
+    requires empty { residents.old.items ≡ [] }
+    requires room { length (core_in history.now).places ≤ vec_capacity residents.old }
+    requires consistent { IsConsistent (kept_in history.now) }
+    requires count { length shelves.old ≡ (core_in history.now).processors }
+    requires idle { All IsIdle shelves.old }
+    requires shows { ShowsPresent shelves.old history.now }
+    ensures { records_of C.state residents.new.items
+        ≡ standing (present (core_in history.now)) (core_in history.now).places }
+{
+    for (elem, element) in history.elements() {
+        let Some(place) = element.place else {
+            continue;
+        };
+        let resident = lift_from(shelves, place, *elem);
+        push_within(residents, (*elem, resident));
+    }
+}
+
+/// Takes an element from the shelf on which it stands. All others stay.
+fn lift_from<C: Chare>(shelves: &mut [Shelf<C>], place: u16, elem: Elem) -> Resident<C>
+    requires idle { All IsIdle shelves.old }
+    requires here { IsOnShelf shelves.old elem place }
+    ensures record { lookup (is_at (elem_cmp elem)) (shelf_at shelves.old place).records
+        ≡ Some (record_in C.state result) }
+    ensures rest { shelves.new ≡ without shelves.old elem place }
+{
+    let source = place as usize;
+    let Ok(resident) = shelves[source].lift(elem) else {
+        unreachable!()
+    };
+    resident
+}
+
+/// Adds an element for which there is room.
+fn push_within<C: Chare>(residents: &mut Vec<(Elem, Resident<C>)>, resident: (Elem, Resident<C>))
+    requires { vec_len residents.old < vec_capacity residents.old }
+    ensures items { residents.new.items ≡ residents.old.items ++ resident ∷ [] }
+    ensures len { vec_len residents.new ≡ vec_len residents.old + 1 }
+    ensures capacity { vec_capacity residents.old ≤ vec_capacity residents.new }
+{
+    let Ok(()) = residents.push(resident) else {
+        unreachable!()
+    };
+}
