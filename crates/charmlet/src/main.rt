@@ -1,10 +1,10 @@
-//! `charmlet`: runs scripts over a store of migratable objects.
+//! `charmlet`: runs scripts over a store of migratable objects, and shows one.
 #![tactic(auto)]
 
 ghost use Rattle.charmlet_disk.specs.Disk.{IsSettled};
 
 use charmlet_chare::Chare;
-use charmlet_cli::{Failure, Stop, end_program, open_script, run_script};
+use charmlet_cli::{Failure, Stop, end_program, open_script, run_script, show_store};
 use charmlet_command::{Command, command_of};
 use charmlet_disk::{Disk, FileDisk, MemDisk};
 use charmlet_kinds::{Account, Counter, Ring, Sum, Tape, Tree};
@@ -51,6 +51,16 @@ fn run(rt: HostRuntime, path: &str, dir: Option<&str>) -> Result<(), Stop> {
     }
 }
 
+/// Shows the store in the two files of a folder on standard output.
+fn show(rt: HostRuntime, dir: &str) -> Result<(), Stop> {
+    let alloc = rt.alloc();
+    let mut writer = BufWriter::new(alloc, io::writer(&rt))?;
+    let mut disk = FileDisk::new(rt, dir)?;
+    show_store(alloc, &mut disk, &mut writer)?;
+    writer.flush()?;
+    Ok(())
+}
+
 /// The words of the command line, the first of which is the program's name.
 fn words<R: Runtime + AllocGlobal>(rt: &R) -> io::Result<Vec<String>> {
     Ok(env::args(rt)?.collect(rt.alloc())?)
@@ -59,8 +69,10 @@ fn words<R: Runtime + AllocGlobal>(rt: &R) -> io::Result<Vec<String>> {
 /// Does what the command line asks for.
 fn charmlet(rt: HostRuntime) -> Result<(), Failure> {
     let words = words(&rt)?;
-    let Command::Run { script, dir } = command_of(rt.alloc(), words.as_slice())?;
-    run(rt, script, dir)?;
+    match command_of(rt.alloc(), words.as_slice())? {
+        Command::Run { script, dir } => run(rt, script, dir)?,
+        Command::Show { dir } => show(rt, dir)?,
+    }
     Ok(())
 }
 

@@ -1,10 +1,9 @@
 -- How a run ends early.
 use Rattle.std.proofs.Common.{◌≡◌, List, Option, Result, Ok, Err, OnOk, OnErr, refl, sym, subst}
 use Rattle.std.specs.Result.{IfErr, IsErrAnd}
-use Rattle.charmlet_model.specs.declared.refusal.Refusal.{Refusal}
 use Rattle.charmlet_model.specs.declared.state.State.{State}
-use Rattle.charmlet_model.specs.Core.{Core}
 use Rattle.charmlet_model.specs.Texts.{Text}
+use Rattle.charmlet_disk.specs.declared.disk.Disk as disks
 use Rattle.charmlet_script.specs.Script.{Contents}
 use Rattle.charmlet_cli.specs.declared.running.RunError.{RunError}
 use Rattle.charmlet_cli.specs.declared.running.RunError.TheVariants.{TooFewBlanks, NotCreated, Memory, Output}
@@ -25,19 +24,20 @@ pub memory_ends : {C T : Type 0} (state : C → State) (objects : List C) (scrip
 memory_ends state objects script (Ok x) enough is = tt
 memory_ends state objects script (Err e) enough is = subst (Lacks state objects script) (sym is) enough
 
--- no run began, and the disk and the output are as they were
-pub lacks_leaves : {C W : Type 0} (state : C → State) (contents : W → Option Text) (Same : Type 0) (Stands : Core → Type 0) (Back : Refusal → Type 0) (objects : List C) (script : Contents) (writer : W) (error : RunError C) →
-    Same → Lacks state objects script error → Leaves state contents Same Stands Back objects script writer writer error
-lacks_leaves state contents Same Stands Back objects script writer (TooFewBlanks back) same lacks = (same, lacks.0, refl, lacks.1)
-lacks_leaves state contents Same Stands Back objects script writer Memory same lacks = (same, lacks, refl)
-lacks_leaves state contents Same Stands Back objects script writer (NotCreated refusal) same lacks = absurd lacks
-lacks_leaves state contents Same Stands Back objects script writer (Output error) same lacks = absurd lacks
+module _ {D C W : Type 0} (G : disks.Ghosts D) (state : C → State) (contents : W → Option Text) where
+  -- no run began, and the disk and the output are as they were
+  pub lacks_leaves : (disk : D) (objects : List C) (script : Contents) (writer : W) (error : RunError C) →
+      Lacks state objects script error → Leaves G state contents disk disk objects script writer writer error
+  lacks_leaves disk objects script writer (TooFewBlanks back) lacks = (refl, lacks.0, refl, lacks.1)
+  lacks_leaves disk objects script writer Memory lacks = (refl, lacks, refl)
+  lacks_leaves disk objects script writer (NotCreated refusal) lacks = absurd lacks
+  lacks_leaves disk objects script writer (Output error) lacks = absurd lacks
 
--- a run that had enough objects ended early
-pub run_ends : {C W T : Type 0} (state : C → State) (contents : W → Option Text) (Same : Type 0) (Stands : Core → Type 0) (Back : Refusal → Type 0) (objects : List C) (script : Contents) (before after : W) (r : Result T (RunError C)) →
-    AreEnough state objects script.lines → IfErr r (EndsRun Stands Back script (contents before) (contents after)) → IfErr r (Leaves state contents Same Stands Back objects script before after)
-run_ends state contents Same Stands Back objects script before after (Ok x) enough ends = tt
-run_ends state contents Same Stands Back objects script before after (Err (TooFewBlanks back)) enough ends = absurd ends
-run_ends state contents Same Stands Back objects script before after (Err (NotCreated refusal)) enough ends = (enough, ends.0, ends.1)
-run_ends state contents Same Stands Back objects script before after (Err Memory) enough ends = absurd ends
-run_ends state contents Same Stands Back objects script before after (Err (Output error)) enough ends = (enough, ends)
+  -- a run that had enough objects ended early
+  pub run_ends : {T : Type 0} (first end : D) (objects : List C) (script : Contents) (before after : W) (r : Result T (RunError C)) →
+      AreEnough state objects script.lines → IfErr r (EndsRun G first end script (contents before) (contents after)) → IfErr r (Leaves G state contents first end objects script before after)
+  run_ends first end objects script before after (Ok x) enough ends = tt
+  run_ends first end objects script before after (Err (TooFewBlanks back)) enough ends = absurd ends
+  run_ends first end objects script before after (Err (NotCreated refusal)) enough ends = (enough, ends.0, ends.1)
+  run_ends first end objects script before after (Err Memory) enough ends = absurd ends
+  run_ends first end objects script before after (Err (Output error)) enough ends = (enough, ends)

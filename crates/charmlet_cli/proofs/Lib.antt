@@ -1,3 +1,4 @@
+pub mod Continuing
 pub mod Endings
 pub mod Openings
 pub mod Printing

@@ -8,12 +8,13 @@ use Rattle.charmlet_script.specs.Script.{Contents, pairs_of, processors_of}
 use Rattle.charmlet_cli.specs.Lines.{Ledger, opening_of}
 
 -- a new store has the script's processors and arrays, and nothing else
-pub opens : (script : Contents) (manifest : List (ℕ × Kind)) (processors : ℕ) (ledger : Ledger) → manifest_of (pairs_of script.arrays) ≡ Some manifest → processors ≡ processors_of script →
-    ledger.store.core ≡ new_core processors manifest → ((kind : Kind) → ledger.store.blanks kind ≡ 0) → ((kind : Kind) → ledger.supplied kind ≡ 0) → ledger ≡ opening_of script
+pub opens : {D : Type 0} (script : Contents) (manifest : List (ℕ × Kind)) (processors : ℕ) (ledger : Ledger D) → manifest_of (pairs_of script.arrays) ≡ Some manifest → processors ≡ processors_of script →
+    ledger.store.core ≡ new_core processors manifest → ((kind : Kind) → ledger.store.blanks kind ≡ 0) → ((kind : Kind) → ledger.supplied kind ≡ 0) → ledger ≡ opening_of script ledger.disk
 opens script manifest processors ledger is count core blanks supplied = λ i. record {
   store = record {
     core = (core ∙ ap (λ n. new_core n manifest) count ∙ ap (λ m. new_core (processors_of script) m) (sym (ap (λ o. unwrap_or o []) is))) i;
     blanks = λ kind. blanks kind i;
   };
   supplied = λ kind. supplied kind i;
+  disk = ledger.disk;
 }

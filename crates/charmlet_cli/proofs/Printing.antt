@@ -7,8 +7,7 @@ use Rattle.std.proofs.lemmas.List.{append_assoc, append-nil, flat_map_more, drop
 use Rattle.std.specs.List.{flat_map}
 use Rattle.std.proofs.lemmas.List.Concat.{flat_map-append}
 use Rattle.charmlet_model.specs.Texts.{Text}
-use Rattle.charmlet_script.specs.declared.script.Line.{Line}
-use Rattle.charmlet_cli.specs.Lines.{Follows, Ledger, Prints, in_lines}
+use Rattle.charmlet_cli.specs.Lines.{in_lines}
 use Rattle.charmlet_cli.specs.Writing.{AppendsBeginning, Writes}
 
 -- ---- what a writer holds
@@ -106,12 +105,3 @@ lines_begin f a b c xs n x within h k =
     ap (flat_map f) (split_at xs n x within) ∙ flat_map-append f (take n xs) (get_or xs n x ∷ drop (n + 1) xs) in
     subst (λ texts. AppendsBeginning a c (in_lines texts)) (sym all)
     (subst (AppendsBeginning a c) (sym (in_lines-append before (here ++ rest))) (begins_then a b c (in_lines before) (in_lines (here ++ rest)) h (line_begins b c here rest k)))
-
--- ---- one line more
-
-pub prints_more : (first mid last : Ledger) (lines : List Line) (line : Line) (texts more : List Text) → Prints first lines texts mid → Follows mid line more last →
-    Prints first (lines ++ line ∷ []) (texts ++ more) last
-prints_more first mid last [] line texts more h f =
-    (last, more, [], subst (λ ledger. Follows ledger line more last) h.1 f, (refl, refl), ap (λ ts. ts ++ more) h.0 ∙ sym (append-nil more))
-prints_more first mid last (l ∷ lines) line texts more h f =
-    (h.0, h.1, h.2 ++ more, h.3, prints_more h.0 mid last lines line h.2 more h.4 f, ap (λ ts. ts ++ more) h.5 ∙ append_assoc h.1 h.2 more)

@@ -1,5 +1,5 @@
 -- What stands on a disk on which a store was made and run.
-use Rattle.std.proofs.Common.{◌≡◌, ◌≢◌, ◌⊎◌, Option, Some, inl, inr, ⊎_elim, ℕ, ◌+◌, List, [], take, refl, sym, ap, subst, ◌∙◌, arith}
+use Rattle.std.proofs.Common.{◌≡◌, ◌≢◌, ◌⊎◌, Option, Some, inl, inr, ⊎_elim, ℕ, Bool, Err, List, [], refl, sym, ap, subst, ◌∙◌, arith}
 use Rattle.std.specs.Prelude.{unwrap_or}
 use Rattle.charmlet_model.specs.declared.half.Half.TheVariants.{Zero, One}
 use Rattle.charmlet_model.specs.declared.kind.Kind.{Kind}
@@ -7,6 +7,7 @@ use Rattle.charmlet_model.specs.declared.refusal.Refusal.{Refusal}
 use Rattle.charmlet_model.specs.declared.refusal.Refusal.TheVariants as refusals
 use Rattle.charmlet_model.specs.Manifest.{manifest_of}
 use Rattle.charmlet_image.specs.Spelled.{IsClosed}
+use Rattle.charmlet_halves.specs.Answers.{is_no_failure}
 use Rattle.charmlet_halves.specs.Bytes.{IsOpen}
 use Rattle.charmlet_script.specs.Script.{Contents, pairs_of}
 use Rattle.charmlet_model.specs.Core.{Core}
@@ -14,18 +15,18 @@ use Rattle.charmlet_model.specs.Sound.{new_world}
 use Rattle.charmlet_model.specs.World.{World}
 use Rattle.charmlet_chare.specs.declared.chare.Chare as chares
 use Rattle.charmlet_disk.specs.declared.disk.Disk as disks
-use Rattle.charmlet_disk.specs.Disk.{LeavesOnly, SameFiles}
+use Rattle.charmlet_disk.specs.Disk.{LeavesOnly, SameFiles, faults_after}
 use Rattle.charmlet_disk.specs.File.{MayLeave, Outcome}
 use Rattle.charmlet_disk.proofs.Moments.{after_that}
 use Rattle.charmlet_journal.specs.NewStores.{new_core}
-use Rattle.charmlet_recovery.specs.Outcomes.{IsLawful}
 use Rattle.charmlet_recovery.specs.Recovered.{Found}
 use Rattle.charmlet_engine.specs.declared.engine.Engine.{Engine}
 use Rattle.charmlet_engine.specs.Advances.{Advances}
 use Rattle.charmlet_engine.specs.Engine.{IsEngineConsistent, core_of, disk_in}
-use Rattle.charmlet_engine.specs.Outcomes.{IsNothingOrNew, Onward, is_lawful_since}
+use Rattle.charmlet_engine.specs.Outcomes.{IsNothingOrNew, Onward, is_lawful_since, not_device}
 use Rattle.charmlet_engine.proofs.Lawful.{lawful_now}
-use Rattle.charmlet_cli.specs.Run.{IsHandedBack, IsNothingOrLawful, Stands}
+use Rattle.charmlet_cli.specs.Lines.{kinds_of, ledger_in}
+use Rattle.charmlet_cli.specs.Run.{IsCreated, IsHandedBack, IsNothingOrLawful, Stands}
 
 -- a new store that went on to this one
 module _ (manifest : List (ℕ × Kind)) (processors : ℕ) (old new : Core) (opens : old ≡ new_core processors manifest) (on : Onward old new) where
@@ -54,28 +55,62 @@ module _ (manifest : List (ℕ × Kind)) (processors : ℕ) (old new : Core) (op
   })
 
 module _ {D C : Type 0} {G : disks.Ghosts D} {H : chares.Ghosts C} where
-  pub stands : (manifest : List (ℕ × Kind)) (processors : ℕ) (disk : D) (first last : Engine D C G H) → core_of first ≡ new_core processors manifest → IsEngineConsistent last → Advances first last →
-      (G.honest disk → G.honest (disk_in first)) → (G.honest disk → LeavesOnly G.moment G.since disk (disk_in first) (IsNothingOrNew manifest)) → Stands G.honest G.file G.moment G.since disk (disk_in last) (core_of last)
-  stands manifest processors disk first last opens consistent advances honest leaves = λ still. (
-    after_that G.moment G.since disk (disk_in first) (disk_in last) (IsNothingOrNew manifest) (is_lawful_since (core_of first) (core_of last)) (IsNothingOrLawful (core_of last))
-        (leaves still) (advances.any_moment (honest still))
-        (from_new manifest processors (core_of first) (core_of last) opens advances.onward) (from_lawful manifest processors (core_of first) (core_of last) opens advances.onward),
-    λ o left. lawful_now {G = G} (core_of last) last.halves (consistent.keeps (advances.honest.0 (honest still))) o left,
+  -- what it stands on is the disk at the end
+  pub stands : (manifest : List (ℕ × Kind)) (processors : ℕ) (disk end : D) (first last : Engine D C G H) → core_of first ≡ new_core processors manifest → IsEngineConsistent last → Advances first last →
+      (G.honest disk → G.honest (disk_in first)) → (G.honest disk → LeavesOnly G.moment G.since disk (disk_in first) (IsNothingOrNew manifest)) → end ≡ disk_in last → Stands G disk end (ledger_in last)
+  stands manifest processors disk end first last opens consistent advances honest leaves is =
+      subst (λ (d : D). Stands G disk d (ledger_in last)) (sym is) (record {
+        disk = refl;
+        any_moment = λ still.
+            after_that G.moment G.since disk (disk_in first) (disk_in last) (IsNothingOrNew manifest) (is_lawful_since (core_of first) (core_of last)) (IsNothingOrLawful (core_of last))
+            (leaves still) (advances.any_moment (honest still))
+            (from_new manifest processors (core_of first) (core_of last) opens advances.onward) (from_lawful manifest processors (core_of first) (core_of last) opens advances.onward);
+        now = λ still o left. lawful_now {G = G} (core_of last) last.halves (consistent.keeps (advances.honest.0 (honest still))) o left;
+      })
+
+  -- and it is as honest as the first one was
+  pub stays_honest : (disk end : D) (first last : Engine D C G H) → (G.honest disk → G.honest (disk_in first)) × (G.honest (disk_in first) → G.honest disk) → Advances first last → end ≡ disk_in last →
+      (G.honest disk → G.honest end) × (G.honest end → G.honest disk)
+  stays_honest disk end first last honest advances is = (
+    (λ h. subst G.honest (sym is) (advances.honest.0 (honest.0 h))),
+    (λ h. honest.1 (advances.honest.1 (subst G.honest is h))),
   )
 
--- a disk that a refused creation handed back
-pub handed_back : {D : Type 0} (G : disks.Ghosts D) (first last : D) (script : Contents) (manifest : List (ℕ × Kind)) (refusal : Refusal) → manifest_of (pairs_of script.arrays) ≡ Some manifest →
-    (G.honest first → refusal ≡ refusals.AlreadyHere → IsOpen (G.file first Zero).now ⊎ IsOpen (G.file first One).now) →
-    (G.honest first → refusal ≡ refusals.Memory → IsClosed (G.file first Zero).now × IsClosed (G.file first One).now) →
-    (G.honest first → refusal ≢ refusals.Device → SameFiles (G.file first) (G.file last) × LeavesOnly G.moment G.since first last (MayLeave (G.file first))) →
-    (G.honest first → IsOpen (G.file first Zero).now ⊎ IsOpen (G.file first One).now → LeavesOnly G.moment G.since first last (MayLeave (G.file first))) →
-    (G.honest first → IsClosed (G.file first Zero).now → IsClosed (G.file first One).now → LeavesOnly G.moment G.since first last (IsNothingOrNew manifest)) →
-    IsHandedBack G.honest G.file G.moment G.since first last script refusal
-handed_back G first last script manifest refusal is here lacked unwritten open_kept any_moment = λ honest. record {
-  here = here honest;
-  lacked = lacked honest;
-  unwritten = unwritten honest;
-  open_kept = open_kept honest;
-  any_moment = λ zero one.
-      subst (λ (kinds : List (ℕ × Kind)). LeavesOnly G.moment G.since first last (IsNothingOrNew kinds)) (sym (ap (λ (o : Option (List (ℕ × Kind))). unwrap_or o []) is)) (any_moment honest zero one);
-}
+-- the arrays that a script's store has
+made_of : (script : Contents) (manifest : List (ℕ × Kind)) → manifest_of (pairs_of script.arrays) ≡ Some manifest → manifest ≡ kinds_of script
+made_of script manifest is = sym (ap (λ (o : Option (List (ℕ × Kind))). unwrap_or o []) is)
+
+-- a refusal is a failure of the device if and only if it says so
+failure_said : (X : Type 0) (refusal : Refusal) → is_no_failure {X = X} (Err refusal) ≡ not_device refusal
+failure_said X refusals.Device = refl
+failure_said X _ = refl
+
+module _ {D : Type 0} (G : disks.Ghosts D) (first last : D) (script : Contents) (manifest : List (ℕ × Kind)) (is : manifest_of (pairs_of script.arrays) ≡ Some manifest) where
+  -- a disk on which a store was made
+  pub created : G.faults last ≡ G.faults first → (G.honest first → G.honest last) × (G.honest last → G.honest first) →
+      (G.honest first → LeavesOnly G.moment G.since first last (IsNothingOrNew manifest)) → IsCreated G (kinds_of script) first last
+  created counted honest leaves = record {
+    counted = counted;
+    honest = honest;
+    any_moment = λ still. subst (λ (kinds : List (ℕ × Kind)). LeavesOnly G.moment G.since first last (IsNothingOrNew kinds)) (made_of script manifest is) (leaves still);
+  }
+
+  -- a disk that a refused creation handed back
+  pub handed_back : (refusal : Refusal) → G.faults last ≡ faults_after (is_no_failure {X = D} (Err refusal)) (G.faults first) →
+      (G.honest first → refusal ≡ refusals.AlreadyHere → IsOpen (G.file first Zero).now ⊎ IsOpen (G.file first One).now) →
+      (G.honest first → refusal ≡ refusals.Memory → IsClosed (G.file first Zero).now × IsClosed (G.file first One).now) →
+      (G.honest first → refusal ≢ refusals.Device → SameFiles (G.file first) (G.file last) × LeavesOnly G.moment G.since first last (MayLeave (G.file first))) →
+      (G.honest first → IsOpen (G.file first Zero).now ⊎ IsOpen (G.file first One).now → LeavesOnly G.moment G.since first last (MayLeave (G.file first))) →
+      (G.honest first → IsClosed (G.file first Zero).now → IsClosed (G.file first One).now → LeavesOnly G.moment G.since first last (IsNothingOrNew manifest)) →
+      IsHandedBack G first last script refusal
+  handed_back refusal counted here lacked unwritten open_kept any_moment = (
+    counted ∙ ap (λ (b : Bool). faults_after b (G.faults first)) (failure_said D refusal),
+    λ honest. record {
+      here = here honest;
+      lacked = lacked honest;
+      unwritten = unwritten honest;
+      open_kept = open_kept honest;
+      any_moment = λ zero one.
+          subst (λ (kinds : List (ℕ × Kind)). LeavesOnly G.moment G.since first last (IsNothingOrNew kinds)) (made_of script manifest is) (any_moment honest zero one);
+    },
+  )

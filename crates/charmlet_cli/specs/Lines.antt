@@ -1,5 +1,5 @@
 -- What the lines of a script do to a store, and what they print.
-use Rattle.std.specs.Prelude.{◌≡◌, ◌⊎◌, ℕ, ◌+◌, ◌≤◌, List, [], ◌∷◌, ◌++◌, map, Option, IsSome, Result, unwrap_or}
+use Rattle.std.specs.Prelude.{◌≡◌, ◌⊎◌, ℕ, ◌+◌, ◌≤◌, true, List, [], ◌∷◌, ◌++◌, map, take, Option, IsSome, Result, unwrap_or}
 use Rattle.std.specs.Io.KnownBytes.{Appends}
 use Rattle.std.specs.List.{flat_map}
 use Rattle.charmlet_model.specs.declared.kind.Kind.{Kind}
@@ -8,11 +8,14 @@ use Rattle.charmlet_model.specs.declared.refusal.Refusal.{Refusal}
 use Rattle.charmlet_model.specs.declared.refusal.Refusal.TheVariants.{Memory}
 use Rattle.charmlet_model.specs.declared.step.Answer.{Answer}
 use Rattle.charmlet_model.specs.declared.step.Answer.TheVariants.{Refused}
+use Rattle.charmlet_model.specs.declared.step.Step.{Step}
 use Rattle.charmlet_model.specs.Manifest.{manifest_of}
 use Rattle.charmlet_model.specs.Texts.{Text, answer_text}
 use Rattle.charmlet_model.specs.Run.{StoreView, Does}
+use Rattle.charmlet_model.specs.RunLaws.{IsToldTrue}
 use Rattle.charmlet_script.specs.declared.script.Line.{Line}
-use Rattle.charmlet_script.specs.declared.script.Line.TheVariants.{Supply, Drain, State, Pending, Census, Step}
+use Rattle.charmlet_script.specs.declared.script.Line.TheVariants.{Supply, Drain, State, Pending, Census}
+use Rattle.charmlet_script.specs.declared.script.Line.TheVariants as lines
 use Rattle.charmlet_script.specs.Printed.{pending_text, supplied_text}
 use Rattle.charmlet_script.specs.Script.{Contents, blanks_of, pairs_of, processors_of}
 use Rattle.charmlet_model.specs.declared.state.State as states
@@ -22,10 +25,12 @@ use Rattle.charmlet_model.specs.World.{record_of}
 use Rattle.charmlet_chare.specs.declared.chare.Chare as chares
 use Rattle.charmlet_chare.specs.declared.chare.Chare.{Ghosts}
 use Rattle.charmlet_disk.specs.declared.disk.Disk as disks
+use Rattle.charmlet_disk.specs.Disk.{LeavesOnly, faults_after}
 use Rattle.charmlet_record.specs.Reading.{Kinds}
 use Rattle.charmlet_journal.specs.NewStores.{new_core}
 use Rattle.charmlet_engine.specs.declared.engine.Engine.{Engine}
-use Rattle.charmlet_engine.specs.Engine.{supplied_of, view_of}
+use Rattle.charmlet_engine.specs.Engine.{disk_in, supplied_of, view_of}
+use Rattle.charmlet_engine.specs.Outcomes.{Onward, is_lawful_since, is_no_fault, is_still}
 use Rattle.charmlet_stock.specs.declared.stock.Stock.{Stock}
 use Rattle.charmlet_stock.specs.Stock.{blanks_in, part_of}
 use Rattle.charmlet_cli.specs.Drain.{DrainsUpTo, drain_texts}
@@ -40,24 +45,26 @@ AreEnough state objects lines = (kind : Kind) → blanks_of kind lines ≤ count
 abbrev pub blanks_left : {C : Type 0} {G : Ghosts C} → Stock C G → Kind → ℕ
 blanks_left source kind = blanks_in source kind
 
--- a store, and how many objects of each kind were supplied to it so far
-pub record Ledger : Type 0 where
+-- a store, how many objects of each kind were supplied to it so far, and the disk that it is on
+pub record Ledger (D : Type 0) : Type 0 where
   pub store : StoreView
   pub supplied : Kind → ℕ
+  pub disk : D
 
 -- of an engine that runs
-abbrev pub ledger_in : {D C : Type 0} {G : disks.Ghosts D} {H : chares.Ghosts C} → Engine D C G H → Ledger
-ledger_in engine = record { store = view_of engine; supplied = supplied_of engine }
+abbrev pub ledger_in : {D C : Type 0} {G : disks.Ghosts D} {H : chares.Ghosts C} → Engine D C G H → Ledger D
+ledger_in engine = record { store = view_of engine; supplied = supplied_of engine; disk = disk_in engine }
 
 -- the script's arrays, each with its kind
 abbrev pub kinds_of : Contents → Kinds
 kinds_of script = unwrap_or (manifest_of (pairs_of script.arrays)) []
 
--- before the first line: the script's processors and arrays, and nothing else
-abbrev pub opening_of : Contents → Ledger
-opening_of script = record {
+-- before the first line: the script's processors and arrays on this disk, and nothing else
+abbrev pub opening_of : {D : Type 0} → Contents → D → Ledger D
+opening_of script disk = record {
   store = record { core = new_core (processors_of script) (kinds_of script); blanks = λ _. 0 };
   supplied = λ _. 0;
+  disk = disk;
 }
 
 -- the texts as lines, each with its line feed
@@ -69,13 +76,14 @@ abbrev pub memory_text : Text
 memory_text = answer_text (Refused Memory)
 
 -- so many blanks of a kind more, in the stock and in what was supplied
-pub record IsSupplied (kind : Kind) (count : ℕ) (old new : Ledger) : Type 0 where
+pub record IsSupplied {D : Type 0} (kind : Kind) (count : ℕ) (old new : Ledger D) : Type 0 where
   pub core : new.store.core ≡ old.store.core
   pub blanks : (k : Kind) → new.store.blanks k ≡ old.store.blanks k + part_of kind count k
   pub supplied : (k : Kind) → new.supplied k ≡ old.supplied k + part_of kind count k
+  pub disk : new.disk ≡ old.disk
 
 -- a supply line adds its blanks, or is refused memory and changes nothing
-abbrev pub Supplies : Ledger → Kind → ℕ → Text → Ledger → Type 0
+abbrev pub Supplies : {D : Type 0} → Ledger D → Kind → ℕ → Text → Ledger D → Type 0
 Supplies old kind count text new = ((text ≡ supplied_text (record { kind = kind; count = count })) × IsSupplied kind count old new) ⊎ ((text ≡ memory_text) × (new ≡ old))
 
 -- a state line shows the element's processor and record; memory may be refused where the element is there
@@ -89,38 +97,58 @@ abbrev pub ShowsPending : StoreView → Text → Type 0
 ShowsPending store text = (text ≡ pending_text (map (λ m. m.id) (present store.core).pending)) ⊎ (text ≡ memory_text)
 
 -- a census shows, kind by kind, where the objects are that were supplied so far
-abbrev pub ShowsCensus : Ledger → List Text → Type 0
+abbrev pub ShowsCensus : {D : Type 0} → Ledger D → List Text → Type 0
 ShowsCensus old texts =
     (retired : Kind → ℕ) × ((kind : Kind) → IsWhole (counted_in old.store old.supplied retired kind))
     × (texts ≡ flat_map (λ kind. counted_texts (counted_in old.store old.supplied retired kind)) all_kinds)
 
--- from one store a line prints these texts and leads to another store
-abbrev pub Follows : Ledger → Line → List Text → Ledger → Type 0
-Follows old (Supply kind count) texts new = (text : Text) × Supplies old kind count text new × (texts ≡ text ∷ [])
-Follows old (Drain count) texts new =
-    (k : ℕ) × (refusal : Option Refusal) × DrainsUpTo old.store count k refusal new.store × (new.supplied ≡ old.supplied) × (texts ≡ drain_texts k new.store refusal)
-Follows old (State elem) texts new = (text : Text) × ShowsState old.store elem text × (texts ≡ text ∷ []) × (new ≡ old)
-Follows old Pending texts new = (text : Text) × ShowsPending old.store text × (texts ≡ text ∷ []) × (new ≡ old)
-Follows old Census texts new = ShowsCensus old texts × (new ≡ old)
-Follows old (Step step) texts new = (answer : Answer) × Does old.store step answer new.store × (new.supplied ≡ old.supplied) × (texts ≡ answer_text answer ∷ [])
+module _ {D : Type 0} (G : disks.Ghosts D) where
+  -- The store goes on: its history grows; on an honest disk each crash from the one to the other leaves the world after some of it, with all that was
+  -- durable at the first among it; and the disk is as honest as before.
+  pub record Continues (old new : Ledger D) : Type 0 where
+    pub onward : Onward old.store.core new.store.core
+    pub any_moment : G.honest old.disk → LeavesOnly G.moment G.since old.disk new.disk (is_lawful_since old.store.core new.store.core)
+    pub honest : (G.honest old.disk → G.honest new.disk) × (G.honest new.disk → G.honest old.disk)
 
--- a line is run, and its texts are written after what was written before, or where that fails a beginning of them
-abbrev pub IsPrinted : {T E : Type 0} → Result T E → Ledger → Line → Ledger → (before after : Option Text) → Type 0
-IsPrinted result old line new before after = (texts : List Text) × Follows old line texts new × Writes result before after (in_lines texts)
+  -- A step is answered: what clients are told is true of the durable events, the device fails once if and only if the answer says so, and after an
+  -- answer to what writes nothing the disk is as it was.
+  pub record IsAnswered (step : Step) (answer : Answer) (old new : Ledger D) : Type 0 where
+    pub does : Does old.store step answer new.store
+    pub told : IsToldTrue new.store.core.opening (take new.store.core.durable new.store.core.history) step answer
+    pub supplied : new.supplied ≡ old.supplied
+    pub counted : G.faults new.disk ≡ faults_after (is_no_fault answer) (G.faults old.disk)
+    pub still : is_still answer ≡ true → new.disk ≡ old.disk
 
--- lines one after another print their texts
-abbrev pub Prints : Ledger → List Line → List Text → Ledger → Type 0
-Prints first [] texts last = (texts ≡ []) × (last ≡ first)
-Prints first (line ∷ lines) texts last =
-    (next : Ledger) × (printed : List Text) × (rest : List Text) × Follows first line printed next × Prints next lines rest last × (texts ≡ printed ++ rest)
+  -- from one store a line prints these texts and leads to another store
+  abbrev pub Follows : Ledger D → Line → List Text → Ledger D → Type 0
+  Follows old (Supply kind count) texts new = (text : Text) × Supplies old kind count text new × (texts ≡ text ∷ [])
+  Follows old (Drain count) texts new =
+      (k : ℕ) × (refusal : Option Refusal) × DrainsUpTo old.store count k refusal new.store × (new.supplied ≡ old.supplied) × (new.disk ≡ old.disk)
+      × (texts ≡ drain_texts k new.store refusal)
+  Follows old (State elem) texts new = (text : Text) × ShowsState old.store elem text × (texts ≡ text ∷ []) × (new ≡ old)
+  Follows old Pending texts new = (text : Text) × ShowsPending old.store text × (texts ≡ text ∷ []) × (new ≡ old)
+  Follows old Census texts new = ShowsCensus old texts × (new ≡ old)
+  Follows old (lines.Step step) texts new = (answer : Answer) × IsAnswered step answer old new × (texts ≡ answer_text answer ∷ [])
 
--- lines are run one after another, and their texts written
-abbrev pub AreRun : Ledger → List Line → Ledger → (before after : Option Text) → Type 0
-AreRun first lines last before after = (texts : List Text) × Prints first lines texts last × Appends before after (in_lines texts)
+  -- a line is run, and its texts are written after what was written before, or where that fails a beginning of them
+  abbrev pub IsPrinted : {T E : Type 0} → Result T E → Ledger D → Line → Ledger D → (before after : Option Text) → Type 0
+  IsPrinted result old line new before after = (texts : List Text) × Follows old line texts new × Writes result before after (in_lines texts)
 
--- some lines are run and their texts written, and the next line is run and a beginning of its texts written
-abbrev pub BreakOff : Ledger → List Line → Ledger → (before after : Option Text) → Type 0
-BreakOff first lines last before after =
-    (whole : List Line) × (line : Line) × (rest : List Line) × (lines ≡ whole ++ line ∷ rest)
-    × (mid : Ledger) × (between : Option Text) × AreRun first whole mid before between
-    × (texts : List Text) × Follows mid line texts last × AppendsBeginning between after (in_lines texts)
+  -- Lines one after another print their texts, in a run that ends in `end`: each crash in a line has what was durable before it, and each
+  -- crash from the line's end to the end of the run has what was durable after the line.
+  abbrev pub Prints : (end first : Ledger D) → List Line → List Text → (last : Ledger D) → Type 0
+  Prints end first [] texts last = (texts ≡ []) × (last ≡ first)
+  Prints end first (line ∷ lines) texts last =
+      (next : Ledger D) × (printed : List Text) × (rest : List Text) × Follows first line printed next × Continues first next × Continues next end
+      × Prints end next lines rest last × (texts ≡ printed ++ rest)
+
+  -- lines are run one after another, in a run that ends in `end`, and their texts written
+  abbrev pub AreRun : (end first : Ledger D) → List Line → (last : Ledger D) → (before after : Option Text) → Type 0
+  AreRun end first lines last before after = (texts : List Text) × Prints end first lines texts last × Appends before after (in_lines texts)
+
+  -- some lines are run and their texts written, and the next line is run and a beginning of its texts written
+  abbrev pub BreakOff : Ledger D → List Line → Ledger D → (before after : Option Text) → Type 0
+  BreakOff first lines last before after =
+      (whole : List Line) × (line : Line) × (rest : List Line) × (lines ≡ whole ++ line ∷ rest)
+      × (mid : Ledger D) × (between : Option Text) × AreRun last first whole mid before between
+      × (texts : List Text) × Follows mid line texts last × Continues mid last × AppendsBeginning between after (in_lines texts)

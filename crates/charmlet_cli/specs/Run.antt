@@ -1,7 +1,6 @@
 -- What a run of a script is, and what it leaves on the disk.
 use Rattle.std.specs.Prelude.{◌≡◌, ◌≢◌, ◌⊎◌, ◌↔◌, ℕ, false, [], ◌∷◌, IsTrue, Option}
 use Rattle.std.specs.Io.KnownBytes.{Appends}
-use Rattle.charmlet_model.specs.declared.half.Half.{Half}
 use Rattle.charmlet_model.specs.declared.half.Half.TheVariants.{Zero, One}
 use Rattle.charmlet_model.specs.declared.refusal.Refusal.{Refusal}
 use Rattle.charmlet_model.specs.declared.refusal.Refusal.TheVariants.{AlreadyHere, BadPes, Device, Memory}
@@ -11,19 +10,16 @@ use Rattle.charmlet_model.specs.Texts.{Text, answer_text}
 use Rattle.charmlet_locate.specs.Locations.{is_processor_count}
 use Rattle.charmlet_recovery.specs.Outcomes.{IsLawful}
 use Rattle.charmlet_recovery.specs.Recovered.{Nothing, recovered}
-use Rattle.charmlet_disk.specs.Disk.{LeavesOnly, SameFiles}
-use Rattle.charmlet_disk.specs.File.{File, MayLeave, Outcome}
+use Rattle.charmlet_disk.specs.declared.disk.Disk as disks
+use Rattle.charmlet_disk.specs.Disk.{LeavesOnly, SameFiles, faults_after}
+use Rattle.charmlet_disk.specs.File.{MayLeave, Outcome}
 use Rattle.charmlet_image.specs.Spelled.{IsClosed}
 use Rattle.charmlet_halves.specs.Bytes.{IsOpen}
 use Rattle.charmlet_record.specs.Reading.{Kinds}
-use Rattle.charmlet_engine.specs.Outcomes.{IsNothingOrNew, is_lawful_now}
+use Rattle.charmlet_engine.specs.Outcomes.{IsNothingOrNew, is_lawful_now, not_device}
 use Rattle.charmlet_script.specs.Script.{Contents, processors_of}
 use Rattle.charmlet_cli.specs.Lines.{AreRun, BreakOff, Ledger, in_lines, kinds_of, opening_of}
 use Rattle.charmlet_cli.specs.Writing.{AppendsBeginning}
-
--- there are 1 to 64 processors, and each line is run in its order, from a new store to this one, and prints its texts
-abbrev pub IsRun : Contents → Ledger → (before after : Option Text) → Type 0
-IsRun script last before after = IsTrue (is_processor_count (processors_of script)) × AreRun (opening_of script) script.lines last before after
 
 -- why a store isn't created: for the number of its processors, and else since one is here already, for want of memory, or since the device failed
 abbrev pub IsCreationRefusal : ℕ → Refusal → Type 0
@@ -43,28 +39,46 @@ IsNotCreated script refusal before after = IsCreationRefusal (processors_of scri
 abbrev pub IsNotSaid : Contents → Refusal → (before after : Option Text) → Type 0
 IsNotSaid script refusal before after = IsCreationRefusal (processors_of script) refusal × AppendsBeginning before after (creation_text refusal)
 
--- there is a store, and some of its lines are run, up to this one, and a beginning of their texts is printed
-abbrev pub IsCutOff : Contents → Ledger → (before after : Option Text) → Type 0
-IsCutOff script last before after = IsTrue (is_processor_count (processors_of script)) × BreakOff (opening_of script) script.lines last before after
-
 -- the files recover to nothing, or to the world after some of the history
 abbrev pub IsNothingOrLawful : Core → Outcome → Type 0
 IsNothingOrLawful core outcome = (recovered outcome ≡ Nothing) ⊎ IsLawful core.opening core.before core.history 0 outcome
 
--- Of an honest disk on which a store was made and run up to this core: each crash since the beginning leaves nothing, or the world after some of the
--- run, and each from now on has all durable events among it.
-abbrev pub Stands : {D : Type 0} → (honest : D → Type 0) → (file : D → Half → File) → (moment : D → ℕ) → (since : D → ℕ → Outcome → Type 0) → (first last : D) → Core → Type 0
-Stands honest file moment since first last core =
-    honest first → LeavesOnly moment since first last (IsNothingOrLawful core) × ((outcome : Outcome) → MayLeave (file last) outcome → is_lawful_now core outcome)
+module _ {D : Type 0} (G : disks.Ghosts D) where
+  -- A store was made on the first disk: the device hasn't failed, the disk is as honest as before, and each crash leaves nothing or the new store.
+  pub record IsCreated (kinds : Kinds) (first made : D) : Type 0 where
+    pub counted : G.faults made ≡ G.faults first
+    pub honest : (G.honest first → G.honest made) × (G.honest made → G.honest first)
+    pub any_moment : G.honest first → LeavesOnly G.moment G.since first made (IsNothingOrNew kinds)
 
--- Of an honest disk on which no store was made: a store that is here already has an open half, and memory lacks only where neither is open; unless the device
--- failed, nothing was written; and each crash leaves what it would have left before, or of a disk without a store nothing or the new store.
-pub record WasRefused {D : Type 0} (file : D → Half → File) (moment : D → ℕ) (since : D → ℕ → Outcome → Type 0) (first last : D) (kinds : Kinds) (refusal : Refusal) : Type 0 where
-  pub here : refusal ≡ AlreadyHere → IsOpen (file first Zero).now ⊎ IsOpen (file first One).now
-  pub lacked : refusal ≡ Memory → IsClosed (file first Zero).now × IsClosed (file first One).now
-  pub unwritten : refusal ≢ Device → SameFiles (file first) (file last) × LeavesOnly moment since first last (MayLeave (file first))
-  pub open_kept : IsOpen (file first Zero).now ⊎ IsOpen (file first One).now → LeavesOnly moment since first last (MayLeave (file first))
-  pub any_moment : IsClosed (file first Zero).now → IsClosed (file first One).now → LeavesOnly moment since first last (IsNothingOrNew kinds)
+  -- The disk at the end is the last store's. Where the first one was honest, each crash since the beginning leaves nothing, or the world after some of
+  -- the run, and each from now on has all durable events among it.
+  pub record Stands (first end : D) (last : Ledger D) : Type 0 where
+    pub disk : last.disk ≡ end
+    pub any_moment : G.honest first → LeavesOnly G.moment G.since first end (IsNothingOrLawful last.store.core)
+    pub now : G.honest first → (outcome : Outcome) → MayLeave (G.file end) outcome → is_lawful_now last.store.core outcome
 
-abbrev pub IsHandedBack : {D : Type 0} → (honest : D → Type 0) → (file : D → Half → File) → (moment : D → ℕ) → (since : D → ℕ → Outcome → Type 0) → (first last : D) → Contents → Refusal → Type 0
-IsHandedBack honest file moment since first last script refusal = honest first → WasRefused file moment since first last (kinds_of script) refusal
+  -- there are 1 to 64 processors, a store is made, each line is run in its order and prints its texts, and the last store stands on the disk
+  abbrev pub IsRun : (first end : D) → Contents → (before after : Option Text) → Type 0
+  IsRun first end script before after =
+      IsTrue (is_processor_count (processors_of script)) × (made : D) × IsCreated (kinds_of script) first made
+      × (last : Ledger D) × AreRun G last (opening_of script made) script.lines last before after × Stands first end last
+
+  -- a store is made, some of its lines are run, a beginning of their texts is printed, and the store after these lines stands on the disk
+  abbrev pub IsCutOff : (first end : D) → Contents → (before after : Option Text) → Type 0
+  IsCutOff first end script before after =
+      IsTrue (is_processor_count (processors_of script)) × (made : D) × IsCreated (kinds_of script) first made
+      × (last : Ledger D) × BreakOff G (opening_of script made) script.lines last before after × Stands first end last
+
+  -- Of an honest disk on which no store was made: a store that is here already has an open half, and memory lacks only where neither is open; unless the device
+  -- failed, nothing was written; and each crash leaves what it would have left before, or of a disk without a store nothing or the new store.
+  pub record WasRefused (first end : D) (kinds : Kinds) (refusal : Refusal) : Type 0 where
+    pub here : refusal ≡ AlreadyHere → IsOpen (G.file first Zero).now ⊎ IsOpen (G.file first One).now
+    pub lacked : refusal ≡ Memory → IsClosed (G.file first Zero).now × IsClosed (G.file first One).now
+    pub unwritten : refusal ≢ Device → SameFiles (G.file first) (G.file end) × LeavesOnly G.moment G.since first end (MayLeave (G.file first))
+    pub open_kept : IsOpen (G.file first Zero).now ⊎ IsOpen (G.file first One).now → LeavesOnly G.moment G.since first end (MayLeave (G.file first))
+    pub any_moment : IsClosed (G.file first Zero).now → IsClosed (G.file first One).now → LeavesOnly G.moment G.since first end (IsNothingOrNew kinds)
+
+  -- a disk on which no store was made comes back; the device has failed once if and only if that is why
+  abbrev pub IsHandedBack : (first end : D) → Contents → Refusal → Type 0
+  IsHandedBack first end script refusal =
+      (G.faults end ≡ faults_after (not_device refusal) (G.faults first)) × (G.honest first → WasRefused first end (kinds_of script) refusal)

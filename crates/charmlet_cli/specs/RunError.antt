@@ -2,37 +2,41 @@
 use Rattle.std.specs.Prelude.{◌≡◌, ◌⊎◌, List, Option}
 use Rattle.charmlet_model.specs.declared.state.State.{State}
 use Rattle.charmlet_model.specs.declared.refusal.Refusal.{Refusal}
-use Rattle.charmlet_model.specs.Core.{Core}
 use Rattle.charmlet_model.specs.Texts.{Text}
+use Rattle.charmlet_disk.specs.declared.disk.Disk as disks
 use Rattle.charmlet_script.specs.Script.{Contents}
 use Rattle.charmlet_cli.specs.declared.running.RunError.{RunError}
 use Rattle.charmlet_cli.specs.declared.running.RunError.TheVariants.{TooFewBlanks, NotCreated, Memory, Output}
 use Rattle.charmlet_cli.specs.declared.stop.Stop.{Stop}
 use Rattle.charmlet_cli.specs.declared.stop.Stop.TheVariants as stops
-use Rattle.charmlet_cli.specs.Lines.{AreEnough, Ledger}
-use Rattle.charmlet_cli.specs.Run.{IsCutOff, IsNotCreated, IsNotSaid}
+use Rattle.charmlet_cli.specs.Lines.{AreEnough}
+use Rattle.charmlet_cli.specs.Run.{IsCutOff, IsHandedBack, IsNotCreated, IsNotSaid}
 
--- a line couldn't be written: the refusal of the store's creation, or one of a run
-abbrev pub EndsWrite : (Core → Type 0) → (Refusal → Type 0) → Contents → (before after : Option Text) → Type 0
-EndsWrite Stands Back script before after =
-    ((refusal : Refusal) × IsNotSaid script refusal before after × Back refusal) ⊎ ((last : Ledger) × IsCutOff script last before after × Stands last.store.core)
+module _ {D : Type 0} (G : disks.Ghosts D) where
+  -- a line couldn't be written: the refusal of the store's creation, or one of a run
+  abbrev pub EndsWrite : (first end : D) → Contents → (before after : Option Text) → Type 0
+  EndsWrite first end script before after =
+      ((refusal : Refusal) × IsNotSaid script refusal before after × IsHandedBack G first end script refusal)
+      ⊎ IsCutOff G first end script before after
 
--- A run that had enough objects ends early where its store isn't created, or where the output fails or memory for a
--- line's text is refused. `Stands` is what is known of the disk then, where there is a store, and `Back` where there is none.
-abbrev pub EndsRun : {C : Type 0} → (Core → Type 0) → (Refusal → Type 0) → Contents → (before after : Option Text) → RunError C → Type 0
-EndsRun Stands Back script before after (TooFewBlanks back) = ⊥
-EndsRun Stands Back script before after (NotCreated refusal) = IsNotCreated script refusal before after × Back refusal
-EndsRun Stands Back script before after Memory = ⊥
-EndsRun Stands Back script before after (Output error) = EndsWrite Stands Back script before after
+  -- A run that had enough objects ends early where its store isn't created, or where the output fails or memory for a
+  -- line's text is refused.
+  abbrev pub EndsRun : {C : Type 0} → (first end : D) → Contents → (before after : Option Text) → RunError C → Type 0
+  EndsRun first end script before after (TooFewBlanks back) = ⊥
+  EndsRun first end script before after (NotCreated refusal) = IsNotCreated script refusal before after × IsHandedBack G first end script refusal
+  EndsRun first end script before after Memory = ⊥
+  EndsRun first end script before after (Output error) = EndsWrite first end script before after
 
--- Where the objects are too few, and only there, all come back. Then the output stays as it was, and so it does where memory
--- is refused before the store is to be created. `Same` is what is known of the disk then.
-abbrev pub Leaves : {C W : Type 0} → (C → State) → (W → Option Text) → Type 0 → (Core → Type 0) → (Refusal → Type 0) → List C → Contents → (before after : W) → RunError C → Type 0
-Leaves state contents Same Stands Back objects script before after (TooFewBlanks back) = Same × (back.items ≡ objects) × (after ≡ before) × ¬ AreEnough state objects script.lines
-Leaves state contents Same Stands Back objects script before after Memory = Same × AreEnough state objects script.lines × (after ≡ before)
-Leaves state contents Same Stands Back objects script before after (NotCreated refusal) = AreEnough state objects script.lines × IsNotCreated script refusal (contents before) (contents after) × Back refusal
-Leaves state contents Same Stands Back objects script before after (Output error) =
-    AreEnough state objects script.lines × EndsWrite Stands Back script (contents before) (contents after)
+  -- Where the objects are too few, and only there, all come back. Then the disk and the output stay as they were, and so they do
+  -- where memory is refused before the store is to be created.
+  abbrev pub Leaves : {C W : Type 0} → (C → State) → (W → Option Text) → (first end : D) → List C → Contents → (before after : W) → RunError C → Type 0
+  Leaves state contents first end objects script before after (TooFewBlanks back) =
+      (end ≡ first) × (back.items ≡ objects) × (after ≡ before) × ¬ AreEnough state objects script.lines
+  Leaves state contents first end objects script before after Memory = (end ≡ first) × AreEnough state objects script.lines × (after ≡ before)
+  Leaves state contents first end objects script before after (NotCreated refusal) =
+      AreEnough state objects script.lines × IsNotCreated script refusal (contents before) (contents after) × IsHandedBack G first end script refusal
+  Leaves state contents first end objects script before after (Output error) =
+      AreEnough state objects script.lines × EndsWrite first end script (contents before) (contents after)
 
 -- there are too few objects, and all come back; or memory is refused where there are enough
 abbrev pub Lacks : {C : Type 0} → (C → State) → List C → Contents → RunError C → Type 0

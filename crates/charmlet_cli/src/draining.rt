@@ -3,7 +3,7 @@
 ghost use Rattle.std.specs.Prelude.{◌≡◌};
 ghost use Rattle.charmlet_script.specs.declared.script.Line.TheVariants as lines;
 ghost use Rattle.charmlet_engine.specs.Advances.{Advances};
-ghost use Rattle.charmlet_engine.specs.Engine.{IsEngineConsistent, supplied_of, view_of};
+ghost use Rattle.charmlet_engine.specs.Engine.{IsEngineConsistent, disk_in, supplied_of, view_of};
 ghost use Rattle.charmlet_cli.specs.Drain.{DeliversNext, DrainsUpTo};
 ghost use Rattle.charmlet_cli.specs.Lines.{IsPrinted, ledger_in};
 
@@ -29,7 +29,8 @@ pub fn drain_line<D: Disk, C: Chare, W: Write>(
     requires { IsEngineConsistent engine.old }
     ensures consistent { IsEngineConsistent engine.new }
     ensures advances { Advances engine.old engine.new }
-    ensures prints { IsPrinted result (ledger_in engine.old) (lines.Drain most) (ledger_in engine.new) (W.contents writer.old) (W.contents writer.new) }
+    ensures prints { IsPrinted D.Disk result (ledger_in engine.old) (lines.Drain most)
+        (ledger_in engine.new) (W.contents writer.old) (W.contents writer.new) }
 {
     let (delivered, refusal) = drain(engine, most);
     let left = engine.pending_count() as u64;
@@ -48,6 +49,7 @@ fn drain<D: Disk, C: Chare>(engine: &mut Engine<D, C>, most: u32) -> (u32, Optio
     ensures advances { Advances engine.old engine.new }
     ensures drains { DrainsUpTo (view_of engine.old) most result.0 result.1 (view_of engine.new) }
     ensures supplied { supplied_of engine.new ≡ supplied_of engine.old }
+    ensures disk { disk_in engine.new ≡ disk_in engine.old }
 {
     for delivered in 0..most {
         match deliver_next(engine) {
@@ -66,6 +68,7 @@ fn deliver_next<D: Disk, C: Chare>(engine: &mut Engine<D, C>) -> Result<bool, Re
     ensures advances { Advances engine.old engine.new }
     ensures delivers { DeliversNext (view_of engine.old) result (view_of engine.new) }
     ensures supplied { supplied_of engine.new ≡ supplied_of engine.old }
+    ensures disk { disk_in engine.new ≡ disk_in engine.old }
 {
     let Some((processor, id)) = engine.next() else {
         return Ok(false);

@@ -1,10 +1,12 @@
-//! Runs scripts over a store, line by line, and says how the program ends.
+//! Runs scripts over a store, line by line, shows a store, and says how the program ends.
 #![tactic(auto)]
 
 mod draining;
 mod ending;
 mod files;
+mod found_lines;
 mod running;
+mod show;
 mod showing;
 mod stop;
 mod writing;
@@ -12,6 +14,7 @@ mod writing;
 pub use crate::ending::{Failure, end_program};
 pub use crate::files::open_script;
 pub use crate::running::{Ran, RunError, run_script};
+pub use crate::show::{ShowError, show_store};
 pub use crate::showing::{census_line, pending_line, state_line};
 pub use crate::stop::Stop;
 pub use crate::writing::{write_line, write_memory_refused};

@@ -10,9 +10,9 @@ ghost use Rattle.charmlet_script.specs.Script.{blanks_in, blanks_of, pairs_of};
 ghost use Rattle.charmlet_script.specs.declared.script.Line.TheVariants as lines;
 ghost use Rattle.charmlet_engine.specs.Engine.{IsEngineConsistent};
 ghost use Rattle.charmlet_stock.specs.Stock.{part_of};
-ghost use Rattle.charmlet_cli.specs.Lines.{AreEnough, AreRun, BreakOff, IsPrinted, blanks_left, Ledger, ledger_in};
+ghost use Rattle.charmlet_cli.specs.Lines.{AreEnough, AreRun, BreakOff, IsPrinted, blanks_left, ledger_in};
 ghost use Rattle.charmlet_cli.specs.RunError.{EndsRun, Lacks, Leaves};
-ghost use Rattle.charmlet_cli.specs.Run.{IsHandedBack, IsRun, Stands};
+ghost use Rattle.charmlet_cli.specs.Run.{IsRun};
 ghost use Rattle.charmlet_disk.specs.Disk.{IsSettled};
 ghost use Rattle.charmlet_engine.specs.Advances.{Advances};
 ghost use Rattle.charmlet_cli.specs.declared.running.RunError.TheVariants as errors;
@@ -79,8 +79,12 @@ pub struct Ran<D: Disk, C: Chare> {
 /// is written, no line is run, and all objects are dropped.
 ///
 /// On an honest disk a crash at any moment of the run leaves files that recover to nothing, or to the world
-/// after some of the run's history; and from its end on, whether each line was run or not, to one that has all
-/// durable events.
+/// after some of the run's history. From the end of each line on it is one that has all events which were
+/// durable then: what a line has told, or counted as durable, stays so. And so it is from the run's end on,
+/// whether each line was run or not.
+///
+/// The disk's count of failures grows by one for each `Device` that is answered, and for nothing else. The
+/// disk is as honest as before.
 ///
 /// `RunError` says what each error means; where there are too few objects, it comes before the test of the
 /// number of processors.
@@ -93,13 +97,12 @@ pub fn run_script<D: Disk, C: Chare, W: Write>(
 ) -> Ran<D, C>
     requires settled { D.honest disk → IsSettled (D.file disk) }
     ensures enough { OnOk result.result (AreEnough C.state blanks.items script.now.lines) }
-    ensures ran { OnOk result.result ((last : Ledger) × IsRun script.now last
-        (W.contents writer.old) (W.contents writer.new)
-        × Stands D.honest D.file D.moment D.since disk result.disk last.store.core) }
-    ensures err { IfErr result.result (Leaves C.state W.contents (result.disk ≡ disk)
-        (Stands D.honest D.file D.moment D.since disk result.disk)
-        (IsHandedBack D.honest D.file D.moment D.since disk result.disk script.now)
+    ensures ran { OnOk result.result (IsRun D.Disk disk result.disk script.now
+        (W.contents writer.old) (W.contents writer.new)) }
+    ensures err { IfErr result.result (Leaves D.Disk C.state W.contents disk result.disk
         blanks.items script.now writer.old writer.new) }
+    ensures honest { (D.honest disk → D.honest result.disk)
+        × (D.honest result.disk → D.honest disk) }
 {
     match prepare(alloc, script, blanks) {
         Ok(prepared) => run_in_new_store(alloc, disk, script, prepared, writer),
@@ -164,13 +167,12 @@ fn run_in_new_store<D: Disk, C: Chare, W: Write>(
     requires fit { IsFit (new_world prepared.manifest) }
     requires enough { (kind : Kind) → blanks_of kind script.now.lines
         ≤ blanks_left prepared.source kind }
-    ensures ran { OnOk result.result ((last : Ledger) × IsRun script.now last
-        (W.contents writer.old) (W.contents writer.new)
-        × Stands D.honest D.file D.moment D.since disk result.disk last.store.core) }
-    ensures err { IfErr result.result (EndsRun
-        (Stands D.honest D.file D.moment D.since disk result.disk)
-        (IsHandedBack D.honest D.file D.moment D.since disk result.disk script.now)
-        script.now (W.contents writer.old) (W.contents writer.new)) }
+    ensures ran { OnOk result.result (IsRun D.Disk disk result.disk script.now
+        (W.contents writer.old) (W.contents writer.new)) }
+    ensures err { IfErr result.result (EndsRun D.Disk disk result.disk script.now
+        (W.contents writer.old) (W.contents writer.new)) }
+    ensures honest { (D.honest disk → D.honest result.disk)
+        × (D.honest result.disk → D.honest disk) }
 {
     let Prepared {
         manifest,
@@ -216,9 +218,9 @@ fn run_lines<D: Disk, C: Chare, W: Write>(
     requires consistent { IsEngineConsistent engine.old }
     requires enough { (kind : Kind) → blanks_of kind lines.now ≤ blanks_left source.old kind }
     ensures consistent { IsEngineConsistent engine.new }
-    ensures prints { OnOk result (AreRun (ledger_in engine.old) lines.now (ledger_in engine.new)
-        (W.contents writer.old) (W.contents writer.new)) }
-    ensures breaks_off { OnErr result (BreakOff (ledger_in engine.old) lines.now
+    ensures prints { OnOk result (AreRun D.Disk (ledger_in engine.new) (ledger_in engine.old)
+        lines.now (ledger_in engine.new) (W.contents writer.old) (W.contents writer.new)) }
+    ensures breaks_off { OnErr result (BreakOff D.Disk (ledger_in engine.old) lines.now
         (ledger_in engine.new) (W.contents writer.old) (W.contents writer.new)) }
     ensures advances { Advances engine.old engine.new }
 {
@@ -239,7 +241,8 @@ fn run_line<D: Disk, C: Chare, W: Write>(
     requires consistent { IsEngineConsistent engine.old }
     requires enough { (kind : Kind) → blanks_in kind line.now ≤ blanks_left source.old kind }
     ensures consistent { IsEngineConsistent engine.new }
-    ensures prints { IsPrinted result (ledger_in engine.old) line.now (ledger_in engine.new) (W.contents writer.old) (W.contents writer.new) }
+    ensures prints { IsPrinted D.Disk result (ledger_in engine.old) line.now
+        (ledger_in engine.new) (W.contents writer.old) (W.contents writer.new) }
     ensures left { OnOk result ((kind : Kind) → blanks_left source.old kind ≤ blanks_left source.new kind + blanks_in kind line.now) }
     ensures advances { Advances engine.old engine.new }
 {
@@ -268,7 +271,8 @@ fn supply_line<D: Disk, C: Chare, W: Write>(
     requires consistent { IsEngineConsistent engine.old }
     requires enough { count ≤ blanks_left source.old kind }
     ensures consistent { IsEngineConsistent engine.new }
-    ensures prints { IsPrinted result (ledger_in engine.old) (lines.Supply kind count) (ledger_in engine.new) (W.contents writer.old) (W.contents writer.new) }
+    ensures prints { IsPrinted D.Disk result (ledger_in engine.old) (lines.Supply kind count)
+        (ledger_in engine.new) (W.contents writer.old) (W.contents writer.new) }
     ensures left { OnOk result ((k : Kind) → blanks_left source.old k ≤ blanks_left source.new k + part_of kind count k) }
     ensures advances { Advances engine.old engine.new }
 {

@@ -32,7 +32,8 @@ pub fn state_line<D: Disk, C: Chare, W: Write>(
     requires { IsEngineConsistent engine.old }
     ensures consistent { IsEngineConsistent engine.new }
     ensures advances { Advances engine.old engine.new }
-    ensures prints { IsPrinted result (ledger_in engine.old) (lines.State elem) (ledger_in engine.new) (W.contents writer.old) (W.contents writer.new) }
+    ensures prints { IsPrinted D.Disk result (ledger_in engine.old) (lines.State elem)
+        (ledger_in engine.new) (W.contents writer.old) (W.contents writer.new) }
 {
     let Ok(shown) = shown(alloc, engine, elem) else {
         return write_memory_refused(writer);
@@ -82,7 +83,8 @@ pub fn pending_line<D: Disk, C: Chare, W: Write>(
     writer: &mut W,
 ) -> io::Result<()>
     requires { IsEngineConsistent engine.now }
-    ensures { IsPrinted result (ledger_in engine.now) lines.Pending (ledger_in engine.now) (W.contents writer.old) (W.contents writer.new) }
+    ensures { IsPrinted D.Disk result (ledger_in engine.now) lines.Pending
+        (ledger_in engine.now) (W.contents writer.old) (W.contents writer.new) }
 {
     let Ok(ids) = engine.pending() else {
         return write_memory_refused(writer);
@@ -98,7 +100,8 @@ pub fn census_line<D: Disk, C: Chare, W: Write>(
     writer: &mut W,
 ) -> io::Result<()>
     requires { IsEngineConsistent engine.now }
-    ensures { IsPrinted result (ledger_in engine.now) lines.Census (ledger_in engine.now) (W.contents writer.old) (W.contents writer.new) }
+    ensures { IsPrinted D.Disk result (ledger_in engine.now) lines.Census
+        (ledger_in engine.now) (W.contents writer.old) (W.contents writer.new) }
 {
     for kind in &Kind::ALL {
         count_line(alloc, engine, *kind, writer)?;

@@ -1,6 +1,7 @@
 //! Why the program stops before its work is done.
 
 use crate::running::RunError;
+use crate::show::ShowError;
 use charmlet_chare::Chare;
 use charmlet_script::ReadError;
 use std::alloc::{AllocError, AllocFailed};
@@ -14,6 +15,8 @@ pub enum Stop {
     CannotGoOn,
     /// The store wasn't created, and no line was run. The output says why.
     NotCreated,
+    /// No store was shown. The output says why.
+    NotShown,
     /// The script isn't there, is a folder, or a read of it failed.
     UnreadableScript,
     /// The script's first malformed line. Lines count from 1.
@@ -24,13 +27,13 @@ impl Stop {
     ghost use Rattle.std.specs.Prelude.{◌≡◌};
     ghost use Rattle.charmlet_cli.specs.Stop.{status_of};
 
-    /// The program's exit status: 1 where it can't go on or has no store, and 2 for a script that can't
-    /// be run.
+    /// The program's exit status: 1 where it can't go on, or has no store or shows none, and 2 for a script
+    /// that can't be run.
     pub fn status(&self) -> u8
         ensures { result ≡ status_of self.now }
     {
         match self {
-            Stop::CannotGoOn | Stop::NotCreated => 1,
+            Stop::CannotGoOn | Stop::NotCreated | Stop::NotShown => 1,
             Stop::UnreadableScript | Stop::MalformedLine(_) => 2,
         }
     }
@@ -47,6 +50,7 @@ impl fmt::Display for Stop {
         match self {
             Stop::CannotGoOn => write!(f, "cannot go on"),
             Stop::NotCreated => write!(f, "cannot create store"),
+            Stop::NotShown => write!(f, "cannot show store"),
             Stop::UnreadableScript => write!(f, "cannot read script"),
             Stop::MalformedLine(line) => write!(f, "script line {line}"),
         }
@@ -80,6 +84,20 @@ impl<C: Chare> From<RunError<C>> for Stop {
         match error {
             RunError::NotCreated(_) => Stop::NotCreated,
             RunError::TooFewBlanks(_) | RunError::Memory | RunError::Output(_) => Stop::CannotGoOn,
+        }
+    }
+}
+
+impl From<ShowError> for Stop {
+    ghost use Rattle.std.specs.Prelude.{◌≡◌};
+    ghost use Rattle.charmlet_cli.specs.ShowStore.{stop_shown};
+
+    ghost from_gives = { λ error stop. stop ≡ stop_shown error };
+
+    fn from(error: ShowError) -> Stop {
+        match error {
+            ShowError::Refused(_) => Stop::NotShown,
+            ShowError::Output(_) => Stop::CannotGoOn,
         }
     }
 }

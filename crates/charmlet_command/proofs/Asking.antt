@@ -1,5 +1,5 @@
 -- From clap's matches and faults to the run that a line asks for.
-use Rattle.std.proofs.Common.{◌≡◌, ◌∙◌, ◌∷◌, [], List, true, Option, Some, None, codes, refl, inl, inr, option_and_then, option_map, Result, Ok, Err, IfErr}
+use Rattle.std.proofs.Common.{◌≡◌, ◌∙◌, ◌∷◌, [], List, true, false, Option, Some, None, codes, refl, inl, inr, option_and_then, option_map, Result, Ok, Err, IfErr}
 use Rattle.std.specs.Str.{bytes_eq}
 use Rattle.clap.specs.Matches.{first_value}
 use Rattle.clap.specs.Walk.{Row, Text, rows_of}
@@ -17,7 +17,7 @@ use Rattle.clap.specs.declared.error.kind.ErrorKind.TheVariants.{MissingSubcomma
 use Rattle.clap.specs.declared.parser.matches.Found.{Found}
 use Rattle.clap.proofs.OnLiterals.{clap_on_literals}
 use Rattle.clap.proofs.WalkLemmas.{first_value-rows}
-use Rattle.charmlet_command.specs.CommandLine.{AsksNothing, IsErrorOf, asked_by, asked_run, charmlet_line, run_of}
+use Rattle.charmlet_command.specs.CommandLine.{AsksNothing, IsErrorOf, Runs, Shows, asked, asked_by, charmlet_line, run_of, show_of}
 use Rattle.charmlet_command.specs.declared.CommandError.{CommandError}
 use Rattle.charmlet_command.specs.declared.CommandError.TheVariants.{Memory, Line}
 
@@ -34,12 +34,20 @@ charmlet_is_simple = refl
 -- the script and the folder, as the getters have them, make the run
 pub run_of_values : (found : Found) (script dir : Option Text)
     → script ≡ first_value found (codes "script") → dir ≡ first_value found (codes "dir")
-    → option_map (λ script. record { script = script; dir = dir }) script ≡ run_of (rows_of found)
+    → option_map (λ script. Runs script dir) script ≡ run_of (rows_of found)
 run_of_values found script dir s d = rw (s ∙ first_value-rows found (codes "script"), d ∙ first_value-rows found (codes "dir")) refl
 
 -- and where there is no script, there is no run
 pub no_run_of : (found : Found) → None ≡ first_value found (codes "script") → None ≡ run_of (rows_of found)
 no_run_of found s = rw (← first_value-rows found (codes "script"), ← s) refl
+
+-- the folder, as the getter has it, makes the showing
+pub show_of_value : (found : Found) (dir : Option Text) → dir ≡ first_value found (codes "folder") → option_map Shows dir ≡ show_of (rows_of found)
+show_of_value found dir d = rw (d ∙ first_value-rows found (codes "folder")) refl
+
+-- and where there is none, there is no showing
+pub no_show_of : (found : Found) → None ≡ first_value found (codes "folder") → None ≡ show_of (rows_of found)
+no_show_of found d = rw (← first_value-rows found (codes "folder"), ← d) refl
 
 -- the name and the values of the subcommand that was met
 pub run_is : (found : Option (Text × List Row)) (name : Text) (rows : List Row)
@@ -51,6 +59,15 @@ run_is (Some (met, values)) name rows n r run =
     let same_rows : rows ≡ values = cc in
     rw (← same_name, ← same_rows, run) refl
 
+pub show_is : (found : Option (Text × List Row)) (name : Text) (rows : List Row)
+    → Some name ≡ option_map (λ p. p.0) found → Some rows ≡ option_map (λ p. p.1) found → bytes_eq name (codes "run") ≡ false → bytes_eq name (codes "show") ≡ true
+    → show_of rows ≡ option_and_then asked_by found
+show_is None name rows n r run show = absurd (cc)
+show_is (Some (met, values)) name rows n r run show =
+    let same_name : name ≡ met = cc in
+    let same_rows : rows ≡ values = cc in
+    rw (← same_name, ← same_rows, run, show) refl
+
 module _ {Z : Type 0} where
   -- the name of the subcommand, as its getter and as the rows have it
   pub name_of_rows : (o : Option (Box SubCommand Z)) → option_map (λ b. (out-SubCommand (box_value b)).name.now) o ≡ option_map (λ p. p.0) (subcommand_rows o)
@@ -61,16 +78,16 @@ module _ {Z : Type 0} where
 pub asked_is : (app : App) (words : List Text) (others : Type 0) (found : Option (Text × List Row)) → app ≡ charmlet_line
     → (is_simple_and_free app ≡ true → fault_of app words ≡ [])
     → (is_simple app ≡ true → others × (found ≡ subcommand_of app words))
-    → asked_run words ≡ option_and_then asked_by found
-unfolding asked_run
+    → asked words ≡ option_and_then asked_by found
+unfolding asked
 asked_is app words others found is none met =
     let no_fault : fault_of charmlet_line words ≡ [] = rw is at none charmlet_is_free in
     let same : found ≡ subcommand_of charmlet_line words = (rw is at met charmlet_is_simple).1 in
     rw (no_fault, same) refl
 
 -- where it finds one, nothing is asked
-nothing_asked : (words : List Text) (kind : ErrorKind) (faults : Kinds) → fault_of charmlet_line words ≡ faults → IsAmong kind faults → asked_run words ≡ None
-unfolding asked_run
+nothing_asked : (words : List Text) (kind : ErrorKind) (faults : Kinds) → fault_of charmlet_line words ≡ faults → IsAmong kind faults → asked words ≡ None
+unfolding asked
 nothing_asked words kind [] e among = absurd among
 nothing_asked words kind (k ∷ ks) e among = rw e refl
 

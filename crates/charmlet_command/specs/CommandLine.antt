@@ -12,7 +12,7 @@ use Rattle.clap.specs.declared.builder.command.Command.TheViews.{out-Command}
 use Rattle.clap.specs.declared.error.Error.{Error}
 use Rattle.clap.specs.declared.error.kind.ErrorKind.TheVariants.{MissingSubcommand, OutOfMemory}
 use Rattle.charmlet_command.specs.declared.Command.{Command}
-use Rattle.charmlet_command.specs.declared.Command.TheVariants.{Run}
+use Rattle.charmlet_command.specs.declared.Command.TheVariants.{Run, Show}
 use Rattle.charmlet_command.specs.declared.CommandError.{CommandError}
 use Rattle.charmlet_command.specs.declared.CommandError.TheVariants.{Memory, Line}
 
@@ -20,9 +20,17 @@ use Rattle.charmlet_command.specs.declared.CommandError.TheVariants.{Memory, Lin
 abbrev pub has_globals : Parser → Bool
 has_globals parser = (out-Command parser).has_globals
 
+-- a word that has to be there
+abbrev pub needed_word : Rule → Rule
+needed_word rule = record rule { required = true; action = Some Set }
+
 -- the word that names the script's file
 abbrev pub script_word : Rule
 script_word = record (new_rule (codes "script")) { value_names = 1; required = true; action = Some Set }
+
+-- the word that names the folder of a store that is shown
+abbrev pub folder_word : Rule
+folder_word = record (new_rule (codes "folder")) { value_names = 1; required = true; action = Some Set }
 
 -- `--dir DIR`, which names the store's folder
 abbrev pub dir_option : Rule
@@ -32,41 +40,50 @@ dir_option = record (new_rule (codes "dir")) { long = Some (codes "dir"); value_
 abbrev pub run_line : App
 run_line = with_rule (with_rule (new_app (codes "run")) script_word) dir_option
 
+-- `show DIR`
+abbrev pub show_line : App
+show_line = with_rule (new_app (codes "show")) folder_word
+
 -- `charmlet`, which wants a subcommand
 abbrev pub charmlet_line : App
 charmlet_line =
-    with_subcommand (on_top (λ top. record top { subcommand_required = true }) (new_app (codes "charmlet"))) run_line.top
+    with_subcommand (with_subcommand (on_top (λ top. record top { subcommand_required = true }) (new_app (codes "charmlet"))) run_line.top) show_line.top
 
--- what a run is asked for: a script, and maybe a folder for its store
-pub record Asked : Type 0 where
-  pub script : Text
-  pub dir : Option Text
+-- what is asked for: a run of a script, maybe with a folder for its store, or a showing of the store in a folder
+pub data Asked : Type 0 where
+  Runs : (script : Text) (dir : Option Text) → Asked
+  Shows : (dir : Text) → Asked
 
 -- the run that a subcommand's values name
 abbrev pub run_of : List Row → Option Asked
 run_of rows =
-    option_map (λ script. record { script = script; dir = first_of (codes "dir") rows }) (first_of (codes "script") rows)
+    option_map (λ script. Runs script (first_of (codes "dir") rows)) (first_of (codes "script") rows)
 
--- the run that a subcommand and its values ask for
+-- the showing that a subcommand's values name
+abbrev pub show_of : List Row → Option Asked
+show_of rows = option_map Shows (first_of (codes "folder") rows)
+
+-- what a subcommand and its values ask for
 abbrev pub asked_by : Text × List Row → Option Asked
-asked_by found = if bytes_eq found.0 (codes "run") then run_of found.1 else None
+asked_by found = if bytes_eq found.0 (codes "run") then run_of found.1 else (if bytes_eq found.0 (codes "show") then show_of found.1 else None)
 
 -- nothing is asked where clap finds a fault
 abbrev pub unless_faulty : Kinds → Option Asked → Option Asked
-unless_faulty [] asked = asked
-unless_faulty (fault ∷ faults) asked = None
+unless_faulty [] answer = answer
+unless_faulty (fault ∷ faults) answer = None
 
--- the run that the words ask for
-unfoldable pub asked_run : List Text → Option Asked
-asked_run words = unless_faulty (fault_of charmlet_line words) (option_and_then asked_by (subcommand_of charmlet_line words))
+-- what the words ask for
+unfoldable pub asked : List Text → Option Asked
+asked words = unless_faulty (fault_of charmlet_line words) (option_and_then asked_by (subcommand_of charmlet_line words))
 
--- what a command runs
+-- what a command asks for
 abbrev pub asked_in : Command → Asked
-asked_in (Run script dir) = record { script = script.now; dir = option_map (λ dir. dir.now) dir }
+asked_in (Run script dir) = Runs script.now (option_map (λ dir. dir.now) dir)
+asked_in (Show dir) = Shows dir.now
 
 -- the words ask for the command
 abbrev pub Asks : List Text → Command → Type 0
-Asks words command = asked_run words ≡ Some (asked_in command)
+Asks words command = asked words ≡ Some (asked_in command)
 
 -- why words ask for nothing: clap's faults, and where it finds none, the want of a subcommand
 abbrev pub faults_of : List Text → Kinds
@@ -75,7 +92,7 @@ faults_of words = or_else (fault_of charmlet_line words) (MissingSubcommand ∷ 
 -- the words ask for no command, and the error tells why, want of memory aside
 abbrev pub AsksNothing : List Text → CommandError → Type 0
 AsksNothing words Memory = Unit {0}
-AsksNothing words (Line error) = (asked_run words ≡ None) × IsAmong (kind_of error) (faults_of words)
+AsksNothing words (Line error) = (asked words ≡ None) × IsAmong (kind_of error) (faults_of words)
 
 -- what clap's error becomes: want of memory has no text
 pub record IsErrorOf (error : Error) (answer : CommandError) : Type 0 where

@@ -5,7 +5,7 @@ ghost use Rattle.std.specs.Prelude.{◌≡◌, map, IfOk, IfErr, option_map, opt
 ghost use Rattle.clap.specs.Matches.{found_of};
 ghost use Rattle.clap.specs.Simple.{app_of, subcommand_rows_of};
 ghost use Rattle.clap.specs.Walk.{rows_of, rule_of};
-ghost use Rattle.charmlet_command.specs.CommandLine.{Asks, AsksNothing, asked_by, asked_in, charmlet_line, dir_option, has_globals, run_line, run_of, script_word};
+ghost use Rattle.charmlet_command.specs.CommandLine.{Asks, AsksNothing, asked_by, asked_in, charmlet_line, dir_option, folder_word, has_globals, needed_word, run_line, run_of, script_word, show_line, show_of};
 
 use clap::error::ErrorKind;
 use clap::{Arg, ArgAction, ArgMatches};
@@ -20,6 +20,10 @@ pub enum Command<'a> {
     Run {
         script: &'a str,
         dir: Option<&'a str>,
+    },
+    /// Show what stands in the store in the folder `dir`.
+    Show {
+        dir: &'a str,
     },
 }
 
@@ -67,6 +71,13 @@ A script says which objects there are, and on how many processors; what clients 
 of them; when messages are delivered; and where elements move. 'charmlet help run'
 says what its lines do, and docs/SCRIPT.md the whole.";
 
+const STATUSES: &str = "\
+Exit status:
+  0  the script ran to its end, or the store was shown; a refused line of a script is an
+     answer like any other
+  1  no store could be created or shown, or memory or the output failed
+  2  a bad command line, a call for help, or a script that is malformed or can't be read";
+
 const RUN_ABOUT: &str = "Run a script, and print what each line answers before the next one runs";
 
 const RUN_LONG_ABOUT: &str = "\
@@ -98,11 +109,13 @@ Kinds are 1 counter, 2 ring, 3 account, 4 sum, 5 tree and 6 tape; entry 65535 co
 an element, and docs/MODEL.md says what the other entries do. Empty lines and those that
 begin with # are skipped.
 A refused line prints 'refused', the refusal's number, its name and its values. It changes
-nothing, but that a drain keeps what it delivered before, and the run goes on.
+nothing, but that a drain keeps what it delivered before, and that '2 Device', a failure of
+the disk, halts the store: what was durable stays, and each later step is refused. The run
+goes on.
 A script is ASCII, of at most 1048576 bytes. Where a line is malformed, standard error names
 the first one, as 'script line L', and no line is run.";
 
-const STATUSES: &str = "\
+const RUN_STATUSES: &str = "\
 Exit status:
   0  the script ran to its end; a refused line is an answer like any other
   1  no store could be created, or memory or the output failed
@@ -114,16 +127,60 @@ const DIR_LONG_HELP: &str = "\
 Keep the store in the files half0 and half1 of this folder, which has to exist;
 without it the store lives in memory. A store that is there already is refused";
 
+const SHOW_ABOUT: &str = "Show what stands in the folder of a store, and change nothing";
+
+const SHOW_LONG_ABOUT: &str = "\
+Show what stands in the folder of a store, and change nothing.
+
+Lines:
+  half H generation G base B log L  the file halfH is the later one, with an image of
+                                    generation G, made after B events, and a log of L events
+  array A kind K                    there is an array A of objects of kind K
+  wanted K C                        a restart needs C blank objects of kind K
+
+Where nothing can be shown there is one line: 'refused 15 NothingHere' where the folder has no
+store, 'refused 14 Damaged H O' where the byte at offset O of the file halfH isn't as the
+format says, 'refused 2 Device' where the folder isn't there or can't be read, or
+'refused 1 Memory'.";
+
+const SHOW_STATUSES: &str = "\
+Exit status:
+  0  the store was shown
+  1  the store could not be shown, or memory or the output failed
+  2  a bad command line, or a call for help";
+
+const FOLDER_HELP: &str = "The folder of the store, with the files half0 and half1";
+
+/// A word that has to be there.
+fn needed<'a>(word: Arg<'a>) -> Arg<'a>
+    ensures reads { rule_of result ≡ needed_word (rule_of word.entry) }
+    ensures local { result.global ≡ word.entry.global }
+{
+    word.required(true).action(ArgAction::Set)
+}
+
 /// `SCRIPT`.
 fn script_arg<'a>(alloc: Global) -> Arg<'a>
     ensures reads { rule_of result ≡ script_word }
     ensures local { result.global ≡ false }
 {
-    Arg::new(alloc, "script")
-        .value_name("SCRIPT")
-        .help("The file of the script")
-        .required(true)
-        .action(ArgAction::Set)
+    needed(
+        Arg::new(alloc, "script")
+            .value_name("SCRIPT")
+            .help("The file of the script"),
+    )
+}
+
+/// `DIR`.
+fn folder_arg<'a>(alloc: Global) -> Arg<'a>
+    ensures reads { rule_of result ≡ folder_word }
+    ensures local { result.global ≡ false }
+{
+    needed(
+        Arg::new(alloc, "folder")
+            .value_name("DIR")
+            .help(FOLDER_HELP),
+    )
 }
 
 /// `--dir DIR`.
@@ -147,9 +204,21 @@ fn run_parser<'a>(alloc: Global) -> Result<clap::Command<'a>, AllocError>
     clap::Command::new(alloc, "run")
         .about(RUN_ABOUT)
         .long_about(RUN_LONG_ABOUT)
-        .after_help(STATUSES)
+        .after_help(RUN_STATUSES)
         .arg(script_arg(alloc))?
         .arg(dir_arg(alloc))
+}
+
+/// `show DIR`.
+fn show_parser<'a>(alloc: Global) -> Result<clap::Command<'a>, AllocError>
+    ensures reads { IfOk result (λ parser. app_of parser ≡ show_line) }
+    ensures local { IfOk result (λ parser. has_globals parser ≡ false) }
+{
+    clap::Command::new(alloc, "show")
+        .about(SHOW_ABOUT)
+        .long_about(SHOW_LONG_ABOUT)
+        .after_help(SHOW_STATUSES)
+        .arg(folder_arg(alloc))
 }
 
 /// The whole command line.
@@ -161,7 +230,8 @@ fn parser<'a>(alloc: Global) -> Result<clap::Command<'a>, AllocError>
         .long_about(LONG_ABOUT)
         .after_help(STATUSES)
         .subcommand_required(true)
-        .subcommand(run_parser(alloc)?)
+        .subcommand(run_parser(alloc)?)?
+        .subcommand(show_parser(alloc)?)
 }
 
 /// The run that the values of its line name.
@@ -173,17 +243,31 @@ fn run_in<'a>(values: &ArgMatches<'a>) -> Option<Command<'a>>
     Some(Command::Run { script, dir })
 }
 
+/// The showing that the values of its line name.
+fn show_in<'a>(values: &ArgMatches<'a>) -> Option<Command<'a>>
+    ensures { option_map asked_in result ≡ show_of (rows_of (found_of values.now)) }
+{
+    let dir = values.get_str("folder")?;
+    Some(Command::Show { dir })
+}
+
 /// The command that the matches of a line ask for.
 fn command_in<'a>(matches: &ArgMatches<'a>) -> Option<Command<'a>>
     ensures { option_map asked_in result
         ≡ option_and_then asked_by (subcommand_rows_of matches.now) }
 {
     let (name, values) = matches.subcommand()?;
-    if name == "run" { run_in(values) } else { None }
+    if name == "run" {
+        run_in(values)
+    } else if name == "show" {
+        show_in(values)
+    } else {
+        None
+    }
 }
 
-/// What the words ask for; the first is the program's name. Only `run SCRIPT`, with or without `--dir DIR`,
-/// is a command; every other line, a call for help among them, is answered by `CommandError::Line` with
+/// What the words ask for; the first is the program's name. Only `run SCRIPT`, with or without `--dir DIR`, and
+/// `show DIR` are commands; every other line, a call for help among them, is answered by `CommandError::Line` with
 /// clap's text and a kind of error that clap's meaning of the words has, and want of memory by
 /// `CommandError::Memory`.
 pub fn command_of<'a, S: AsStr>(alloc: Global, words: &'a [S]) -> Result<Command<'a>, CommandError>

@@ -36,6 +36,23 @@ fn run_names_its_folder(rt: HostRuntime) -> Result<(), Fail> {
 }
 
 #[test]
+fn show_names_its_folder(rt: HostRuntime) -> Result<(), Fail> {
+    for (words, dir) in [
+        (["charmlet", "show", "a"].as_slice(), "a"),
+        (&["charmlet", "show", "show"], "show"),
+        (&["charmlet", "show", ""], ""),
+        (&["charmlet", "show", "--", "--a"], "--a"),
+    ] {
+        assert_eq!(rt;
+            command_of(rt.alloc(), words)?,
+            Command::Show { dir },
+            "{words:?}"
+        );
+    }
+    Ok(())
+}
+
+#[test]
 fn other_lines_are_refused(rt: HostRuntime) {
     for (words, kind) in [
         (["charmlet"].as_slice(), ErrorKind::MissingSubcommand),
@@ -76,6 +93,13 @@ fn other_lines_are_refused(rt: HostRuntime) {
             &["charmlet", "--dir", "b", "run", "a"],
             ErrorKind::UnknownArgument,
         ),
+        (&["charmlet", "show"], ErrorKind::MissingRequiredArgument),
+        (&["charmlet", "show", "a", "b"], ErrorKind::UnknownArgument),
+        (
+            &["charmlet", "show", "a", "--dir", "b"],
+            ErrorKind::UnknownArgument,
+        ),
+        (&["charmlet", "show", "a", "-h"], ErrorKind::DisplayHelp),
         (&["charmlet", "-h"], ErrorKind::DisplayHelp),
         (&["charmlet", "help", "run"], ErrorKind::DisplayHelp),
     ] {

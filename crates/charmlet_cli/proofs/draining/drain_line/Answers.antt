@@ -28,7 +28,7 @@ returns-in_err-write_line-clause-prints g c =
     let begins : AppendsBeginning old mid (in_lines (drain_text k last ∷ [])) =
     subst (λ n. AppendsBeginning old mid (in_lines (drained_text (record { delivered = k; left = n }) ∷ []))) c.pending_count-left.ensures c.in_err-write_line.ensures in (
       drain_texts k last refusal,
-      (k, refusal, c.drain-delivered.ensures.drains, c.drain-delivered.ensures.supplied, refl),
+      (k, refusal, c.drain-delivered.ensures.drains, c.drain-delivered.ensures.supplied, c.drain-delivered.ensures.disk, refl),
       beginning_written c.from_residual.result _ old mid (in_lines (drain_texts k last refusal)) c.from_residual.ensures.1 (drain_begins old mid k last refusal begins),
     )
 
@@ -41,7 +41,7 @@ returns-in_default-clause-prints g c =
     let k = c.drain-delivered.result.0 in
     let drains = subst (λ refusal. DrainsUpTo before c.args.most k refusal last) c.in_default.is c.drain-delivered.ensures.drains in (
       drain_text k last ∷ [],
-      (k, None, drains, c.drain-delivered.ensures.supplied, refl),
+      (k, None, drains, c.drain-delivered.ensures.supplied, c.drain-delivered.ensures.disk, refl),
       subst (λ n. Appends old mid (in_lines (drained_text (record { delivered = k; left = n }) ∷ []))) c.pending_count-left.ensures c.in_ok-write_line.ensures,
     )
 
@@ -57,6 +57,6 @@ returns-clause-prints g c =
     let refused = answer_text (Refused c.in-Some.refusal) in
     let drained = subst (λ n. Appends old mid (in_lines (drained_text (record { delivered = k; left = n }) ∷ []))) c.pending_count-left.ensures c.in_ok-write_line.ensures in (
       drain_text k last ∷ refused ∷ [],
-      (k, Some c.in-Some.refusal, drains, c.drain-delivered.ensures.supplied, refl),
+      (k, Some c.in-Some.refusal, drains, c.drain-delivered.ensures.supplied, c.drain-delivered.ensures.disk, refl),
       line_then c.write_answer.result old mid new (drain_text k last ∷ []) (refused ∷ []) drained c.write_answer.ensures,
     )

@@ -2,7 +2,7 @@ use Rattle.std.proofs.Common.{rules, ◌≡◌, ◌≤◌, true, false, refl, sy
 use Rattle.std.proofs.lemmas.Bool.{iff_false}
 use Rattle.charmlet_script.specs.Script.{blanks_of}
 use Rattle.charmlet_cli.specs.Lines.{AreEnough}
-use Rattle.charmlet_cli.proofs.Endings.{memory_ends, on_ok}
+use Rattle.charmlet_cli.proofs.Endings.{memory_ends}
 use Rattle.charmlet_cli.proofs.running.prepare.Goals as goal
 
 pub returns-then-not-has_enough-clause-err : goal.returns-then-not-has_enough-clause-err

@@ -6,7 +6,7 @@ use Rattle.charmlet_script.specs.declared.script.Line.TheVariants.{Supply}
 use Rattle.charmlet_script.specs.Script.{blanks_in}
 use Rattle.charmlet_engine.specs.Engine.{disk_in}
 use Rattle.charmlet_engine.proofs.Advancing.{advances_still}
-use Rattle.charmlet_cli.specs.Lines.{Follows, IsPrinted, blanks_left, ledger_in}
+use Rattle.charmlet_cli.specs.Lines.{Follows, IsAnswered, IsPrinted, blanks_left, ledger_in}
 use Rattle.charmlet_cli.proofs.running.run_line.Goals as goal
 
 pub supply_line-requires-clause-enough : goal.supply_line-requires-clause-enough
@@ -19,7 +19,7 @@ supply_line-requires-clause-enough g c κs within =
 
 pub returns-in-Supply-clause-prints : goal.returns-in-Supply-clause-prints
 returns-in-Supply-clause-prints g c =
-    subst (λ line. IsPrinted c.supply_line.result (ledger_in c.args.engine.now) line (ledger_in c.supply_line.new.engine) (g.W.Write.contents c.args.writer.now) (g.W.Write.contents c.supply_line.new.writer))
+    subst (λ line. IsPrinted g.D.Disk c.supply_line.result (ledger_in c.args.engine.now) line (ledger_in c.supply_line.new.engine) (g.W.Write.contents c.args.writer.now) (g.W.Write.contents c.supply_line.new.writer))
     (sym c.in-Supply.is) c.supply_line.ensures.prints
 
 pub returns-clause-prints : goal.returns-clause-prints
@@ -27,7 +27,15 @@ returns-clause-prints g c =
     let before = ledger_in c.args.engine.now in
     let next = ledger_in c.step.new.self in
     let text = answer_text c.step.result in
-    let follows : Follows before c.args.line.now (text ∷ []) next = subst (λ line. Follows before line (text ∷ []) next) (sym c.in-Step.is) (c.step.result, c.step.ensures.does, c.step.ensures.supplied, refl) in
+    let answered : IsAnswered g.D.Disk c.in-Step.step c.step.result before next = record {
+      does = c.step.ensures.does;
+      told = c.step.ensures.told;
+      supplied = c.step.ensures.supplied;
+      counted = c.step.ensures.counted;
+      still = c.step.ensures.still;
+    } in
+    let follows : Follows g.D.Disk before c.args.line.now (text ∷ []) next =
+    subst (λ line. Follows g.D.Disk before line (text ∷ []) next) (sym c.in-Step.is) (c.step.result, answered, refl) in
     (text ∷ [], follows, c.write_answer.ensures)
 
 pub returns-in-Pending-clause-advances : goal.returns-in-Pending-clause-advances

@@ -6,9 +6,10 @@ use Rattle.charmlet_model.specs.Texts.{Text}
 use Rattle.charmlet_script.specs.Script.{blanks_in, blanks_of}
 use Rattle.charmlet_engine.specs.Engine.{disk_in}
 use Rattle.charmlet_engine.proofs.Advancing.{advances_after, advances_still}
-use Rattle.charmlet_cli.specs.Lines.{Prints, blanks_left, ledger_in}
+use Rattle.charmlet_cli.specs.Lines.{Continues, Prints, blanks_left, ledger_in}
+use Rattle.charmlet_cli.proofs.Continuing.{continued, continues_now, prints_more, prints_until}
 use Rattle.charmlet_cli.proofs.Endings.{on_err}
-use Rattle.charmlet_cli.proofs.Printing.{lines_then, prints_more, split_at}
+use Rattle.charmlet_cli.proofs.Printing.{lines_then, split_at}
 use Rattle.charmlet_cli.proofs.running.run_lines.Goals as goal
 
 pub returns-in_err-run_line-clause-breaks_off : goal.returns-in_err-run_line-clause-breaks_off
@@ -16,16 +17,22 @@ returns-in_err-run_line-clause-breaks_off g c =
     let lines = c.args.lines.now in
     let at = c.loop-line.line-index in
     let printed = c.in_err-run_line.ensures.prints in
+    let first = ledger_in {G = g.D.Disk} {H = g.C.Chare} c.args.engine.now in
+    let mid = ledger_in {G = g.D.Disk} {H = g.C.Chare} c.loop-line.engine in
+    let last = ledger_in {G = g.D.Disk} {H = g.C.Chare} c.run_line.new.engine in
+    let so_far = c.loop-line.invariant.1 in
+    let here : Continues g.D.Disk mid last = continued {G = g.D.Disk} {H = g.C.Chare} c.loop-line.engine c.run_line.new.engine c.run_line.ensures.advances in
     on_err c.from_residual.result (
       take at lines,
       c.line-item.result,
       drop (at + 1) lines,
       split_at lines at c.line-item.result c.loop-line-test.true ∙ ap (λ line. take at lines ++ line ∷ drop (at + 1) lines) (sym c.line-item.is),
-      ledger_in c.loop-line.engine,
+      mid,
       g.W.Write.contents c.loop-line.writer,
-      c.loop-line.invariant.1,
+      (so_far.0, prints_until g.D.Disk mid last first mid (take at lines) so_far.0 here so_far.1, so_far.2),
       printed.0,
       printed.1,
+      here,
       printed.2,
     )
 
@@ -33,16 +40,21 @@ pub loop-line-preserved : goal.loop-line-preserved
 loop-line-preserved g c =
     let lines = c.args.lines.now in
     let at = c.loop-line.line-index in
-    let first = ledger_in c.args.engine.now in
-    let before = ledger_in c.loop-line.engine in
-    let next = ledger_in c.run_line.new.engine in
+    let laws = g.met.D.Disk g.world.𝓛 g.world.𝓜 g.world.𝓡 ((λ s x. x), (λ x. x), (λ x. x), (λ x. x)) in
+    let first = ledger_in {G = g.D.Disk} {H = g.C.Chare} c.args.engine.now in
+    let before = ledger_in {G = g.D.Disk} {H = g.C.Chare} c.loop-line.engine in
+    let next = ledger_in {G = g.D.Disk} {H = g.C.Chare} c.run_line.new.engine in
+    let here : Continues g.D.Disk before next = continued {G = g.D.Disk} {H = g.C.Chare} c.loop-line.engine c.run_line.new.engine c.run_line.ensures.advances in
+    let now : Continues g.D.Disk next next =
+    continues_now {G = g.D.Disk} {H = g.C.Chare} c.run_line.new.engine c.run_line.ensures.consistent (λ honest o left. laws.only_now (disk_in c.run_line.new.engine) o honest left) in
     let so_far = c.loop-line.invariant.1 in
     let printed = c.in_ok-run_line.ensures.prints in
     let more : take (at + 1) lines ≡ take at lines ++ c.line-item.result ∷ [] =
     take_more lines at c.line-item.result c.loop-line-test.true ∙ ap (λ line. take at lines ++ line ∷ []) (sym c.line-item.is) in
     let texts : List Text = so_far.0 ++ printed.0 in
-    let prints : Prints first (take (at + 1) lines) texts next =
-    subst (λ lines. Prints first lines texts next) (sym more) (prints_more first before next (take at lines) c.line-item.result so_far.0 printed.0 so_far.1 printed.1) in (
+    let until : Prints g.D.Disk next first (take at lines) so_far.0 before = prints_until g.D.Disk before next first before (take at lines) so_far.0 here so_far.1 in
+    let prints : Prints g.D.Disk next first (take (at + 1) lines) texts next =
+    subst (λ lines. Prints g.D.Disk next first lines texts next) (sym more) (prints_more g.D.Disk next first before next (take at lines) c.line-item.result so_far.0 printed.0 until printed.1 here now) in (
       c.run_line.ensures.consistent,
       (texts, prints, lines_then _ _ _ so_far.0 printed.0 so_far.2 printed.2),
       λ kind.

@@ -10,6 +10,6 @@ use Rattle.charmlet_cli.proofs.running.run_lines.Given as goal
 abbrev pub invariant-loop-line : goal.invariant-loop-line
 invariant-loop-line g l =
     IsEngineConsistent l.engine
-    × AreRun (ledger_in l.initial.engine) (take l.line-index l.lines) (ledger_in l.engine) (g.W.Write.contents l.initial.writer) (g.W.Write.contents l.writer)
+    × AreRun g.D.Disk (ledger_in l.engine) (ledger_in l.initial.engine) (take l.line-index l.lines) (ledger_in l.engine) (g.W.Write.contents l.initial.writer) (g.W.Write.contents l.writer)
     × ((kind : Kind) → blanks_of kind (drop l.line-index l.lines) ≤ blanks_left l.source kind)
     × Advances {G = g.D.Disk} {H = g.C.Chare} l.initial.engine l.engine

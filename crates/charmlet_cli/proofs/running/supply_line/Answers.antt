@@ -8,11 +8,11 @@ pub returns-then-is_err-clause-prints : goal.returns-then-is_err-clause-prints
 returns-then-is_err-clause-prints g c =
     let is = sym c.is_err.ensures.value ∙ c.if-is_err.true in
     let same = when_err _ c.draw.result is c.draw.ensures.err in
-    (memory_text ∷ [], (memory_text, inr (refl, λ i. record { store = same.0 i; supplied = same.1 i }), refl), c.write_memory_refused.ensures)
+    (memory_text ∷ [], (memory_text, inr (refl, λ i. record { store = same.0 i; supplied = same.1 i; disk = c.draw.ensures.disk i }), refl), c.write_memory_refused.ensures)
 
 pub returns-clause-prints : goal.returns-clause-prints
 returns-clause-prints g c =
     let is = sym c.is_err.ensures.value ∙ c.if-is_err.false in
     let drawn = when_ok _ c.draw.result is c.draw.ensures.drawn in
     let text = supplied_text (record { kind = c.args.kind; count = c.args.count }) in
-    (text ∷ [], (text, inl (refl, record { core = c.draw.ensures.core; blanks = drawn; supplied = when_ok _ c.draw.result is c.draw.ensures.supplied }), refl), c.write_line.ensures)
+    (text ∷ [], (text, inl (refl, record { core = c.draw.ensures.core; blanks = drawn; supplied = when_ok _ c.draw.result is c.draw.ensures.supplied; disk = c.draw.ensures.disk }), refl), c.write_line.ensures)

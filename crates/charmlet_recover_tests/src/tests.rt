@@ -1,0 +1,138 @@
+// What is found in stores byte by byte.
+
+use charmlet_disk::{Disk, MemDisk};
+use charmlet_model::{Half, Kind, Refusal};
+use charmlet_recover::{Found, manifest};
+use std::alloc::AllocGlobal;
+use std::process::Abort;
+
+// A new store with one array of counters.
+const NEW_STORE: [u8; 50] = [
+    1, 67, 75, 80, 50, 1, 0, 0, 0, 0, 0, 0, 0, 0, 0, 0, 0, 0, 0, 0, 0, 24, 0, 0, 0, 1, 0, 0, 0, 0,
+    0, 1, 0, 0, 0, 0, 0, 0, 0, 0, 0, 0, 0, 0, 0, 0, 0, 0, 0, 0,
+];
+
+// The same after a request that constructs (0, 0) with 5, and its delivery.
+const FLUSHED_STORE: [u8; 123] = [
+    1, 67, 75, 80, 50, 1, 0, 0, 0, 0, 0, 0, 0, 0, 0, 0, 0, 0, 0, 0, 0, 24, 0, 0, 0, 1, 0, 0, 0, 0,
+    0, 1, 0, 0, 0, 0, 0, 0, 0, 0, 0, 0, 0, 0, 0, 0, 0, 0, 0, 1, 64, 0, 0, 0, 2, 0, 0, 0, 1, 7, 0,
+    0, 0, 1, 0, 0, 0, 0, 0, 0, 0, 0, 0, 0, 0, 0, 0, 0, 0, 0, 0, 255, 255, 1, 0, 0, 0, 5, 0, 0, 0,
+    0, 0, 0, 0, 2, 0, 7, 0, 0, 0, 1, 0, 0, 0, 0, 0, 0, 0, 1, 0, 0, 0, 0, 0, 0, 0, 1, 0, 0, 0, 0, 0,
+];
+
+// An image of two counters by the first mark, with two deliveries that were made while it was taken, of which the second one is
+// skipped. Their effects stand at 222 and 268.
+const CAUGHT_STORE: [u8; 270] = [
+    1, 67, 75, 80, 49, 2, 0, 0, 0, 0, 0, 0, 0, 8, 0, 0, 0, 0, 0, 0, 0, 244, 0, 0, 0, 1, 0, 0, 0, 0,
+    0, 1, 0, 2, 0, 0, 0, 7, 0, 0, 0, 2, 0, 0, 0, 0, 0, 0, 0, 1, 1, 0, 0, 0, 8, 0, 0, 0, 0, 0, 0, 0,
+    8, 0, 0, 0, 2, 0, 0, 0, 0, 0, 0, 0, 1, 1, 0, 0, 0, 6, 0, 0, 0, 0, 0, 0, 0, 0, 0, 0, 0, 2, 0, 0,
+    0, 0, 0, 0, 0, 0, 0, 0, 0, 0, 0, 0, 0, 0, 0, 0, 0, 0, 0, 1, 0, 0, 0, 0, 0, 0, 0, 1, 8, 0, 0, 0,
+    5, 0, 0, 0, 0, 0, 0, 0, 0, 0, 1, 0, 0, 0, 0, 0, 0, 0, 0, 0, 0, 0, 0, 0, 0, 0, 2, 0, 0, 0, 0, 0,
+    0, 0, 1, 8, 0, 0, 0, 6, 0, 0, 0, 0, 0, 0, 0, 2, 0, 0, 0, 0, 7, 0, 0, 0, 2, 0, 0, 0, 0, 0, 0, 0,
+    0, 0, 0, 0, 0, 0, 0, 0, 0, 0, 0, 0, 1, 0, 0, 0, 3, 0, 0, 0, 0, 0, 0, 0, 2, 0, 0, 0, 0, 0, 0, 0,
+    0, 0, 8, 0, 0, 0, 2, 0, 0, 0, 0, 0, 0, 0, 0, 0, 1, 0, 0, 0, 0, 0, 0, 0, 0, 0, 1, 0, 0, 0, 1, 0,
+    0, 0, 0, 0, 0, 0, 2, 0, 0, 0, 0, 0, 0, 0, 0, 0,
+];
+
+// An image by the first mark of a tree that was destroyed and constructed again while it was taken: its element was read
+// between the two. The count of the construction stands at 168.
+const GROWN_STORE: [u8; 178] = [
+    1, 67, 75, 80, 49, 2, 0, 0, 0, 0, 0, 0, 0, 6, 0, 0, 0, 0, 0, 0, 0, 152, 0, 0, 0, 1, 0, 0, 0, 0,
+    0, 5, 0, 1, 0, 0, 0, 7, 0, 0, 0, 3, 0, 0, 0, 0, 0, 0, 0, 1, 0, 0, 0, 0, 0, 0, 0, 0, 1, 0, 0, 0,
+    0, 0, 1, 0, 0, 0, 0, 0, 0, 0, 0, 0, 0, 0, 0, 0, 0, 0, 2, 0, 0, 0, 0, 0, 0, 0, 0, 2, 0, 0, 0, 0,
+    7, 0, 0, 0, 2, 0, 0, 0, 0, 0, 0, 0, 0, 0, 1, 0, 0, 0, 0, 0, 0, 0, 0, 0, 0, 0, 0, 0, 2, 0, 0, 0,
+    0, 0, 0, 0, 2, 0, 7, 0, 0, 0, 3, 0, 0, 0, 0, 0, 0, 0, 0, 0, 1, 0, 0, 0, 0, 0, 0, 0, 255, 255,
+    1, 0, 0, 0, 0, 0, 0, 0, 0, 0, 0, 0, 3, 0, 0, 0, 0, 0, 0, 0, 1, 0,
+];
+
+// A disk with these bytes.
+fn disk_of(rt: &(impl AllocGlobal + Abort), zero: &[u8], one: &[u8]) -> MemDisk {
+    let mut disk = MemDisk::new(rt.alloc());
+    assert!(rt; disk.write_at(Half::Zero, 0, zero).is_ok());
+    assert!(rt; disk.write_at(Half::One, 0, one).is_ok());
+    disk
+}
+
+// What is found in these bytes, by reads alone.
+fn found_in(rt: &(impl AllocGlobal + Abort), zero: &[u8], one: &[u8]) -> Result<Found, Refusal> {
+    let mut disk = disk_of(rt, zero, one);
+    let calls = disk.calls().len();
+    let found = manifest(rt.alloc(), &mut disk);
+    assert_eq!(rt; disk.calls().len(), calls);
+    found
+}
+
+// So many blanks of the kind are wanted of these bytes, and none of the other kinds.
+fn assert_wanted(rt: &(impl AllocGlobal + Abort), zero: &[u8], one: &[u8], kind: Kind, count: u64) {
+    match found_in(rt, zero, one) {
+        Ok(found) => {
+            for other in &Kind::ALL {
+                let wanted = if *other == kind { count } else { 0 };
+                assert_eq!(rt; found.wanted.of(*other), wanted);
+            }
+        }
+        Err(_) => assert!(rt; false),
+    }
+}
+
+#[test]
+fn flushed_stores_want_what_they_construct(rt: HostRuntime) {
+    match found_in(&rt, &FLUSHED_STORE, b"") {
+        Ok(found) => {
+            assert_eq!(rt; found.half, Half::Zero);
+            assert_eq!(rt; found.generation, 1);
+            assert_eq!(rt; found.before, 0);
+            assert_eq!(rt; found.logged, 2);
+            assert_eq!(rt; found.manifest.kind_of(0), Some(Kind::Counter));
+            assert_eq!(rt; found.manifest.kind_of(1), None);
+        }
+        Err(_) => assert!(rt; false),
+    }
+    assert_wanted(&rt, &FLUSHED_STORE, b"", Kind::Counter, 1);
+    assert_wanted(&rt, &NEW_STORE, b"", Kind::Counter, 0);
+}
+
+// The offset that is named where a new store is cut to this length; none where it is closed then.
+fn fault_of_cut(length: usize) -> Option<u64> {
+    match length {
+        0 | 1 => None,
+        2..=4 => Some(1),
+        5..=12 => Some(5),
+        13..=20 => Some(13),
+        21..=48 => Some(21),
+        _ => Some(49),
+    }
+}
+
+#[test]
+fn cut_stores_are_damaged(rt: HostRuntime) {
+    for length in 0..NEW_STORE.len() {
+        let wanted = match fault_of_cut(length) {
+            Some(offset) => Refusal::Damaged {
+                half: Half::Zero,
+                offset,
+            },
+            None => Refusal::NothingHere,
+        };
+        match found_in(&rt, &NEW_STORE[..length], b"") {
+            Ok(_) => assert!(rt; false),
+            Err(refusal) => assert_eq!(rt; refusal, wanted, "{length}"),
+        }
+    }
+}
+
+// A construction that is skipped wants no blank, and a delivery that isn't skipped wants one by what is written of it.
+#[test]
+fn catch_up_lists_want_what_they_construct(rt: HostRuntime) {
+    assert_wanted(&rt, &NEW_STORE, &CAUGHT_STORE, Kind::Counter, 2);
+    let mut skipped = CAUGHT_STORE;
+    skipped[268] = 1;
+    assert_wanted(&rt, &NEW_STORE, &skipped, Kind::Counter, 2);
+    let mut constructed = CAUGHT_STORE;
+    constructed[222] = 1;
+    assert_wanted(&rt, &NEW_STORE, &constructed, Kind::Counter, 3);
+    assert_wanted(&rt, b"", &GROWN_STORE, Kind::Tree, 1);
+    let mut grown = GROWN_STORE;
+    grown[168] = 2;
+    assert_wanted(&rt, b"", &grown, Kind::Tree, 0);
+}
