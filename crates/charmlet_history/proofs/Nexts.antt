@@ -18,7 +18,7 @@ use Rattle.charmlet_model.specs.Core.{present, place_or_home}
 use Rattle.charmlet_model.proofs.Deliveries.{message_of}
 use Rattle.charmlet_model.proofs.Fits.{same_id-is}
 use Rattle.charmlet_model.proofs.SoundLemmas.{sound_fit}
-use Rattle.charmlet_history.specs.Kept.{Kept, IsConsistent, core_of, due_on, is_deliverable, next_in, oldest, place_or_home_in}
+use Rattle.charmlet_history.specs.Kept.{Kept, IsConsistent, core_of, due_on, processor_for, is_deliverable, next_in, oldest, place_or_home_in}
 use Rattle.charmlet_history.proofs.Assigning.{place_or_home_is, there_is}
 
 -- ---- ids
@@ -73,6 +73,12 @@ module _ (k : Kept) (consistent : IsConsistent k) where
       sym (ap (option_and_then (due_on (core_of k))) (sym oldest_is ∙ first)
       ∙ ap (option_map (λ n. (place_or_home (core_of k) n.to, id))) (ap (message_among id) (sym consistent.pending) ∙ found)
       ∙ ap (λ p. Some (p, id)) (place_or_home_is k consistent m.to))
+
+  -- the processor of any pending message
+  pub due_is : (id : MsgId) (m : Message) → message_among id k.pending ≡ Some m → Some (place_or_home_in k m.to) ≡ processor_for (core_of k) id
+  due_is id m found =
+      sym (ap (option_map (λ n. place_or_home (core_of k) n.to)) (ap (message_among id) (sym consistent.pending) ∙ found)
+      ∙ ap (λ p. Some p) (place_or_home_is k consistent m.to))
 
   pub none_is_next : oldest k k.pending ≡ None → next_in (core_of k) ≡ None
   none_is_next none = ap (option_and_then (due_on (core_of k))) (sym oldest_is ∙ none)

@@ -1,5 +1,5 @@
 -- What a history keeps of the world with which it opens.
-use Rattle.std.proofs.Common.{◌≡◌, ℕ, ◌≤◌, ◌<◌, ◌^◌, true, false, cond, List, [], ◌∷◌, ◌++◌, refl, sym, ap, subst, ◌∙◌, append_assoc, if◌then◌else◌}
+use Rattle.std.proofs.Common.{arith, drop, length, ◌+◌, ◌≡◌, ℕ, ◌≤◌, ◌^◌, true, false, cond, List, [], ◌∷◌, ◌++◌, refl, sym, ap, subst, ◌∙◌, append_assoc, if◌then◌else◌}
 use Rattle.std.specs.Prelude.{Some, None, is_some, map, unwrap_or}
 use Rattle.std.specs.declared.cmp.Ordering.{Ordering}
 use Rattle.std.specs.declared.cmp.Ordering.TheVariants.{Less, Greater}
@@ -17,15 +17,19 @@ use Rattle.charmlet_model.specs.Names.{elem_cmp}
 use Rattle.charmlet_model.specs.Row.{no_client}
 use Rattle.charmlet_model.specs.World.{World, no_record, record_at, row_of}
 use Rattle.charmlet_model.specs.Fit.{IsFit}
-use Rattle.charmlet_model.specs.Core.{home}
-use Rattle.charmlet_model.specs.Sound.{IsSound, homes, opened}
+use Rattle.charmlet_model.specs.Core.{assigned_to, home, present}
+use Rattle.charmlet_model.proofs.Fits.{IfSome-map}
+use Rattle.charmlet_model.specs.Sound.{IsAssigned, IsSound, homes, opened}
 use Rattle.charmlet_model.proofs.Maps.{elem_total}
 use Rattle.charmlet_model.proofs.OpenedLemmas.{opened_sound}
+use Rattle.charmlet_model.proofs.SoundLemmas.{sound_fit}
 use Rattle.charmlet_history.specs.declared.element.Element.{Element}
 use Rattle.charmlet_history.specs.Client.{Rows, same_rows}
 use Rattle.charmlet_record.specs.Backlog.{Batched, IsBacklog}
 use Rattle.charmlet_history.specs.Kept.{Kept, IsConsistent, IsCountedBy, core_of, client_at, element_at, new_client, no_element, places_of, present_rows, with_place}
-use Rattle.charmlet_history.specs.Opened.{opened_client, opened_element, with_clients, with_elements, with_made}
+use Rattle.charmlet_history.specs.Flushed.{all_durable}
+use Rattle.charmlet_history.specs.Opened.{opened_client, opened_clients, opened_element, opened_elements, with_clients, with_elements, with_made}
+use Rattle.charmlet_history.proofs.Flushes.{present-all, rows_durable}
 
 -- ---- entries that are inserted in rising order
 
@@ -114,6 +118,13 @@ durable_are c (e ∷ es) = elim (is_at (nat_cmp c) e.0) as
 
 -- ---- what is kept of an opening world
 
+-- the entries that were inserted are those of the world
+pub elements_given : (processors : ℕ) (w : World) → IsFit w → with_elements processors [] w.records ≡ opened_elements processors w.records
+elements_given processors w fit = all_made elem_cmp elem_total (opened_element processors) w.records fit.rising_records
+
+pub clients_given : (w : World) → IsFit w → with_clients [] w.clients ≡ opened_clients w.clients
+clients_given w fit = all_made nat_cmp nat_cmp_total opened_client w.clients fit.rising_clients
+
 module _ (processors : ℕ) (w : World) (before generation log_end : ℕ) (backlog : Batched) where
   abbrev pub opened_kept : Kept
   opened_kept = record {
@@ -123,35 +134,62 @@ module _ (processors : ℕ) (w : World) (before generation log_end : ℕ) (backl
     log_end = log_end;
     halted = false;
     processors = processors;
-    elements = with_elements processors [] w.records;
+    elements = opened_elements processors w.records;
     pending = w.pending;
-    clients = with_clients [] w.clients;
+    clients = opened_clients w.clients;
     events = [];
     durable = 0;
     backlog = backlog;
     assigned = [];
   }
 
-  module _ (fit : IsFit w) where
-    elements_are : with_elements processors [] w.records ≡ elements processors w.records
-    elements_are = all_made elem_cmp elem_total (opened_element processors) w.records fit.rising_records
+  -- it is the core of a store that opens so
+  pub opened_core : core_of opened_kept ≡ opened processors w before generation log_end
+  opened_core = λ i. record (opened processors w before generation log_end) { places = places_are_homes processors w.records i }
 
-    clients_are : with_clients [] w.clients ≡ clients w.clients
-    clients_are = all_made nat_cmp nat_cmp_total opened_client w.clients fit.rising_clients
+  pub opened_consistent : IsFit w → 1 ≤ processors → processors ≤ 64 → before ≤ 2 ^ 40 → 1 ≤ generation → generation ≤ 2 ^ 40 → IsBacklog backlog [] → IsConsistent opened_kept
+  opened_consistent fit some few small_before some_generation few_generations empty = record {
+    sound = subst IsSound (sym opened_core) (opened_sound processors w before generation log_end some few fit small_before some_generation few_generations);
+    rising = subst (IsStrictlySortedBy elem_cmp) (sym (keys_of-made elem_cmp elem_total (opened_element processors) w.records)) fit.rising_records;
+    counts = λ x. counts_are processors x w.records;
+    pending = refl;
+    clients = present_are w.clients;
+    durable_rows = λ c. durable_are c w.clients;
+    backlog = empty;
+  }
 
-    -- it is the core of a store that opens so
-    pub opened_core : core_of opened_kept ≡ opened processors w before generation log_end
-    opened_core =
-        let places = ap places_of elements_are ∙ places_are_homes processors w.records in
-        λ i. record (opened processors w before generation log_end) { places = places i }
+-- ---- a present world that becomes the opening one
 
-    pub opened_consistent : 1 ≤ processors → processors ≤ 64 → before ≤ 2 ^ 40 → 1 ≤ generation → generation ≤ 2 ^ 40 → IsBacklog backlog [] → IsConsistent opened_kept
-    opened_consistent some few small_before some_generation few_generations empty = record {
-      sound = subst IsSound (sym opened_core) (opened_sound processors w before generation log_end some few fit small_before some_generation few_generations);
-      rising = subst (IsStrictlySortedBy elem_cmp) (sym (ap keys_of elements_are ∙ keys_of-made elem_cmp elem_total (opened_element processors) w.records)) fit.rising_records;
-      counts = λ x. subst (λ es. IsCountedBy (record_at w.records x) (element_at es x)) (sym elements_are) (counts_are processors x w.records);
-      pending = refl;
-      clients = ap present_rows clients_are ∙ present_are w.clients;
-      durable_rows = λ c. ap (λ cs. (client_at cs c).durable) clients_are ∙ durable_are c w.clients;
+-- what is kept once all events count as before the opening world
+abbrev pub renewed_kept : Kept → Batched → Kept
+renewed_kept k backlog = record (all_durable k k.log_end backlog) { opening = present (core_of k); before = k.before + length k.events; events = []; durable = 0 }
+
+pub renewed_consistent : (k : Kept) (backlog : Batched) → IsConsistent k → IsBacklog backlog [] → IsConsistent (renewed_kept k backlog)
+renewed_consistent k backlog consistent empty =
+    let core = core_of k in
+    let w = present core in
+    let sound = consistent.sound in
+    let new = drop k.durable k.events in
+    record {
+      sound = record {
+        some_processors = sound.some_processors;
+        few_processors = sound.few_processors;
+        opening = sound_fit core sound;
+        legal = record { events = tt; each_can = refl; in_limit = let r = sound.room in omega arith };
+        room = let r = sound.room in omega arith;
+        durable = omega arith;
+        some_generation = sound.some_generation;
+        few_generations = sound.few_generations;
+        rising_places = sound.rising_places;
+        rising_assigned = sound.rising_assigned;
+        placed = λ x. let p = sound.placed x in record { there = p.there; on_processor = p.on_processor };
+        assigned = λ processor. IfSome-map (IsAssigned core processor) (IsAssigned (core_of (renewed_kept k backlog)) processor) (assigned_to core processor)
+            (λ id a. record { on_processor = a.on_processor; can_be = a.can_be; receiver = a.receiver }) (sound.assigned processor);
+      };
+      rising = consistent.rising;
+      counts = consistent.counts;
+      pending = consistent.pending;
+      clients = present-all k.clients new ∙ consistent.clients;
+      durable_rows = rows_durable k consistent;
       backlog = empty;
     }

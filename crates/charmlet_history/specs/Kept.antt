@@ -20,7 +20,7 @@ use Rattle.charmlet_model.specs.World.{World, record_of, client_of, message_amon
 use Rattle.charmlet_model.specs.declared.refusal.Refusal.TheVariants as refusals
 use Rattle.charmlet_model.specs.declared.TheConstants.{CONSTRUCT}
 use Rattle.charmlet_model.specs.Reaction.{capped, greatest}
-use Rattle.charmlet_model.specs.Core.{Core, present, durable_world, unwritten, end_of_flush, pending_message, assigned_to, home, place_or_home, Blanks, Gate, When, CoreAnswer, Tells, Counts, Refuses}
+use Rattle.charmlet_model.specs.Core.{Core, present, durable_world, unwritten, pending_message, assigned_to, home, place_or_home, Blanks, Gate, When, CoreAnswer, Tells, Counts, Refuses}
 use Rattle.charmlet_model.specs.Told.{told_of}
 use Rattle.charmlet_model.specs.Row.{no_client, in_window, follows_last, has_place, with_request}
 use Rattle.charmlet_model.specs.Sound.{IsSound}
@@ -206,7 +206,11 @@ abbrev pub oldest : Kept → List Message → Option MsgId
 oldest k [] = None
 oldest k (m ∷ ms) = if is_deliverable k m then Some m.id else oldest k ms
 
--- the processor on which the receiver of a pending message stands, and the message
+-- the processor on which the receiver of a pending message stands, or its home
+abbrev pub processor_for : Core → MsgId → Option ℕ
+processor_for core id = option_map (λ m. place_or_home core m.to) (pending_message core id)
+
+-- the same, and the message
 abbrev pub due_on : Core → MsgId → Option (ℕ × MsgId)
 due_on core id = option_map (λ m. (place_or_home core m.to, id)) (pending_message core id)
 

@@ -5,3 +5,4 @@ pub mod Flushed
 pub mod Records
 pub mod Delivered
 pub mod Opened
+pub mod Parts

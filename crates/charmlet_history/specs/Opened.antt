@@ -1,5 +1,5 @@
 -- What a history keeps of the world with which it opens.
-use Rattle.std.specs.Prelude.{ℕ, List, [], ◌∷◌, if◌then◌else◌, is_some, Some, None}
+use Rattle.std.specs.Prelude.{◌≡◌, ℕ, ◌+◌, true, List, [], ◌∷◌, length, map, if◌then◌else◌, is_some, Some, None}
 use Rattle.std.specs.declared.cmp.Ordering.{Ordering}
 use Rattle.std.specs.Ordering.{nat_cmp}
 use Rattle.std.specs.BTreeMap.{insert_entry}
@@ -7,9 +7,14 @@ use Rattle.charmlet_model.specs.declared.names.Elem.{Elem}
 use Rattle.charmlet_model.specs.declared.state.Record.{Record}
 use Rattle.charmlet_model.specs.declared.client.ClientRow.{ClientRow}
 use Rattle.charmlet_model.specs.Names.{elem_cmp}
-use Rattle.charmlet_model.specs.Core.{home}
+use Rattle.charmlet_model.specs.Core.{Core, home, present}
+use Rattle.charmlet_locate.specs.Locations.{is_processor_count}
 use Rattle.charmlet_history.specs.declared.element.Element.{Element}
+use Rattle.charmlet_history.specs.declared.history.History.{History}
+use Rattle.charmlet_history.specs.declared.opening.Opening.{Opening}
 use Rattle.charmlet_history.specs.Client.{Rows, same_rows}
+use Rattle.charmlet_history.specs.Kept.{core_in}
+use Rattle.charmlet_model.specs.World.{World}
 
 -- an element that is there stands on its home
 abbrev pub opened_element : ℕ → Elem → Record → Element
@@ -29,3 +34,28 @@ opened_client client row = same_rows row
 
 abbrev pub with_clients : List (ℕ × Rows) → List (ℕ × ClientRow) → List (ℕ × Rows)
 with_clients = with_made nat_cmp opened_client
+
+-- ---- what a history is given of its opening world
+
+-- the elements of a world, each with its place and its counts
+abbrev pub opened_elements : ℕ → List (Elem × Record) → List (Elem × Element)
+opened_elements processors = map (λ e. (e.0, opened_element processors e.0 e.1))
+
+-- the rows of a world's clients
+abbrev pub opened_clients : List (ℕ × ClientRow) → List (ℕ × Rows)
+opened_clients = map (λ e. (e.0, opened_client e.0 e.1))
+
+-- what is given is that of the world: the elements on their homes, with their counts, the pending messages, and the clients' rows
+pub record IsOpening (o : Opening) : Type 0 where
+  pub processors : is_processor_count o.processors ≡ true
+  pub elements : o.elements.entries ≡ opened_elements o.processors o.world.records
+  pub pending : o.pending.items ≡ o.world.pending
+  pub clients : o.clients.entries ≡ opened_clients o.world.clients
+
+-- a store whose present world has become its opening one
+abbrev pub renewed : Core → Core
+renewed core = record core { opening = present core; before = core.before + length core.history; history = []; durable = 0 }
+
+-- the world after the whole history
+abbrev pub present_in : History → World
+present_in h = present (core_in h)

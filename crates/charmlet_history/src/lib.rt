@@ -11,9 +11,12 @@ mod moving;
 mod next;
 mod opening;
 mod request;
+mod world;
 
 pub use crate::client::Client;
 pub use crate::delivery::RefusedCommit;
 pub use crate::element::Element;
 pub use crate::history::History;
+pub use crate::opening::Opening;
 pub use crate::request::Request;
+pub use crate::world::{HasWorld, OpeningWorld, SeenWorld, WorldParts};

@@ -2,7 +2,7 @@
 
 ghost use Rattle.std.specs.Prelude.{◌≡◌};
 ghost use Rattle.charmlet_model.specs.Core.{present};
-ghost use Rattle.charmlet_history.specs.Kept.{IsConsistent, core_in, is_deliverable, kept_in, next_in, oldest};
+ghost use Rattle.charmlet_history.specs.Kept.{IsConsistent, core_in, is_deliverable, kept_in, next_in, oldest, processor_for};
 
 use crate::history::History;
 use charmlet_model::{CONSTRUCT, Message, MsgId};
@@ -27,6 +27,16 @@ impl History {
             unreachable!()
         };
         Some((self.place_or_home(message.to), id))
+    }
+
+    /// The processor that is to deliver a pending message: the place of its receiver, or the home of one
+    /// that isn't there. None where no such message is pending.
+    pub fn due_on(&self, id: MsgId) -> Option<u16>
+        requires { IsConsistent (kept_in self.now) }
+        ensures { result ≡ processor_for (core_in self.now) id }
+    {
+        let message = self.find(id)?;
+        Some(self.place_or_home(message.to))
     }
 
     /// The oldest pending message that can be delivered by the counts that are kept.

@@ -6,7 +6,7 @@ ghost use Rattle.charmlet_model.specs.Core as core;
 ghost use Rattle.charmlet_model.specs.Core.{first_refusal, gates, place_of};
 ghost use Rattle.charmlet_model.specs.Run.{Goes};
 ghost use Rattle.charmlet_history.specs.Kept.{IsConsistent, blank_of_move, core_in, kept_in, plenty};
-ghost use Rattle.charmlet_stock.specs.Stock.{census_of, supplied_to};
+ghost use Rattle.charmlet_stock.specs.Stock.{census_of, keeping_of, supplied_to};
 ghost use Rattle.charmlet_migrate.specs.Moving.{IsCountedAmong, IsIdle, ShowsPresent, move_answer, numbers_of, store_with};
 
 use crate::copying::place_copy;
@@ -42,6 +42,7 @@ pub fn move_to<C: Chare>(
     ensures shows { ShowsPresent shelves.new history.new }
     ensures census { IsCountedAmong shelves.old stock.old → IsCountedAmong shelves.new stock.new }
     ensures supplied { supplied_to stock.new ≡ supplied_to stock.old }
+    ensures keeping { keeping_of stock.new ≡ keeping_of stock.old }
     ensures stays { place_of (core_in history.old) elem ≡ Some processor → (shelves.new ≡ shelves.old) × (census_of stock.new ≡ census_of stock.old) }
     ensures err { OnErr result ((shelves.new ≡ shelves.old) × (census_of stock.new ≡ census_of stock.old)) }
 {
@@ -75,6 +76,7 @@ fn move_away<C: Chare>(
     ensures shows { ShowsPresent shelves.new history.new }
     ensures census { IsCountedAmong shelves.old stock.old → IsCountedAmong shelves.new stock.new }
     ensures supplied { supplied_to stock.new ≡ supplied_to stock.old }
+    ensures keeping { keeping_of stock.new ≡ keeping_of stock.old }
     ensures err { OnErr result ((shelves.new ≡ shelves.old) × (census_of stock.new ≡ census_of stock.old)) }
 {
     let Some(place) = history.where_is(elem) else {

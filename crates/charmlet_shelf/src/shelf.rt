@@ -40,7 +40,7 @@ impl<C: Chare> Model for Shelf<C> {
 }
 
 impl<C: Chare> Shelf<C> {
-    ghost use Rattle.std.specs.Prelude.{◌≡◌, ◌+◌, ◌≤◌, [], Some, None, true, if◌then◌else◌, IfOk, IfErr, IfSome, OnOk, OnErr, IsOk, IsSome, is_some, option_copied};
+    ghost use Rattle.std.specs.Prelude.{◌≡◌, ◌+◌, ◌≤◌, [], ◌∷◌, Some, None, true, if◌then◌else◌, IfOk, IfErr, IfSome, OnOk, OnErr, IsOk, IsSome, is_some, option_copied};
     ghost use Rattle.std.specs.BTreeMap.{insert_entry, is_at};
     ghost use Rattle.std.specs.Map.{keys_of, lookup, remove_entry};
     ghost use Rattle.charmlet_model.specs.Names.{elem_cmp};
@@ -119,6 +119,17 @@ impl<C: Chare> Shelf<C> {
             return Err(Refusal::Absent);
         };
         Ok(resident)
+    }
+
+    /// Takes the first element away, with its object and counts, where there is one. No delivery may be under
+    /// way. It takes no memory.
+    pub fn lift_first(&mut self) -> Option<(Elem, Resident<C>)>
+        requires { is_idle self.old.phase ≡ true }
+        ensures some { IfSome result (λ first. self.old.records ≡ (first.0, record_in C.state first.1) ∷ self.new.records) }
+        ensures none { result ≡ None → (self.old.records ≡ []) × (self.new.records ≡ []) }
+        ensures others { self.new ≡ record self.old { records = self.new.records } }
+    {
+        self.residents.pop_first()
     }
 
     /// Assigns a message to an element that is here. `Uncommitted` where a delivery is under way, else

@@ -12,7 +12,7 @@ use Rattle.charmlet_stock.specs.declared.pile.Tally.{Tally}
 use Rattle.charmlet_stock.specs.declared.stock.Stock.{Stock}
 use Rattle.charmlet_stock.specs.ByKind.{at, with_at}
 use Rattle.charmlet_stock.specs.Pile.{with_one_back, with_one_retired, with_out}
-use Rattle.charmlet_stock.specs.Stock.{blanks_in, census_of, part_of, supplied_to, tally_in}
+use Rattle.charmlet_stock.specs.Stock.{blanks_in, census_of, supplied_to, tally_in}
 use Rattle.charmlet_stock.proofs.Room.{by_kind}
 
 other_number : (a b : ℕ) → (a == b) ≡ false → (b == a) ≡ false

@@ -31,3 +31,7 @@ each_of f values = record {
   trees = f values.trees;
   tapes = f values.tapes;
 }
+
+-- the same value for all kinds
+abbrev pub for_all : {T : Type 0} → T → ByKind T
+for_all x = record { counters = x; rings = x; accounts = x; sums = x; trees = x; tapes = x }

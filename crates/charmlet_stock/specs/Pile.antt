@@ -1,13 +1,14 @@
--- The blanks of one kind.
+-- The objects of one kind.
 use Rattle.std.specs.Prelude.{ℕ, ◌+◌, ◌-◌, ◌<◌, ◌≤◌, ◌^◌}
 use Rattle.std.specs.Vec.{vec_len, vec_capacity}
 use Rattle.charmlet_chare.specs.declared.chare.Chare.{Ghosts}
 use Rattle.charmlet_stock.specs.declared.pile.Tally.{Tally}
 use Rattle.charmlet_stock.specs.declared.pile.Pile.{Pile}
+use Rattle.charmlet_stock.specs.Retired.{dropped_of, kept_of}
 
 -- how many objects were supplied, are in the stock and were retired; the others are out
 abbrev pub tally_of : {C : Type 0} {G : Ghosts C} → Pile C G → Tally
-tally_of pile = record { supplied = pile.supplied; in_stock = vec_len pile.blanks; retired = pile.retired }
+tally_of pile = record { supplied = pile.supplied; in_stock = vec_len pile.objects - kept_of pile.keeps pile.retired; retired = pile.retired }
 
 -- no object yet
 abbrev pub nothing : Tally
@@ -33,6 +34,10 @@ with_one_back t = record t { in_stock = t.in_stock + 1 }
 abbrev pub with_one_retired : Tally → Tally
 with_one_retired t = record t { retired = t.retired + 1 }
 
+-- the retired objects are blanks again
+abbrev pub with_retired_back : Tally → Tally
+with_retired_back t = record t { in_stock = t.in_stock + t.retired; retired = 0 }
+
 -- room for so many objects more, and for all that are out
 abbrev pub HasRoomFor : {C : Type 0} {G : Ghosts C} → Pile C G → ℕ → Type 0
-HasRoomFor pile n = (pile.supplied + n ≤ vec_capacity pile.blanks + pile.retired) × (pile.supplied + n < 2 ^ 64)
+HasRoomFor pile n = (pile.supplied + n ≤ vec_capacity pile.objects + dropped_of pile.keeps pile.retired) × (pile.supplied + n < 2 ^ 64)

@@ -1,5 +1,5 @@
 -- The stock.
-use Rattle.std.specs.Prelude.{ℕ, ◌==◌, List, if◌then◌else◌}
+use Rattle.std.specs.Prelude.{ℕ, Bool, ◌==◌, List, if◌then◌else◌}
 use Rattle.charmlet_model.specs.declared.kind.Kind.{Kind}
 use Rattle.charmlet_model.specs.declared.state.State.{State}
 use Rattle.charmlet_model.specs.Kind.{kind_number}
@@ -19,6 +19,10 @@ census_of stock = each_of tally_of stock.piles
 -- the census of one kind
 abbrev pub tally_in : {C : Type 0} {G : Ghosts C} → Stock C G → Kind → Tally
 tally_in stock kind = at (census_of stock) kind
+
+-- whether retired objects are kept, for each kind
+abbrev pub keeping_of : {C : Type 0} {G : Ghosts C} → Stock C G → ByKind Bool
+keeping_of stock = each_of (λ pile. pile.keeps) stock.piles
 
 -- how many blanks of a kind there are
 abbrev pub blanks_in : {C : Type 0} {G : Ghosts C} → Stock C G → Kind → ℕ

@@ -1,7 +1,8 @@
-//! The blanks of one kind.
+//! The blanks of one kind, and its retired objects where these are kept.
 
 ghost use Rattle.std.specs.Prelude.{◌+◌, ◌≤◌};
 ghost use Rattle.std.specs.Vec.{vec_capacity, vec_len};
+ghost use Rattle.charmlet_stock.specs.Retired.{dropped_of, kept_of};
 ghost use Rattle.charmlet_stock.specs.Sorted.{AreOf};
 
 use charmlet_chare::Chare;
@@ -16,44 +17,63 @@ pub struct Tally {
     pub retired: u64,
 }
 
-/// The blanks of one kind, in room for all that are out.
+/// The blanks of one kind, in room for all that are out. Where retired objects are kept, as many objects
+/// more are here as were retired: all are of one kind, so that it doesn't matter which of them are blanks.
 #[derive(Drop)]
 pub(crate) struct Pile<C: Chare> {
     pub(crate) kind: Kind,
-    pub(crate) blanks: Vec<C>,
+    pub(crate) objects: Vec<C>,
+    pub(crate) keeps: bool,
     pub(crate) supplied: u64,
     pub(crate) retired: u64,
-    ghost sorted: { AreOf C.state kind blanks.items },
-    ghost counted: { vec_len blanks + retired ≤ supplied },
-    ghost room: { supplied ≤ vec_capacity blanks + retired },
+    ghost sorted: { AreOf C.state kind objects.items },
+    ghost kept: { kept_of keeps retired ≤ vec_len objects },
+    ghost counted: { vec_len objects + dropped_of keeps retired ≤ supplied },
+    ghost room: { supplied ≤ vec_capacity objects + dropped_of keeps retired },
 }
 
 impl<C: Chare> Pile<C> {
-    ghost use Rattle.std.specs.Prelude.{ℕ, ◌≡◌, ◌+◌, ◌<◌, ◌≤◌, OnOk, IfSome, IsSome, None};
-    ghost use Rattle.std.specs.Vec.{vec_len};
+    ghost use Rattle.std.specs.Prelude.{ℕ, ◌≡◌, ◌+◌, ◌<◌, ◌≤◌, true, false, OnOk, IfSome, IsSome, None};
     ghost use Rattle.charmlet_model.specs.Reaction.{kind_of};
-    ghost use Rattle.charmlet_stock.specs.Pile.{HasRoomFor, IsOut, nothing, supplied_more, tally_of, with_one_back, with_one_retired, with_out};
+    ghost use Rattle.charmlet_stock.specs.Pile.{HasRoomFor, IsOut, nothing, supplied_more, tally_of, with_one_back, with_one_retired, with_out, with_retired_back};
+    ghost use Rattle.charmlet_stock.specs.Retired.{dropped_of, kept_of};
 
-    /// No blank of this kind. It takes no memory.
+    /// No object of this kind, and retired ones will be dropped. It takes no memory.
     pub(crate) fn new(alloc: Global, kind: Kind) -> Self
         ensures kind { result.kind ≡ kind }
+        ensures keeps { result.keeps ≡ false }
         ensures tally { tally_of result ≡ nothing }
     {
         Pile {
             kind,
-            blanks: Vec::new(alloc),
+            objects: Vec::new(alloc),
+            keeps: false,
             supplied: 0,
             retired: 0,
         }
     }
 
-    /// How many objects were supplied, are here, and were retired.
+    /// How many of the objects here are retired ones.
+    fn kept(&self) -> usize
+        ensures { result ≡ kept_of self.now.keeps self.now.retired }
+    {
+        if self.keeps { self.retired as usize } else { 0 }
+    }
+
+    /// How many retired objects were dropped.
+    fn dropped(&self) -> u64
+        ensures { result ≡ dropped_of self.now.keeps self.now.retired }
+    {
+        if self.keeps { 0 } else { self.retired }
+    }
+
+    /// How many objects were supplied, are here as blanks, and were retired.
     pub(crate) fn tally(&self) -> Tally
         ensures { result ≡ tally_of self.now }
     {
         Tally {
             supplied: self.supplied,
-            in_stock: self.blanks.len() as u64,
+            in_stock: (self.objects.len() - self.kept()) as u64,
             retired: self.retired,
         }
     }
@@ -63,13 +83,14 @@ impl<C: Chare> Pile<C> {
     pub(crate) fn reserve(&mut self, count: usize) -> Result<(), AllocError>
         ensures ok { OnOk result (HasRoomFor self.new count) }
         ensures kind { self.new.kind ≡ self.old.kind }
+        ensures keeps { self.new.keeps ≡ self.old.keeps }
         ensures tally { tally_of self.new ≡ tally_of self.old }
     {
         let Some(supplied) = self.supplied.checked_add(count as u64) else {
             return Err(AllocError);
         };
-        let wanted = supplied - self.retired;
-        self.blanks.reserve(wanted as usize - self.blanks.len())?;
+        let wanted = supplied - self.dropped();
+        self.objects.reserve(wanted as usize - self.objects.len())?;
         Ok(())
     }
 
@@ -78,22 +99,27 @@ impl<C: Chare> Pile<C> {
         requires kind { kind_of (C.state object) ≡ self.old.kind }
         requires room { HasRoomFor self.old 1 }
         ensures kind { self.new.kind ≡ self.old.kind }
+        ensures keeps { self.new.keeps ≡ self.old.keeps }
         ensures room { (n : ℕ) → HasRoomFor self.old (n + 1) → HasRoomFor self.new n }
         ensures tally { tally_of self.new ≡ supplied_more (tally_of self.old) 1 }
     {
         self.supplied += 1;
-        let _ = self.blanks.push(object);
+        let _ = self.objects.push(object);
     }
 
     /// Takes a blank out, if there is one.
     pub(crate) fn take(&mut self) -> Option<C>
-        ensures some { IsSome result → (tally_of self.new ≡ with_out (tally_of self.old) 1) × (0 < vec_len self.old.blanks) }
+        ensures some { IsSome result → (tally_of self.new ≡ with_out (tally_of self.old) 1) × (0 < (tally_of self.old).in_stock) }
         ensures kind { self.new.kind ≡ self.old.kind }
+        ensures keeps { self.new.keeps ≡ self.old.keeps }
         ensures out { IsSome result → IsOut (tally_of self.new) }
         ensures object { IfSome result (λ object. kind_of (C.state object) ≡ self.old.kind) }
-        ensures none { result ≡ None → (vec_len self.old.blanks ≡ 0) × (tally_of self.new ≡ tally_of self.old) }
+        ensures none { result ≡ None → ((tally_of self.old).in_stock ≡ 0) × (tally_of self.new ≡ tally_of self.old) }
     {
-        self.blanks.pop()
+        if self.objects.len() == self.kept() {
+            return None;
+        }
+        self.objects.pop()
     }
 
     /// Puts an object back that is out.
@@ -101,18 +127,56 @@ impl<C: Chare> Pile<C> {
         requires kind { kind_of (C.state object) ≡ self.old.kind }
         requires out { IsOut (tally_of self.old) }
         ensures kind { self.new.kind ≡ self.old.kind }
+        ensures keeps { self.new.keeps ≡ self.old.keeps }
         ensures tally { tally_of self.new ≡ with_one_back (tally_of self.old) }
     {
-        let _ = self.blanks.push(object);
+        let _ = self.objects.push(object);
     }
 
-    /// Drops an object that is out.
+    /// Retires an object that is out: it is kept where retired objects are kept, and else dropped.
     pub(crate) fn retire(&mut self, object: C)
-        requires { IsOut (tally_of self.old) }
+        requires kind { kind_of (C.state object) ≡ self.old.kind }
+        requires out { IsOut (tally_of self.old) }
         ensures kind { self.new.kind ≡ self.old.kind }
+        ensures keeps { self.new.keeps ≡ self.old.keeps }
         ensures tally { tally_of self.new ≡ with_one_retired (tally_of self.old) }
     {
-        drop(object);
+        if self.keeps {
+            let _ = self.objects.push(object);
+        } else {
+            drop(object);
+        }
         self.retired += 1;
+    }
+
+    /// From now on retired objects are kept.
+    pub(crate) fn keep_retired(&mut self)
+        requires { (tally_of self.old).retired ≡ 0 }
+        ensures kind { self.new.kind ≡ self.old.kind }
+        ensures keeps { self.new.keeps ≡ true }
+        ensures tally { tally_of self.new ≡ tally_of self.old }
+    {
+        self.keeps = true;
+    }
+
+    /// Has each retired object, all of which were kept, be a blank again.
+    pub(crate) fn take_back(&mut self)
+        requires { self.old.keeps ≡ true }
+        ensures kind { self.new.kind ≡ self.old.kind }
+        ensures keeps { self.new.keeps ≡ true }
+        ensures tally { tally_of self.new ≡ with_retired_back (tally_of self.old) }
+    {
+        self.retired = 0;
+    }
+
+    /// Drops the retired objects that were kept, and from now on each one that is retired.
+    pub(crate) fn drop_retired(&mut self)
+        ensures kind { self.new.kind ≡ self.old.kind }
+        ensures keeps { self.new.keeps ≡ false }
+        ensures tally { tally_of self.new ≡ tally_of self.old }
+    {
+        let blanks = self.objects.len() - self.kept();
+        self.objects.truncate(blanks);
+        self.keeps = false;
     }
 }

@@ -1,6 +1,6 @@
 //! A store in memory, on 1 to 64 processors.
 
-ghost use Rattle.std.specs.Prelude.{◌≡◌, ◌+◌, ◌≤◌, ℕ, true, if◌then◌else◌, IfErr, IfOk, OnErr, OnOk};
+ghost use Rattle.std.specs.Prelude.{◌≡◌, ◌+◌, ◌≤◌, ℕ, true, false, if◌then◌else◌, IfErr, IfOk, OnErr, OnOk};
 ghost use Rattle.charmlet_model.specs.declared.kind.Kind as kinds;
 ghost use Rattle.charmlet_model.specs.declared.refusal.Refusal.TheVariants as refusals;
 ghost use Rattle.charmlet_model.specs.Fit.{IsFit};
@@ -11,9 +11,9 @@ ghost use Rattle.charmlet_model.specs.Sound.{new_world, opened};
 ghost use Rattle.charmlet_locate.specs.Locations.{is_processor_count};
 ghost use Rattle.charmlet_history.specs.Kept.{IsConsistent, core_in, kept_in, next_in, told_or_refused};
 ghost use Rattle.charmlet_migrate.specs.Moving.{move_answer};
-ghost use Rattle.charmlet_stock.specs.ByKind.{with_at};
+ghost use Rattle.charmlet_stock.specs.ByKind.{for_all, with_at};
 ghost use Rattle.charmlet_stock.specs.Pile.{with_out};
-ghost use Rattle.charmlet_stock.specs.Stock.{blanks_in, census_of, part_of, tally_in};
+ghost use Rattle.charmlet_stock.specs.Stock.{blanks_in, census_of, keeping_of, part_of, tally_in};
 ghost use Rattle.charmlet_store.specs.Store.{AreEmpty, IsNew, IsStoreConsistent, store_in, supplied_in};
 ghost use Rattle.charmlet_store.specs.UnderWay.{Ends};
 
@@ -47,6 +47,7 @@ impl<C: Chare> Store<C> {
         ensures core { core_in result.history ≡ core_in history }
         ensures blanks { (kind : kinds.Kind) → (store_in result).blanks kind ≡ 0 }
         ensures supplied { (kind : kinds.Kind) → supplied_in result kind ≡ 0 }
+        ensures keeping { keeping_of result.stock ≡ for_all false }
         ensures consistent { IsStoreConsistent result }
     {
         Store {
@@ -66,6 +67,7 @@ impl<C: Chare> Store<C> {
         ensures ok { OnOk result ((kind : kinds.Kind) → (store_in self.new).blanks kind ≡ (store_in self.old).blanks kind + count_of C.state blanks.items kind) }
         ensures supplied { OnOk result ((kind : kinds.Kind) → supplied_in self.new kind ≡ supplied_in self.old kind + count_of C.state blanks.items kind) }
         ensures err { IfErr result (λ objects. (objects.items ≡ blanks.items) × ((store_in self.new).blanks ≡ (store_in self.old).blanks) × (supplied_in self.new ≡ supplied_in self.old)) }
+        ensures keeping { keeping_of self.new.stock ≡ keeping_of self.old.stock }
     {
         self.stock.supply(blanks)
     }
@@ -87,6 +89,8 @@ impl<C: Chare> Store<C> {
         ensures source { OnOk result (census_of source.new ≡ with_at (census_of source.old) kind (with_out (tally_in source.old kind) count)) }
         ensures supplied { OnOk result ((k : kinds.Kind) → supplied_in self.new k ≡ supplied_in self.old k + part_of kind count k) }
         ensures err { OnErr result ((store_in self.new ≡ store_in self.old) × (supplied_in self.new ≡ supplied_in self.old) × (census_of source.new ≡ census_of source.old)) }
+        ensures keeping { keeping_of self.new.stock ≡ keeping_of self.old.stock }
+        ensures source_keeping { keeping_of source.new ≡ keeping_of source.old }
     {
         self.stock.draw(source, kind, count)
     }
@@ -109,6 +113,7 @@ impl<C: Chare> Store<C> {
             request.now.to request.now.entry request.now.words.now) (told_or_refused result)
             (store_in self.new) }
         ensures supplied { supplied_in self.new ≡ supplied_in self.old }
+        ensures keeping { keeping_of self.new.stock ≡ keeping_of self.old.stock }
     {
         self.history.request(request)
     }
@@ -128,6 +133,7 @@ impl<C: Chare> Store<C> {
         ensures consistent { IsStoreConsistent self.new }
         ensures ends { Ends (store_in self.old) processor id result (store_in self.new) }
         ensures supplied { supplied_in self.new ≡ supplied_in self.old }
+        ensures keeping { keeping_of self.new.stock ≡ keeping_of self.old.stock }
     {
         if self.history.is_halted() {
             return Err(Refusal::Halted);
@@ -144,6 +150,7 @@ impl<C: Chare> Store<C> {
         ensures consistent { IsStoreConsistent self.new }
         ensures goes { Goes (store_in self.old) (core.Move elem processor) (move_answer result) (store_in self.new) }
         ensures supplied { supplied_in self.new ≡ supplied_in self.old }
+        ensures keeping { keeping_of self.new.stock ≡ keeping_of self.old.stock }
     {
         move_to(
             &mut self.history,

@@ -2,11 +2,12 @@
 
 ghost use Rattle.std.specs.Prelude.{◌≡◌, ◌≤◌, ◌<◌, ◌^◌, [], ◌∷◌, Some, None, IfOk};
 ghost use Rattle.charmlet_history.specs.Kept.{IsConsistent, kept_in};
+ghost use Rattle.charmlet_history.specs.Parts.{world_of};
 ghost use Rattle.charmlet_history_tests.specs.Opening.{array_kinds, clients, counter_at, message, opening_world, pending, records};
 
-use charmlet_history::History;
+use charmlet_history::{History, Opening, WorldParts};
 use charmlet_model::{
-    ClientRow, Elem, Manifest, Message, MsgId, Origin, Record, Refusal, State, Window, Words, World,
+    ClientRow, Elem, Manifest, Message, MsgId, Origin, Record, Refusal, State, Window, Words,
 };
 use std::alloc::{AllocError, Global};
 
@@ -30,18 +31,24 @@ pub fn opened(
     requires few_generations { generation ≤ 2 ^ 40 }
     ensures { IfOk result (λ history. IsConsistent (kept_in history)) }
 {
-    let world = opening_world(alloc)?;
-    History::open(alloc, world, before, generation, log_end, processors)
+    let parts = opening_parts(alloc)?;
+    let opening = Opening::of(alloc, parts, processors)?;
+    Ok(History::open(alloc, opening, before, generation, log_end))
 }
 
-fn opening_world(alloc: Global) -> Result<World, AllocError>
-    ensures { IfOk result (λ world. world ≡ opening_world) }
+fn opening_parts(alloc: Global) -> Result<WorldParts, AllocError>
+    ensures { IfOk result (λ parts. world_of parts ≡ opening_world) }
 {
     let manifest = manifest(alloc)?;
     let records = records(alloc)?;
     let pending = pending(alloc)?;
     let clients = clients(alloc)?;
-    Ok(World::of(manifest, records, pending, clients))
+    Ok(WorldParts {
+        manifest,
+        records,
+        pending,
+        clients,
+    })
 }
 
 // Counters, and trees of which there is none.

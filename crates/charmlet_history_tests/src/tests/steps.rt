@@ -66,7 +66,7 @@ pub(super) fn of_client(client: u32, number: u64) -> MsgId {
     }
 }
 
-fn of_element(elem: Elem, number: u64) -> MsgId {
+pub(super) fn of_element(elem: Elem, number: u64) -> MsgId {
     MsgId {
         origin: Origin::Element(elem),
         number,
@@ -169,7 +169,7 @@ fn assigned(history: &History, processor: u16) -> Option<MsgId>
 }
 
 // The element moves to the processor, where it can.
-fn relocate(history: &mut History, elem: Elem, processor: u16) -> Option<Refusal>
+pub(super) fn relocate(history: &mut History, elem: Elem, processor: u16) -> Option<Refusal>
     requires { IsConsistent (kept_in history.old) }
     ensures { IsConsistent (kept_in history.new) }
 {

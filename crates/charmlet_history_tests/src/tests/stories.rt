@@ -3,8 +3,8 @@
 ghost use Rattle.std.specs.Prelude.{◌≡◌, ◌≤◌, ◌<◌, ◌^◌};
 ghost use Rattle.charmlet_history.specs.Kept.{IsConsistent, kept_in};
 
-use super::opening::opened;
-use super::steps::{Step, halts_before_the_commit, of_client, run};
+use super::opening::{counter_at, opened};
+use super::steps::{Step, halts_before_the_commit, of_client, of_element, relocate, run};
 use charmlet_history::History;
 use charmlet_model::{Elem, Kind, Refusal};
 use std::process::Abort;
@@ -313,6 +313,37 @@ fn histories_show_what_they_keep(rt: HostRuntime) {
     assert_eq!(rt; (history.event_count(), history.durable_count()), (6, 6));
     assert!(rt; history.backlog().is_empty());
     assert_eq!(rt; history.test_flush(), Ok(100 + ONE_REQUEST as u64));
+}
+
+// Once the present world is the opening one, what happened before is durable, and the rest goes on.
+#[test]
+fn renewed_histories_go_on(rt: HostRuntime) {
+    let mut history = open(&rt, 5, 3, 100);
+    run(&rt, &mut history, &[Step::Ask(7, 3)], "told unknown\n");
+    history.renew();
+    assert_eq!(rt; (history.event_count(), history.durable_count()), (6, 6));
+    assert!(rt; history.backlog().is_empty());
+    assert_eq!(rt; (history.generation(), history.test_flush()), (3, Ok(100)));
+    assert_eq!(rt; history.pending().len(), 4);
+    run(&rt, &mut history, &[Step::Ask(7, 3)], "told accepted\n");
+    run(&rt, &mut history, &[Step::Ask(7, 4)], "told unknown\n");
+    assert_eq!(rt; (history.event_count(), history.durable_count()), (7, 6));
+    assert_eq!(rt; history.test_flush(), Ok(100 + ONE_REQUEST as u64));
+    history.renew();
+    history.renew();
+    assert_eq!(rt; (history.event_count(), history.durable_count()), (7, 7));
+}
+
+// A pending message is due where its receiver stands, or where an absent one has its home.
+#[test]
+fn messages_are_due_at_their_receivers(rt: HostRuntime) {
+    let mut history = open(&rt, 0, 1, 0);
+    assert_eq!(rt; history.due_on(of_client(7, 2)), Some(0));
+    assert_eq!(rt; history.due_on(of_element(counter_at(5), 2)), Some(1));
+    assert_eq!(rt; history.due_on(of_client(8, 2)), Some(1));
+    assert_eq!(rt; history.due_on(of_client(8, 3)), None);
+    assert!(rt; relocate(&mut history, counter_at(5), 3).is_none());
+    assert_eq!(rt; history.due_on(of_client(8, 2)), Some(3));
 }
 
 #[test]

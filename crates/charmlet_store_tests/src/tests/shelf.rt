@@ -4,7 +4,7 @@ ghost use Rattle.std.specs.Map.{lookup};
 ghost use Rattle.charmlet_kinds.specs.Tree.{state_of};
 ghost use Rattle.charmlet_model.specs.Names.{elem_cmp};
 ghost use Rattle.charmlet_model.specs.Shelves.{record_in};
-ghost use Rattle.charmlet_shelf.specs.Shelf.{HasCounts, is_assigned};
+ghost use Rattle.charmlet_shelf.specs.Shelf.{HasCounts, is_assigned, is_idle};
 ghost use Rattle.charmlet_shelf.specs.declared.phase.Phase.TheVariants as phases;
 
 use charmlet_chare::{Chare, Outbox, Output};
@@ -241,6 +241,23 @@ fn lifts<C: Chare>(
     lacks(rt, shelf, elem);
 }
 
+// The first element is this one, with these counts and this packed form. Afterwards it isn't there any more.
+fn lifts_first<C: Chare>(
+    rt: &(impl AllocGlobal + Abort),
+    shelf: &mut Shelf<C>,
+    elem: Elem,
+    counts: (u64, u64),
+    packed: &[u8],
+)
+    requires { is_idle shelf.old.phase ≡ true }
+    ensures { is_idle shelf.new.phase ≡ true }
+{
+    let (first, mut resident) = shelf.lift_first().expect(rt, "an element is there");
+    assert!(rt; first == elem);
+    assert!(rt; (resident.sent, resident.received) == counts);
+    packs_to(rt, &mut resident.object, packed);
+}
+
 // A delivery is under way. Once it is settled, the element is on the shelf with these counts and this
 // packed form.
 fn settles<C: Chare>(
@@ -385,6 +402,15 @@ fn images_are_in_rising_order(rt: HostRuntime) {
     assert!(rt; images.len() == 2);
     is_image(&rt, images.first(), ME, (1, 2), &[0; 16]);
     is_image(&rt, images.last(), OTHER, (4, 5), &RING);
+}
+
+#[test]
+fn objects_are_lifted_in_rising_order(rt: HostRuntime) {
+    let mut shelf = shelf_with(&rt, OTHER, ring(&rt));
+    assert!(rt; shelf.place(ME, resident(Ring::blank(), 1, 2)).is_ok());
+    lifts_first(&rt, &mut shelf, ME, (1, 2), &[0; 16]);
+    lifts_first(&rt, &mut shelf, OTHER, (4, 5), &RING);
+    assert!(rt; shelf.lift_first().is_none());
 }
 
 #[test]

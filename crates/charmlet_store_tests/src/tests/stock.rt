@@ -1,4 +1,7 @@
+ghost use Rattle.std.specs.Prelude.{◌≡◌, true};
 ghost use Rattle.charmlet_kinds.specs.Counter.{state_of};
+ghost use Rattle.charmlet_stock.specs.ByKind.{for_all};
+ghost use Rattle.charmlet_stock.specs.Stock.{keeping_of};
 
 use charmlet_chare::{Chare, Outbox};
 use charmlet_kinds::Counter;
@@ -77,7 +80,9 @@ fn borrows<C: Chare>(stock: &mut Stock<C>, kind: Kind) -> bool {
 }
 
 // Takes a blank and retires it. Whether there was one.
-fn retires<C: Chare>(stock: &mut Stock<C>, kind: Kind) -> bool {
+fn retires<C: Chare>(stock: &mut Stock<C>, kind: Kind) -> bool
+    ensures { keeping_of stock.new ≡ keeping_of stock.old }
+{
     match stock.take(kind) {
         Some(object) => {
             stock.retire(object);
@@ -140,6 +145,53 @@ fn retired_objects_are_dropped_at_once(rt: HostRuntime) -> Result<(), Fail> {
     assert!(rt; !retires(&mut stock, Kind::Counter));
     assert_eq!(rt; drops.load(Ordering::SeqCst), 2);
     assert_eq!(rt; stock.census().counters, tally(2, 0, 2));
+    Ok(())
+}
+
+// An empty stock that keeps retired objects.
+fn keeping<C: Chare>(alloc: Global) -> Stock<C>
+    ensures { keeping_of result ≡ for_all true }
+{
+    let mut stock = Stock::new(alloc);
+    stock.keep_retired();
+    stock
+}
+
+#[test]
+fn kept_objects_are_taken_back(rt: HostRuntime) -> Result<(), Fail> {
+    let alloc = rt.alloc();
+    let drops = Arc::new(alloc, AtomicU64::new(0))?;
+    let mut stock = keeping(alloc);
+    assert!(rt; stock.supply(probes(alloc, &drops, 3)?).is_ok());
+    assert!(rt; retires(&mut stock, Kind::Counter));
+    assert_eq!(rt; stock.census().counters, tally(3, 2, 1));
+    assert!(rt; retires(&mut stock, Kind::Counter));
+    assert!(rt; retires(&mut stock, Kind::Counter));
+    assert!(rt; !retires(&mut stock, Kind::Counter));
+    assert_eq!(rt; stock.census().counters, tally(3, 0, 3));
+    stock.take_back();
+    assert_eq!(rt; stock.census().counters, tally(3, 3, 0));
+    assert_eq!(rt; drops.load(Ordering::SeqCst), 0);
+    assert!(rt; retires(&mut stock, Kind::Counter));
+    assert_eq!(rt; drops.load(Ordering::SeqCst), 0);
+    Ok(())
+}
+
+#[test]
+fn kept_objects_are_dropped_together(rt: HostRuntime) -> Result<(), Fail> {
+    let alloc = rt.alloc();
+    let drops = Arc::new(alloc, AtomicU64::new(0))?;
+    let mut stock = keeping(alloc);
+    assert!(rt; stock.supply(probes(alloc, &drops, 4)?).is_ok());
+    assert!(rt; retires(&mut stock, Kind::Counter));
+    assert!(rt; retires(&mut stock, Kind::Counter));
+    assert_eq!(rt; drops.load(Ordering::SeqCst), 0);
+    stock.drop_retired();
+    assert_eq!(rt; drops.load(Ordering::SeqCst), 2);
+    assert_eq!(rt; stock.census().counters, tally(4, 2, 2));
+    assert!(rt; retires(&mut stock, Kind::Counter));
+    assert_eq!(rt; drops.load(Ordering::SeqCst), 3);
+    assert_eq!(rt; stock.census().counters, tally(4, 1, 3));
     Ok(())
 }
 

@@ -9,4 +9,4 @@ pub returns : goal.returns
 returns g c = λ kind.
     let count = count_of g.C.Chare.state c.args.objects.items kind in
     let supplied = when_ok _ c.supply.result (sym c.is_err.ensures.value ∙ c.if-is_err.false) c.supply.ensures.ok kind in
-    ap (λ (t : Tally). t.in_stock) (supplied ∙ ap (λ t. supplied_more t count) (c.new-stock.ensures kind)) ∙ omega arith
+    ap (λ (t : Tally). t.in_stock) (supplied ∙ ap (λ t. supplied_more t count) (c.new-stock.ensures.tally kind)) ∙ omega arith

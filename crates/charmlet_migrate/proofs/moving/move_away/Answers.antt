@@ -64,7 +64,7 @@ returns-in-Err-clause-goes g c =
     c.in-Err.ensures.err.0
     ∙ lacks_memory_then (shelf_at shelves c.in-Some.place) (shelf_at shelves processor) (idle_at shelves c.in-Some.place source c.requires.idle) (idle_at shelves processor destination c.requires.idle) in
     let same : census_of c.give_back.new.self ≡ census_of c.args.stock.now =
-    given_then c.args.stock.now c.take.new.self c.give_back.new.self kind taken.0 (kind_of (g.C.Chare.state c.in-Err.blank)) (c.in-Err.ensures.err.1 ∙ c.in-Some-take.ensures.kind) taken.1 c.give_back.ensures in
+    given_then c.args.stock.now c.take.new.self c.give_back.new.self kind taken.0 (kind_of (g.C.Chare.state c.in-Err.blank)) (c.in-Err.ensures.err.1 ∙ c.in-Some-take.ensures.kind) taken.1 c.give_back.ensures.census in
     subst (λ (r : Refusal). Goes (record { core = core; blanks = old }) (Move x processor) (Refuses r) (record { core = core; blanks = blanks_in c.give_back.new.self })) (sym memory)
     (subst (λ (b : Blanks). Goes (record { core = core; blanks = old }) (Move x processor) (Refuses refusals.Memory) (record { core = core; blanks = b })) (sym (same_blanks c.args.stock.now c.give_back.new.self same))
     (lacks_memory_for core x processor c.requires.can old kind
@@ -95,7 +95,7 @@ returns-clause-goes g c =
     let old = blanks_in c.args.stock.now in
     let taken = c.in-Some-take.ensures.some refl in
     subst (λ (after : Core). Goes (record { core = core; blanks = old }) (Move x processor) Done (record { core = after; blanks = blanks_in c.retire.new.self })) (sym c.relocate.ensures.moved)
-    (subst (λ (b : Blanks). Goes (record { core = core; blanks = old }) (Move x processor) Done (record { core = next_core core (Move x processor); blanks = b })) (sym (retired_blanks c.take.new.self c.retire.new.self (kind_of (g.C.Chare.state c.in-Ok.old.object)) c.retire.ensures ∙ taken_blanks c.args.stock.now c.take.new.self kind taken.0))
+    (subst (λ (b : Blanks). Goes (record { core = core; blanks = old }) (Move x processor) Done (record { core = next_core core (Move x processor); blanks = b })) (sym (retired_blanks c.take.new.self c.retire.new.self (kind_of (g.C.Chare.state c.in-Ok.old.object)) c.retire.ensures.census ∙ taken_blanks c.args.stock.now c.take.new.self kind taken.0))
     (goes_away core x processor c.requires.can old kind
     (is_elsewhere core sound x processor c.requires.can kind c.requires.wanted)
     (array_is core sound x processor c.requires.can kind c.requires.wanted) taken.1))
@@ -146,7 +146,7 @@ returns-clause-census g c =
     c.lift.new.self c.in-Ok.ensures.ok.2 in
     let taken = c.in-Some-take.ensures.some refl in
     let moved : census_of c.retire.new.self ≡ with_at (census_of c.args.stock.now) kind (moved_tally (tally_in c.args.stock.now kind)) =
-    retired_then c.args.stock.now c.take.new.self c.retire.new.self kind taken.0 (kind_of (g.C.Chare.state c.in-Ok.old.object)) its c.retire.ensures in
+    retired_then c.args.stock.now c.take.new.self c.retire.new.self kind taken.0 (kind_of (g.C.Chare.state c.in-Ok.old.object)) its c.retire.ensures.census in
     moved_counts c.args.stock.now c.retire.new.self kind moved shelves (slice_set c.place_copy.new.shelves c.in-Some.place c.lift.new.self)
     (as_many core sound x processor c.requires.can kind c.requires.wanted c.in-Some.place place shelves c.requires.shows c.requires.count (slice_set c.place_copy.new.shelves c.in-Some.place c.lift.new.self) carries) taken.1
 
@@ -154,5 +154,5 @@ pub returns-clause-supplied : goal.returns-clause-supplied
 returns-clause-supplied g c =
     let kind = c.args.kind in
     let its = kind_of (g.C.Chare.state c.in-Ok.old.object) in
-    same_supplied c.take.new.self c.retire.new.self its (with_one_retired (tally_in c.take.new.self its)) c.retire.ensures refl
+    same_supplied c.take.new.self c.retire.new.self its (with_one_retired (tally_in c.take.new.self its)) c.retire.ensures.census refl
     ∙ same_supplied c.args.stock.now c.take.new.self kind (with_out (tally_in c.args.stock.now kind) 1) (c.in-Some-take.ensures.some refl).0 refl

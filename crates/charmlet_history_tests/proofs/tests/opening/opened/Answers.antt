@@ -1,7 +1,10 @@
-use Rattle.std.proofs.Common.{sym, subst}
+use Rattle.std.proofs.Common.{sym, subst, ◌∙◌}
 use Rattle.charmlet_model.specs.Fit.{IsFit}
 use Rattle.charmlet_history_tests.proofs.OpeningFit.{opening_fit}
 use Rattle.charmlet_history_tests.proofs.tests.opening.opened.Goals as goal
 
+pub of-requires : goal.of-requires
+of-requires c = subst IsFit (sym c.in_ok-parts.ensures) opening_fit
+
 pub open-requires-clause-fit : goal.open-requires-clause-fit
-open-requires-clause-fit c = subst IsFit (sym c.in_ok-world.ensures) opening_fit
+open-requires-clause-fit c = subst IsFit (sym (c.in_ok-opening.ensures.world ∙ c.in_ok-parts.ensures)) opening_fit

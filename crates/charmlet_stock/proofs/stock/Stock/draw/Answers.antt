@@ -1,4 +1,4 @@
-use Rattle.std.proofs.Common.{rules, ◌≡◌, ◌+◌, ◌-◌, ◌<◌, sym, ap, subst, ◌∙◌, arith}
+use Rattle.std.proofs.Common.{rules, ◌≡◌, ◌+◌, ◌-◌, ◌<◌, refl, sym, ap, subst, ◌∙◌, arith}
 use Rattle.charmlet_model.specs.Reaction.{kind_of}
 use Rattle.charmlet_stock.specs.declared.by_kind.ByKind.{ByKind}
 use Rattle.charmlet_stock.specs.declared.pile.Tally.{Tally}
@@ -14,6 +14,8 @@ loop-init g c =
       subst (HasRoomFor (at c.reserve_of.new.self.piles k)) (omega arith) c.in_ok-reserve_of.ensures.ok,
       with_same (census_of c.reserve_of.new.self) k ∙ ap (with_at (census_of c.reserve_of.new.self) k) (sym (supplied_none (tally_in c.reserve_of.new.self k))),
       with_same (census_of c.args.source.now) k ∙ ap (with_at (census_of c.args.source.now) k) (sym (out_none (tally_in c.args.source.now k))),
+      refl,
+      refl,
     )
 
 pub unreachable-requires : goal.unreachable-requires
@@ -53,6 +55,8 @@ loop-preserved g c =
           (added ∙ ap (with_at (census_of c.loop.self) k) (ap (λ t. supplied_more t 1) here ∙ supplied_again (at first k) n)),
       changed_again (census_of c.args.source.now) (census_of c.loop.source) (census_of c.take.new.self) k _ _ c.loop.invariant.2
           (taken ∙ ap (with_at (census_of c.loop.source) k) (ap (λ t. with_out t 1) there ∙ out_again (tally_in c.args.source.now k) n)),
+      c.add.ensures.keeping ∙ c.loop.invariant.3,
+      c.take.ensures.keeping ∙ c.loop.invariant.4,
     )
 
 pub returns-clause-drawn : goal.returns-clause-drawn

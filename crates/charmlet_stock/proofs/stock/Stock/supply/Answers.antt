@@ -16,7 +16,7 @@ loop-object-init g c =
     let is = sym c.is_err.ensures.value ∙ c.if-is_err.false in
     let room : HasRoomForAll state c.reserve.new.self.piles c.as_slice.result.now = when_ok _ c.reserve.result is c.reserve.ensures.ok in
     let counted : c.into_iter-object-iterator.result.rest.len ≡ length c.into_iter-object-iterator.result.rest.items = search rules in
-    (subst (HasRoomForAll state c.reserve.new.self.piles) (c.as_slice.ensures.value ∙ sym c.into_iter-object-iterator.ensures.into_iter_gives.0) room, (λ kind. refl), counted)
+    (subst (HasRoomForAll state c.reserve.new.self.piles) (c.as_slice.ensures.value ∙ sym c.into_iter-object-iterator.ensures.into_iter_gives.0) room, (λ kind. refl), counted, refl)
 
 pub add-requires-after_bounds : goal.add-requires-after_bounds
 add-requires-after_bounds g c κs within =
@@ -39,6 +39,7 @@ loop-object-preserved g c =
           ∙ ap (λ objects. supplied_more (tally_in c.loop-object.self kind) (count_of state objects kind)) (sym items)
           ∙ c.loop-object.invariant.1 kind),
       omega arith,
+      c.add.ensures.keeping ∙ c.loop-object.invariant.3,
     )
 
 pub returns-clause-ok : goal.returns-clause-ok

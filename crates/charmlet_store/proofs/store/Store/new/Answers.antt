@@ -4,11 +4,11 @@ use Rattle.charmlet_store.proofs.Shelved.{new_consistent}
 use Rattle.charmlet_store.proofs.store.Store.new.Goals as goal
 
 pub returns-clause-blanks : goal.returns-clause-blanks
-returns-clause-blanks g c = λ kind. ap (λ (t : Tally). t.in_stock) (c.new.ensures kind)
+returns-clause-blanks g c = λ kind. ap (λ (t : Tally). t.in_stock) (c.new.ensures.tally kind)
 
 pub returns-clause-supplied : goal.returns-clause-supplied
-returns-clause-supplied g c = λ kind. ap (λ (t : Tally). t.supplied) (c.new.ensures kind)
+returns-clause-supplied g c = λ kind. ap (λ (t : Tally). t.supplied) (c.new.ensures.tally kind)
 
 pub returns-clause-consistent : goal.returns-clause-consistent
 returns-clause-consistent g c =
-    new_consistent (record { alloc = c.args.alloc; history = c.args.history; shelves = c.args.shelves; stock = c.new.result }) c.requires.new c.requires.consistent c.requires.empty c.new.ensures
+    new_consistent (record { alloc = c.args.alloc; history = c.args.history; shelves = c.args.shelves; stock = c.new.result }) c.requires.new c.requires.consistent c.requires.empty c.new.ensures.tally

@@ -1,0 +1,39 @@
+use Rattle.std.proofs.Common.{ℕ, List, rules, ◌≡◌, ◌+◌, [], ap, length, sym, subst, ◌∙◌}
+use Rattle.charmlet_model.specs.declared.event.Event.{Event}
+use Rattle.charmlet_model.specs.Core.{present}
+use Rattle.charmlet_model.specs.World.{World}
+use Rattle.charmlet_history.specs.Flushed.{all_durable}
+use Rattle.charmlet_history.specs.Kept.{Kept, IsConsistent, core_of, kept_in}
+use Rattle.charmlet_history.proofs.Consistency.{manifest_is}
+use Rattle.charmlet_history.proofs.Openings.{renewed_consistent}
+use Rattle.charmlet_history.proofs.history.History.renew.Goals as goal
+
+pub renew-requires : goal.renew-requires
+renew-requires c =
+    let k = kept_in c.args.self.now in
+    let same : (kept_in c.make_durable.new.self).opening ≡ k.opening = ap (λ (j : Kept). j.opening) c.make_durable.ensures.durable in
+    ap (λ (w : World). w.manifest) c.of-seen.ensures ∙ manifest_is k ∙ ap (λ (w : World). w.manifest) (sym same)
+
+pub returns-clause-consistent : goal.returns-clause-consistent
+returns-clause-consistent c =
+    let k = kept_in c.args.self.now in
+    let backlog = (kept_in c.make_durable.new.self).backlog in
+    let made : kept_in c.make_durable.new.self ≡ all_durable k k.log_end backlog = c.make_durable.ensures.durable in
+    let world : c.renew.new.self ≡ present (core_of k) = c.renew.ensures ∙ c.of-seen.ensures in
+    let counted : c.len.result ≡ length (kept_in c.make_durable.new.self).events = search rules in
+    let count : c.len.result ≡ length k.events = counted ∙ ap (λ (j : Kept). length j.events) made in
+    let none : c.clear.new.self.items ≡ [] = c.clear.ensures.items in
+    let next : Kept → World → ℕ → List Event → Kept = λ j w n es. record j { opening = w; before = j.before + n; events = es; durable = 0 } in
+    subst IsConsistent (sym (λ i. next (made i) (world i) (count i) (none i))) (renewed_consistent k backlog c.requires c.make_durable.ensures.empty)
+
+pub returns-clause-renewed : goal.returns-clause-renewed
+returns-clause-renewed c =
+    let k = kept_in c.args.self.now in
+    let backlog = (kept_in c.make_durable.new.self).backlog in
+    let made : kept_in c.make_durable.new.self ≡ all_durable k k.log_end backlog = c.make_durable.ensures.durable in
+    let world : c.renew.new.self ≡ present (core_of k) = c.renew.ensures ∙ c.of-seen.ensures in
+    let counted : c.len.result ≡ length (kept_in c.make_durable.new.self).events = search rules in
+    let count : c.len.result ≡ length k.events = counted ∙ ap (λ (j : Kept). length j.events) made in
+    let none : c.clear.new.self.items ≡ [] = c.clear.ensures.items in
+    let next : Kept → World → ℕ → List Event → Kept = λ j w n es. record j { opening = w; before = j.before + n; events = es; durable = 0 } in
+    λ i. core_of (next (made i) (world i) (count i) (none i))

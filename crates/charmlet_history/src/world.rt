@@ -1,0 +1,100 @@
+//! The world with which a history opens.
+
+ghost use Rattle.std.specs.Prelude.{◌≡◌};
+ghost use Rattle.std.specs.Borrow.{ftrue};
+ghost use Rattle.charmlet_model.specs.World.{World};
+ghost use Rattle.charmlet_model.specs.Sound.{new_world};
+ghost use Rattle.charmlet_history.specs.Parts.{world_of};
+
+use charmlet_model::{ClientRow, Elem, Manifest, Message, Record};
+use std::marker::Model;
+
+/// A world that only contracts read. It has no bytes: what ties it to a store are the clauses of whoever
+/// keeps it.
+#[derive(Drop)]
+pub struct SeenWorld {
+    pub ghost world: { World },
+}
+
+impl Model for SeenWorld {
+    ghost also_owns = { λ _. ftrue };
+}
+
+// It owns nothing, so threads may have it and share it.
+unsafe impl Send for SeenWorld {}
+
+unsafe impl Sync for SeenWorld {}
+
+/// What has a world, for contracts alone.
+pub trait HasWorld {
+    /// The world.
+    ghost world: { Self → World };
+}
+
+impl SeenWorld {
+    /// The world that something has. It does nothing at run time.
+    pub fn of<W: HasWorld>(_owner: &W) -> Self
+        ensures { result.world ≡ W.world _owner.now }
+    {
+        SeenWorld {}
+    }
+}
+
+/// A new store has the world with its arrays in which nothing has happened.
+impl HasWorld for Manifest {
+    ghost world = { new_world };
+}
+
+/// A world in parts: its arrays, what is kept of each element and of each client in rising order, and the
+/// pending messages in order of birth.
+#[derive(Debug, Drop)]
+pub struct WorldParts {
+    pub manifest: Manifest,
+    pub records: Vec<(Elem, Record)>,
+    pub pending: Vec<Message>,
+    pub clients: Vec<(u32, ClientRow)>,
+}
+
+impl HasWorld for WorldParts {
+    ghost world = { world_of };
+}
+
+/// The world with which a history opens. A contract sees the whole of it; code keeps its arrays alone.
+#[derive(Drop)]
+pub struct OpeningWorld {
+    manifest: Manifest,
+    seen: SeenWorld,
+}
+
+impl Model for OpeningWorld {
+    ghost Value = { World };
+
+    ghost view = { λ o. o.seen.world };
+
+    ghost invariant = { λ o. o.seen.world.manifest ≡ o.manifest };
+}
+
+impl OpeningWorld {
+    /// This world, which has these arrays. It takes no memory.
+    pub fn of(manifest: Manifest, seen: SeenWorld) -> Self
+        requires { seen.world.manifest ≡ manifest }
+        ensures { result ≡ seen.world }
+    {
+        OpeningWorld { manifest, seen }
+    }
+
+    /// The kind of each array.
+    pub fn manifest(&self) -> &Manifest
+        ensures { result.now ≡ self.now.manifest }
+    {
+        &self.manifest
+    }
+
+    /// Another world with the same arrays takes its place.
+    pub(crate) fn renew(&mut self, seen: SeenWorld)
+        requires { seen.world.manifest ≡ self.old.manifest }
+        ensures { self.new ≡ seen.world }
+    {
+        self.seen = seen;
+    }
+}

@@ -1,0 +1,9 @@
+pub mod Holes
+pub mod Ids
+pub mod Suiting
+pub mod Risen
+pub mod Rows
+pub mod RowsLemmas
+pub mod Sends
+pub mod ShownLemmas
+pub mod Showing

@@ -1,0 +1,92 @@
+-- What a row is to its element.
+use Rattle.std.proofs.Common.{◌≡◌, ℕ, ◌+◌, ◌<◌, suc, Bool, true, false, cond, not, nat_lt, List, [], ◌∷◌, ◌++◌, length, refl, sym, ap, subst, ◌∙◌, if◌then◌else◌, slice_get}
+use Rattle.std.proofs.Common.{arith}
+use Rattle.std.proofs.lemmas.Bool.{ltb-true}
+use Rattle.std.specs.Prelude.{Option, Some, None, position, unwrap_or, is_some}
+use Rattle.std.specs.List.{AllByRecursion, IsDistinct, position_or_len}
+use Rattle.std.specs.Map.{keys_of, lookup}
+use Rattle.indexmap.specs.IndexMap.{set_value_at}
+use Rattle.charmlet_model.specs.declared.names.Elem.{Elem}
+use Rattle.charmlet_model.specs.Names.{same_elem}
+use Rattle.charmlet_model.proofs.Maps.{same_from_test}
+use Rattle.charmlet_world.specs.declared.element.Element.{Element}
+use Rattle.charmlet_world.specs.Standing.{element_in, no_element, with_row}
+
+abbrev pub Rows : Type 0
+Rows = List (Elem × Element)
+
+pub same_other_way : (a b : Elem) → same_elem a b ≡ same_elem b a
+same_other_way a b = by (same_elem a b) refl (same_elem b a) refl
+  where
+    by : (t : Bool) → same_elem a b ≡ t → (u : Bool) → same_elem b a ≡ u → same_elem a b ≡ same_elem b a
+    by true h u k = let p = same_from_test a b h in λ i. same_elem (p i) (sym p i)
+    by false h true k = let p = same_from_test b a k in λ i. same_elem (sym p i) (p i)
+    by false h false k = h ∙ sym k
+
+-- a new row is the last
+pub last_row : (es : Rows) (e : Elem × Element) → slice_get (es ++ e ∷ []) (length es) ≡ Some e
+last_row [] e = refl
+last_row (f ∷ es) e = last_row es e
+
+-- the first row that passes
+at_first : (x : Elem) (es : Rows) → position_or_len (same_elem x) (keys_of es) < length (keys_of es) → slice_get es (position_or_len (same_elem x) (keys_of es)) ≡ Some (x, element_in es x)
+at_first x [] h = absurd (omega arith)
+at_first x (e ∷ es) h =
+    let p = position_or_len (same_elem x) (keys_of es) in
+    elim (same_elem x e.0) as (λ b. same_elem x e.0 ≡ b → cond (not b) (1 + p) 0 < length (keys_of (e ∷ es)) → slice_get (e ∷ es) (cond (not b) (1 + p) 0) ≡ Some (x, unwrap_or (if b then Some e.1 else lookup (same_elem x) es) no_element)) [
+      | true ↦ λ same _. let key = same_from_test x e.0 same in λ j. Some (sym key j, e.1)
+      | false ↦ λ _ less. let step : suc p ≡ 1 + p = omega arith in subst (λ k. slice_get (e ∷ es) k ≡ Some (x, element_in es x)) step (at_first x es (omega arith))
+    ] refl h
+
+first_place : (p n i : ℕ) → cond (nat_lt p n) (Some p) None ≡ Some i → (p ≡ i) × (p < n)
+first_place p n i is =
+    elim (nat_lt p n) as (λ b. nat_lt p n ≡ b → cond b (Some p) None ≡ Some i → (p ≡ i) × (p < n)) [
+      | true ↦ λ less here. ((let same : p ≡ i = cc in same), ltb-true p n less)
+      | false ↦ λ _ none. absurd (let no : ⊥ = cc in no)
+    ] refl is
+
+-- where an element is found, it and its row are
+pub at_position : (x : Elem) (es : Rows) (i : ℕ) → position (same_elem x) (keys_of es) ≡ Some i → slice_get es i ≡ Some (x, element_in es x)
+at_position x es i is =
+    let first = first_place (position_or_len (same_elem x) (keys_of es)) (length (keys_of es)) i is in
+    subst (λ k. slice_get es k ≡ Some (x, element_in es x)) first.0 (at_first x es first.1)
+
+-- an element that has no row gets one at the end
+pub none_found : (o : Option Element) → false ≡ is_some o → o ≡ None
+none_found None h = refl
+none_found (Some e) h = absurd (let no : ⊥ = cc in no)
+
+pub with_new_row : (x : Elem) (es : Rows) → lookup (same_elem x) es ≡ None → es ++ (x, no_element) ∷ [] ≡ with_row es x
+with_new_row x es none = rw none refl
+
+pub new_row : (x : Elem) (es : Rows) → lookup (same_elem x) es ≡ None → slice_get (es ++ (x, no_element) ∷ []) (length es) ≡ Some (x, element_in es x)
+new_row x es none = rw none (last_row es (x, no_element))
+
+-- the element of a row is not one that no row has
+apart_at : (x z : Elem) (es : Rows) (i : ℕ) (e : Element) → AllByRecursion (λ k. same_elem z k ≡ false) (keys_of es) → slice_get es i ≡ Some (x, e) → same_elem z x ≡ false
+apart_at x z [] i e h at = absurd (let no : ⊥ = cc in no)
+apart_at x z (f ∷ es) Prim.Native.Nat.zero e h at = let key : f.0 ≡ x = λ j. (unwrap_or (at j) f).0 in subst (λ k. same_elem z k ≡ false) key h.0
+apart_at x z (f ∷ es) (suc i) e h at = apart_at x z es i e h.1 at
+
+-- a change by index is a change of that element, and of no other
+pub changed : (x y : Elem) (e w : Element) (es : Rows) (i : ℕ) → IsDistinct same_elem (keys_of es) → slice_get es i ≡ Some (x, e)
+    → lookup (same_elem y) (set_value_at es i w) ≡ (if same_elem x y then Some w else lookup (same_elem y) es)
+unfolding IsDistinct
+changed x y e w [] i h at = absurd (let no : ⊥ = cc in no)
+changed x y e w (f ∷ es) Prim.Native.Nat.zero h at =
+    let key : f.0 ≡ x = λ j. (unwrap_or (at j) f).0 in
+    let turned : same_elem y f.0 ≡ same_elem x y = ap (same_elem y) key ∙ same_other_way y x in
+    rw turned (elim (same_elem x y) as (λ b. (if b then Some w else lookup (same_elem y) es) ≡ (if b then Some w else (if b then Some f.1 else lookup (same_elem y) es))) [ true ↦ refl | false ↦ refl ])
+changed x y e w (f ∷ es) (suc i) h at =
+    elim (same_elem y f.0) as (λ b. same_elem y f.0 ≡ b → (if b then Some f.1 else lookup (same_elem y) (set_value_at es i w)) ≡ (if same_elem x y then Some w else (if b then Some f.1 else lookup (same_elem y) es))) [
+      | true ↦ λ same.
+          let other : same_elem x y ≡ false = ap (same_elem x) (same_from_test y f.0 same) ∙ same_other_way x f.0 ∙ apart_at x f.0 es i e h.0 at in
+          rw other refl
+      | false ↦ λ _. changed x y e w es i h.1 at
+    ] refl
+
+pub changed_element : (x y : Elem) (e w : Element) (es : Rows) (i : ℕ) → IsDistinct same_elem (keys_of es) → slice_get es i ≡ Some (x, e)
+    → element_in (set_value_at es i w) y ≡ (if same_elem x y then w else element_in es y)
+changed_element x y e w es i h at =
+    ap (λ o. unwrap_or o no_element) (changed x y e w es i h at)
+    ∙ (elim (same_elem x y) as (λ b. unwrap_or (if b then Some w else lookup (same_elem y) es) no_element ≡ (if b then w else element_in es y)) [ true ↦ refl | false ↦ refl ])

@@ -1,0 +1,8 @@
+-- The definitions that contracts cite.
+pub mod Changed
+pub mod Client
+pub mod Ids
+pub mod Laws
+pub mod Seen
+pub mod Standing
+pub mod Waiting

@@ -1,0 +1,27 @@
+-- What is kept of the elements, in the order in which they came.
+use Rattle.std.specs.Prelude.{ℕ, List, [], ◌∷◌, ◌++◌, None, unwrap_or, is_some, if◌then◌else◌}
+use Rattle.std.specs.BTreeMap.{insert_entry}
+use Rattle.std.specs.Map.{lookup}
+use Rattle.charmlet_model.specs.declared.names.Elem.{Elem}
+use Rattle.charmlet_model.specs.Names.{elem_cmp, same_elem}
+use Rattle.charmlet_world.specs.declared.element.Element.{Element}
+
+pub record Standing : Type 0 where
+  pub entries : List (Elem × Element)
+  pub room : ℕ
+
+-- an element that was never constructed
+abbrev pub no_element : Element
+no_element = record { place = None; sent = 0; received = 0 }
+
+abbrev pub element_in : List (Elem × Element) → Elem → Element
+element_in entries x = unwrap_or (lookup (same_elem x) entries) no_element
+
+-- an entry for the element, if it had none
+abbrev pub with_row : List (Elem × Element) → Elem → List (Elem × Element)
+with_row entries x = if is_some (lookup (same_elem x) entries) then entries else entries ++ (x, no_element) ∷ []
+
+-- the same entries, their keys rising: the list that a tree of them would be
+abbrev pub risen : List (Elem × Element) → List (Elem × Element)
+risen [] = []
+risen (e ∷ es) = insert_entry elem_cmp (risen es) e.0 e.1

@@ -1,0 +1,33 @@
+-- The pending messages, as the table that holds them says them.
+use Rattle.std.specs.Prelude.{◌≡◌, ℕ, ◌+◌, ◌≤◌, List, [], ◌∷◌, length, take, Option, Some, None}
+use Rattle.std.specs.Borrow.{Bor}
+use Rattle.charmlet_model.specs.declared.names.MsgId.{MsgId}
+use Rattle.charmlet_model.specs.declared.message.Message.{Message}
+use Rattle.charmlet_world.specs.declared.letter.Letter.{Letter}
+
+-- the messages in order of birth, and for how many more there is room
+pub record Waiting : Type 0 where
+  pub messages : List Message
+  pub room : ℕ
+
+abbrev pub message_of : MsgId → Letter → Message
+message_of id letter = record { id = id; to = letter.to; entry = letter.entry; words = letter.words }
+
+-- the letters that are there, each as a message; the others were taken and have left a hole
+abbrev pub with_letter : MsgId → Option Letter → List Message → List Message
+with_letter id None ms = ms
+with_letter id (Some letter) ms = message_of id letter ∷ ms
+
+abbrev pub live : List (MsgId × Option Letter) → List Message
+live [] = []
+live (e ∷ es) = with_letter e.0 e.1 (live es)
+
+-- so many of the entries are holes, and before the start there are only holes
+pub record Counts (entries : List (MsgId × Option Letter)) (holes start : ℕ) : Type 0 where
+  pub counted : length (live entries) + holes ≡ length entries
+  pub within : start ≤ length entries
+  pub before : live (take start entries) ≡ []
+
+-- what an iterator lends, as a message
+abbrev pub shown_message : MsgId × Bor Letter → Message
+shown_message x = message_of x.0 x.1.now

@@ -1,0 +1,56 @@
+//! What is kept of an element.
+
+ghost use Rattle.std.specs.Prelude.{◌≡◌, ◌+◌, ◌≤◌, not};
+ghost use Rattle.charmlet_model.specs.Reaction.{greatest};
+ghost use Rattle.charmlet_world.specs.Changed.{counted, lacks_count};
+ghost use Rattle.charmlet_world.specs.Seen.{has_record, no_element};
+
+use charmlet_model::MAX_SENDS;
+
+/// The processor of an element, if it is there, and how many messages it sent and received in its whole
+/// life.
+#[derive(Clone, Copy, Debug, PartialEq, Eq)]
+pub struct Element {
+    pub place: Option<u16>,
+    pub sent: u64,
+    pub received: u64,
+}
+
+impl Element {
+    /// An element that was never constructed: it stands nowhere, and its counts are 0.
+    pub fn new() -> Self
+        ensures { result ≡ no_element }
+    {
+        Element {
+            place: None,
+            sent: 0,
+            received: 0,
+        }
+    }
+
+    /// Whether its counts have room for one more delivery.
+    pub fn has_room(&self) -> bool
+        ensures { result ≡ not (lacks_count self.now) }
+    {
+        self.received < u64::MAX && self.sent <= u64::MAX - MAX_SENDS as u64
+    }
+
+    /// Whether its world has a record of it: it is there, or it received a message.
+    pub fn has_record(&self) -> bool
+        ensures { result ≡ has_record self.now }
+    {
+        self.place.is_some() || self.received > 0
+    }
+
+    /// Counts one more delivery, by which it sent so many messages and after which it stands here, or
+    /// nowhere.
+    pub fn advance(&mut self, place: Option<u16>, sends: u64)
+        requires sent { self.old.sent + sends ≤ greatest }
+        requires received { self.old.received + 1 ≤ greatest }
+        ensures { self.new ≡ counted self.old place sends }
+    {
+        self.place = place;
+        self.sent += sends;
+        self.received += 1;
+    }
+}

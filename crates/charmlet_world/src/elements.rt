@@ -1,0 +1,147 @@
+//! What is kept of each element.
+
+ghost use Rattle.std.specs.Prelude.{◌≡◌, ◌≤◌, ◌<◌, [], ◌∷◌, ◌++◌, length, slice_get, Some, IfSome, IfOk, IsOk, OnOk, OnErr, is_some, if◌then◌else◌};
+ghost use Rattle.std.specs.Map.{keys_of, lookup, values_of};
+ghost use Rattle.indexmap.specs.IndexMap.{set_value_at};
+ghost use Rattle.charmlet_model.specs.Names.{elem_cmp, same_elem};
+ghost use Rattle.std.specs.BTreeMap.{insert_entry, is_at};
+ghost use Rattle.std.specs.List.Sorted.{IsStrictlySortedBy};
+ghost use Rattle.charmlet_model.specs.declared.names.Elem.{Elem as AnElem};
+ghost use Rattle.charmlet_world.specs.Standing.{element_in, risen, with_row};
+ghost use Rattle.charmlet_world.specs.declared.element.Element.{Element as AnElement};
+
+use crate::element::Element;
+use charmlet_model::Elem;
+use indexmap::IndexMap;
+use std::alloc::{AllocError, Global};
+use std::collections::BTreeMap;
+use std::marker::Model;
+
+/// Where an element is kept. It stays so, since no element is ever forgotten. A contract sees its number.
+#[derive(Clone, Copy, Debug)]
+pub struct Slot {
+    index: usize,
+}
+
+impl Model for Slot {
+    ghost use Rattle.std.specs.Prelude.{ℕ};
+
+    ghost Value = { ℕ };
+
+    ghost view = { λ slot. slot.index };
+
+    ghost inverse = { λ n. record { index = n } };
+}
+
+/// What is kept of the elements that ever received a message. A contract sees a list in the order in
+/// which they came, and the room for more.
+#[derive(Drop)]
+pub struct Elements {
+    rows: IndexMap<Elem, Element>,
+}
+
+impl Model for Elements {
+    ghost use Rattle.indexmap.specs.IndexMap.{spare};
+    ghost use Rattle.charmlet_world.specs.Standing.{Standing};
+
+    ghost Value = { Standing };
+
+    ghost view = { λ e. record { entries = e.rows.entries; room = spare e.rows } };
+}
+
+impl Elements {
+    /// No elements. It takes no memory.
+    pub fn new(alloc: Global) -> Self
+        ensures { result.entries ≡ [] }
+    {
+        Elements {
+            rows: IndexMap::new(alloc),
+        }
+    }
+
+    /// Where an element is kept, if it is.
+    pub fn slot_of(&self, elem: Elem) -> Option<Slot>
+        ensures found { IfSome result (λ slot. slice_get self.now.entries slot ≡ Some (elem, element_in self.now.entries elem)) }
+        ensures which { is_some result ≡ is_some (lookup (same_elem elem) self.now.entries) }
+    {
+        match self.rows.get_index_of(&elem) {
+            Some(index) => Some(Slot { index }),
+            None => None,
+        }
+    }
+
+    /// What is kept of an element: of one that was never constructed, that it stands nowhere and that
+    /// its counts are 0.
+    pub fn element(&self, elem: Elem) -> Element
+        ensures element { result ≡ element_in self.now.entries elem }
+        ensures risen { lookup (is_at (elem_cmp elem)) (risen self.now.entries) ≡ lookup (same_elem elem) self.now.entries }
+        ensures rising { IsStrictlySortedBy elem_cmp (keys_of (risen self.now.entries)) }
+    {
+        match self.rows.get(&elem) {
+            Some(element) => *element,
+            None => Element::new(),
+        }
+    }
+
+    /// What is kept, in rising order of the elements, in memory of its own.
+    pub fn rising(&self, alloc: Global) -> Result<BTreeMap<Elem, Element>, AllocError>
+        ensures { IfOk result (λ tree. tree.entries ≡ risen self.now.entries) }
+    {
+        rising_rows(&self.rows, alloc)
+    }
+
+    /// What is kept there.
+    pub fn at(&self, slot: Slot) -> Element
+        requires { slot < length self.now.entries }
+        ensures { slice_get (values_of self.now.entries) slot ≡ Some result }
+    {
+        self.rows[slot.index]
+    }
+
+    /// Keeps this there.
+    pub fn set(&mut self, slot: Slot, element: Element)
+        requires { slot < length self.old.entries }
+        ensures entries { self.new.entries ≡ set_value_at self.old.entries slot element }
+        ensures keys { keys_of self.new.entries ≡ keys_of self.old.entries }
+        ensures elements { (x y : AnElem) (e : AnElement) → slice_get self.old.entries slot ≡ Some (x, e) → element_in self.new.entries y ≡ (if same_elem x y then element else element_in self.old.entries y) }
+        ensures risen { (x : AnElem) (e : AnElement) → slice_get self.old.entries slot ≡ Some (x, e) → risen self.new.entries ≡ insert_entry elem_cmp (risen self.old.entries) x element }
+        ensures room { self.new.room ≡ self.old.room }
+    {
+        let (_elem, row) = self.rows.pair_mut(slot.index);
+        *row = element;
+    }
+
+    /// Where an element is kept, from now on if it wasn't. Where memory is refused, nothing changes.
+    pub fn slot_for(&mut self, elem: Elem) -> Result<Slot, AllocError>
+        ensures found { IfOk result (λ slot. slice_get self.new.entries slot ≡ Some (elem, element_in self.old.entries elem)) }
+        ensures entries { OnOk result (self.new.entries ≡ with_row self.old.entries elem) }
+        ensures risen { OnOk result (risen self.new.entries ≡ insert_entry elem_cmp (risen self.old.entries) elem (element_in self.old.entries elem)) }
+        ensures err { OnErr result (self.new.entries ≡ self.old.entries) }
+        ensures succeeds { 0 < self.old.room → IsOk result }
+    {
+        if let Some(index) = self.rows.get_index_of(&elem) {
+            return Ok(Slot { index });
+        }
+        let index = self.rows.len();
+        self.rows.insert(elem, Element::new())?;
+        Ok(Slot { index })
+    }
+}
+
+/// These rows in rising order of their elements, as a checkpoint needs them.
+fn rising_rows(
+    rows: &IndexMap<Elem, Element>,
+    alloc: Global,
+) -> Result<BTreeMap<Elem, Element>, AllocError>
+    ensures { IfOk result (λ tree. tree.entries ≡ risen rows.now.entries) }
+{
+    let mut tree = BTreeMap::new(alloc);
+    let mut index = rows.len();
+    while index > 0 {
+        index -= 1;
+        if let Some((elem, element)) = rows.get_index(index) {
+            tree.insert(*elem, *element)?;
+        }
+    }
+    Ok(tree)
+}

@@ -1,0 +1,21 @@
+//! The present world, changed by one event at a time: its pending messages, its elements, and its clients.
+#![tactic(auto)]
+
+mod client;
+mod clients;
+mod element;
+mod elements;
+pub mod laws;
+mod letter;
+mod messages;
+mod pending;
+mod present;
+mod sending;
+
+pub use crate::client::Client;
+pub use crate::element::Element;
+pub use crate::elements::{Elements, Slot};
+pub use crate::letter::Letter;
+pub use crate::messages::Messages;
+pub use crate::pending::Pending;
+pub use crate::present::PresentWorld;

@@ -1,0 +1,357 @@
+//! The present world.
+
+ghost use Rattle.std.specs.Prelude.{◌≡◌, ℕ, ◌+◌, ◌<◌, ◌≤◌, [], ◌∷◌, List, length, true, is_some, option_map, option_copied, slice_get, Some, None, IfOk, IfSome, OnOk, OnErr, IsSome, unwrap_or, if◌then◌else◌};
+ghost use Rattle.std.specs.BTreeMap.{is_at};
+ghost use Rattle.std.specs.Map.{keys_of, lookup, values_of};
+ghost use Rattle.std.specs.Ordering.{nat_cmp};
+ghost use Rattle.charmlet_model.specs.Core.{has_words, home};
+ghost use Rattle.charmlet_model.specs.Sound.{new_world};
+ghost use Rattle.charmlet_model.specs.Told.{told_of};
+ghost use Rattle.charmlet_model.specs.Names.{elem_cmp, same_elem};
+ghost use Rattle.charmlet_model.specs.World.{World as AWorld, after, message_among};
+ghost use Rattle.charmlet_model.specs.declared.event.Event.TheVariants.{Accept, Deliver};
+ghost use Rattle.charmlet_model.specs.declared.names.Elem.{Elem as AnElem};
+ghost use Rattle.charmlet_model.specs.declared.names.MsgId.{MsgId as AnId};
+ghost use Rattle.charmlet_model.specs.declared.names.Origin.TheVariants as origins;
+ghost use Rattle.charmlet_locate.specs.Locations.{is_processor_count};
+ghost use Rattle.charmlet_world.specs.declared.element.Element.{Element as AnElement};
+ghost use Rattle.charmlet_world.specs.Changed.{IsOutcome, Suits, accepted, delivered_in, flushed_row, place_after, relocated, with_entry};
+ghost use Rattle.charmlet_world.specs.Seen.{IsSlot, Shows, client_at, element_at, is_deliverable, oldest, place_or_home_in, seen};
+ghost use Rattle.charmlet_world.specs.Standing.{risen};
+ghost use Rattle.charmlet_world.specs.Waiting.{message_of};
+
+use crate::client::Client;
+use crate::clients::{flush_row, keep_reply, note_request};
+use crate::element::Element;
+use crate::elements::{Elements, Slot};
+use crate::letter::Letter;
+use crate::messages::Messages;
+use crate::pending::Pending;
+use crate::sending::push_sends;
+use charmlet_chare::Output;
+use charmlet_locate::home;
+use charmlet_model::{
+    CONSTRUCT, ClientRow, Elem, MAX_SENDS, Manifest, Message, MsgId, Origin, Told, Words,
+};
+use std::alloc::{AllocError, Global};
+use std::collections::BTreeMap;
+use std::marker::Model;
+
+/// The present world without its objects: the place and the counts of each element, the pending messages in
+/// order of birth, and the clients' rows in the present and in the durable world. A contract sees what is
+/// kept, and for how many deliveries there is room.
+#[derive(Drop)]
+pub struct PresentWorld {
+    manifest: Manifest,
+    /// How many processors there are, 1 to 64. They count from 0.
+    processors: u16,
+    elements: Elements,
+    pending: Pending,
+    clients: BTreeMap<u32, Client>,
+    /// How many deliveries have room for all that they may send.
+    promised: usize,
+}
+
+impl Model for PresentWorld {
+    ghost use Rattle.charmlet_world.specs.Seen.{HasRoom, Held};
+
+    ghost Value = { Held };
+
+    ghost view = { λ w. record {
+      manifest = w.manifest;
+      processors = w.processors;
+      rows = w.elements.entries;
+      pending = w.pending.messages;
+      clients = w.clients.entries;
+      promised = w.promised;
+    } };
+
+    ghost invariant = { λ w. HasRoom w.processors w.promised w.pending.room };
+}
+
+impl PresentWorld {
+    /// A world with these arrays and so many processors, in which nothing has happened. It takes no memory.
+    pub fn new(alloc: Global, manifest: Manifest, processors: u16) -> Self
+        requires { is_processor_count processors ≡ true }
+        ensures empty { result ≡ record { manifest = manifest; processors = processors; rows = []; pending = []; clients = []; promised = 0 } }
+        ensures world { Shows (seen result) (new_world manifest) }
+    {
+        PresentWorld {
+            manifest,
+            processors,
+            elements: Elements::new(alloc),
+            pending: Pending::new(alloc),
+            clients: BTreeMap::new(alloc),
+            promised: 0,
+        }
+    }
+
+    /// The kind of each array.
+    pub fn manifest(&self) -> &Manifest
+        ensures { result.now ≡ self.now.manifest }
+    {
+        &self.manifest
+    }
+
+    /// How many messages are pending.
+    pub fn pending_count(&self) -> usize
+        ensures { result ≡ length self.now.pending }
+    {
+        self.pending.len()
+    }
+
+    /// The pending messages, in order of birth. It takes no memory.
+    pub fn messages(&self) -> Messages<'_>
+        ensures { result ≡ self.now.pending }
+    {
+        self.pending.iter()
+    }
+
+    /// What is kept of the pending message of this id.
+    pub fn find(&self, id: MsgId) -> Option<&Letter>
+        ensures { option_map (λ letter. message_of id letter.now) result ≡ message_among id self.now.pending }
+    {
+        self.pending.find(id)
+    }
+
+    /// What is kept of an element.
+    pub fn element(&self, elem: Elem) -> Element
+        ensures { result ≡ element_at (seen self.now).elements elem }
+    {
+        self.elements.element(elem)
+    }
+
+    /// Where an element is kept, if it is.
+    pub fn slot_of(&self, elem: Elem) -> Option<Slot>
+        ensures found { IfSome result (λ slot. IsSlot self.now.rows slot elem) }
+        ensures which { is_some result ≡ is_some (lookup (same_elem elem) self.now.rows) }
+    {
+        self.elements.slot_of(elem)
+    }
+
+    /// What is kept there.
+    pub fn at(&self, slot: Slot) -> Element
+        requires { slot < length self.now.rows }
+        ensures { slice_get (values_of self.now.rows) slot ≡ Some result }
+    {
+        self.elements.at(slot)
+    }
+
+    /// How many processors there are, 1 to 64.
+    pub fn processors(&self) -> u16
+        ensures count { result ≡ self.now.processors }
+        ensures few { is_processor_count result ≡ true }
+    {
+        self.processors
+    }
+
+    /// The processor of an element, if it is there.
+    pub fn where_is(&self, elem: Elem) -> Option<u16>
+        ensures { result ≡ (element_at (seen self.now).elements elem).place }
+    {
+        self.element(elem).place
+    }
+
+    /// The processor of an element, or the home of one that isn't there.
+    pub fn place_or_home(&self, elem: Elem) -> u16
+        ensures { result ≡ place_or_home_in (seen self.now) elem }
+    {
+        place_in(self.processors, elem, self.element(elem).place)
+    }
+
+    /// What is kept of each element, in rising order, in memory of its own. It sorts, and fails only for
+    /// want of memory.
+    pub fn rising(&self, alloc: Global) -> Result<BTreeMap<Elem, Element>, AllocError>
+        ensures { IfOk result (λ tree. tree.entries ≡ (seen self.now).elements) }
+    {
+        self.elements.rising(alloc)
+    }
+
+    /// What is kept of a client, if it made a request.
+    pub fn client(&self, client: u32) -> Option<&Client>
+        ensures { option_copied result ≡ lookup (is_at (nat_cmp client)) self.now.clients }
+    {
+        self.clients.get(&client)
+    }
+
+    /// Each client that made a request, with its rows.
+    pub fn clients(&self) -> &BTreeMap<u32, Client>
+        ensures { result.now.entries ≡ self.now.clients }
+    {
+        &self.clients
+    }
+
+    /// What a client is told by its durable row. It fails only for want of memory, and takes none where the
+    /// answer has no words.
+    pub fn told(&self, alloc: Global, client: u32, number: u64) -> Result<Told, AllocError>
+        ensures told { IfOk result (λ told. told ≡ told_of (client_at self.now.clients client).durable number) }
+        ensures words { OnErr result (has_words (told_of (client_at self.now.clients client).durable number) ≡ true) }
+    {
+        match self.clients.get(&client) {
+            Some(client) => client.told(alloc, number),
+            None => ClientRow::new().told(alloc, number),
+        }
+    }
+
+    /// The oldest pending message that can be delivered by the counts that are kept.
+    pub fn oldest(&self) -> Option<MsgId>
+        ensures { result ≡ oldest (seen self.now) self.now.pending }
+    {
+        for (id, letter) in self.pending.iter() {
+            if self.is_deliverable(letter) {
+                return Some(id);
+            }
+        }
+        None
+    }
+
+    /// Whether the receiver is there or is constructed, and its counts have room.
+    fn is_deliverable(&self, letter: &Letter) -> bool
+        ensures { (id : AnId) → result ≡ is_deliverable (seen self.now) (message_of id letter.now) }
+    {
+        let element = self.element(letter.to);
+        (element.place.is_some() || letter.entry == CONSTRUCT) && element.has_room()
+    }
+
+    /// Takes a client's request, whose id no pending message has. The room of deliveries stays. Where memory is
+    /// refused, nothing changes.
+    pub fn accept(
+        &mut self,
+        client: u32,
+        number: u64,
+        to: Elem,
+        entry: u16,
+        words: Words,
+    ) -> Result<(), AllocError>
+        requires apart { message_among (record { origin = origins.Client client; number = number }) self.old.pending ≡ None }
+        ensures ok { OnOk result (seen self.new ≡ accepted (seen self.old) client number to entry words) }
+        ensures world { OnOk result ((w : AWorld) → Shows (seen self.old) w → Shows (seen self.new) (after w (Accept client number to entry words))) }
+        ensures rows { self.new.rows ≡ self.old.rows }
+        ensures promised { self.new.promised ≡ self.old.promised }
+        ensures err { OnErr result (self.new ≡ self.old) }
+    {
+        self.pending.reserve(1 + MAX_SENDS * self.promised)?;
+        note_request(&mut self.clients, client, number)?;
+        let origin = Origin::Client(client);
+        let id = MsgId { origin, number };
+        self.pending.push(Message {
+            id,
+            to,
+            entry,
+            words,
+        });
+        Ok(())
+    }
+
+    /// Makes all room for the delivery of a pending message, so that its commit takes no memory, and says
+    /// where its receiver is kept. There are at most 64 such deliveries. Where memory is refused, nothing
+    /// changes.
+    pub fn assign(&mut self, id: MsgId) -> Result<Slot, AllocError>
+        requires pending { IsSome (message_among id self.old.pending) }
+        requires few { self.old.promised < 64 }
+        ensures slot { IfOk result (λ slot. IfSome (message_among id self.old.pending) (λ m. IsSlot self.new.rows slot m.to)) }
+        ensures elements { OnOk result (IfSome (message_among id self.old.pending) (λ m. (seen self.new).elements ≡ with_entry (seen self.old).elements m.to)) }
+        ensures pending { self.new.pending ≡ self.old.pending }
+        ensures clients { self.new.clients ≡ self.old.clients }
+        ensures promised { OnOk result (self.new.promised ≡ self.old.promised + 1) }
+        ensures slots { (i : ℕ) (x : AnElem) (e : AnElement) → slice_get self.old.rows i ≡ Some (x, e) → slice_get self.new.rows i ≡ Some (x, e) }
+        ensures world { (w : AWorld) → Shows (seen self.old) w → Shows (seen self.new) w }
+        ensures err { OnErr result (self.new ≡ self.old) }
+    {
+        self.pending.reserve(MAX_SENDS * (self.promised + 1))?;
+        let Some(letter) = self.pending.find(id) else {
+            unreachable!()
+        };
+        let slot = self.elements.slot_for(letter.to)?;
+        self.promised += 1;
+        Ok(slot)
+    }
+
+    /// Gives up the room of one delivery.
+    pub fn release(&mut self)
+        requires { 0 < self.old.promised }
+        ensures seen { seen self.new ≡ seen self.old }
+        ensures rows { self.new.rows ≡ self.old.rows }
+        ensures promised { self.new.promised + 1 ≡ self.old.promised }
+    {
+        self.promised -= 1;
+    }
+
+    /// Delivers a pending message, for which `assign` made room: it leaves, its receiver advances, what it sent
+    /// goes last, and its reply is kept with the client that asked. It takes no memory.
+    pub fn commit(&mut self, slot: Slot, id: MsgId, output: Output)
+        requires promised { 0 < self.old.promised }
+        requires pending { IsSome (message_among id self.old.pending) }
+        requires suits { IfSome (message_among id self.old.pending) (Suits self.old slot output) }
+        ensures delivered { IfSome (message_among id self.old.pending) (λ m. seen self.new ≡ delivered_in (seen self.old) m output) }
+        ensures world { (w : AWorld) → Shows (seen self.old) w → IsOutcome w id output → Shows (seen self.new) (after w (Deliver id)) }
+        ensures slots { keys_of self.new.rows ≡ keys_of self.old.rows }
+        ensures promised { self.new.promised + 1 ≡ self.old.promised }
+    {
+        let Some(message) = self.pending.take(id) else {
+            unreachable!()
+        };
+        let Output {
+            sends,
+            reply,
+            is_destroyed,
+        } = output;
+        let sends = sends.into_vec();
+        let element = self.elements.at(slot);
+        let place = place_after(self.processors, message.to, &element, is_destroyed);
+        let mut advanced = element;
+        advanced.advance(place, sends.len() as u64);
+        self.elements.set(slot, advanced);
+        push_sends(&mut self.pending, message.to, element.sent, sends);
+        keep_reply(&mut self.clients, message.id, reply);
+        self.promised -= 1;
+    }
+
+    /// An element that is there stands on the processor from now on. It takes no memory.
+    pub fn relocate(&mut self, elem: Elem, processor: u16)
+        requires { is_some (element_at (seen self.old).elements elem).place ≡ true }
+        ensures seen { seen self.new ≡ relocated (seen self.old) elem processor }
+        ensures world { (w : AWorld) → Shows (seen self.old) w → Shows (seen self.new) w }
+        ensures slots { keys_of self.new.rows ≡ keys_of self.old.rows }
+        ensures promised { self.new.promised ≡ self.old.promised }
+    {
+        let Some(slot) = self.elements.slot_of(elem) else {
+            unreachable!()
+        };
+        let mut element = self.elements.at(slot);
+        element.place = Some(processor);
+        self.elements.set(slot, element);
+    }
+
+    /// Makes a client's row durable. It takes no memory.
+    pub fn flush_client(&mut self, client: u32)
+        ensures { self.new ≡ record self.old { clients = flushed_row self.old.clients client } }
+    {
+        flush_row(&mut self.clients, client);
+    }
+}
+
+/// The place of an element, or the home of one that has none.
+fn place_in(processors: u16, elem: Elem, place: Option<u16>) -> u16
+    requires { is_processor_count processors ≡ true }
+    ensures { result ≡ unwrap_or place (home elem processors) }
+{
+    if let Some(place) = place {
+        return place;
+    }
+    let Ok(home) = home(elem, processors) else {
+        unreachable!()
+    };
+    home
+}
+
+/// Where an element of which this was kept stands after a delivery that destroyed it or not.
+fn place_after(processors: u16, elem: Elem, element: &Element, is_destroyed: bool) -> Option<u16>
+    requires { is_processor_count processors ≡ true }
+    ensures { result ≡ (if is_destroyed then None else Some (unwrap_or element.now.place (home elem processors))) }
+{
+    if is_destroyed {
+        return None;
+    }
+    Some(place_in(processors, elem, element.place))
+}

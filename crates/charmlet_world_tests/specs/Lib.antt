@@ -1,0 +1,2 @@
+-- What the tests keep.
+pub mod Pair

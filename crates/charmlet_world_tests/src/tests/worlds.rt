@@ -1,0 +1,323 @@
+// The present world against the plain one, event by event, on random histories.
+
+ghost use Rattle.std.specs.Prelude.{◌≡◌, OnOk, OnErr, IfOk, IfSome, true};
+ghost use Rattle.charmlet_world_tests.specs.Pair.{IsPair};
+
+use charmlet_chare::Output;
+use charmlet_model::{CONSTRUCT, Elem, Event, Manifest, MsgId, Reaction, Told, Window, Words};
+use charmlet_plain::PlainWorld;
+use charmlet_world::PresentWorld;
+use rand_core::utils::NextWord;
+use rand_pcg::Pcg32;
+use std::alloc::{AllocError, Global};
+use std::process::Abort;
+use std::test::Fail;
+
+const PROCESSORS: u16 = 4;
+
+const CLIENTS: u32 = 6;
+
+// Two elements of each kind, and one of an array that isn't there.
+const ELEMENTS: [Elem; 13] = [
+    Elem { array: 0, index: 0 },
+    Elem { array: 0, index: 1 },
+    Elem { array: 1, index: 0 },
+    Elem { array: 1, index: 1 },
+    Elem { array: 2, index: 0 },
+    Elem { array: 2, index: 1 },
+    Elem { array: 3, index: 0 },
+    Elem { array: 3, index: 1 },
+    Elem { array: 4, index: 0 },
+    Elem { array: 4, index: 1 },
+    Elem { array: 5, index: 0 },
+    Elem { array: 5, index: 1 },
+    Elem { array: 9, index: 0 },
+];
+
+// What a client asks of an element.
+#[derive(Clone, Copy)]
+struct Request<'a> {
+    client: u32,
+    number: u64,
+    to: Elem,
+    entry: u16,
+    words: &'a [u64],
+}
+
+// Takes the request in both worlds, if it can be accepted.
+fn accept(
+    alloc: Global,
+    world: &mut PresentWorld,
+    plain: &mut PlainWorld,
+    request: &Request<'_>,
+) -> Result<bool, AllocError>
+    requires { IsPair world.old plain.old }
+    ensures { OnOk result (IsPair world.new plain.new) }
+{
+    let Request {
+        client,
+        number,
+        to,
+        entry,
+        words,
+    } = *request;
+    let event = Event::Accept {
+        client,
+        number,
+        to,
+        entry,
+        words: Words::from_slice(alloc, words)?,
+    };
+    if !plain.can(&event) {
+        return Ok(false);
+    }
+    let words = Words::from_slice(alloc, words)?;
+    world.accept(client, number, to, entry, words)?;
+    plain.after(&event)?;
+    Ok(true)
+}
+
+// Delivers the pending message in both worlds, if it can be delivered and its receiver reacts.
+fn deliver(world: &mut PresentWorld, plain: &mut PlainWorld, id: MsgId) -> Result<bool, AllocError>
+    requires { IsPair world.old plain.old }
+    ensures { OnOk result (IsPair world.new plain.new) }
+{
+    let event = Event::Deliver(id);
+    if !plain.can(&event) {
+        return Ok(false);
+    }
+    let Some(message) = plain.message(id) else {
+        return Ok(false);
+    };
+    let Some(reaction) = plain.reaction(message)? else {
+        return Ok(false);
+    };
+    let Reaction {
+        state,
+        sends,
+        reply,
+    } = reaction;
+    let output = Output {
+        sends,
+        reply,
+        is_destroyed: state.is_none(),
+    };
+    let slot = world.assign(id)?;
+    world.commit(slot, id, output);
+    plain.after(&event)?;
+    Ok(true)
+}
+
+// ---- what both show
+
+fn messages_are_same(rt: &impl Abort, world: &PresentWorld, plain: &PlainWorld) {
+    assert_eq!(rt; world.pending_count(), plain.pending().len());
+    let mut messages = plain.pending().iter();
+    let mut oldest = None;
+    for (id, letter) in world.messages() {
+        let Some(message) = messages.next() else {
+            assert!(rt; false, "{id} is too many");
+            return;
+        };
+        assert_eq!(rt; id, message.id);
+        assert_eq!(rt; letter.to, message.to);
+        assert_eq!(rt; letter.entry, message.entry);
+        assert_eq!(rt; letter.words.as_slice(), message.words.as_slice());
+        if oldest.is_none() && plain.can_receive(message) {
+            oldest = Some(id);
+        }
+    }
+    assert!(rt; messages.next().is_none());
+    assert_eq!(rt; world.oldest(), oldest);
+}
+
+fn elements_are_same(rt: &impl Abort, world: &PresentWorld, plain: &PlainWorld) {
+    for elem in ELEMENTS {
+        let (sent, received) = plain.counts(elem);
+        let element = world.element(elem);
+        assert_eq!(rt; element.sent, sent);
+        assert_eq!(rt; element.received, received);
+        assert_eq!(rt; element.place.is_some(), plain.state(elem).is_some());
+    }
+}
+
+fn windows_are_same(rt: &impl Abort, window: &Window, plain: &Window) {
+    assert_eq!(rt; window.len(), plain.len());
+    for place in 0..8 {
+        let reply = window.get(place).map(|words: &Words| words.as_slice());
+        let expected = plain.get(place).map(|words: &Words| words.as_slice());
+        assert_eq!(rt; reply, expected);
+    }
+}
+
+fn clients_are_same(rt: &impl Abort, world: &PresentWorld, plain: &PlainWorld) {
+    for client in 0..CLIENTS {
+        let Some(expected) = plain.client(client) else {
+            assert!(rt; world.client(client).is_none());
+            continue;
+        };
+        let Some(rows) = world.client(client) else {
+            assert!(rt; false, "{client} has no row");
+            continue;
+        };
+        assert_eq!(rt; rows.present().last, expected.last);
+        windows_are_same(rt, &rows.present().window, &expected.window);
+    }
+}
+
+fn worlds_are_same(rt: &impl Abort, world: &PresentWorld, plain: &PlainWorld) {
+    messages_are_same(rt, world, plain);
+    elements_are_same(rt, world, plain);
+    clients_are_same(rt, world, plain);
+}
+
+// ---- random histories
+
+fn some_elem(rng: &mut Pcg32) -> Elem {
+    let place = rng.next_word() as usize % ELEMENTS.len();
+    ELEMENTS[place]
+}
+
+// Mostly the client's next number.
+fn some_number(rng: &mut Pcg32, plain: &PlainWorld, client: u32) -> u64 {
+    let last = match plain.client(client) {
+        Some(row) => row.last,
+        None => 0,
+    };
+    if rng.next_word() % 10 == 0 {
+        last
+    } else {
+        last.saturating_add(1)
+    }
+}
+
+fn some_entry(rng: &mut Pcg32) -> u16 {
+    match rng.next_word() % 4 {
+        0 => 0,
+        1 => 1,
+        2 => 2,
+        _ => CONSTRUCT,
+    }
+}
+
+// A request of some client in both worlds.
+fn some_request(
+    alloc: Global,
+    rng: &mut Pcg32,
+    world: &mut PresentWorld,
+    plain: &mut PlainWorld,
+) -> Result<bool, AllocError>
+    requires { IsPair world.old plain.old }
+    ensures { OnOk result (IsPair world.new plain.new) }
+{
+    let client = rng.next_word() % CLIENTS;
+    let number = some_number(rng, plain, client);
+    let first = u64::from(rng.next_word() % 4);
+    let second = u64::from(rng.next_word() % 4);
+    let request = Request {
+        client,
+        number,
+        to: some_elem(rng),
+        entry: some_entry(rng),
+        words: &[first, second],
+    };
+    accept(alloc, world, plain, &request)
+}
+
+// The oldest message that can be delivered, or any other.
+fn some_message(rng: &mut Pcg32, world: &PresentWorld, plain: &PlainWorld) -> Option<MsgId> {
+    let pending = plain.pending();
+    if rng.next_word() % 2 == 0 || pending.is_empty() {
+        return world.oldest();
+    }
+    let place = rng.next_word() as usize % pending.len();
+    Some(pending[place].id)
+}
+
+// One event in both worlds, if it can happen.
+fn some_event(
+    alloc: Global,
+    rng: &mut Pcg32,
+    world: &mut PresentWorld,
+    plain: &mut PlainWorld,
+) -> Result<bool, AllocError>
+    requires { IsPair world.old plain.old }
+    ensures { OnOk result (IsPair world.new plain.new) }
+{
+    if rng.next_word() % 5 < 2 {
+        return some_request(alloc, rng, world, plain);
+    }
+    match some_message(rng, world, plain) {
+        Some(id) => deliver(world, plain, id),
+        None => Ok(false),
+    }
+}
+
+// Both worlds, in which nothing has happened, with an array of each kind.
+fn both(alloc: Global) -> Result<(PresentWorld, PlainWorld), Fail>
+    ensures { IfOk result (λ worlds. IsPair worlds.0 worlds.1) }
+{
+    let arrays = [(0, 1), (1, 2), (2, 3), (3, 4), (4, 5), (5, 6)];
+    let Some(manifest) = Manifest::of(alloc, &arrays)? else {
+        return Err("no manifest")?;
+    };
+    let Some(same) = Manifest::of(alloc, &arrays)? else {
+        return Err("no manifest")?;
+    };
+    let world = PresentWorld::new(alloc, manifest, PROCESSORS);
+    Ok((world, PlainWorld::new(alloc, same)))
+}
+
+// So many tries of a history, and how many events happened.
+fn history(rt: &impl Abort, alloc: Global, seed: u64, tries: u32) -> Result<u64, Fail> {
+    let mut rng = Pcg32::new(seed, 54);
+    let (mut world, mut plain) = both(alloc)?;
+    let mut happened: u64 = 0;
+    for _ in 0..tries {
+        if some_event(alloc, &mut rng, &mut world, &mut plain)? {
+            happened = happened.saturating_add(1);
+        }
+        worlds_are_same(rt, &world, &plain);
+    }
+    Ok(happened)
+}
+
+#[test]
+fn random_histories_give_the_plain_world(rt: HostRuntime) -> Result<(), Fail> {
+    let mut happened: u64 = 0;
+    for seed in 0..300 {
+        happened = happened.saturating_add(history(&rt, rt.alloc(), seed, 40)?);
+    }
+    assert!(rt; happened > 4000, "{happened}");
+    Ok(())
+}
+
+#[test]
+fn a_long_history_gives_the_plain_world(rt: HostRuntime) -> Result<(), Fail> {
+    let happened = history(&rt, rt.alloc(), 4711, 2000)?;
+    assert!(rt; happened > 300, "{happened}");
+    Ok(())
+}
+
+// ---- what clients are told, and room
+
+const ME: Elem = Elem { array: 0, index: 0 };
+
+// A counter is constructed by client 2: what the client is told changes with a flush alone.
+#[test]
+fn clients_are_told_what_was_flushed(rt: HostRuntime) -> Result<(), Fail> {
+    let alloc = rt.alloc();
+    let (mut world, mut plain) = both(alloc)?;
+    let request = Request {
+        client: 2,
+        number: 1,
+        to: ME,
+        entry: CONSTRUCT,
+        words: &[5],
+    };
+    assert!(rt; accept(alloc, &mut world, &mut plain, &request)?);
+    assert!(rt; matches!(&world.told(alloc, 2, 1)?, Told::Unknown));
+    world.flush_client(2);
+    assert!(rt; matches!(&world.told(alloc, 2, 1)?, Told::Accepted));
+    Ok(())
+}
