@@ -1,37 +1,47 @@
-//! `charmlet`: runs scripts over a store of migratable objects, and shows one.
+//! `charmlet`: runs scripts over a store of migratable objects, a new one or one that comes back, and shows one.
 #![tactic(auto)]
 
 ghost use Rattle.charmlet_disk.specs.Disk.{IsSettled};
 
 use charmlet_chare::Chare;
-use charmlet_cli::{Failure, Stop, end_program, open_script, run_script, show_store};
+use charmlet_cli::{
+    Failure, Stop, end_program, find_blanks, open_script, restart_script, run_script, show_store,
+};
 use charmlet_command::{Command, command_of};
 use charmlet_disk::{Disk, FileDisk, MemDisk};
 use charmlet_kinds::{Account, Counter, Ring, Sum, Tape, Tree};
 use charmlet_model::Kind;
-use charmlet_script::{Script, read_script};
+use charmlet_script::{Script, read_restart_script, read_script};
 use std::io::{BufWriter, Write};
 use std::process::ExitCode;
 use std::rt::Runtime;
 use std::{env, io};
+
+/// A new blank object of a kind, boxed. It is a macro, since the checker has each function make the boxes of a `dyn` type
+/// that it needs, and none hand them out.
+macro_rules! blank {
+    ($alloc:expr, $kind:expr) => {{
+        let blank: Box<dyn Chare + Send> = match $kind {
+            Kind::Counter => Box::new($alloc, Counter::blank())?,
+            Kind::Ring => Box::new($alloc, Ring::blank())?,
+            Kind::Account => Box::new($alloc, Account::blank())?,
+            Kind::Sum => Box::new($alloc, Sum::blank())?,
+            Kind::Tree => Box::new($alloc, Tree::blank())?,
+            Kind::Tape => Box::new($alloc, Tape::blank($alloc))?,
+        };
+        blank
+    }};
+}
 
 /// Runs a script over a store on this disk, with its lines on standard output.
 fn run_on<R: Runtime + AllocGlobal, D: Disk>(rt: &R, disk: D, script: &Script) -> Result<(), Stop>
     requires { D.honest disk → IsSettled (D.file disk) }
 {
     let alloc = rt.alloc();
-    let mut blanks: Vec<Box<dyn Chare + Send>> = Vec::new(alloc);
+    let mut blanks = Vec::new(alloc);
     for kind in &Kind::ALL {
         for _ in 0..script.blanks(*kind) {
-            let blank: Box<dyn Chare + Send> = match kind {
-                Kind::Counter => Box::new(alloc, Counter::blank())?,
-                Kind::Ring => Box::new(alloc, Ring::blank())?,
-                Kind::Account => Box::new(alloc, Account::blank())?,
-                Kind::Sum => Box::new(alloc, Sum::blank())?,
-                Kind::Tree => Box::new(alloc, Tree::blank())?,
-                Kind::Tape => Box::new(alloc, Tape::blank(alloc))?,
-            };
-            blanks.push(blank)?;
+            blanks.push(blank!(alloc, kind))?;
         }
     }
     let mut writer = BufWriter::new(alloc, io::writer(rt))?;
@@ -49,6 +59,38 @@ fn run(rt: HostRuntime, path: &str, dir: Option<&str>) -> Result<(), Stop> {
         Some(dir) => run_on(&rt, FileDisk::new(rt, dir)?, &script),
         None => run_on(&rt, MemDisk::new(alloc), &script),
     }
+}
+
+/// Reads a script, and then runs it over the store in the two files of a folder, which comes back on so many processors.
+fn restart(rt: HostRuntime, dir: &str, path: &str, processors: u16) -> Result<(), Stop> {
+    let alloc = rt.alloc();
+    let mut file = open_script(&rt, path)?;
+    let script = read_restart_script(alloc, &mut file)?;
+    let mut writer = BufWriter::new(alloc, io::writer(&rt))?;
+    let mut disk = FileDisk::new(rt, dir)?;
+    let wanted = find_blanks(alloc, &mut disk, processors, &mut writer)?;
+    let mut blanks = Vec::new(alloc);
+    let mut supplies = Vec::new(alloc);
+    for kind in &Kind::ALL {
+        for _ in 0..wanted.of(*kind) {
+            blanks.push(blank!(alloc, kind))?;
+        }
+        for _ in 0..script.blanks(*kind) {
+            supplies.push(blank!(alloc, kind))?;
+        }
+    }
+    restart_script(
+        alloc,
+        disk,
+        processors,
+        &script,
+        blanks,
+        supplies,
+        &mut writer,
+    )
+    .result?;
+    writer.flush()?;
+    Ok(())
 }
 
 /// Shows the store in the two files of a folder on standard output.
@@ -72,6 +114,11 @@ fn charmlet(rt: HostRuntime) -> Result<(), Failure> {
     match command_of(rt.alloc(), words.as_slice())? {
         Command::Run { script, dir } => run(rt, script, dir)?,
         Command::Show { dir } => show(rt, dir)?,
+        Command::Restart {
+            dir,
+            script,
+            processors,
+        } => restart(rt, dir, script, processors)?,
     }
     Ok(())
 }

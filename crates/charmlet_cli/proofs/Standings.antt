@@ -26,7 +26,7 @@ use Rattle.charmlet_engine.specs.Engine.{IsEngineConsistent, core_of, disk_in}
 use Rattle.charmlet_engine.specs.Outcomes.{IsNothingOrNew, Onward, is_lawful_since, not_device}
 use Rattle.charmlet_engine.proofs.Lawful.{lawful_now}
 use Rattle.charmlet_cli.specs.Lines.{kinds_of, ledger_in}
-use Rattle.charmlet_cli.specs.Run.{IsCreated, IsHandedBack, IsNothingOrLawful, Stands}
+use Rattle.charmlet_cli.specs.Run.{IsCreated, IsEarlierOrLawful, IsHandedBack, IsNothing, Stands}
 
 -- a new store that went on to this one
 module _ (manifest : List (ℕ × Kind)) (processors : ℕ) (old new : Core) (opens : old ≡ new_core processors manifest) (on : Onward old new) where
@@ -36,7 +36,7 @@ module _ (manifest : List (ℕ × Kind)) (processors : ℕ) (old new : Core) (op
   none_before : new.before ≡ 0
   none_before = on.before ∙ ap (λ (core : Core). core.before) opens
 
-  from_new : (o : Outcome) → IsNothingOrNew manifest o → IsNothingOrLawful new o
+  from_new : (o : Outcome) → IsNothingOrNew manifest o → IsEarlierOrLawful IsNothing new o
   from_new o so = ⊎_elim (λ none. inl none) (λ found. inr (record {
     kept = 0;
     durable_kept = omega arith;
@@ -45,28 +45,37 @@ module _ (manifest : List (ℕ × Kind)) (processors : ℕ) (old new : Core) (op
     is = found ∙ ap (λ (w : World). Found w 0 1) (sym opening) ∙ ap (λ (n : ℕ). Found new.opening n 1) (sym (omega (arith, none_before)));
   })) so
 
-  from_lawful : (o : Outcome) → is_lawful_since old new o → IsNothingOrLawful new o
-  from_lawful o lawful = inr (record {
-    kept = lawful.kept;
-    durable_kept = omega arith;
-    none_invented = lawful.none_invented;
-    generation = lawful.generation;
-    is = lawful.is;
-  })
+-- what a run leaves, whatever there was earlier
+from_lawful : (earlier : Outcome → Type 0) (old new : Core) (o : Outcome) → is_lawful_since old new o → IsEarlierOrLawful earlier new o
+from_lawful earlier old new o lawful = inr (record {
+  kept = lawful.kept;
+  durable_kept = omega arith;
+  none_invented = lawful.none_invented;
+  generation = lawful.generation;
+  is = lawful.is;
+})
 
 module _ {D C : Type 0} {G : disks.Ghosts D} {H : chares.Ghosts C} where
   -- what it stands on is the disk at the end
-  pub stands : (manifest : List (ℕ × Kind)) (processors : ℕ) (disk end : D) (first last : Engine D C G H) → core_of first ≡ new_core processors manifest → IsEngineConsistent last → Advances first last →
-      (G.honest disk → G.honest (disk_in first)) → (G.honest disk → LeavesOnly G.moment G.since disk (disk_in first) (IsNothingOrNew manifest)) → end ≡ disk_in last → Stands G disk end (ledger_in last)
-  stands manifest processors disk end first last opens consistent advances honest leaves is =
-      subst (λ (d : D). Stands G disk d (ledger_in last)) (sym is) (record {
+  pub stands_after : (earlier before : Outcome → Type 0) (disk end : D) (first last : Engine D C G H) → IsEngineConsistent last → Advances first last → (G.honest disk → G.honest (disk_in first)) →
+      (G.honest disk → LeavesOnly G.moment G.since disk (disk_in first) before) → ((o : Outcome) → before o → IsEarlierOrLawful earlier (core_of last) o) → end ≡ disk_in last →
+      Stands G earlier disk end (ledger_in last)
+  stands_after earlier before disk end first last consistent advances honest leaves goes is =
+      subst (λ (d : D). Stands G earlier disk d (ledger_in last)) (sym is) (record {
         disk = refl;
         any_moment = λ still.
-            after_that G.moment G.since disk (disk_in first) (disk_in last) (IsNothingOrNew manifest) (is_lawful_since (core_of first) (core_of last)) (IsNothingOrLawful (core_of last))
-            (leaves still) (advances.any_moment (honest still))
-            (from_new manifest processors (core_of first) (core_of last) opens advances.onward) (from_lawful manifest processors (core_of first) (core_of last) opens advances.onward);
+            after_that G.moment G.since disk (disk_in first) (disk_in last) before (is_lawful_since (core_of first) (core_of last)) (IsEarlierOrLawful earlier (core_of last))
+            (leaves still) (advances.any_moment (honest still)) goes (from_lawful earlier (core_of first) (core_of last));
         now = λ still o left. lawful_now {G = G} (core_of last) last.halves (consistent.keeps (advances.honest.0 (honest still))) o left;
       })
+
+  -- of a new store
+  pub stands : (manifest : List (ℕ × Kind)) (processors : ℕ) (disk end : D) (first last : Engine D C G H) → core_of first ≡ new_core processors manifest → IsEngineConsistent last → Advances first last →
+      (G.honest disk → G.honest (disk_in first)) → (G.honest disk → LeavesOnly G.moment G.since disk (disk_in first) (IsNothingOrNew manifest)) → end ≡ disk_in last →
+      Stands G IsNothing disk end (ledger_in last)
+  stands manifest processors disk end first last opens consistent advances honest leaves is =
+      stands_after IsNothing (IsNothingOrNew manifest) disk end first last consistent advances honest leaves
+      (from_new manifest processors (core_of first) (core_of last) opens advances.onward) is
 
   -- and it is as honest as the first one was
   pub stays_honest : (disk end : D) (first last : Engine D C G H) → (G.honest disk → G.honest (disk_in first)) × (G.honest (disk_in first) → G.honest disk) → Advances first last → end ≡ disk_in last →
@@ -81,7 +90,7 @@ made_of : (script : Contents) (manifest : List (ℕ × Kind)) → manifest_of (p
 made_of script manifest is = sym (ap (λ (o : Option (List (ℕ × Kind))). unwrap_or o []) is)
 
 -- a refusal is a failure of the device if and only if it says so
-failure_said : (X : Type 0) (refusal : Refusal) → is_no_failure {X = X} (Err refusal) ≡ not_device refusal
+pub failure_said : (X : Type 0) (refusal : Refusal) → is_no_failure {X = X} (Err refusal) ≡ not_device refusal
 failure_said X refusals.Device = refl
 failure_said X _ = refl
 

@@ -3,6 +3,7 @@ pub mod Drain
 pub mod Failure
 pub mod FoundLines
 pub mod Lines
+pub mod Restarted
 pub mod Run
 pub mod RunError
 pub mod ShowStore

@@ -39,9 +39,13 @@ IsNotCreated script refusal before after = IsCreationRefusal (processors_of scri
 abbrev pub IsNotSaid : Contents → Refusal → (before after : Option Text) → Type 0
 IsNotSaid script refusal before after = IsCreationRefusal (processors_of script) refusal × AppendsBeginning before after (creation_text refusal)
 
--- the files recover to nothing, or to the world after some of the history
-abbrev pub IsNothingOrLawful : Core → Outcome → Type 0
-IsNothingOrLawful core outcome = (recovered outcome ≡ Nothing) ⊎ IsLawful core.opening core.before core.history 0 outcome
+-- the files recover to nothing
+abbrev pub IsNothing : Outcome → Type 0
+IsNothing outcome = recovered outcome ≡ Nothing
+
+-- the files are what there was earlier, or recover to the world after some of the history
+abbrev pub IsEarlierOrLawful : (earlier : Outcome → Type 0) → Core → Outcome → Type 0
+IsEarlierOrLawful earlier core outcome = earlier outcome ⊎ IsLawful core.opening core.before core.history 0 outcome
 
 module _ {D : Type 0} (G : disks.Ghosts D) where
   -- A store was made on the first disk: the device hasn't failed, the disk is as honest as before, and each crash leaves nothing or the new store.
@@ -50,24 +54,24 @@ module _ {D : Type 0} (G : disks.Ghosts D) where
     pub honest : (G.honest first → G.honest made) × (G.honest made → G.honest first)
     pub any_moment : G.honest first → LeavesOnly G.moment G.since first made (IsNothingOrNew kinds)
 
-  -- The disk at the end is the last store's. Where the first one was honest, each crash since the beginning leaves nothing, or the world after some of
-  -- the run, and each from now on has all durable events among it.
-  pub record Stands (first end : D) (last : Ledger D) : Type 0 where
+  -- The disk at the end is the last store's. Where the first one was honest, each crash since the beginning leaves what there was earlier, or the world after
+  -- some of the run, and each from now on has all durable events among it.
+  pub record Stands (earlier : Outcome → Type 0) (first end : D) (last : Ledger D) : Type 0 where
     pub disk : last.disk ≡ end
-    pub any_moment : G.honest first → LeavesOnly G.moment G.since first end (IsNothingOrLawful last.store.core)
+    pub any_moment : G.honest first → LeavesOnly G.moment G.since first end (IsEarlierOrLawful earlier last.store.core)
     pub now : G.honest first → (outcome : Outcome) → MayLeave (G.file end) outcome → is_lawful_now last.store.core outcome
 
   -- there are 1 to 64 processors, a store is made, each line is run in its order and prints its texts, and the last store stands on the disk
   abbrev pub IsRun : (first end : D) → Contents → (before after : Option Text) → Type 0
   IsRun first end script before after =
       IsTrue (is_processor_count (processors_of script)) × (made : D) × IsCreated (kinds_of script) first made
-      × (last : Ledger D) × AreRun G last (opening_of script made) script.lines last before after × Stands first end last
+      × (last : Ledger D) × AreRun G last (opening_of script made) script.lines last before after × Stands IsNothing first end last
 
   -- a store is made, some of its lines are run, a beginning of their texts is printed, and the store after these lines stands on the disk
   abbrev pub IsCutOff : (first end : D) → Contents → (before after : Option Text) → Type 0
   IsCutOff first end script before after =
       IsTrue (is_processor_count (processors_of script)) × (made : D) × IsCreated (kinds_of script) first made
-      × (last : Ledger D) × BreakOff G (opening_of script made) script.lines last before after × Stands first end last
+      × (last : Ledger D) × BreakOff G (opening_of script made) script.lines last before after × Stands IsNothing first end last
 
   -- Of an honest disk on which no store was made: a store that is here already has an open half, and memory lacks only where neither is open; unless the device
   -- failed, nothing was written; and each crash leaves what it would have left before, or of a disk without a store nothing or the new store.

@@ -1,10 +1,11 @@
-//! Runs scripts over a store, line by line, shows a store, and says how the program ends.
+//! Runs scripts over a store, line by line, a new one or one that comes back, shows a store, and says how the program ends.
 #![tactic(auto)]
 
 mod draining;
 mod ending;
 mod files;
 mod found_lines;
+mod restarting;
 mod running;
 mod show;
 mod showing;
@@ -13,6 +14,9 @@ mod writing;
 
 pub use crate::ending::{Failure, end_program};
 pub use crate::files::open_script;
+pub use crate::restarting::{
+    FindError, RestartError, Restarted, RestartedLine, find_blanks, restart_script,
+};
 pub use crate::running::{Ran, RunError, run_script};
 pub use crate::show::{ShowError, show_store};
 pub use crate::showing::{census_line, pending_line, state_line};

@@ -9,6 +9,7 @@ ghost use Rattle.charmlet_model.specs.Sound.{new_world};
 ghost use Rattle.charmlet_script.specs.Script.{blanks_in, blanks_of, pairs_of};
 ghost use Rattle.charmlet_script.specs.declared.script.Line.TheVariants as lines;
 ghost use Rattle.charmlet_engine.specs.Engine.{IsEngineConsistent};
+ghost use Rattle.charmlet_recover.specs.Wanted as wants;
 ghost use Rattle.charmlet_stock.specs.Stock.{part_of};
 ghost use Rattle.charmlet_cli.specs.Lines.{AreEnough, AreRun, BreakOff, IsPrinted, blanks_left, ledger_in};
 ghost use Rattle.charmlet_cli.specs.RunError.{EndsRun, Lacks, Leaves};
@@ -25,6 +26,7 @@ use charmlet_disk::Disk;
 use charmlet_engine::Engine;
 use charmlet_halves::Refused;
 use charmlet_model::{Answer, Kind, Manifest, Refusal};
+use charmlet_recover::Wanted;
 use charmlet_script::{Line, Script, Supplied};
 use charmlet_stock::{Stock, count_of};
 use std::alloc::{AllocError, Global};
@@ -135,7 +137,7 @@ fn prepare<C: Chare>(
         blanks_of kind script.now.lines ≤ blanks_left prepared.source kind) }
     ensures err { IfErr result (Lacks C.state blanks.items script.now) }
 {
-    if !has_enough(script, blanks.as_slice()) {
+    if !has_enough(&supplied_by(script), blanks.as_slice()) {
         return Err(RunError::TooFewBlanks(blanks));
     }
     let manifest = script.manifest(alloc)?;
@@ -144,7 +146,7 @@ fn prepare<C: Chare>(
 }
 
 /// A stock with these objects. It fails only for want of memory.
-fn stock_of<C: Chare>(alloc: Global, objects: Vec<C>) -> Result<Stock<C>, AllocError>
+pub(crate) fn stock_of<C: Chare>(alloc: Global, objects: Vec<C>) -> Result<Stock<C>, AllocError>
     ensures { IfOk result (λ stock. (kind : Kind) → blanks_left stock kind ≡ count_of C.state objects.items kind) }
 {
     let mut stock = Stock::new(alloc);
@@ -208,7 +210,7 @@ fn run_in_new_store<D: Disk, C: Chare, W: Write>(
 }
 
 /// Runs lines one after another.
-fn run_lines<D: Disk, C: Chare, W: Write>(
+pub(crate) fn run_lines<D: Disk, C: Chare, W: Write>(
     alloc: Global,
     engine: &mut Engine<D, C>,
     source: &mut Stock<C>,
@@ -282,12 +284,27 @@ fn supply_line<D: Disk, C: Chare, W: Write>(
     write_line(alloc, writer, &Supplied { kind, count })
 }
 
-/// Whether there are as many objects of each kind as the script supplies.
-fn has_enough<C: Chare>(script: &Script, blanks: &[C]) -> bool
-    ensures { (result ≡ true) ↔ AreEnough C.state blanks.now script.now.lines }
+/// How many blanks of each kind the script's lines supply.
+fn supplied_by(script: &Script) -> Wanted
+    ensures { (kind : Kind) → wants.blanks_in result kind ≡ blanks_of kind script.now.lines }
+{
+    Wanted {
+        counters: script.blanks(Kind::Counter),
+        rings: script.blanks(Kind::Ring),
+        accounts: script.blanks(Kind::Account),
+        sums: script.blanks(Kind::Sum),
+        trees: script.blanks(Kind::Tree),
+        tapes: script.blanks(Kind::Tape),
+    }
+}
+
+/// Whether there are so many objects of each kind.
+pub(crate) fn has_enough<C: Chare>(wanted: &Wanted, objects: &[C]) -> bool
+    ensures { (result ≡ true) ↔ ((kind : Kind) →
+        wants.blanks_in wanted.now kind ≤ count_of C.state objects.now kind) }
 {
     for kind in &Kind::ALL {
-        if (count_of(blanks, *kind) as u64) < script.blanks(*kind) {
+        if (count_of(objects, *kind) as u64) < wanted.of(*kind) {
             return false;
         }
     }

@@ -1,5 +1,6 @@
 //! Why the program stops before its work is done.
 
+use crate::restarting::{FindError, RestartError};
 use crate::running::RunError;
 use crate::show::ShowError;
 use charmlet_chare::Chare;
@@ -15,6 +16,8 @@ pub enum Stop {
     CannotGoOn,
     /// The store wasn't created, and no line was run. The output says why.
     NotCreated,
+    /// No store came back, and no line was run. The output says why.
+    NotRestarted,
     /// No store was shown. The output says why.
     NotShown,
     /// The script isn't there, is a folder, or a read of it failed.
@@ -33,7 +36,7 @@ impl Stop {
         ensures { result ≡ status_of self.now }
     {
         match self {
-            Stop::CannotGoOn | Stop::NotCreated | Stop::NotShown => 1,
+            Stop::CannotGoOn | Stop::NotCreated | Stop::NotRestarted | Stop::NotShown => 1,
             Stop::UnreadableScript | Stop::MalformedLine(_) => 2,
         }
     }
@@ -50,6 +53,7 @@ impl fmt::Display for Stop {
         match self {
             Stop::CannotGoOn => write!(f, "cannot go on"),
             Stop::NotCreated => write!(f, "cannot create store"),
+            Stop::NotRestarted => write!(f, "cannot restart store"),
             Stop::NotShown => write!(f, "cannot show store"),
             Stop::UnreadableScript => write!(f, "cannot read script"),
             Stop::MalformedLine(line) => write!(f, "script line {line}"),
@@ -84,6 +88,36 @@ impl<C: Chare> From<RunError<C>> for Stop {
         match error {
             RunError::NotCreated(_) => Stop::NotCreated,
             RunError::TooFewBlanks(_) | RunError::Memory | RunError::Output(_) => Stop::CannotGoOn,
+        }
+    }
+}
+
+impl<C: Chare> From<RestartError<C>> for Stop {
+    ghost use Rattle.std.specs.Prelude.{◌≡◌};
+    ghost use Rattle.charmlet_cli.specs.Restarted.{stop_restarted};
+
+    ghost from_gives = { λ error stop. stop ≡ stop_restarted error };
+
+    fn from(error: RestartError<C>) -> Stop {
+        match error {
+            RestartError::NotRestarted(_) => Stop::NotRestarted,
+            RestartError::TooFewBlanks(_, _) | RestartError::Memory | RestartError::Output(_) => {
+                Stop::CannotGoOn
+            }
+        }
+    }
+}
+
+impl From<FindError> for Stop {
+    ghost use Rattle.std.specs.Prelude.{◌≡◌};
+    ghost use Rattle.charmlet_cli.specs.Restarted.{stop_found};
+
+    ghost from_gives = { λ error stop. stop ≡ stop_found error };
+
+    fn from(error: FindError) -> Stop {
+        match error {
+            FindError::Refused(_) => Stop::NotRestarted,
+            FindError::Output(_) => Stop::CannotGoOn,
         }
     }
 }

@@ -1,20 +1,27 @@
 -- What a command line asks for, by clap's meaning of its words.
-use Rattle.std.specs.Prelude.{◌≡◌, ◌≢◌, Bool, List, [], ◌∷◌, Option, Some, None, codes, true, if◌then◌else◌, option_and_then, option_map}
+use Rattle.std.specs.Prelude.{◌≡◌, ◌≢◌, ℕ, Bool, List, [], ◌∷◌, Option, Some, None, codes, pos, true, if◌then◌else◌, option_and_then, option_map}
 use Rattle.std.specs.Str.{bytes_eq}
-use Rattle.clap.specs.Walk.{Row, Rule, Text, first_of}
+use Rattle.std.specs.Str.Parse.{digits_value, without_leading_plus}
+use Rattle.clap.specs.Walk.{Row, Rule, Text, first_of, one_of}
 use Rattle.clap.specs.Simple.{App, new_app, new_rule, on_top, subcommand_of, with_rule, with_subcommand}
 use Rattle.clap.specs.Kinds.{Kinds, IsAmong, or_else}
 use Rattle.clap.specs.Faults.{fault_of}
 use Rattle.clap.specs.Values.{kind_of}
+use Rattle.clap.specs.ValueTests.{is_unsigned_in}
 use Rattle.clap.specs.declared.builder.action.ArgAction.TheVariants.{Set}
+use Rattle.clap.specs.declared.builder.value_parser.ValueParser.TheVariants as parsers
 use Rattle.clap.specs.declared.builder.command.Command.{Command as Parser}
 use Rattle.clap.specs.declared.builder.command.Command.TheViews.{out-Command}
 use Rattle.clap.specs.declared.error.Error.{Error}
 use Rattle.clap.specs.declared.error.kind.ErrorKind.TheVariants.{MissingSubcommand, OutOfMemory}
 use Rattle.charmlet_command.specs.declared.Command.{Command}
-use Rattle.charmlet_command.specs.declared.Command.TheVariants.{Run, Show}
+use Rattle.charmlet_command.specs.declared.Command.TheVariants.{Restart, Run, Show}
 use Rattle.charmlet_command.specs.declared.CommandError.{CommandError}
 use Rattle.charmlet_command.specs.declared.CommandError.TheVariants.{Memory, Line}
+
+infixl 10 ◌>>=◌
+abbrev pub ◌>>=◌ : {A B : Type 0} → Option A → (A → Option B) → Option B
+o >>= f = option_and_then f o
 
 -- a parser has an argument that its subcommands take too
 abbrev pub has_globals : Parser → Bool
@@ -28,13 +35,23 @@ needed_word rule = record rule { required = true; action = Some Set }
 abbrev pub script_word : Rule
 script_word = record (new_rule (codes "script")) { value_names = 1; required = true; action = Some Set }
 
--- the word that names the folder of a store that is shown
+-- the word that names the folder of a store that is there
 abbrev pub folder_word : Rule
 folder_word = record (new_rule (codes "folder")) { value_names = 1; required = true; action = Some Set }
 
 -- `--dir DIR`, which names the store's folder
 abbrev pub dir_option : Rule
 dir_option = record (new_rule (codes "dir")) { long = Some (codes "dir"); value_names = 1; action = Some Set }
+
+-- `--pes N`, a number of 16 bits, which is 1 where the line doesn't have it
+abbrev pub pes_option : Rule
+pes_option = record (new_rule (codes "pes")) {
+  long = Some (codes "pes");
+  value_names = 1;
+  action = Some Set;
+  parser = Some (parsers.Signed (pos 0) (pos 65535));
+  defaults = codes "1" ∷ [];
+}
 
 -- `run SCRIPT [--dir DIR]`
 abbrev pub run_line : App
@@ -44,15 +61,22 @@ run_line = with_rule (with_rule (new_app (codes "run")) script_word) dir_option
 abbrev pub show_line : App
 show_line = with_rule (new_app (codes "show")) folder_word
 
+-- `restart DIR SCRIPT [--pes N]`
+abbrev pub restart_line : App
+restart_line = with_rule (with_rule (with_rule (new_app (codes "restart")) pes_option) folder_word) script_word
+
 -- `charmlet`, which wants a subcommand
 abbrev pub charmlet_line : App
 charmlet_line =
-    with_subcommand (with_subcommand (on_top (λ top. record top { subcommand_required = true }) (new_app (codes "charmlet"))) run_line.top) show_line.top
+    with_subcommand (with_subcommand (with_subcommand (on_top (λ top. record top { subcommand_required = true }) (new_app (codes "charmlet")))
+    run_line.top) show_line.top) restart_line.top
 
--- what is asked for: a run of a script, maybe with a folder for its store, or a showing of the store in a folder
+-- what is asked for: a run of a script, maybe with a folder for its store; a showing of the store in a folder; or a
+-- restart of the store in a folder, on so many processors, with a script
 pub data Asked : Type 0 where
   Runs : (script : Text) (dir : Option Text) → Asked
   Shows : (dir : Text) → Asked
+  Restarts : (dir script : Text) (processors : ℕ) → Asked
 
 -- the run that a subcommand's values name
 abbrev pub run_of : List Row → Option Asked
@@ -63,9 +87,25 @@ run_of rows =
 abbrev pub show_of : List Row → Option Asked
 show_of rows = option_map Shows (first_of (codes "folder") rows)
 
+-- the number of 16 bits that a word spells in decimal digits, before which a plus may stand
+abbrev pub u16_in : Text → Option ℕ
+u16_in word = if is_unsigned_in 0 65535 word then Some (digits_value 10 (without_leading_plus word)) else None
+
+-- the restart that a subcommand's values name; clap takes a minus off a zero
+abbrev pub restart_of : List Row → Option Asked
+restart_of rows = do
+  dir ← first_of (codes "folder") rows
+  script ← first_of (codes "script") rows
+  word ← one_of (codes "pes") rows
+  processors ← u16_in word
+  Some (Restarts dir script processors)
+
 -- what a subcommand and its values ask for
 abbrev pub asked_by : Text × List Row → Option Asked
-asked_by found = if bytes_eq found.0 (codes "run") then run_of found.1 else (if bytes_eq found.0 (codes "show") then show_of found.1 else None)
+asked_by found =
+    if bytes_eq found.0 (codes "run") then run_of found.1
+    else (if bytes_eq found.0 (codes "show") then show_of found.1
+    else (if bytes_eq found.0 (codes "restart") then restart_of found.1 else None))
 
 -- nothing is asked where clap finds a fault
 abbrev pub unless_faulty : Kinds → Option Asked → Option Asked
@@ -80,6 +120,7 @@ asked words = unless_faulty (fault_of charmlet_line words) (option_and_then aske
 abbrev pub asked_in : Command → Asked
 asked_in (Run script dir) = Runs script.now (option_map (λ dir. dir.now) dir)
 asked_in (Show dir) = Shows dir.now
+asked_in (Restart dir script processors) = Restarts dir.now script.now processors
 
 -- the words ask for the command
 abbrev pub Asks : List Text → Command → Type 0

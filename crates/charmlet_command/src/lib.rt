@@ -5,10 +5,10 @@ ghost use Rattle.std.specs.Prelude.{◌≡◌, map, IfOk, IfErr, option_map, opt
 ghost use Rattle.clap.specs.Matches.{found_of};
 ghost use Rattle.clap.specs.Simple.{app_of, subcommand_rows_of};
 ghost use Rattle.clap.specs.Walk.{rows_of, rule_of};
-ghost use Rattle.charmlet_command.specs.CommandLine.{Asks, AsksNothing, asked_by, asked_in, charmlet_line, dir_option, folder_word, has_globals, needed_word, run_line, run_of, script_word, show_line, show_of};
+ghost use Rattle.charmlet_command.specs.CommandLine.{Asks, AsksNothing, asked_by, asked_in, charmlet_line, dir_option, folder_word, has_globals, needed_word, pes_option, restart_line, restart_of, run_line, run_of, script_word, show_line, show_of};
 
 use clap::error::ErrorKind;
-use clap::{Arg, ArgAction, ArgMatches};
+use clap::{Arg, ArgAction, ArgMatches, value_parser};
 use std::alloc::{AllocError, Global};
 use std::convert::AsStr;
 use thiserror::Error;
@@ -24,6 +24,14 @@ pub enum Command<'a> {
     /// Show what stands in the store in the folder `dir`.
     Show {
         dir: &'a str,
+    },
+    /// Restart the store in the folder `dir` on `processors` processors, and run the script in the
+    /// file `script` on it. The number is any of 16 bits: whether a store can come back on so many,
+    /// the command line doesn't know.
+    Restart {
+        dir: &'a str,
+        script: &'a str,
+        processors: u16,
     },
 }
 
@@ -75,7 +83,7 @@ const STATUSES: &str = "\
 Exit status:
   0  the script ran to its end, or the store was shown; a refused line of a script is an
      answer like any other
-  1  no store could be created or shown, or memory or the output failed
+  1  no store could be created or shown or came back, or memory or the output failed
   2  a bad command line, a call for help, or a script that is malformed or can't be read";
 
 const RUN_ABOUT: &str = "Run a script, and print what each line answers before the next one runs";
@@ -151,6 +159,36 @@ Exit status:
 
 const FOLDER_HELP: &str = "The folder of the store, with the files half0 and half1";
 
+const RESTART_ABOUT: &str = "Restart the store in a folder, and run a script on it";
+
+const RESTART_LONG_ABOUT: &str = "\
+Restart the store in a folder, and run a script on it.
+
+The store comes back as its files have it, with all events that were durable. First this is
+printed:
+
+  restarted generation G events E on N  the image is of generation G, E events came back, and
+                                        the store is on N processors
+
+and then what each line answers before the next one runs. The lines are those of
+'charmlet help run' but 'array' and 'pes', which are malformed here: the arrays come back with
+the store, and --pes gives the number of processors, which may be another than before. A script
+may have no line at all.
+
+Where no store comes back, there is one line, and no line of the script is run:
+'refused 15 NothingHere' where the folder has no store, 'refused 14 Damaged H O' where what
+stands at offset O of the file halfH isn't as the format says or can't have happened,
+'refused 17 BadPes' where N isn't 1 to 64, 'refused 2 Device' where the folder isn't there or
+the disk fails, or 'refused 1 Memory'.";
+
+const RESTART_STATUSES: &str = "\
+Exit status:
+  0  the script ran to its end; a refused line is an answer like any other
+  1  no store came back, or memory or the output failed
+  2  a bad command line, a call for help, or a script that is malformed or can't be read";
+
+const PES_HELP: &str = "How many processors the store is on, 1 to 64, numbered from 0";
+
 /// A word that has to be there.
 fn needed<'a>(word: Arg<'a>) -> Arg<'a>
     ensures reads { rule_of result ≡ needed_word (rule_of word.entry) }
@@ -196,6 +234,20 @@ fn dir_arg<'a>(alloc: Global) -> Arg<'a>
         .action(ArgAction::Set)
 }
 
+/// `--pes N`.
+fn pes_arg<'a>(alloc: Global) -> Arg<'a>
+    ensures reads { rule_of result ≡ pes_option }
+    ensures local { result.global ≡ false }
+{
+    Arg::new(alloc, "pes")
+        .long("pes")
+        .value_name("N")
+        .help(PES_HELP)
+        .action(ArgAction::Set)
+        .value_parser(value_parser!(u16))
+        .default_value("1")
+}
+
 /// `run SCRIPT [--dir DIR]`.
 fn run_parser<'a>(alloc: Global) -> Result<clap::Command<'a>, AllocError>
     ensures reads { IfOk result (λ parser. app_of parser ≡ run_line) }
@@ -221,6 +273,20 @@ fn show_parser<'a>(alloc: Global) -> Result<clap::Command<'a>, AllocError>
         .arg(folder_arg(alloc))
 }
 
+/// `restart DIR SCRIPT [--pes N]`.
+fn restart_parser<'a>(alloc: Global) -> Result<clap::Command<'a>, AllocError>
+    ensures reads { IfOk result (λ parser. app_of parser ≡ restart_line) }
+    ensures local { IfOk result (λ parser. has_globals parser ≡ false) }
+{
+    clap::Command::new(alloc, "restart")
+        .about(RESTART_ABOUT)
+        .long_about(RESTART_LONG_ABOUT)
+        .after_help(RESTART_STATUSES)
+        .arg(pes_arg(alloc))?
+        .arg(folder_arg(alloc))?
+        .arg(script_arg(alloc))
+}
+
 /// The whole command line.
 fn parser<'a>(alloc: Global) -> Result<clap::Command<'a>, AllocError>
     ensures { IfOk result (λ parser. app_of parser ≡ charmlet_line) }
@@ -231,7 +297,8 @@ fn parser<'a>(alloc: Global) -> Result<clap::Command<'a>, AllocError>
         .after_help(STATUSES)
         .subcommand_required(true)
         .subcommand(run_parser(alloc)?)?
-        .subcommand(show_parser(alloc)?)
+        .subcommand(show_parser(alloc)?)?
+        .subcommand(restart_parser(alloc)?)
 }
 
 /// The run that the values of its line name.
@@ -251,6 +318,20 @@ fn show_in<'a>(values: &ArgMatches<'a>) -> Option<Command<'a>>
     Some(Command::Show { dir })
 }
 
+/// The restart that the values of its line name.
+fn restart_in<'a>(values: &ArgMatches<'a>) -> Option<Command<'a>>
+    ensures { option_map asked_in result ≡ restart_of (rows_of (found_of values.now)) }
+{
+    let dir = values.get_str("folder")?;
+    let script = values.get_str("script")?;
+    let processors = values.get_one::<u16>("pes")?;
+    Some(Command::Restart {
+        dir,
+        script,
+        processors,
+    })
+}
+
 /// The command that the matches of a line ask for.
 fn command_in<'a>(matches: &ArgMatches<'a>) -> Option<Command<'a>>
     ensures { option_map asked_in result
@@ -261,13 +342,16 @@ fn command_in<'a>(matches: &ArgMatches<'a>) -> Option<Command<'a>>
         run_in(values)
     } else if name == "show" {
         show_in(values)
+    } else if name == "restart" {
+        restart_in(values)
     } else {
         None
     }
 }
 
-/// What the words ask for; the first is the program's name. Only `run SCRIPT`, with or without `--dir DIR`, and
-/// `show DIR` are commands; every other line, a call for help among them, is answered by `CommandError::Line` with
+/// What the words ask for; the first is the program's name. Only `run SCRIPT`, with or without `--dir DIR`,
+/// `show DIR`, and `restart DIR SCRIPT`, with or without `--pes N`, are commands. N is a number of 16 bits, and 1
+/// where it isn't there. Every other line, a call for help among them, is answered by `CommandError::Line` with
 /// clap's text and a kind of error that clap's meaning of the words has, and want of memory by
 /// `CommandError::Memory`.
 pub fn command_of<'a, S: AsStr>(alloc: Global, words: &'a [S]) -> Result<Command<'a>, CommandError>

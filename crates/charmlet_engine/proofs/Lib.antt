@@ -4,3 +4,4 @@ pub mod Written
 pub mod Quiets
 pub mod Fresh
 pub mod Advancing
+pub mod Lives

@@ -17,6 +17,8 @@ use Rattle.charmlet_journal.specs.Rest.{Agrees, IsKept}
 use Rattle.charmlet_store.specs.Store.{IsStoreConsistent, store_in, supplied_in}
 use Rattle.charmlet_image.specs.Images.{spell_half}
 use Rattle.charmlet_recovery.specs.Stores.{saved_of}
+use Rattle.charmlet_recover.specs.declared.restarting.Recovered.{Recovered}
+use Rattle.charmlet_recover.specs.declared.restarting.NotRestarted.{NotRestarted}
 use Rattle.charmlet_engine.specs.declared.engine.Engine.{Engine}
 
 -- the answer to a request or a status
@@ -65,3 +67,12 @@ module _ {D C : Type 0} {G : disks.Ghosts D} {H : chares.Ghosts C} where
   abbrev pub engine_or_refusal : Result (Engine D C G H) (Refused D) → Result (Engine D C G H) Refusal
   engine_or_refusal (Ok engine) = Ok engine
   engine_or_refusal (Err refused) = Err refused.refusal
+
+  -- what a restart brought back
+  abbrev pub recovered_in : Engine D C G H → Recovered D C G H
+  recovered_in engine = record { store = engine.store; halves = engine.halves }
+
+  -- that a restart brought it back, or what it handed back
+  abbrev pub recovered_or_not : Result (Engine D C G H) (NotRestarted D C H) → Result (Recovered D C G H) (NotRestarted D C H)
+  recovered_or_not (Ok engine) = Ok (recovered_in engine)
+  recovered_or_not (Err refused) = Err refused

@@ -2,3 +2,4 @@
 pub mod Outcomes
 pub mod Engine
 pub mod Advances
+pub mod Lives

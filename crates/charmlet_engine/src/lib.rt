@@ -4,9 +4,12 @@
 mod closing;
 mod creating;
 mod engine;
+mod laws;
 mod memory;
+mod restarting;
 mod running;
 mod seen;
 
 pub use crate::closing::Closed;
 pub use crate::engine::Engine;
+pub use crate::laws::lives_are_remembered;

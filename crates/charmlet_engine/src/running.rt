@@ -1,6 +1,6 @@
 //! Steps and runs.
 
-ghost use Rattle.std.specs.Prelude.{◌≡◌, take, true, IfOk, OnErr};
+ghost use Rattle.std.specs.Prelude.{◌≡◌, [], ◌∷◌, take, true, IfOk, OnErr};
 ghost use Rattle.charmlet_model.specs.declared.step.Step.TheVariants as steps;
 ghost use Rattle.charmlet_model.specs.Run.{Does, Runs};
 ghost use Rattle.charmlet_model.specs.RunLaws.{AllTold, IsToldTrue};
@@ -9,6 +9,7 @@ ghost use Rattle.charmlet_disk.specs.File.{MayLeave, Outcome};
 ghost use Rattle.charmlet_migrate.specs.Moving.{ShowsPresent};
 ghost use Rattle.charmlet_engine.specs.Advances.{Advances};
 ghost use Rattle.charmlet_engine.specs.Engine.{HasImage, IsEngineConsistent, core_of, disk_in, supplied_of, view_of};
+ghost use Rattle.charmlet_engine.specs.Lives.{Past, Remembers, with_run};
 ghost use Rattle.charmlet_engine.specs.Outcomes.{ends_with_image, faults_through, is_image, is_lawful_now, is_no_fault, is_still};
 
 use crate::engine::Engine;
@@ -26,13 +27,15 @@ impl<D: Disk, C: Chare> Engine<D, C> {
     ///
     /// On an honest disk a crash at any moment of the call leaves files that recover to the world after some
     /// of the history, with all events among it that were durable before; and from then on with all that are
-    /// durable after it.
+    /// durable after it. What a client is told stays true over each crash and restart to come.
     pub fn step(&mut self, step: &Step) -> Answer
         requires { IsEngineConsistent self.old }
         ensures consistent { IsEngineConsistent self.new }
         ensures does { Does (view_of self.old) step.now result (view_of self.new) }
         ensures told { IsToldTrue (core_of self.new).opening
             (take (core_of self.new).durable (core_of self.new).history) step.now result }
+        ensures remembers { (past : Past) → Remembers past (core_of self.old) → Remembers
+            (with_run past (step.now ∷ []) (result ∷ [])) (core_of self.new) }
         ensures advances { Advances self.old self.new }
         ensures now { D.honest (disk_in self.old) → (outcome : Outcome) →
             MayLeave (D.file (disk_in self.new)) outcome → is_lawful_now (core_of self.new) outcome }
@@ -109,6 +112,9 @@ impl<D: Disk, C: Chare> Engine<D, C> {
             (view_of self.new)) }
         ensures told { IfOk result (λ answers. AllTold (core_of self.new).opening
             (take (core_of self.new).durable (core_of self.new).history) steps.now answers.items) }
+        ensures remembers { (past : Past) → Remembers past (core_of self.old) →
+            IfOk result (λ answers. Remembers (with_run past steps.now answers.items)
+            (core_of self.new)) }
         ensures advances { Advances self.old self.new }
         ensures now { D.honest (disk_in self.old) → (outcome : Outcome) →
             MayLeave (D.file (disk_in self.new)) outcome → is_lawful_now (core_of self.new) outcome }

@@ -2,6 +2,8 @@ mod close;
 mod engines;
 mod faults;
 mod full;
+mod lives;
 mod looks;
 mod memory;
+mod restarts;
 mod rows;

@@ -7,3 +7,9 @@ pub mod Held
 pub mod Rising
 pub mod Batches
 pub mod Totals
+pub mod Kept
+pub mod Answered
+pub mod Left
+pub mod Crashed
+pub mod Stocks
+pub mod Restarted

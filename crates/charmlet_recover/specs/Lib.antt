@@ -3,3 +3,4 @@ pub mod Wanted
 pub mod Maps
 pub mod Logs
 pub mod Found
+pub mod Restart

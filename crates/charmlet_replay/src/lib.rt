@@ -1,7 +1,19 @@
 //! Replays: what a half says becomes objects on shelves again, by their own entry methods.
 #![tactic(auto)]
 
+mod beginning;
 mod comparing;
+mod dismissing;
 mod events;
+mod log;
+mod opening;
+mod pending;
+mod placing;
+mod receiving;
+mod reopening;
+mod replaying;
+mod restored;
+mod waiting;
 
-pub use crate::events::{Stopped, make_event};
+pub use crate::reopening::NotReplayed;
+pub use crate::replaying::replay;

@@ -1,14 +1,14 @@
 -- A text is read up to one byte past the limit.
-use Rattle.std.proofs.Common.{◌≡◌, ◌==◌, ◌+◌, ◌≤◌, ◌∷◌, ◌++◌, [], ℕ, List, take, length, get_or, ◌∙◌, ap, subst, refl, arith, inl, inr, Option, Some, None, Result, IfSome}
+use Rattle.std.proofs.Common.{map, sym, ◌≡◌, ◌==◌, ◌+◌, ◌≤◌, ◌∷◌, ◌++◌, [], ℕ, List, take, length, get_or, ◌∙◌, ap, subst, refl, arith, inl, inr, Option, Some, None, Result, IfSome}
 use Rattle.std.specs.Option.{option_map}
 use Rattle.std.proofs.lemmas.Bool.{cases_lt}
 use Rattle.std.proofs.lemmas.Bool.Decides.{nat_tests}
-use Rattle.std.proofs.lemmas.List.{length-take-le, take-append-le, take_all, take_more}
+use Rattle.std.proofs.lemmas.List.{length-map, length-take-le, take-append-le, take_all, take_more}
 use Rattle.std.proofs.lemmas.List.Splits.{length-slice_split}
 use Rattle.std.proofs.lemmas.List.Sums.{count_by-le-length}
-use Rattle.charmlet_script.specs.Script.{Contents}
+use Rattle.charmlet_script.specs.Script.{most_lines}
 use Rattle.charmlet_script.specs.Line.{parts_of}
-use Rattle.charmlet_script.specs.Reading.{Answers, within, max_length, lines_spell, script_of}
+use Rattle.charmlet_script.specs.Reading.{Answers, lines_of, max_length, within}
 use Rattle.charmlet_script.specs.declared.error.ReadError.{ReadError}
 
 -- the bytes past the first one beyond the limit make no difference
@@ -37,15 +37,26 @@ start_is known limited n limit old new k l o h =
     from_known None n limit old new l o h = tt
     from_known (Some bytes) n limit old new l o h = h ∙ ap (λ xs. xs ++ take limit bytes) o ∙ ap (λ m. take m bytes) l
 
--- what the lines of the text up to the limit spell is what the bytes spell
-pub script_is : (known : Option (List ℕ)) (text cut : List ℕ) (lines : List (List ℕ)) (r : Result Contents ReadError)
-    → IfSome known (λ bytes. text ≡ take (max_length + 1) bytes) → cut ≡ within max_length text → lines ≡ parts_of 10 cut
-    → Answers r (lines_spell lines) → IfSome known (λ bytes. Answers r (script_of bytes))
-script_is None text cut lines r h c l a = tt
-script_is (Some bytes) text cut lines r h c l a =
-    let cut_is : cut ≡ within max_length bytes = c ∙ ap (within max_length) h ∙ within-take max_length bytes in
-    subst (λ ls. Answers r (lines_spell ls)) (l ∙ ap (parts_of 10) cut_is) a
+-- the text up to the limit, cut, is the bytes cut
+pub text_is : (known : Option (List ℕ)) (text cut : List ℕ) → IfSome known (λ bytes. text ≡ take (max_length + 1) bytes) → cut ≡ within max_length text
+    → IfSome known (λ bytes. cut ≡ within max_length bytes)
+text_is None text cut h c = tt
+text_is (Some bytes) text cut h c = c ∙ ap (within max_length) h ∙ within-take max_length bytes
+
+-- what the lines of the text spell is what the bytes spell
+pub spelled_is : {A : Type 0} (spell : List (List ℕ) → Result A ℕ) (known : Option (List ℕ)) (text : List ℕ) (lines : List (List ℕ)) (r : Result A ReadError)
+    → IfSome known (λ bytes. text ≡ within max_length bytes) → lines ≡ parts_of 10 text
+    → Answers r (spell lines) → IfSome known (λ bytes. Answers r (spell (lines_of (within max_length bytes))))
+spelled_is spell None text lines r h l a = tt
+spelled_is spell (Some bytes) text lines r h l a = subst (λ ls. Answers r (spell ls)) (l ∙ ap (parts_of 10) h) a
 
 -- a text has at most one part more than it has bytes
 pub length-parts_of : (separator : ℕ) (text : List ℕ) → length (parts_of separator text) ≤ length text + 1
 length-parts_of separator text = omega (arith, length-slice_split (λ b. b == separator) text, count_by-le-length (λ b. b == separator) text)
+
+-- a text up to the limit has few lines
+pub few_lines : {W : Type 0} (line : W → List ℕ) (text : List ℕ) (lines : List W) → map line lines ≡ parts_of 10 text → length text ≤ max_length + 1
+    → length lines ≤ most_lines
+few_lines line text lines parts short =
+    let count : length (parts_of 10 text) ≡ length lines = ap length (sym parts) ∙ length-map lines line in
+    omega (arith, length-parts_of 10 text)

@@ -6,41 +6,42 @@ use Rattle.charmlet_model.specs.Texts.{Text}
 use Rattle.charmlet_script.specs.Script.{Contents}
 use Rattle.charmlet_script.specs.Line.{◌>>=◌, item_of}
 use Rattle.charmlet_script.specs.Reading.{is_array_line, may_add, may_declare, with_array, with_item, with_line, with_lines, with_processors}
+use Rattle.charmlet_script.specs.declared.draft.Purpose.{Purpose}
 use Rattle.charmlet_script.specs.declared.line.Item.{Item}
 use Rattle.charmlet_script.specs.declared.line.Item.TheVariants as items
 
 -- an item adds one line at most
-length-with_item : (script next : Contents) (item : Item) → with_item script item ≡ Some next → length next.lines ≤ length script.lines + 1
+length-with_item : (purpose : Purpose) (script next : Contents) (item : Item) → with_item purpose script item ≡ Some next → length next.lines ≤ length script.lines + 1
 unfolding with_item with_array with_processors
-length-with_item script next items.Skipped e =
+length-with_item purpose script next items.Skipped e =
     let same : script ≡ next = cc in
     rw (← same) (omega arith)
-length-with_item script next (items.Processors processors) e = if_declared (may_declare script) e
+length-with_item purpose script next (items.Processors processors) e = if_declared (may_declare purpose script) e
   where
     if_declared : (may : Bool) → if may then Some (record script { declared_processors = Some processors }) else None ≡ Some next → length next.lines ≤ length script.lines + 1
     if_declared true declared =
         let same : record script { declared_processors = Some processors } ≡ next = cc in
         rw (← same) (omega arith)
     if_declared false none = absurd (cc)
-length-with_item script next (items.Array line) e = if_added (may_add script line) e
+length-with_item purpose script next (items.Array line) e = if_added (may_add purpose script line) e
   where
     if_added : (may : Bool) → if may then Some (record script { arrays = script.arrays ++ line ∷ [] }) else None ≡ Some next → length next.lines ≤ length script.lines + 1
     if_added true added =
         let same : record script { arrays = script.arrays ++ line ∷ [] } ≡ next = cc in
         rw (← same) (omega arith)
     if_added false none = absurd (cc)
-length-with_item script next (items.Line line) e =
+length-with_item purpose script next (items.Line line) e =
     let same : record script { lines = script.lines ++ line ∷ [] } ≡ next = cc in
     rw (← same) (omega (arith, length-append script.lines (line ∷ [])))
 
 -- and so does a line of the text
-pub length-with_line : (script next : Contents) (line : Text) → with_line script line ≡ Some next → length next.lines ≤ length script.lines + 1
+pub length-with_line : (purpose : Purpose) (script next : Contents) (line : Text) → with_line purpose script line ≡ Some next → length next.lines ≤ length script.lines + 1
 unfolding with_line
-length-with_line script next line e = if_spelled (item_of line) e
+length-with_line purpose script next line e = if_spelled (item_of line) e
   where
-    if_spelled : (spelled : Option Item) → (spelled >>= with_item script) ≡ Some next → length next.lines ≤ length script.lines + 1
+    if_spelled : (spelled : Option Item) → (spelled >>= with_item purpose script) ≡ Some next → length next.lines ≤ length script.lines + 1
     if_spelled None none = absurd (cc)
-    if_spelled (Some item) added = length-with_item script next item added
+    if_spelled (Some item) added = length-with_item purpose script next item added
 
 module _ {W : Type 0} (text : W → Text) where
   pub any_goes_on : (lines : List W) (i : ℕ) (d : W) (found total : Bool) → i < length lines → found ≡ is_array_line (text (get_or lines i d)) → found ≡ false
@@ -62,23 +63,24 @@ module _ {W : Type 0} (text : W → Text) where
   pub any_done : (lines : List W) (i : ℕ) (total : Bool) → length lines ≤ i → list_any is_array_line (map text (drop i lines)) ≡ total → false ≡ total
   any_done lines i total le so_far = sym (at_drop_all (λ ls. list_any is_array_line (map text ls)) lines i le) ∙ so_far
 
-  pub lines_go_on : (lines : List W) (i : ℕ) (d : W) (script next : Contents) (total : Result Contents ℕ) → i < length lines → with_line script (text (get_or lines i d)) ≡ Some next
-      → with_lines script (i + 1) (map text (drop i lines)) ≡ total → with_lines next (i + 1 + 1) (map text (drop (i + 1) lines)) ≡ total
+module _ (purpose : Purpose) {W : Type 0} (text : W → Text) where
+  pub lines_go_on : (lines : List W) (i : ℕ) (d : W) (script next : Contents) (total : Result Contents ℕ) → i < length lines → with_line purpose script (text (get_or lines i d)) ≡ Some next
+      → with_lines purpose script (i + 1) (map text (drop i lines)) ≡ total → with_lines purpose next (i + 1 + 1) (map text (drop (i + 1) lines)) ≡ total
   unfolding with_lines
   lines_go_on lines i d script next total lt e so_far =
       let k : drop i lines ≡ get_or lines i d ∷ drop (i + 1) lines = drop_more lines i d lt in
-      let one : with_lines script (i + 1) (map text (drop i lines)) ≡ with_lines next (i + 1 + 1) (map text (drop (i + 1) lines)) = rw (k, e) refl in
+      let one : with_lines purpose script (i + 1) (map text (drop i lines)) ≡ with_lines purpose next (i + 1 + 1) (map text (drop (i + 1) lines)) = rw (k, e) refl in
       sym one ∙ so_far
 
-  pub lines_stop : (lines : List W) (i : ℕ) (d : W) (script : Contents) (total : Result Contents ℕ) → i < length lines → with_line script (text (get_or lines i d)) ≡ None
-      → with_lines script (i + 1) (map text (drop i lines)) ≡ total → total ≡ Err (i + 1)
+  pub lines_stop : (lines : List W) (i : ℕ) (d : W) (script : Contents) (total : Result Contents ℕ) → i < length lines → with_line purpose script (text (get_or lines i d)) ≡ None
+      → with_lines purpose script (i + 1) (map text (drop i lines)) ≡ total → total ≡ Err (i + 1)
   unfolding with_lines
   lines_stop lines i d script total lt e so_far =
       let k : drop i lines ≡ get_or lines i d ∷ drop (i + 1) lines = drop_more lines i d lt in
-      let one : with_lines script (i + 1) (map text (drop i lines)) ≡ Err (i + 1) = rw (k, e) refl in
+      let one : with_lines purpose script (i + 1) (map text (drop i lines)) ≡ Err (i + 1) = rw (k, e) refl in
       sym so_far ∙ one
 
   pub lines_done : (lines : List W) (i : ℕ) (script : Contents) (total : Result Contents ℕ) → length lines ≤ i
-      → with_lines script (i + 1) (map text (drop i lines)) ≡ total → total ≡ Ok script
+      → with_lines purpose script (i + 1) (map text (drop i lines)) ≡ total → total ≡ Ok script
   unfolding with_lines
-  lines_done lines i script total le so_far = sym so_far ∙ at_drop_all (λ ls. with_lines script (i + 1) (map text ls)) lines i le
+  lines_done lines i script total le so_far = sym so_far ∙ at_drop_all (λ ls. with_lines purpose script (i + 1) (map text ls)) lines i le

@@ -17,11 +17,12 @@ use Rattle.charmlet_model.proofs.Maps.{lookup-insert_entry}
 use Rattle.charmlet_model.proofs.ManifestLemmas.{manifest-bounded, with_pairs-at}
 use Rattle.charmlet_script.specs.declared.script.ArrayLine.{ArrayLine}
 use Rattle.charmlet_model.specs.Texts.{Text}
+use Rattle.charmlet_script.specs.declared.draft.Purpose.{Purpose}
 use Rattle.charmlet_script.specs.declared.line.Item.{Item}
 use Rattle.charmlet_script.specs.declared.line.Item.TheVariants as items
 use Rattle.charmlet_script.specs.Script.{Contents, no_lines, pairs_of}
 use Rattle.charmlet_script.specs.Line.{◌>>=◌, is_empty, item_of}
-use Rattle.charmlet_script.specs.Reading.{has_array, is_array, is_array_line, may_add, may_declare, with_array, with_item, with_line, with_lines, with_processors}
+use Rattle.charmlet_script.specs.Reading.{has_array, has_header, is_array, is_array_line, may_add, may_declare, with_array, with_item, with_line, with_lines, with_processors}
 
 -- a kind's number names it
 numbered-number : (kind : Kind) → Some kind ≡ numbered_kind (kind_number kind)
@@ -119,16 +120,17 @@ record GoesOn (script : Contents) (item : Item) (next : Contents) : Type 0 where
   keeps : 1 ≤ length script.arrays → 1 ≤ length next.arrays
   gets : is_array item ≡ true → 1 ≤ length next.arrays
 
-with_array-goes_on : (script next : Contents) (line : ArrayLine) → IsDeclared script → with_array script line ≡ Some next → GoesOn script (items.Array line) next
+with_array-goes_on : (purpose : Purpose) (script next : Contents) (line : ArrayLine) → IsDeclared script → with_array purpose script line ≡ Some next → GoesOn script (items.Array line) next
 unfolding with_array
-with_array-goes_on script next line so_far e = if_added (may_add script line) refl e
+with_array-goes_on purpose script next line so_far e = if_added (may_add purpose script line) refl e
   where
-    if_added : (may : Bool) → may_add script line ≡ may → (if may then Some (record script { arrays = script.arrays ++ line ∷ [] }) else None) ≡ Some next
+    if_added : (may : Bool) → may_add purpose script line ≡ may → (if may then Some (record script { arrays = script.arrays ++ line ∷ [] }) else None) ≡ Some next
         → GoesOn script (items.Array line) next
     if_added false may none = absurd (cc)
     if_added true may added =
         let same : record script { arrays = script.arrays ++ line ∷ [] } ≡ next = cc in
-        let parts = both_parts (is_empty script.lines) (nat_lt (length script.arrays) 64 && not (has_array line.array script.arrays)) may in
+        let header = both_parts (has_header purpose) (is_empty script.lines && (nat_lt (length script.arrays) 64 && not (has_array line.array script.arrays))) may in
+        let parts = both_parts (is_empty script.lines) (nat_lt (length script.arrays) 64 && not (has_array line.array script.arrays)) header.1 in
         let ends = both_parts (nat_lt (length script.arrays) 64) (not (has_array line.array script.arrays)) parts.1 in
         let room : length script.arrays < 64 = grind (arith, nat_tests, ends.0) in
         let count : length (script.arrays ++ line ∷ []) ≡ length script.arrays + 1 = length-append script.arrays (line ∷ []) in
@@ -142,9 +144,9 @@ with_array-goes_on script next line so_far e = if_added (may_add script line) re
           gets = λ is. omega arith;
         })
 
-with_processors-goes_on : (script next : Contents) (processors : ℕ) → IsDeclared script → with_processors script processors ≡ Some next → GoesOn script (items.Processors processors) next
+with_processors-goes_on : (purpose : Purpose) (script next : Contents) (processors : ℕ) → IsDeclared script → with_processors purpose script processors ≡ Some next → GoesOn script (items.Processors processors) next
 unfolding with_processors
-with_processors-goes_on script next processors so_far e = if_declared (may_declare script) e
+with_processors-goes_on purpose script next processors so_far e = if_declared (may_declare purpose script) e
   where
     if_declared : (may : Bool) → (if may then Some (record script { declared_processors = Some processors }) else None) ≡ Some next
         → GoesOn script (items.Processors processors) next
@@ -157,14 +159,14 @@ with_processors-goes_on script next processors so_far e = if_declared (may_decla
           gets = λ is. absurd (cc);
         })
 
-with_item-goes_on : (script next : Contents) (item : Item) → IsDeclared script → with_item script item ≡ Some next → GoesOn script item next
+with_item-goes_on : (purpose : Purpose) (script next : Contents) (item : Item) → IsDeclared script → with_item purpose script item ≡ Some next → GoesOn script item next
 unfolding with_item
-with_item-goes_on script next items.Skipped so_far e =
+with_item-goes_on purpose script next items.Skipped so_far e =
     let same : script ≡ next = cc in
     subst (GoesOn script items.Skipped) same (record { declared = so_far; keeps = λ some. some; gets = λ is. absurd (cc) })
-with_item-goes_on script next (items.Processors processors) so_far e = with_processors-goes_on script next processors so_far e
-with_item-goes_on script next (items.Array line) so_far e = with_array-goes_on script next line so_far e
-with_item-goes_on script next (items.Line line) so_far e =
+with_item-goes_on purpose script next (items.Processors processors) so_far e = with_processors-goes_on purpose script next processors so_far e
+with_item-goes_on purpose script next (items.Array line) so_far e = with_array-goes_on purpose script next line so_far e
+with_item-goes_on purpose script next (items.Line line) so_far e =
     let same : record script { lines = script.lines ++ line ∷ [] } ≡ next = cc in
     subst (GoesOn script (items.Line line)) same (record {
       declared = record { entries = so_far.entries; are = so_far.are; few = so_far.few };
@@ -177,19 +179,19 @@ or-true true b e = inl refl
 or-true false b e = inr e
 
 -- one line of a script, by what it spells
-if_read : (lines : List Text) (number : ℕ) (script final : Contents) → IsDeclared script → (spelled : Option Item)
+if_read : (purpose : Purpose) (lines : List Text) (number : ℕ) (script final : Contents) → IsDeclared script → (spelled : Option Item)
     → (1 ≤ length script.arrays) ⊎ ((option_map_or is_array spelled false || list_any is_array_line lines) ≡ true)
-    → option_map_or (λ next. with_lines next (number + 1) lines) (spelled >>= with_item script) (Err number) ≡ Ok final
-    → ((next : Contents) → IsDeclared next → (1 ≤ length next.arrays) ⊎ (list_any is_array_line lines ≡ true) → with_lines next (number + 1) lines ≡ Ok final → is_some (manifest_of (pairs_of final.arrays)) ≡ true)
+    → option_map_or (λ next. with_lines purpose next (number + 1) lines) (spelled >>= with_item purpose script) (Err number) ≡ Ok final
+    → ((next : Contents) → IsDeclared next → (1 ≤ length next.arrays) ⊎ (list_any is_array_line lines ≡ true) → with_lines purpose next (number + 1) lines ≡ Ok final → is_some (manifest_of (pairs_of final.arrays)) ≡ true)
     → is_some (manifest_of (pairs_of final.arrays)) ≡ true
-if_read lines number script final so_far None some e rest = absurd (cc)
-if_read lines number script final so_far (Some item) some e rest = if_added (with_item script item) refl e
+if_read purpose lines number script final so_far None some e rest = absurd (cc)
+if_read purpose lines number script final so_far (Some item) some e rest = if_added (with_item purpose script item) refl e
   where
-    if_added : (added : Option Contents) → with_item script item ≡ added → option_map_or (λ next. with_lines next (number + 1) lines) added (Err number) ≡ Ok final
+    if_added : (added : Option Contents) → with_item purpose script item ≡ added → option_map_or (λ next. with_lines purpose next (number + 1) lines) added (Err number) ≡ Ok final
         → is_some (manifest_of (pairs_of final.arrays)) ≡ true
     if_added None is e = absurd (cc)
     if_added (Some next) is e =
-        let step = with_item-goes_on script next item so_far is in
+        let step = with_item-goes_on purpose script next item so_far is in
         let later : (1 ≤ length next.arrays) ⊎ (list_any is_array_line lines ≡ true) = elim some [
           | inl here ↦ inl (step.keeps here)
           | inr found ↦ elim (or-true (is_array item) (list_any is_array_line lines) found) [
@@ -200,13 +202,13 @@ if_read lines number script final so_far (Some item) some e rest = if_added (wit
         rest next step.declared later e
 
 -- a script that was read to its end has a manifest, if it has an array or a line that is still to come spells one
-pub manifest-of_lines : (lines : List Text) (number : ℕ) (script final : Contents) → IsDeclared script
-    → (1 ≤ length script.arrays) ⊎ (list_any is_array_line lines ≡ true) → with_lines script number lines ≡ Ok final
+pub manifest-of_lines : (purpose : Purpose) (lines : List Text) (number : ℕ) (script final : Contents) → IsDeclared script
+    → (1 ≤ length script.arrays) ⊎ (list_any is_array_line lines ≡ true) → with_lines purpose script number lines ≡ Ok final
     → is_some (manifest_of (pairs_of final.arrays)) ≡ true
 unfolding with_lines with_line
-manifest-of_lines [] number script final so_far some e =
+manifest-of_lines purpose [] number script final so_far some e =
     let same : script ≡ final = cc in
     let one : 1 ≤ length script.arrays = elim some [ inl here ↦ here | inr later ↦ absurd (cc) ] in
     subst (λ (s : Contents). is_some (manifest_of (pairs_of s.arrays)) ≡ true) same (manifest-is script.arrays so_far.entries so_far.are one so_far.few)
-manifest-of_lines (line ∷ lines) number script final so_far some e =
-    if_read lines number script final so_far (item_of line) some e (λ next declared later rest. manifest-of_lines lines (number + 1) next final declared later rest)
+manifest-of_lines purpose (line ∷ lines) number script final so_far some e =
+    if_read purpose lines number script final so_far (item_of line) some e (λ next declared later rest. manifest-of_lines purpose lines (number + 1) next final declared later rest)

@@ -1,4 +1,4 @@
--- A whole script, line by line, up to its first malformed line; and what its reader answers.
+-- A whole script, of a run or of a restart, line by line, up to its first malformed line; and what its reader answers.
 use Rattle.std.specs.Prelude.{◌≡◌, ◌≢◌, ℕ, Bool, false, true, ◌+◌, ◌==◌, ◌&&◌, not, List, [], ◌∷◌, ◌++◌, length, take, is_none, Option, Some, None, Result, Ok, Err, if◌then◌else◌, nat_lt, nat_le}
 use Rattle.std.specs.List.{list_any}
 use Rattle.std.specs.Option.{option_map_or}
@@ -11,6 +11,9 @@ use Rattle.charmlet_script.specs.declared.error.LineFault.TheVariants as faults
 use Rattle.charmlet_script.specs.declared.error.ReadError.{ReadError}
 use Rattle.charmlet_script.specs.declared.error.ReadError.TheVariants as errors
 use Rattle.charmlet_script.specs.declared.script.ArrayLine.{ArrayLine}
+use Rattle.charmlet_script.specs.declared.draft.Purpose.{Purpose}
+use Rattle.charmlet_script.specs.declared.draft.Purpose.TheVariants as purposes
+use Rattle.charmlet_script.specs.declared.script.Line.{Line}
 use Rattle.charmlet_script.specs.declared.line.Item.{Item}
 use Rattle.charmlet_script.specs.declared.line.Item.TheVariants as items
 use Rattle.charmlet_script.specs.Script.{Contents, no_lines}
@@ -51,40 +54,46 @@ lines_of = parts_of 10
 abbrev pub has_array : ℕ → List ArrayLine → Bool
 has_array array = list_any (λ other. other.array == array)
 
--- an array line stands before the lines behind the header, once for an array, and at most 64 times
-abbrev pub may_add : Contents → ArrayLine → Bool
-may_add script line = is_empty script.lines && (nat_lt (length script.arrays) 64 && not (has_array line.array script.arrays))
+-- the script of a run has a header; that of a restart has none, since its store is there already
+abbrev pub has_header : Purpose → Bool
+has_header purposes.Run = true
+has_header purposes.Restart = false
+
+-- an array line stands in a header, before the other lines, once for an array, and at most 64 times
+abbrev pub may_add : Purpose → Contents → ArrayLine → Bool
+may_add purpose script line =
+    has_header purpose && (is_empty script.lines && (nat_lt (length script.arrays) 64 && not (has_array line.array script.arrays)))
 
 -- the script with one more array, if it may stand there
-unfoldable pub with_array : Contents → ArrayLine → Option Contents
-with_array script line =
-    if may_add script line then Some (record script { arrays = script.arrays ++ line ∷ [] }) else None
+unfoldable pub with_array : Purpose → Contents → ArrayLine → Option Contents
+with_array purpose script line =
+    if may_add purpose script line then Some (record script { arrays = script.arrays ++ line ∷ [] }) else None
 
--- a line of the number of processors stands before the lines behind the header, once
-abbrev pub may_declare : Contents → Bool
-may_declare script = is_empty script.lines && is_none script.declared_processors
+-- a line of the number of processors stands in a header, before the other lines, once
+abbrev pub may_declare : Purpose → Contents → Bool
+may_declare purpose script = has_header purpose && (is_empty script.lines && is_none script.declared_processors)
 
 -- the script with its number of processors, if that may stand there
-unfoldable pub with_processors : Contents → ℕ → Option Contents
-with_processors script processors =
-    if may_declare script then Some (record script { declared_processors = Some processors }) else None
+unfoldable pub with_processors : Purpose → Contents → ℕ → Option Contents
+with_processors purpose script processors =
+    if may_declare purpose script then Some (record script { declared_processors = Some processors }) else None
 
 -- the script with what a line spells, if it may stand there
-unfoldable pub with_item : Contents → Item → Option Contents
-with_item script items.Skipped = Some script
-with_item script (items.Processors processors) = with_processors script processors
-with_item script (items.Array line) = with_array script line
-with_item script (items.Line line) = Some (record script { lines = script.lines ++ line ∷ [] })
+unfoldable pub with_item : Purpose → Contents → Item → Option Contents
+with_item purpose script items.Skipped = Some script
+with_item purpose script (items.Processors processors) = with_processors purpose script processors
+with_item purpose script (items.Array line) = with_array purpose script line
+with_item purpose script (items.Line line) = Some (record script { lines = script.lines ++ line ∷ [] })
 
 -- the script with the next line, unless that line is malformed
-unfoldable pub with_line : Contents → Text → Option Contents
-with_line script line = item_of line >>= with_item script
+unfoldable pub with_line : Purpose → Contents → Text → Option Contents
+with_line purpose script line = item_of line >>= with_item purpose script
 
 -- the script with the lines from this number on, or the number of the first malformed one
-unfoldable pub with_lines : Contents → ℕ → List Text → Result Contents ℕ
-with_lines script number [] = Ok script
-with_lines script number (line ∷ lines) =
-    option_map_or (λ next. with_lines next (number + 1) lines) (with_line script line) (Err number)
+unfoldable pub with_lines : Purpose → Contents → ℕ → List Text → Result Contents ℕ
+with_lines purpose script number [] = Ok script
+with_lines purpose script number (line ∷ lines) =
+    option_map_or (λ next. with_lines purpose next (number + 1) lines) (with_line purpose script line) (Err number)
 
 -- an item is an array
 abbrev pub is_array : Item → Bool
@@ -95,18 +104,31 @@ is_array _ = false
 abbrev pub is_array_line : Text → Bool
 is_array_line line = option_map_or is_array (item_of line) false
 
--- what lines spell: a script, or the number of the first malformed line, which is 1 where none is an array line
+-- what the lines of a run's script spell: it, or the number of the first malformed line, which is 1 where none is an array line
 unfoldable pub lines_spell : List Text → Result Contents ℕ
-lines_spell lines = if list_any is_array_line lines then with_lines no_lines 1 lines else Err 1
+lines_spell lines = if list_any is_array_line lines then with_lines purposes.Run no_lines 1 lines else Err 1
 
--- the script that the bytes spell, or the number of the first malformed line
+-- the script of a run that the bytes spell, or the number of the first malformed line
 abbrev pub script_of : Text → Result Contents ℕ
 script_of bytes = lines_spell (lines_of (within max_length bytes))
+
+-- the lines of a script that was spelled
+abbrev pub lines_in : Result Contents ℕ → Result (List Line) ℕ
+lines_in (Ok script) = Ok script.lines
+lines_in (Err number) = Err number
+
+-- what the lines of a restart's script spell: it, or the number of the first malformed line
+unfoldable pub restart_lines_spell : List Text → Result (List Line) ℕ
+restart_lines_spell lines = lines_in (with_lines purposes.Restart no_lines 1 lines)
+
+-- the script of a restart that the bytes spell, or the number of the first malformed line
+abbrev pub restart_script_of : Text → Result (List Line) ℕ
+restart_script_of bytes = restart_lines_spell (lines_of (within max_length bytes))
 
 -- ---- what a reader of a script answers
 
 -- it answers what the bytes spell, want of memory and a failed read aside
-abbrev pub Answers : Result Contents ReadError → Result Contents ℕ → Type 0
+abbrev pub Answers : {A : Type 0} → Result A ReadError → Result A ℕ → Type 0
 Answers (Ok script) spelled = spelled ≡ Ok script
 Answers (Err (errors.Malformed number)) spelled = spelled ≡ Err number
 Answers (Err errors.Memory) spelled = Unit {0}

@@ -4,6 +4,30 @@ use crate::script::{ArrayLine, Line, Script};
 use std::alloc::{AllocFailed, Global};
 use std::marker::Model;
 
+/// What a script is for.
+#[derive(Clone, Copy, Debug, PartialEq, Eq)]
+pub(crate) enum Purpose {
+    /// A run over a new store, which the script's header describes.
+    Run,
+    /// What comes after a restart. Such a script has no header, since its store is there already.
+    Restart,
+}
+
+impl Purpose {
+    ghost use Rattle.std.specs.Prelude.{◌≡◌};
+    ghost use Rattle.charmlet_script.specs.Reading.{has_header};
+
+    /// Whether such a script has a header.
+    pub(crate) fn has_header(self) -> bool
+        ensures { result ≡ has_header self }
+    {
+        match self {
+            Purpose::Run => true,
+            Purpose::Restart => false,
+        }
+    }
+}
+
 /// The lines of a script so far. A contract sees the number of processors, if one is declared, and the
 /// two lists.
 #[derive(Drop)]
@@ -84,5 +108,12 @@ impl Draft {
             lines,
         } = self;
         Script::new(processors, arrays, lines)
+    }
+
+    /// The lines after the header.
+    pub(crate) fn into_lines(self) -> Vec<Line>
+        ensures { result.items ≡ self.lines }
+    {
+        self.lines
     }
 }

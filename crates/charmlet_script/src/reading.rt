@@ -1,15 +1,16 @@
-//! The reader of scripts.
+//! The readers of scripts.
 
 ghost use Rattle.std.specs.Prelude.{◌≡◌, ◌≢◌, ◌+◌, ◌<◌, ◌≤◌, ◌==◌, IfErr, IfOk, IfSome, OnOk, length, map, take};
 ghost use Rattle.std.specs.IoError.{error_kind};
 ghost use Rattle.std.specs.List.{list_any};
 ghost use Rattle.std.specs.declared.io.ErrorKind.TheVariants.{Interrupted};
 ghost use Rattle.charmlet_script.specs.Script.{most_lines, no_lines};
-ghost use Rattle.charmlet_script.specs.Reading.{Answers, TellsFailure, LeavesLines, has_array, is_array_line, lines_spell, may_add, may_declare, script_of, with_array, with_item, with_line, with_lines, with_processors, within};
+ghost use Rattle.charmlet_script.specs.Reading.{Answers, TellsFailure, LeavesLines, has_array, is_array_line, lines_spell, may_add, may_declare, restart_lines_spell, restart_script_of, script_of, with_array, with_item, with_line, with_lines, with_processors, within};
 
-use crate::draft::Draft;
+use crate::draft::{Draft, Purpose};
 use crate::error::{LineFault, ReadError};
 use crate::line::{Item, item_of};
+use crate::restart::RestartScript;
 use crate::script::{ArrayLine, Script};
 use crate::split::parts;
 use charmlet_model::MAX_ARRAYS;
@@ -29,11 +30,14 @@ fn has_array(arrays: &[ArrayLine], array: u16) -> bool
     arrays.iter().any(|other| other.array == array)
 }
 
-/// Whether an array line may stand here: before the lines behind the header, once for an array, and at
+/// Whether an array line may stand here: in a header, before the other lines, once for an array, and at
 /// most 64 times.
-fn may_add(script: &Draft, line: ArrayLine) -> bool
-    ensures { result ≡ may_add script.now line }
+fn may_add(purpose: Purpose, script: &Draft, line: ArrayLine) -> bool
+    ensures { result ≡ may_add purpose script.now line }
 {
+    if !purpose.has_header() {
+        return false;
+    }
     let arrays = script.arrays();
     if !script.lines().is_empty() || arrays.len() >= MAX_ARRAYS {
         return false;
@@ -42,28 +46,28 @@ fn may_add(script: &Draft, line: ArrayLine) -> bool
 }
 
 #[tactic(auto, unfolding(crate::specs::Reading::with_array))]
-fn add_array(script: &mut Draft, line: ArrayLine) -> Result<(), LineFault>
-    ensures { LeavesLines result script.new (with_array script.old line) }
+fn add_array(purpose: Purpose, script: &mut Draft, line: ArrayLine) -> Result<(), LineFault>
+    ensures { LeavesLines result script.new (with_array purpose script.old line) }
 {
-    if !may_add(script, line) {
+    if !may_add(purpose, script, line) {
         return Err(LineFault::Malformed);
     }
     script.push_array(line)?;
     Ok(())
 }
 
-/// Whether a line of the number of processors may stand here: before the lines behind the header, once.
-fn may_declare(script: &Draft) -> bool
-    ensures { result ≡ may_declare script.now }
+/// Whether a line of the number of processors may stand here: in a header, before the other lines, once.
+fn may_declare(purpose: Purpose, script: &Draft) -> bool
+    ensures { result ≡ may_declare purpose script.now }
 {
-    script.lines().is_empty() && script.declared_processors().is_none()
+    purpose.has_header() && script.lines().is_empty() && script.declared_processors().is_none()
 }
 
 #[tactic(auto, unfolding(crate::specs::Reading::with_processors))]
-fn add_processors(script: &mut Draft, processors: u16) -> Result<(), LineFault>
-    ensures { LeavesLines result script.new (with_processors script.old processors) }
+fn add_processors(purpose: Purpose, script: &mut Draft, processors: u16) -> Result<(), LineFault>
+    ensures { LeavesLines result script.new (with_processors purpose script.old processors) }
 {
-    if !may_declare(script) {
+    if !may_declare(purpose, script) {
         return Err(LineFault::Malformed);
     }
     script.declare_processors(processors);
@@ -72,13 +76,13 @@ fn add_processors(script: &mut Draft, processors: u16) -> Result<(), LineFault>
 
 /// Adds what a line spells, where it may stand there.
 #[tactic(auto, unfolding(crate::specs::Reading::with_item))]
-fn add_item(script: &mut Draft, item: Item) -> Result<(), LineFault>
-    ensures { LeavesLines result script.new (with_item script.old item) }
+fn add_item(purpose: Purpose, script: &mut Draft, item: Item) -> Result<(), LineFault>
+    ensures { LeavesLines result script.new (with_item purpose script.old item) }
 {
     match item {
         Item::Skipped => Ok(()),
-        Item::Processors(processors) => add_processors(script, processors),
-        Item::Array(line) => add_array(script, line),
+        Item::Processors(processors) => add_processors(purpose, script, processors),
+        Item::Array(line) => add_array(purpose, script, line),
         Item::Line(line) => {
             script.push_line(line)?;
             Ok(())
@@ -88,11 +92,16 @@ fn add_item(script: &mut Draft, item: Item) -> Result<(), LineFault>
 
 /// Adds the next line of a script.
 #[tactic(auto, unfolding(crate::specs::Reading::with_line))]
-fn add_line(alloc: Global, script: &mut Draft, line: &[u8]) -> Result<(), LineFault>
-    ensures { LeavesLines result script.new (with_line script.old line.now) }
+fn add_line(
+    alloc: Global,
+    purpose: Purpose,
+    script: &mut Draft,
+    line: &[u8],
+) -> Result<(), LineFault>
+    ensures { LeavesLines result script.new (with_line purpose script.old line.now) }
 {
     let item = item_of(alloc, line)?;
-    add_item(script, item)
+    add_item(purpose, script, item)
 }
 
 /// Whether the line spells an array.
@@ -118,14 +127,14 @@ fn has_array_line(alloc: Global, lines: &[&[u8]]) -> Result<bool, AllocError>
 }
 
 /// Reads lines up to the first malformed one.
-fn add_lines(alloc: Global, lines: &[&[u8]]) -> Result<Draft, ReadError>
-    ensures reads { Answers result (with_lines no_lines 1 (map (λ line. line.now) lines.now)) }
+fn add_lines(alloc: Global, purpose: Purpose, lines: &[&[u8]]) -> Result<Draft, ReadError>
+    ensures reads { Answers result (with_lines purpose no_lines 1 (map (λ line. line.now) lines.now)) }
     ensures few { IfOk result (λ script. length script.lines ≤ length lines.now) }
     ensures failure { IfErr result TellsFailure }
 {
     let mut script = Draft::new(alloc);
     for (index, line) in lines.iter().enumerate() {
-        match add_line(alloc, &mut script, line) {
+        match add_line(alloc, purpose, &mut script, line) {
             Ok(()) => {}
             Err(LineFault::Memory) => return Err(ReadError::Memory),
             Err(LineFault::Malformed) => return Err(ReadError::Malformed(index as u64 + 1)),
@@ -134,7 +143,7 @@ fn add_lines(alloc: Global, lines: &[&[u8]]) -> Result<Draft, ReadError>
     Ok(script)
 }
 
-/// The script that lines spell.
+/// The script of a run that lines spell.
 #[tactic(auto, unfolding(crate::specs::Reading::lines_spell))]
 fn read_lines(alloc: Global, lines: &[&[u8]]) -> Result<Script, ReadError>
     requires { length lines.now ≤ most_lines }
@@ -144,8 +153,19 @@ fn read_lines(alloc: Global, lines: &[&[u8]]) -> Result<Script, ReadError>
     if !has_array_line(alloc, lines)? {
         return Err(ReadError::Malformed(1));
     }
-    let script = add_lines(alloc, lines)?;
+    let script = add_lines(alloc, Purpose::Run, lines)?;
     Ok(script.finish())
+}
+
+/// The script of a restart that lines spell.
+#[tactic(auto, unfolding(crate::specs::Reading::restart_lines_spell))]
+fn read_restart_lines(alloc: Global, lines: &[&[u8]]) -> Result<RestartScript, ReadError>
+    requires { length lines.now ≤ most_lines }
+    ensures reads { Answers result (restart_lines_spell (map (λ line. line.now) lines.now)) }
+    ensures failure { IfErr result TellsFailure }
+{
+    let script = add_lines(alloc, Purpose::Restart, lines)?;
+    Ok(RestartScript::new(script.into_lines()))
 }
 
 /// The reader's bytes, up to one past the greatest length of a script.
@@ -172,7 +192,18 @@ fn cut(text: &mut Vec<u8>) -> Result<(), AllocError>
     Ok(())
 }
 
-/// Reads a script of at most 1,048,576 bytes, and nothing past the byte after these.
+/// The reader's text. What goes past the greatest length counts as one byte that no line may hold.
+fn read_text<R: Read>(alloc: Global, reader: &mut R) -> Result<Vec<u8>, io::Error>
+    ensures reads { IfSome (R.remaining reader.old) (λ bytes. IfOk result (λ text. text.items ≡ within MAX_LENGTH bytes)) }
+    ensures length { IfOk result (λ text. length text.items ≤ MAX_LENGTH + 1) }
+    ensures retried { IfErr result (λ error. error_kind error ≢ Interrupted) }
+{
+    let mut text = read_start(alloc, reader)?;
+    cut(&mut text)?;
+    Ok(text)
+}
+
+/// Reads the script of a run, of at most 1,048,576 bytes, and nothing past the byte after these.
 ///
 /// Where a line is malformed, it answers `ReadError::Malformed` with the number of the first one, or
 /// with 1 where no line spells an array; where a read fails, `ReadError::Failed`, and where memory
@@ -181,8 +212,26 @@ pub fn read_script<R: Read>(alloc: Global, reader: &mut R) -> Result<Script, Rea
     ensures reads { IfSome (R.remaining reader.old) (λ bytes. Answers result (script_of bytes)) }
     ensures failure { IfErr result TellsFailure }
 {
-    let mut text = read_start(alloc, reader)?;
-    cut(&mut text)?;
+    let text = read_text(alloc, reader)?;
     let lines = parts(alloc, &text, b'\n')?;
     read_lines(alloc, &lines)
+}
+
+/// Reads the script of a restart, of at most 1,048,576 bytes, and nothing past the byte after these.
+/// Such a script has no header, and may have no line at all.
+///
+/// Where a line is malformed, it answers `ReadError::Malformed` with the number of the first one; an
+/// `array` line and a `pes` line are malformed wherever they stand. Where a read fails, it answers
+/// `ReadError::Failed`, and where memory runs out, `ReadError::Memory`. An interrupted read is tried
+/// again. After an error the reader has given any part of its bytes.
+pub fn read_restart_script<R: Read>(
+    alloc: Global,
+    reader: &mut R,
+) -> Result<RestartScript, ReadError>
+    ensures reads { IfSome (R.remaining reader.old) (λ bytes. Answers result (restart_script_of bytes)) }
+    ensures failure { IfErr result TellsFailure }
+{
+    let text = read_text(alloc, reader)?;
+    let lines = parts(alloc, &text, b'\n')?;
+    read_restart_lines(alloc, &lines)
 }

@@ -1,7 +1,7 @@
 //! What scripts hold.
 
-ghost use Rattle.std.specs.Prelude.{◌≡◌, IfOk};
-ghost use Rattle.charmlet_script.specs.Script.{pairs_of};
+ghost use Rattle.std.specs.Prelude.{◌≡◌, ◌≤◌, IfOk, length};
+ghost use Rattle.charmlet_script.specs.Script.{blanks_of, most_lines, pairs_of};
 
 use charmlet_model::{Elem, Kind, Manifest, Step};
 use std::alloc::{AllocError, Global};
@@ -55,6 +55,18 @@ fn pairs_of(alloc: Global, arrays: &[ArrayLine]) -> Result<Vec<(u16, u16)>, Allo
         .iter()
         .map(|line| (line.array, line.kind.number()))
         .collect(alloc)
+}
+
+/// How many blanks of the kind the lines supply together.
+pub(crate) fn total_blanks(lines: &[Line], kind: Kind) -> u64
+    requires { length lines.now ≤ most_lines }
+    ensures { result ≡ blanks_of kind lines.now }
+{
+    let mut total = 0;
+    for line in lines {
+        total += u64::from(line.blanks(kind));
+    }
+    total
 }
 
 /// A script that was read: its header, which is a number of processors and arrays that make a manifest,
@@ -133,10 +145,6 @@ impl Script {
     pub fn blanks(&self, kind: Kind) -> u64
         ensures { result ≡ blanks_of kind self.now.lines }
     {
-        let mut total = 0;
-        for line in &self.lines {
-            total += u64::from(line.blanks(kind));
-        }
-        total
+        total_blanks(&self.lines, kind)
     }
 }

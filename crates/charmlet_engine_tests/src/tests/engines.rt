@@ -4,6 +4,7 @@ ghost use Rattle.std.specs.Prelude.{IfOk};
 ghost use Rattle.charmlet_model.specs.Fit.{IsFit};
 ghost use Rattle.charmlet_model.specs.Sound.{new_world};
 ghost use Rattle.charmlet_disk.specs.Disk.{IsSettled};
+ghost use Rattle.charmlet_replay.specs.Unused.{IsUnused};
 ghost use Rattle.charmlet_engine.specs.Engine.{IsEngineConsistent};
 
 use charmlet_disk::{Disk, MemDisk};
@@ -13,6 +14,8 @@ use charmlet_kinds::Counter;
 use charmlet_model::{CONSTRUCT, Elem, Event, Half, Kind, Manifest, MsgId, Origin, Step, Words};
 use charmlet_plain::PlainWorld;
 use charmlet_plain_recovery::{Recovered, recover};
+use charmlet_recover::stock_of;
+use charmlet_stock::Stock;
 use std::alloc::{AllocError, AllocGlobal, Global};
 use std::process::Abort;
 use std::test::Fail;
@@ -26,6 +29,8 @@ pub enum Plan {
     Add(u32, u64, u64, u64),
     // The delivery of this client's request of this number, by the processor that comes first.
     Deliver(u16, u32, u64),
+    // What became of this client's request of this number.
+    Status(u32, u64),
     // The counter of this index goes to this processor.
     Move(u64, u16),
     Flush,
@@ -35,7 +40,7 @@ pub enum Plan {
 impl Plan {
     // Whether the step makes an event, where it isn't refused.
     pub fn is_event(&self) -> bool {
-        !matches!(self, Plan::Move(..) | Plan::Flush | Plan::Checkpoint)
+        matches!(self, Plan::Make(..) | Plan::Add(..) | Plan::Deliver(..))
     }
 }
 
@@ -68,6 +73,16 @@ pub fn blanks(alloc: Global, count: usize) -> Result<Vec<Counter>, AllocError> {
         blanks.push(Counter::blank())?;
     }
     Ok(blanks)
+}
+
+// A stock of so many blanks, of which none was used.
+pub fn unused(alloc: Global, count: usize) -> Result<Stock<Counter>, AllocError>
+    ensures { IfOk result (λ stock. IsUnused stock) }
+{
+    match stock_of(alloc, blanks(alloc, count)?) {
+        Ok(stock) => Ok(stock),
+        Err(_) => Err(AllocError),
+    }
 }
 
 // A new engine of so many processors on a disk in memory, with so many blanks.
@@ -118,6 +133,7 @@ pub fn step_of(alloc: Global, plan: Plan) -> Result<Step, AllocError> {
             processor,
             id: request_of(client, number),
         },
+        Plan::Status(client, number) => Step::Status { client, number },
         Plan::Move(index, processor) => Step::Move {
             elem: counter_at(index),
             processor,
@@ -169,6 +185,14 @@ pub fn answers_to<D: Disk>(
     Ok(text)
 }
 
+// A disk with these bytes.
+pub fn disk_with(rt: &(impl AllocGlobal + Abort), zero: &[u8], one: &[u8]) -> MemDisk {
+    let mut disk = MemDisk::new(rt.alloc());
+    assert!(rt; disk.write_at(Half::Zero, 0, zero).is_ok());
+    assert!(rt; disk.write_at(Half::One, 0, one).is_ok());
+    disk
+}
+
 // All bytes of a half.
 pub fn bytes_of(rt: &(impl AllocGlobal + Abort), disk: &mut MemDisk, half: Half) -> Vec<u8> {
     let mut bytes = Vec::new(rt.alloc());
@@ -201,12 +225,12 @@ fn event_of(alloc: Global, plan: Plan) -> Result<Option<Event>, AllocError> {
     Ok(Some(event))
 }
 
-// The world after the first so many events of the steps, as a text.
-fn world_after(
+// The world after the first so many events of the steps.
+pub fn world_after(
     rt: &(impl AllocGlobal + Abort),
     plans: &[Plan],
     count: u64,
-) -> Result<String, Fail> {
+) -> Result<PlainWorld, Fail> {
     let alloc = rt.alloc();
     let mut world = PlainWorld::new(alloc, counters(rt));
     let mut left = count;
@@ -220,16 +244,15 @@ fn world_after(
         }
     }
     assert_eq!(rt; left, 0);
-    Ok(format!(in alloc; "{world:?}")?)
+    Ok(world)
 }
 
-// How many events the store has that the disk recovers to, and the generation of its image; or nothing where there is no
-// store. Its world is the one after that many events of the steps.
-pub fn found_on(
+// What the disk recovers to: the world as a text, how many events led to it, and the generation of its image; or nothing where
+// there is no store.
+pub fn recovered_on(
     rt: &(impl AllocGlobal + Abort),
     disk: &mut MemDisk,
-    plans: &[Plan],
-) -> Result<Option<(u64, u64)>, Fail> {
+) -> Result<Option<(String, u64, u64)>, Fail> {
     let zero = bytes_of(rt, disk, Half::Zero);
     let one = bytes_of(rt, disk, Half::One);
     match recover(rt.alloc(), zero.as_slice(), one.as_slice())? {
@@ -241,9 +264,23 @@ pub fn found_on(
             generation,
         } => {
             let text = format!(in rt.alloc(); "{world:?}")?;
-            let wanted = world_after(rt, plans, events)?;
-            assert_eq!(rt; text.as_str(), wanted.as_str());
-            Ok(Some((events, generation)))
+            Ok(Some((text, events, generation)))
         }
     }
+}
+
+// How many events the store has that the disk recovers to, and the generation of its image; or nothing where there is no
+// store. Its world is the one after that many events of the steps.
+pub fn found_on(
+    rt: &(impl AllocGlobal + Abort),
+    disk: &mut MemDisk,
+    plans: &[Plan],
+) -> Result<Option<(u64, u64)>, Fail> {
+    let Some((text, events, generation)) = recovered_on(rt, disk)? else {
+        return Ok(None);
+    };
+    let world = world_after(rt, plans, events)?;
+    let wanted = format!(in rt.alloc(); "{world:?}")?;
+    assert_eq!(rt; text.as_str(), wanted.as_str());
+    Ok(Some((events, generation)))
 }

@@ -3,13 +3,16 @@
 ghost use Rattle.std.specs.Prelude.{IfSome};
 ghost use Rattle.charmlet_model.specs.Fit.{IsFit};
 ghost use Rattle.charmlet_model.specs.Sound.{new_world};
+ghost use Rattle.charmlet_replay.specs.Unused.{IsUnused};
 ghost use Rattle.charmlet_engine.specs.Engine.{IsEngineConsistent};
 
-use super::engines::{Plan, blanks, counters, step_of};
-use charmlet_disk::MemDisk;
+use super::engines::{Plan, blanks, counters, step_of, unused};
+use charmlet_disk::{CrashChoice, Disk, MemDisk};
 use charmlet_engine::Engine;
 use charmlet_kinds::Counter;
-use charmlet_model::{Answer, Kind, Manifest, Refusal, Step};
+use charmlet_model::{Answer, Kind, Manifest, Refusal, Step, Told};
+use charmlet_recover::NotRestarted;
+use charmlet_stock::Stock;
 use charmlet_store::Census;
 use std::alloc::AllocGlobal;
 use std::process::Abort;
@@ -146,4 +149,67 @@ fn refused_memory_changes_no_answer_of_an_engine(rt: HostRuntime) {
     assert_eq!(rt; engine.durable(), 3);
     let delivered = take(&rt, &mut engine, Plan::Deliver(0, 7, 2));
     assert!(rt; matches!(delivered, Answer::Delivered(_)));
+}
+
+// So many blanks that weren't used, at the second try where memory is refused.
+fn stock(rt: &(impl AllocGlobal + Abort), count: usize) -> Stock<Counter>
+    ensures { IsUnused result }
+{
+    match unused(rt.alloc(), count) {
+        Ok(stock) => stock,
+        Err(_) => unused(rt.alloc(), count).expect(rt, "memory"),
+    }
+}
+
+// The engine that comes back on two processors, at the second restart where memory is refused: of the first one the disk and all
+// blanks come back. A sync that lacks memory is a fault of the disk.
+fn restarted(rt: &(impl AllocGlobal + Abort), disk: MemDisk) -> Counters
+    ensures { IsEngineConsistent result }
+{
+    let refused = match Engine::restart(rt.alloc(), disk, stock(rt, 3), 2) {
+        Ok(engine) => return engine,
+        Err(refused) => refused,
+    };
+    let faults = u64::from(refused.refusal == Refusal::Device);
+    assert!(rt; faults == 1 || refused.refusal == Refusal::Memory);
+    assert_eq!(rt; refused.disk.failures(), faults);
+    let census = refused.blanks.census().counters;
+    assert_eq!(rt; (census.supplied, census.in_stock), (3, 3));
+    match Engine::restart(rt.alloc(), refused.disk, refused.blanks, 2) {
+        Ok(engine) => engine,
+        Err(NotRestarted { refusal, .. }) => panic!(rt; "{refusal}"),
+    }
+}
+
+// A counter is constructed and flushed, and gets another request, which a crash takes away. The store comes back and goes on.
+#[test]
+fn lacking_memory_loses_no_engine(rt: HostRuntime) {
+    let Some(mut engine) = created(&rt) else {
+        return;
+    };
+    supply(&rt, &mut engine);
+    let asked = take(&rt, &mut engine, Plan::Make(7, 1, 0, 5));
+    assert!(rt; matches!(asked, Answer::Told(_)));
+    let delivered = take(&rt, &mut engine, Plan::Deliver(0, 7, 1));
+    assert!(rt; matches!(delivered, Answer::Delivered(_)));
+    if !writes(&rt, &mut engine, Plan::Flush, 2) {
+        return;
+    }
+    let asked = take(&rt, &mut engine, Plan::Add(7, 2, 0, 4));
+    assert!(rt; matches!(asked, Answer::Told(_)));
+    let mut engine = restarted(&rt, engine.into_disk().crash(CrashChoice::Zeros));
+    let census = engine.census(Kind::Counter);
+    assert_eq!(rt;
+        (engine.durable(), census.on_shelves, census.in_stock),
+        (2, 1, 2)
+    );
+    let asked = take(&rt, &mut engine, Plan::Add(7, 2, 0, 6));
+    assert!(rt; matches!(asked, Answer::Told(_)));
+    let delivered = take(&rt, &mut engine, Plan::Deliver(0, 7, 2));
+    assert!(rt; matches!(delivered, Answer::Delivered(_)));
+    if !writes(&rt, &mut engine, Plan::Checkpoint, 2) {
+        return;
+    }
+    let told = take(&rt, &mut engine, Plan::Status(7, 2));
+    assert!(rt; matches!(told, Answer::Told(Told::Replied(_))));
 }

@@ -22,7 +22,7 @@ const ALL: [Plan; 7] = [
 ];
 
 // Half 0 of a new store: its open gate, its header, an image of nothing, and a closed gate.
-const NEW: &[u8] = b"\x01CKP2\x01\0\0\0\0\0\0\0\0\0\0\0\0\0\0\0\x18\0\0\0\
+pub const NEW: &[u8] = b"\x01CKP2\x01\0\0\0\0\0\0\0\0\0\0\0\0\0\0\0\x18\0\0\0\
     \x01\0\0\0\0\0\x01\0\
     \0\0\0\0\0\0\0\0\0\0\0\0\0\0\0\0\0";
 

@@ -4,6 +4,7 @@ mod disks;
 mod ending;
 mod flushing;
 mod probe;
+mod restarts;
 mod roomy;
 mod steps;
 mod worked;

@@ -1,7 +1,7 @@
 use charmlet_model::{Elem, Kind, MsgId, Origin, Step};
 use charmlet_script::{
-    ArrayLine, Counted, Drained, Line, MAX_LENGTH, PendingIds, ReadError, Script, Shown, Standing,
-    Supplied, read_script,
+    ArrayLine, Counted, Drained, Line, MAX_LENGTH, PendingIds, ReadError, RestartScript, Script,
+    Shown, Standing, Supplied, read_restart_script, read_script,
 };
 use std::alloc::{AllocError, Global};
 use std::io;
@@ -20,6 +20,19 @@ status 7 1
 fn read(alloc: Global, text: &[u8]) -> Result<Script, ReadError> {
     let mut reader = text;
     read_script(alloc, &mut reader)
+}
+
+fn read_restart(alloc: Global, text: &[u8]) -> Result<RestartScript, ReadError> {
+    let mut reader = text;
+    read_restart_script(alloc, &mut reader)
+}
+
+/// The number of the malformed line of a restart's script, or 0.
+fn malformed_restart(alloc: Global, text: &[u8]) -> u64 {
+    match read_restart(alloc, text) {
+        Err(ReadError::Malformed(line)) => line,
+        _ => 0,
+    }
 }
 
 /// The lines behind the arrays, in words.
@@ -260,6 +273,110 @@ fn malformed_lines_are_refused(rt: HostRuntime) -> Result<(), Fail> {
     Ok(())
 }
 
+const RESTART: &str = "\
+# what came back
+supply 1 10
+
+supply 6 10000
+supply 01 2
+req 7 1 0 0 65535 5
+status 7 1
+deliver 3 e1.2.4
+drain 9
+move 0 8 1
+flush
+checkpoint
+state 0 8
+pending
+census
+";
+
+#[test]
+fn a_script_of_a_restart_is_read(rt: HostRuntime) -> Result<(), Fail> {
+    let script = read_restart(rt.alloc(), RESTART.as_bytes())?;
+    let lines = format!(in rt.alloc(); "{:?}", script.lines())?;
+    assert_eq!(rt;
+        lines.as_str(),
+        "[Supply { kind: Counter, count: 10 }, \
+         Supply { kind: Tape, count: 10000 }, \
+         Supply { kind: Counter, count: 2 }, \
+         Step(Request { client: 7, number: 1, to: Elem { array: 0, index: 0 }, entry: 65535, words: Words { items: [5] } }), \
+         Step(Status { client: 7, number: 1 }), \
+         Step(Deliver { processor: 3, id: MsgId { origin: Element(Elem { array: 1, index: 2 }), number: 4 } }), \
+         Drain { count: 9 }, \
+         Step(Move { elem: Elem { array: 0, index: 8 }, processor: 1 }), \
+         Step(Flush), \
+         Step(Checkpoint), \
+         State(Elem { array: 0, index: 8 }), \
+         Pending, \
+         Census]"
+    );
+    assert_eq!(rt; script.blanks(Kind::Counter), 12);
+    assert_eq!(rt; script.blanks(Kind::Ring), 0);
+    assert_eq!(rt; script.blanks(Kind::Tape), 10_000);
+    Ok(())
+}
+
+#[test]
+fn a_script_of_a_restart_may_have_no_line(rt: HostRuntime) -> Result<(), Fail> {
+    for text in ["", "\n", "\n\n", "# array 0 1", "# pes 4\n\n#\n"] {
+        let script = read_restart(rt.alloc(), text.as_bytes())?;
+        assert!(rt; script.lines().is_empty(), "{text:?}");
+        assert_eq!(rt; script.blanks(Kind::Counter), 0);
+    }
+    Ok(())
+}
+
+#[test]
+fn a_script_of_a_restart_has_no_header(rt: HostRuntime) {
+    let alloc = rt.alloc();
+    for (text, line) in [
+        ("array 0 1\n", 1),
+        ("pes 1\n", 1),
+        ("pes 4\narray 0 1\n", 1),
+        ("array 0 1\nflush\n", 1),
+        ("flush\narray 0 1\n", 2),
+        ("flush\npes 2\n", 2),
+        ("# none\n\narray 65535 6", 3),
+        ("supply 1 1\nreq 7 1 0 0 65535 5\n  pes  1  \nflush\n", 3),
+        // the first malformed line, of whichever kind
+        ("flush\nbad\narray 0 1\n", 2),
+        ("flush\narray 0 1\nbad\n", 2),
+        ("array 0 7\n", 1),
+        ("flush\n\npes 65536\n", 3),
+        ("drain 1000001\n", 1),
+        ("   \n", 1),
+        ("flush\r\n", 1),
+        ("flush\n# \u{e9}\n", 2),
+    ] {
+        assert_eq!(rt; malformed_restart(alloc, text.as_bytes()), line, "{text:?}");
+    }
+}
+
+#[test]
+fn malformed_lines_are_refused_in_a_script_of_a_restart(rt: HostRuntime) -> Result<(), Fail> {
+    let alloc = rt.alloc();
+    for line in MALFORMED.lines() {
+        let text = format!(in alloc; "flush\n{line}\n")?;
+        assert_eq!(rt; malformed_restart(alloc, text.as_bytes()), 2, "{line}");
+    }
+    Ok(())
+}
+
+#[test]
+fn a_script_of_a_restart_has_at_most_1048576_bytes(rt: HostRuntime) -> Result<(), Fail> {
+    let alloc = rt.alloc();
+    let mut text = b"flush\n".to_vec(alloc)?;
+    for _ in text.len()..MAX_LENGTH {
+        text.push(b'#')?;
+    }
+    let script = read_restart(alloc, &text)?;
+    assert_eq!(rt; script.lines().len(), 1);
+    text.push(b'\n')?;
+    assert_eq!(rt; malformed_restart(alloc, &text), 2);
+    Ok(())
+}
+
 #[test]
 fn a_script_has_at_most_64_arrays(rt: HostRuntime) -> Result<(), Fail> {
     let alloc = rt.alloc();
@@ -377,6 +494,14 @@ fn a_failed_read_is_told(rt: HostRuntime) {
     };
     let result = read_script(rt.alloc(), &mut reader);
     assert!(rt; matches!(result, Err(ReadError::Memory)));
+    let mut reader = Failing {
+        is_started: false,
+        kind: ErrorKind::PermissionDenied,
+    };
+    let result = read_restart_script(rt.alloc(), &mut reader);
+    assert!(rt;
+        matches!(result, Err(ReadError::Failed(error)) if error.kind() == ErrorKind::PermissionDenied)
+    );
 }
 
 /// A reader that never ends: after its first bytes it gives the letter x for ever. It counts the bytes that it gave.
@@ -400,6 +525,16 @@ impl Read for Endless {
 
 #[test]
 fn a_reader_that_never_ends_is_read_to_the_byte_after_the_limit(rt: HostRuntime) {
+    for (start, line) in [
+        (b"".as_slice(), 1),
+        (b"flush\n#".as_slice(), 2),
+        (b"flush\n\n#\n\n#".as_slice(), 5),
+    ] {
+        let mut reader = Endless { start, given: 0 };
+        let read = read_restart_script(rt.alloc(), &mut reader);
+        assert!(rt; matches!(read, Err(ReadError::Malformed(number)) if number == line));
+        assert_eq!(rt; reader.given, MAX_LENGTH as u64 + 1);
+    }
     for (start, line) in [
         (b"".as_slice(), 1),
         (b"array 0 1\n".as_slice(), 2),

@@ -6,7 +6,7 @@ use Rattle.charmlet_model.specs.declared.kind.Kind.{Kind}
 use Rattle.charmlet_model.specs.declared.kind.Kind.TheVariants as kinds
 use Rattle.charmlet_model.specs.Shelves.{count_of}
 use Rattle.charmlet_model.proofs.Reactions.{AllByRecursion-append}
-use Rattle.charmlet_script.specs.Script.{blanks_of}
+use Rattle.charmlet_recover.specs.Wanted.{blanks_in}
 use Rattle.charmlet_cli.proofs.running.has_enough.Goals as goal
 
 abbrev all_kinds : List Kind
@@ -14,18 +14,18 @@ all_kinds = kinds.Counter ∷ kinds.Ring ∷ kinds.Account ∷ kinds.Sum ∷ kin
 
 pub loop-kind-preserved : goal.loop-kind-preserved
 loop-kind-preserved g c =
-    let P : Kind → Type 0 = λ kind. blanks_of kind c.args.script.now.lines ≤ count_of g.C.Chare.state c.args.blanks.now kind in
+    let P : Kind → Type 0 = λ kind. blanks_in c.args.wanted.now kind ≤ count_of g.C.Chare.state c.args.objects.now kind in
     let at = c.loop-kind.kind-index in
     let kind = get_or all_kinds at kinds.Counter in
-    let wanted : c.blanks.result ≡ blanks_of kind c.args.script.now.lines = c.blanks.ensures in
-    let counted : c.count_of.result ≡ count_of g.C.Chare.state c.args.blanks.now kind = c.count_of.ensures in
-    let less = c.if-count_of-blanks.false in
+    let wanted : c.of.result ≡ blanks_in c.args.wanted.now kind = c.of.ensures in
+    let counted : c.count_of.result ≡ count_of g.C.Chare.state c.args.objects.now kind = c.count_of.ensures in
+    let less = c.if-count_of-of.false in
     let enough : P kind = omega arith in
     subst (AllByRecursion P) (sym (take_more all_kinds at kinds.Counter c.loop-kind-test.true)) (AllByRecursion-append P (take at all_kinds) (kind ∷ []) c.loop-kind.invariant (enough, tt))
 
 pub returns : goal.returns
 returns g c =
-    let P : Kind → Type 0 = λ kind. blanks_of kind c.args.script.now.lines ≤ count_of g.C.Chare.state c.args.blanks.now kind in
+    let P : Kind → Type 0 = λ kind. blanks_in c.args.wanted.now kind ≤ count_of g.C.Chare.state c.args.objects.now kind in
     let all : AllByRecursion P all_kinds = subst (AllByRecursion P) (take_all c.loop-kind.kind-index all_kinds c.loop-kind-test.false) c.loop-kind.invariant in
     ((λ _. each P all), λ _. refl)
   where

@@ -1,4 +1,4 @@
-use Rattle.std.proofs.Common.{◌≡◌, ◌+◌, ◌∷◌, ◌&&◌, List, drop, length, sym, ap, ◌∙◌, arith, rules}
+use Rattle.std.proofs.Common.{◌≡◌, ◌+◌, ◌∷◌, ◌&&◌, List, drop, length, sym, ap, ◌∙◌, arith}
 use Rattle.charmlet_model.specs.declared.logged.CaughtUp.{CaughtUp}
 use Rattle.charmlet_model.specs.declared.logged.Effect.TheVariants.{Constructed}
 use Rattle.charmlet_image.specs.Placed.{items_of}

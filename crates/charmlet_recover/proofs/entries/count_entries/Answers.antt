@@ -1,4 +1,4 @@
-use Rattle.std.proofs.Common.{◌≡◌, ℕ, ◌+◌, ◌&&◌, List, drop, get_or, length, map, sym, ap, ◌∙◌, arith}
+use Rattle.std.proofs.Common.{◌≡◌, ◌&&◌, List, get_or, length, map, ap, ◌∙◌, arith}
 use Rattle.std.specs.Prelude.{None}
 use Rattle.std.proofs.lemmas.List.{length-map}
 use Rattle.charmlet_image.specs.declared.entries.Entry.{Entry}

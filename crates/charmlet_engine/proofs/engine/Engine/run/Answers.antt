@@ -1,6 +1,6 @@
 use Rattle.std.proofs.Common.{rules, ◌≡◌, ◌+◌, ◌<◌, [], ◌∷◌, ◌++◌, List, length, refl, sym, ap, subst, ◌∙◌, arith, true, false}
 use Rattle.std.specs.Prelude.{get_or, take}
-use Rattle.std.proofs.lemmas.List.{take_more}
+use Rattle.std.proofs.lemmas.List.{take_all, take_more}
 use Rattle.charmlet_model.specs.declared.step.Answer.{Answer}
 use Rattle.charmlet_model.specs.declared.step.Step.{Step}
 use Rattle.charmlet_model.specs.Run.{Runs}
@@ -11,6 +11,7 @@ use Rattle.charmlet_disk.specs.Disk.{faults_after}
 use Rattle.charmlet_engine.specs.Engine.{core_of, disk_in, view_of}
 use Rattle.charmlet_engine.specs.Outcomes.{ends_with_image, faults_through, is_no_fault}
 use Rattle.charmlet_engine.proofs.Advancing.{advances_after, advances_still}
+use Rattle.charmlet_engine.proofs.Lives.{remembers_run}
 use Rattle.charmlet_engine.proofs.Lawful.{lawful_now}
 use Rattle.charmlet_engine.proofs.Onward.{ends_more, faults_more}
 use Rattle.charmlet_engine.proofs.engine.Engine.run.Goals as goal
@@ -83,3 +84,12 @@ returns-clause-now g c = λ honest o left.
     let new = c.loop-step.self in
     let so_far = c.loop-step.invariant in
     lawful_now {G = g.D.Disk} (core_of new) new.halves (so_far.consistent.keeps (so_far.advances.honest.0 honest)) o left
+
+pub returns-clause-remembers : goal.returns-clause-remembers
+returns-clause-remembers g c = λ past r.
+    let old = c.args.self.now in
+    let new = c.loop-step.self in
+    let so_far = c.loop-step.invariant in
+    let told : AllTold (core_of new).opening (take (core_of new).durable (core_of new).history) c.args.steps.now c.loop-step.answers.items =
+    subst (λ (l : List Step). AllTold (core_of new).opening (take (core_of new).durable (core_of new).history) l c.loop-step.answers.items) (take_all c.loop-step.step-index c.args.steps.now c.loop-step-test.false) so_far.told in
+    remembers_run past (core_of old) (core_of new) c.args.steps.now c.loop-step.answers.items so_far.advances.onward so_far.consistent.shows.history.sound told r

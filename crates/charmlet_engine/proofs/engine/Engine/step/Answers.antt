@@ -1,10 +1,12 @@
-use Rattle.std.proofs.Common.{ap, refl, sym, ◌∙◌}
+use Rattle.std.proofs.Common.{◌∷◌, [], ap, refl, sym, ◌∙◌, rules, take}
+use Rattle.charmlet_model.specs.RunLaws.{IsToldTrue}
 use Rattle.charmlet_model.proofs.RunTruths.{does_between, told_true}
 use Rattle.charmlet_history.specs.Kept.{core_in}
 use Rattle.charmlet_disk.specs.Disk.{faults_after}
 use Rattle.charmlet_store.specs.Store.{store_in}
 use Rattle.charmlet_engine.specs.Engine.{disk_in}
 use Rattle.charmlet_engine.proofs.Onward.{onward_quiet}
+use Rattle.charmlet_engine.proofs.Lives.{remembers_run}
 use Rattle.charmlet_engine.proofs.Lawful.{lawful_now, leaves_still}
 use Rattle.charmlet_engine.proofs.Written.{quiet_consistent}
 use Rattle.charmlet_engine.proofs.engine.Engine.step.Goals as goal
@@ -28,10 +30,12 @@ returns-in-Some g c =
     let done = c.in-Some.ensures in
     let consistent = quiet_consistent {G = g.D.Disk} {H = g.C.Chare} old c.requires store done.consistent quiet in
     let reached = does_between (store_in old.store) (store_in store) c.args.step.now c.in-Some.answer c.requires.shows.history.sound done.consistent.history.sound done.does in
+    let told = told_true (store_in old.store) (store_in store) (store_in store) c.args.step.now c.in-Some.answer reached done.does in
     record {
       consistent = consistent;
       does = done.does;
-      told = told_true (store_in old.store) (store_in store) (store_in store) c.args.step.now c.in-Some.answer reached done.does;
+      told = told;
+      remembers = λ past r. remembers_run past before after (c.args.step.now ∷ []) (c.in-Some.answer ∷ []) (onward_quiet before after quiet) consistent.shows.history.sound (told, tt) r;
       advances = record {
         onward = onward_quiet before after quiet;
         any_moment = λ honest. leaves_still {G = g.D.Disk} before after (onward_quiet before after quiet) old.halves (c.requires.keeps honest) (λ o left. laws.only_now (disk_in old) o honest left);
@@ -43,3 +47,15 @@ returns-in-Some g c =
       supplied = done.supplied;
       counted = ap (λ b. faults_after b (g.D.Disk.faults (disk_in old))) (sym done.no_fault);
     }
+
+pub returns-in-Flush-clause-remembers : goal.returns-in-Flush-clause-remembers
+returns-in-Flush-clause-remembers g c = λ past r.
+    let next = core_in c.flush.new.self.store.history in
+    let told : IsToldTrue next.opening (take next.durable next.history) c.args.step.now c.flush.result = search rules in
+    remembers_run past (core_in c.args.self.now.store.history) next (c.args.step.now ∷ []) (c.flush.result ∷ []) c.flush.ensures.advances.onward c.flush.ensures.consistent.shows.history.sound (told, tt) r
+
+pub returns-in-Checkpoint-clause-remembers : goal.returns-in-Checkpoint-clause-remembers
+returns-in-Checkpoint-clause-remembers g c = λ past r.
+    let next = core_in c.checkpoint.new.self.store.history in
+    let told : IsToldTrue next.opening (take next.durable next.history) c.args.step.now c.checkpoint.result = search rules in
+    remembers_run past (core_in c.args.self.now.store.history) next (c.args.step.now ∷ []) (c.checkpoint.result ∷ []) c.checkpoint.ensures.advances.onward c.checkpoint.ensures.consistent.shows.history.sound (told, tt) r

@@ -1,10 +1,10 @@
 use Rattle.std.proofs.Common.{◌≡◌, ◌*◌, ◌-◌, ◌^◌, ◌≤◌, take}
 use Rattle.charmlet_script.specs.Script.{blanks_of}
-use Rattle.charmlet_script.proofs.script.Script.blanks.Given as goal
+use Rattle.charmlet_script.proofs.script.total_blanks.Given as goal
 
 -- the sum so far, which each line raises by a number of 32 bits
 abbrev pub invariant-loop-line : goal.invariant-loop-line
 invariant-loop-line l = record {
-  sum : l.total ≡ blanks_of l.kind (take l.line-index l.line-items);
+  sum : l.total ≡ blanks_of l.kind (take l.line-index l.lines);
   small : l.total ≤ l.line-index * (2 ^ 32 - 1);
 }

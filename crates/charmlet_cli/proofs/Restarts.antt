@@ -1,0 +1,132 @@
+-- Stores that came back for a script.
+use Rattle.std.proofs.Common.{◌≡◌, inl, ℕ, ◌+◌, Bool, true, false, Option, Result, Ok, Err, OnErr, OnOk, List, [], ◌∷◌, refl, sym, ap, subst, ◌∙◌, arith}
+use Rattle.std.specs.Result.{IfErr}
+use Rattle.charmlet_model.specs.declared.kind.Kind.{Kind}
+use Rattle.charmlet_model.specs.declared.refusal.Refusal.{Refusal}
+use Rattle.charmlet_model.specs.declared.refusal.Refusal.TheVariants as refusals
+use Rattle.charmlet_model.specs.declared.state.State.{State}
+use Rattle.charmlet_model.specs.Core.{Blanks, Core}
+use Rattle.charmlet_model.specs.Sound.{IsSound}
+use Rattle.charmlet_model.specs.Texts.{Text}
+use Rattle.charmlet_chare.specs.declared.chare.Chare as chares
+use Rattle.charmlet_disk.specs.declared.disk.Disk as disks
+use Rattle.charmlet_disk.specs.Disk.{IsSettled, LeavesOnly, faults_after}
+use Rattle.charmlet_disk.specs.File.{MayLeave}
+use Rattle.charmlet_locate.specs.Locations.{is_processor_count}
+use Rattle.charmlet_halves.specs.Answers.{is_no_failure}
+use Rattle.charmlet_model.specs.declared.event.Event.{Event}
+use Rattle.charmlet_model.specs.World.{World}
+use Rattle.charmlet_recovery.specs.Outcomes.{IsLawful}
+use Rattle.charmlet_recovery.specs.Recovered.{Found, recovered}
+use Rattle.charmlet_recovery.specs.Restarts.{restart_refusal}
+use Rattle.charmlet_stock.specs.declared.pile.Tally.{Tally}
+use Rattle.charmlet_stock.specs.declared.stock.Stock.{Stock}
+use Rattle.charmlet_stock.specs.Stock.{blanks_in, supplied_to}
+use Rattle.charmlet_replay.specs.Unused.{IsUnused}
+use Rattle.charmlet_recover.specs.declared.restarting.NotRestarted.{NotRestarted}
+use Rattle.charmlet_recover.specs.declared.restarting.Recovered.{Recovered}
+use Rattle.charmlet_recover.specs.Restart.{AnswersBy, IsHandedBack, IsOpenedOn, IsTakenFrom, ReadsSame, bytes_on, is_lack, is_restart_refusal}
+use Rattle.charmlet_script.specs.declared.script.Line.{Line}
+use Rattle.charmlet_engine.specs.declared.engine.Engine.{Engine}
+use Rattle.charmlet_engine.specs.Advances.{Advances}
+use Rattle.charmlet_engine.specs.Engine.{IsEngineConsistent, core_of, disk_in, recovered_in, supplied_of}
+use Rattle.charmlet_engine.specs.Lives.{ComesBack, Past, Remembers}
+use Rattle.charmlet_engine.specs.Outcomes.{Onward, is_lawful_since}
+use Rattle.charmlet_cli.specs.declared.restarting.RestartError.{RestartError}
+use Rattle.charmlet_cli.specs.declared.restarting.RestartError.TheVariants as ends
+use Rattle.charmlet_cli.specs.Lines.{AreEnough, in_lines, ledger_in}
+use Rattle.charmlet_cli.specs.Restarted.{EndsRestart, EndsRestartWrite, IsBack, RestartLeaves, WasNotRestarted, given_of, is_left_by, restarted_line_text, restarted_text}
+use Rattle.charmlet_cli.specs.Run.{Stands}
+use Rattle.charmlet_cli.proofs.Standings.{failure_said, stands_after}
+
+module _ {D C : Type 0} {G : disks.Ghosts D} {H : chares.Ghosts C} where
+  -- an engine that came back
+  pub is_back : (processors : ℕ) (given : Blanks) (first : D) (engine : Engine D C G H) → IsOpenedOn processors (recovered_in engine) →
+      (G.honest first → recovered (bytes_on (G.file first)) ≡ Found (core_of engine).opening (core_of engine).before (core_of engine).generation) →
+      (G.honest first → IsTakenFrom given (bytes_on (G.file first)) (recovered_in engine)) →
+      supplied_of engine ≡ given →
+      (G.honest first → (past : Past) (old new : Core) → Remembers past old → Onward old new → IsSound new → is_lawful_since old new (bytes_on (G.file first)) → ComesBack past old new (core_of engine)) →
+      G.faults (disk_in engine) ≡ G.faults first → (G.honest first → G.honest (disk_in engine)) × (G.honest (disk_in engine) → G.honest first) →
+      (G.honest first → IsSettled (G.file (disk_in engine))) → (G.honest first → LeavesOnly G.moment G.since first (disk_in engine) (MayLeave (G.file first))) →
+      IsBack G processors given first (ledger_in engine)
+  is_back processors given first engine opens found taken supplied remembers counted honest settled any_moment = record {
+    opens = opens;
+    found = found;
+    left = λ still. (let half = taken still in (_, half.0, half.1, half.2.left));
+    supplied = λ kind. ap (λ (f : Kind → ℕ). f kind) supplied;
+    remembers = remembers;
+    counted = counted;
+    honest = honest;
+    settled = settled;
+    any_moment = any_moment;
+  }
+
+  -- and what it stands on, after some lines
+  pub stands_back : (disk end : D) (first last : Engine D C G H) → IsEngineConsistent last → Advances first last → (G.honest disk → G.honest (disk_in first)) →
+      (G.honest disk → LeavesOnly G.moment G.since disk (disk_in first) (MayLeave (G.file disk))) → end ≡ disk_in last → Stands G (is_left_by G disk) disk end (ledger_in last)
+  stands_back disk end first last consistent advances honest leaves is =
+      stands_after {G = G} {H = H} (MayLeave (G.file disk)) (MayLeave (G.file disk)) disk end first last consistent advances honest leaves (λ o left. inl left) is
+
+-- there are 1 to 64 processors where a store came back
+pub counted_processors : (b : Bool) → (b ≡ false → ⊥) → b ≡ true
+counted_processors true never = refl
+counted_processors false never = absurd (never refl)
+
+module _ {D C W : Type 0} (G : disks.Ghosts D) (state : C → State) (contents : W → Option Text) where
+  -- a restart that had enough objects for its script ended early
+  pub restart_ends : {T : Type 0} (processors : ℕ) (given : Blanks) (first end : D) (blanks supplies : List C) (lines : List Line) (before after : W) (r : Result T (RestartError C)) →
+      AreEnough state supplies lines → given ≡ given_of state blanks → IfErr r (EndsRestart G processors given first end lines (contents before) (contents after)) →
+      IfErr r (RestartLeaves G state contents processors first end blanks supplies lines before after)
+  restart_ends processors given first end blanks supplies lines before after (Ok x) enough same so = tt
+  restart_ends processors given first end blanks supplies lines before after (Err (ends.TooFewBlanks back others)) enough same so = absurd so
+  restart_ends processors given first end blanks supplies lines before after (Err ends.Memory) enough same so = absurd so
+  restart_ends processors given first end blanks supplies lines before after (Err (ends.NotRestarted refusal)) enough same so =
+      (enough, subst (λ (g : Blanks). WasNotRestarted G processors g first end refusal) same so.0, so.1)
+  restart_ends processors given first end blanks supplies lines before after (Err (ends.Output error)) enough same so =
+      (enough, subst (λ (g : Blanks). EndsRestartWrite G processors g first end lines (contents before) (contents after)) same so)
+
+-- the first line of a store in which nothing has happened since it came back
+pub said_of : (core : Core) (generation events processors : ℕ) → generation ≡ core.generation → events ≡ core.before + core.durable → core.durable ≡ 0 → core.processors ≡ processors →
+    in_lines (restarted_line_text (record { generation = generation; events = events; processors = processors }) ∷ []) ≡ restarted_text core
+said_of core generation events processors same count none on =
+    let all : events ≡ core.before = omega (arith, count, none) in
+    λ i. in_lines (restarted_line_text (record { generation = same i; events = all i; processors = sym on i }) ∷ [])
+
+-- what holds where it is done, of something that follows from it
+pub ok_map : {T E P Q : Type 0} (r : Result T E) → (P → Q) → OnOk r P → OnOk r Q
+ok_map (Ok x) f holds = f holds
+ok_map (Err e) f holds = tt
+
+pub err_map : {T E P Q : Type 0} (r : Result T E) → (P → Q) → OnErr r P → OnErr r Q
+err_map (Ok x) f holds = tt
+err_map (Err e) f holds = f holds
+
+-- blanks of which none was used are all that were supplied
+pub all_given : {C : Type 0} {H : chares.Ghosts C} (stock : Stock C H) → IsUnused stock → blanks_in stock ≡ supplied_to stock
+all_given stock unused =
+    let each : (kind : Kind) → blanks_in stock kind ≡ supplied_to stock kind = λ kind. ap (λ (t : Tally). t.in_stock) (unused.all kind) ∙ omega arith in
+    λ i kind. each kind i
+
+-- the cause of a refusal, whatever might have been answered in its place
+answers_any : (X : Type 0) (why : Option Refusal) (refusal : Refusal) → AnswersBy {X = X} why (Err refusal) → AnswersBy {X = Core} why (Err refusal)
+answers_any X why refusals.Memory h = tt
+answers_any X why refusals.Device h = tt
+answers_any X why _ h = h
+
+module _ {D C : Type 0} {G : disks.Ghosts D} {H : chares.Ghosts C} where
+  -- no store came back
+  pub was_not_restarted : (processors : ℕ) (given : Blanks) (first : D) (blanks : Stock C H) (refused : NotRestarted D C H) →
+      is_restart_refusal refused.refusal ≡ true → (is_processor_count processors ≡ false → IsHandedBack {G = G} first blanks (Err refused)) → (refused.refusal ≡ refusals.BadPes → is_processor_count processors ≡ false) →
+      (G.honest first → is_processor_count processors ≡ true → AnswersBy {X = Recovered D C G H} (restart_refusal given (bytes_on (G.file first))) (Err refused.refusal)) →
+      (G.honest first → (w : World) (before : ℕ) (history : List Event) (durable : ℕ) → IsLawful w before history durable (bytes_on (G.file first)) → is_lack refused.refusal ≡ true) →
+      (G.honest first → ReadsSame (G.file first) (G.file refused.disk)) → (G.honest first → LeavesOnly G.moment G.since first refused.disk (MayLeave (G.file first))) →
+      G.faults refused.disk ≡ faults_after (is_no_failure {X = Recovered D C G H} (Err refused.refusal)) (G.faults first) → WasNotRestarted G processors given first refused.disk refused.refusal
+  was_not_restarted processors given first blanks refused kind bad only_bad cause lawful same any_moment counted = record {
+    kind = kind;
+    bad = ((λ is. only_bad is), (λ is. (bad is).0));
+    cause = λ honest is. answers_any (Recovered D C G H) (restart_refusal given (bytes_on (G.file first))) refused.refusal (cause honest is);
+    lawful = lawful;
+    same = same;
+    any_moment = any_moment;
+    counted = counted ∙ ap (λ (b : Bool). faults_after b (G.faults first)) (failure_said (Recovered D C G H) refused.refusal);
+  }

@@ -1,0 +1,35 @@
+use Rattle.std.proofs.Common.{inl, inr, refl, subst}
+use Rattle.charmlet_engine.specs.Engine.{core_of, disk_in}
+use Rattle.charmlet_engine.proofs.Advancing.{advances_still}
+use Rattle.std.specs.Io.KnownBytes.{Appends}
+use Rattle.charmlet_cli.specs.Writing.{AppendsBeginning}
+use Rattle.charmlet_cli.proofs.Endings.{on_err}
+use Rattle.charmlet_cli.proofs.Restarts.{err_map, ok_map, said_of}
+use Rattle.charmlet_cli.proofs.restarting.run_restarted.Goals as goal
+
+pub returns-in_err-write_line-clause-breaks_off : goal.returns-in_err-write_line-clause-breaks_off
+returns-in_err-write_line-clause-breaks_off g c =
+    let core = core_of {G = g.D.Disk} {H = g.C.Chare} c.args.engine.now in
+    let said = said_of core c.generation.result c.durable.result c.args.processors c.generation.ensures c.durable.ensures c.requires.durable c.requires.processors in
+    on_err c.from_residual.result
+    (inl (refl, subst (λ text. AppendsBeginning (g.W.Write.contents c.args.writer.now) (g.W.Write.contents c.write_line.new.writer) text) said c.in_err-write_line.ensures))
+
+pub returns-in_err-write_line-clause-advances : goal.returns-in_err-write_line-clause-advances
+returns-in_err-write_line-clause-advances g c =
+    let laws = g.met.D.Disk g.world.𝓛 g.world.𝓜 g.world.𝓡 ((λ s x. x), (λ x. x), (λ x. x), (λ x. x)) in
+    let engine = c.args.engine.now in
+    advances_still {G = g.D.Disk} {H = g.C.Chare} engine engine c.requires.consistent refl refl (λ honest o left. laws.only_now (disk_in engine) o honest left)
+
+pub returns-clause-prints : goal.returns-clause-prints
+returns-clause-prints g c =
+    let core = core_of {G = g.D.Disk} {H = g.C.Chare} c.args.engine.now in
+    let said = said_of core c.generation.result c.durable.result c.args.processors c.generation.ensures c.durable.ensures c.requires.durable c.requires.processors in
+    let first = subst (λ text. Appends (g.W.Write.contents c.args.writer.now) (g.W.Write.contents c.write_line.new.writer) text) said c.in_ok-write_line.ensures in
+    ok_map c.run_lines.result (λ run. (g.W.Write.contents c.write_line.new.writer, first, run)) c.run_lines.ensures.prints
+
+pub returns-clause-breaks_off : goal.returns-clause-breaks_off
+returns-clause-breaks_off g c =
+    let core = core_of {G = g.D.Disk} {H = g.C.Chare} c.args.engine.now in
+    let said = said_of core c.generation.result c.durable.result c.args.processors c.generation.ensures c.durable.ensures c.requires.durable c.requires.processors in
+    let first = subst (λ text. Appends (g.W.Write.contents c.args.writer.now) (g.W.Write.contents c.write_line.new.writer) text) said c.in_ok-write_line.ensures in
+    err_map c.run_lines.result (λ run. inr (g.W.Write.contents c.write_line.new.writer, first, run)) c.run_lines.ensures.breaks_off

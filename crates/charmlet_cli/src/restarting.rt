@@ -1,0 +1,298 @@
+//! Scripts over a store that comes back.
+
+ghost use Rattle.std.specs.Prelude.{◌≡◌, ◌≤◌, Err, IfErr, IfOk, OnErr, OnOk, Result, false, true};
+ghost use Rattle.charmlet_model.specs.declared.half.Half.TheVariants as halves;
+ghost use Rattle.charmlet_model.specs.declared.kind.Kind.{Kind};
+ghost use Rattle.charmlet_model.specs.declared.refusal.Refusal.{Refusal};
+ghost use Rattle.charmlet_model.specs.declared.refusal.Refusal.TheVariants as refusals;
+ghost use Rattle.charmlet_script.specs.Script.{blanks_of};
+ghost use Rattle.charmlet_locate.specs.Locations.{is_processor_count};
+ghost use Rattle.charmlet_disk.specs.Disk.{LeavesOnly, SameFiles, faults_after};
+ghost use Rattle.charmlet_disk.specs.File.{MayLeave};
+ghost use Rattle.charmlet_halves.specs.Answers.{is_no_failure};
+ghost use Rattle.charmlet_stock.specs.Stock.{supplied_to};
+ghost use Rattle.charmlet_replay.specs.Unused.{IsUnused};
+ghost use Rattle.charmlet_recover.specs.declared.finding.Found.{Found};
+ghost use Rattle.charmlet_recover.specs.Found.{IsFoundIn, IsRead};
+ghost use Rattle.charmlet_recover.specs.Wanted.{blanks_in};
+ghost use Rattle.charmlet_engine.specs.Advances.{Advances};
+ghost use Rattle.charmlet_engine.specs.Engine.{IsEngineConsistent, core_of};
+ghost use Rattle.charmlet_cli.specs.Lines.{AreEnough, blanks_left, ledger_in};
+ghost use Rattle.charmlet_cli.specs.Restarted.{BreaksOffRestart, EndsRestart, IsRestarted, PrintsRestart, RestartLeaves, TellsWanted, given_of};
+
+use crate::running::{has_enough, run_lines, stock_of};
+use crate::writing::{write_answer, write_line};
+use charmlet_chare::Chare;
+use charmlet_disk::Disk;
+use charmlet_engine::Engine;
+use charmlet_locate::is_processor_count;
+use charmlet_model::{Answer, Kind, Refusal};
+use charmlet_recover::{NotRestarted, Wanted, manifest};
+use charmlet_script::{Line, RestartScript};
+use charmlet_stock::Stock;
+use std::alloc::{AllocError, Global};
+use std::io::Write;
+use std::{fmt, io};
+
+/// Why it isn't known which blanks a restart needs.
+#[derive(Debug, Drop)]
+pub enum FindError {
+    /// No store is found, for this reason, whose line is all that was written.
+    Refused(Refusal),
+    /// That line couldn't be written: the output failed, or memory for the line's text was refused.
+    Output(io::Error),
+}
+
+/// Why a script wasn't run to its last line over a store that was to come back.
+#[derive(Drop)]
+pub enum RestartError<C: Chare> {
+    /// There are fewer objects of a kind than the script supplies. All come back, those for the restart first, and
+    /// nothing was written.
+    TooFewBlanks(Vec<C>, Vec<C>),
+    /// No store came back, for this reason, whose line is all that was written. No line was run.
+    NotRestarted(Refusal),
+    /// Memory was refused before the store was to come back. Nothing was written.
+    Memory,
+    /// A line couldn't be written: the output failed, or memory for the line's text was refused. A beginning of what
+    /// is printed was written.
+    Output(io::Error),
+}
+
+/// How a script was run over a store that was to come back: the disk, which comes back in any case, and whether each line
+/// was run.
+#[derive(Drop)]
+pub struct Restarted<D: Disk, C: Chare> {
+    pub disk: D,
+    pub result: Result<(), RestartError<C>>,
+}
+
+/// That a store came back: the generation of the half that was taken, how many events came back, and on how many
+/// processors the store goes on.
+#[derive(Clone, Copy, Debug, PartialEq, Eq)]
+pub struct RestartedLine {
+    pub generation: u64,
+    pub events: u64,
+    pub processors: u16,
+}
+
+/// Writes `restarted generation G events E on N`, without a line feed.
+impl fmt::Display for RestartedLine {
+    ghost use Rattle.std.specs.Prelude.{Some};
+    ghost use Rattle.charmlet_cli.specs.Restarted.{restarted_line_text};
+
+    ghost output = { λ line. Some (restarted_line_text line) };
+
+    fn fmt<W: fmt::Write>(&self, f: &mut fmt::Formatter<W>) -> fmt::Result {
+        let generation = self.generation;
+        let events = self.events;
+        let processors = self.processors;
+        write!(
+            f,
+            "restarted generation {generation} events {events} on {processors}"
+        )
+    }
+}
+
+/// How many blank objects of each kind a restart of the store on this disk needs, on so many processors. It only reads
+/// the disk, and writes nothing.
+///
+/// Where no store is found the refusal's line is written: `BadPes` where there aren't 1 to 64 processors, before anything
+/// is read; else `Damaged`, `NothingHere`, `Memory` or `Device`, as [`charmlet_recover::manifest`] has them.
+pub fn find_blanks<D: Disk, W: Write>(
+    alloc: Global,
+    disk: &mut D,
+    processors: u16,
+    writer: &mut W,
+) -> Result<Wanted, FindError>
+    ensures bad { is_processor_count processors ≡ false → (disk.new ≡ disk.old)
+        × TellsWanted (Err refusals.BadPes) result (W.contents writer.old) (W.contents writer.new) }
+    ensures found { is_processor_count processors ≡ true → (answer : Result Found Refusal)
+        × IfOk answer IsRead
+        × (D.honest disk.old → IsFoundIn (D.file disk.old halves.Zero).now
+        (D.file disk.old halves.One).now answer)
+        × (D.faults disk.new ≡ faults_after (is_no_failure answer) (D.faults disk.old))
+        × TellsWanted answer result (W.contents writer.old) (W.contents writer.new) }
+    ensures same { D.honest disk.old → SameFiles (D.file disk.old) (D.file disk.new) }
+    ensures any_moment { D.honest disk.old →
+        LeavesOnly D.moment D.since disk.old disk.new (MayLeave (D.file disk.old)) }
+    ensures honest { (D.honest disk.old → D.honest disk.new)
+        × (D.honest disk.new → D.honest disk.old) }
+{
+    let answer = if is_processor_count(processors) {
+        manifest(alloc, disk)
+    } else {
+        Err(Refusal::BadPes)
+    };
+    match answer {
+        Ok(found) => Ok(found.wanted),
+        Err(refusal) => match write_answer(alloc, writer, &Answer::Refused(refusal)) {
+            Ok(()) => Err(FindError::Refused(refusal)),
+            Err(error) => Err(FindError::Output(error)),
+        },
+    }
+}
+
+/// Goes on with the store on a disk, whatever a crash left there, on so many processors, and runs a script's lines.
+/// First it writes the generation of the half that was taken, how many events came back, and the number of processors;
+/// then what the lines print: all that a line prints is written before the next line is run. `blanks` are the objects of which the store's
+/// elements are made, as many as [`find_blanks`] names, and those beyond come to its stock; `supplies` those that the script's
+/// lines supply, of which those beyond are dropped at the end. A refusal is an answer, and the run goes on. The disk comes back in any case.
+///
+/// No store comes back for the reasons of [`charmlet_recover::restart`], in its order. Then the refusal is written, no
+/// line is run, nothing on the disk is changed, and all objects are dropped.
+///
+/// After a crash at any moment of an earlier run on this disk the store has the world after some of what had happened,
+/// with all that was durable among it, and what clients were told before is true. What is said of a run's disk by
+/// [`crate::run_script`] holds here too: from the end of each line on, a crash leaves files with all events that were
+/// durable then.
+///
+/// The disk's count of failures grows by one for each `Device` that is answered, and for nothing else. The
+/// disk is as honest as before. `RestartError` says what each error means.
+pub fn restart_script<D: Disk, C: Chare, W: Write>(
+    alloc: Global,
+    disk: D,
+    processors: u16,
+    script: &RestartScript,
+    blanks: Vec<C>,
+    supplies: Vec<C>,
+    writer: &mut W,
+) -> Restarted<D, C>
+    ensures enough { OnOk result.result (AreEnough C.state supplies.items script.now) }
+    ensures ran { OnOk result.result (IsRestarted D.Disk processors
+        (given_of C.state blanks.items) disk result.disk script.now
+        (W.contents writer.old) (W.contents writer.new)) }
+    ensures err { IfErr result.result (RestartLeaves D.Disk C.state W.contents processors
+        disk result.disk blanks.items supplies.items script.now writer.old writer.new) }
+    ensures honest { (D.honest disk → D.honest result.disk)
+        × (D.honest result.disk → D.honest disk) }
+{
+    if !has_enough(&supplied_by(script), supplies.as_slice()) {
+        let result = Err(RestartError::TooFewBlanks(blanks, supplies));
+        return Restarted { disk, result };
+    }
+    match stocks_of(alloc, blanks, supplies) {
+        Ok(stocks) => restart_with(alloc, disk, processors, script.lines(), stocks, writer),
+        Err(AllocError) => {
+            let result = Err(RestartError::Memory);
+            Restarted { disk, result }
+        }
+    }
+}
+
+/// How many blanks of each kind the script's lines supply.
+fn supplied_by(script: &RestartScript) -> Wanted
+    ensures { (kind : Kind) → blanks_in result kind ≡ blanks_of kind script.now }
+{
+    Wanted {
+        counters: script.blanks(Kind::Counter),
+        rings: script.blanks(Kind::Ring),
+        accounts: script.blanks(Kind::Account),
+        sums: script.blanks(Kind::Sum),
+        trees: script.blanks(Kind::Tree),
+        tapes: script.blanks(Kind::Tape),
+    }
+}
+
+/// The objects of a restart: those of which the store's elements are made, and those that the script's lines supply.
+#[derive(Drop)]
+struct Stocks<C: Chare> {
+    given: Stock<C>,
+    source: Stock<C>,
+}
+
+/// Stocks with these objects. It fails only for want of memory.
+fn stocks_of<C: Chare>(
+    alloc: Global,
+    blanks: Vec<C>,
+    supplies: Vec<C>,
+) -> Result<Stocks<C>, AllocError>
+    ensures unused { IfOk result (λ stocks. IsUnused stocks.given) }
+    ensures given { IfOk result (λ stocks. (kind : Kind) →
+        supplied_to stocks.given kind ≡ given_of C.state blanks.items kind) }
+    ensures source { IfOk result (λ stocks. (kind : Kind) →
+        blanks_left stocks.source kind ≡ given_of C.state supplies.items kind) }
+{
+    let Ok(given) = charmlet_recover::stock_of(alloc, blanks) else {
+        return Err(AllocError);
+    };
+    let source = stock_of(alloc, supplies)?;
+    Ok(Stocks { given, source })
+}
+
+/// Has the store come back and runs lines over it, or writes why none came back.
+fn restart_with<D: Disk, C: Chare, W: Write>(
+    alloc: Global,
+    disk: D,
+    processors: u16,
+    lines: &[Line],
+    stocks: Stocks<C>,
+    writer: &mut W,
+) -> Restarted<D, C>
+    requires unused { IsUnused stocks.given }
+    requires enough { (kind : Kind) → blanks_of kind lines.now ≤ blanks_left stocks.source kind }
+    ensures ran { OnOk result.result (IsRestarted D.Disk processors
+        (supplied_to stocks.given) disk result.disk lines.now
+        (W.contents writer.old) (W.contents writer.new)) }
+    ensures err { IfErr result.result (EndsRestart D.Disk processors
+        (supplied_to stocks.given) disk result.disk lines.now
+        (W.contents writer.old) (W.contents writer.new)) }
+    ensures honest { (D.honest disk → D.honest result.disk)
+        × (D.honest result.disk → D.honest disk) }
+{
+    let Stocks { given, mut source } = stocks;
+    match Engine::restart(alloc, disk, given, processors) {
+        Ok(mut engine) => {
+            match run_restarted(alloc, &mut engine, processors, &mut source, lines, writer) {
+                Ok(()) => Restarted {
+                    disk: engine.into_disk(),
+                    result: Ok(()),
+                },
+                Err(error) => Restarted {
+                    disk: engine.into_disk(),
+                    result: Err(RestartError::Output(error)),
+                },
+            }
+        }
+        Err(NotRestarted { refusal, disk, .. }) => {
+            match write_answer(alloc, writer, &Answer::Refused(refusal)) {
+                Ok(()) => Restarted {
+                    disk,
+                    result: Err(RestartError::NotRestarted(refusal)),
+                },
+                Err(error) => Restarted {
+                    disk,
+                    result: Err(RestartError::Output(error)),
+                },
+            }
+        }
+    }
+}
+
+/// Writes the line of a store that came back, and runs lines over it.
+fn run_restarted<D: Disk, C: Chare, W: Write>(
+    alloc: Global,
+    engine: &mut Engine<D, C>,
+    processors: u16,
+    source: &mut Stock<C>,
+    lines: &[Line],
+    writer: &mut W,
+) -> io::Result<()>
+    requires consistent { IsEngineConsistent engine.old }
+    requires processors { (core_of engine.old).processors ≡ processors }
+    requires durable { (core_of engine.old).durable ≡ 0 }
+    requires enough { (kind : Kind) → blanks_of kind lines.now ≤ blanks_left source.old kind }
+    ensures consistent { IsEngineConsistent engine.new }
+    ensures prints { OnOk result (PrintsRestart D.Disk (ledger_in engine.old) lines.now
+        (ledger_in engine.new) (W.contents writer.old) (W.contents writer.new)) }
+    ensures breaks_off { OnErr result (BreaksOffRestart D.Disk (ledger_in engine.old) lines.now
+        (ledger_in engine.new) (W.contents writer.old) (W.contents writer.new)) }
+    ensures advances { Advances engine.old engine.new }
+{
+    let line = RestartedLine {
+        generation: engine.generation(),
+        events: engine.durable(),
+        processors,
+    };
+    write_line(alloc, writer, &line)?;
+    run_lines(alloc, engine, source, lines, writer)
+}

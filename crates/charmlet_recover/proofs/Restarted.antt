@@ -1,0 +1,195 @@
+-- A store that came back from halves that were opened.
+use Rattle.std.proofs.Common.{◌≡◌, ℕ, List, length, true, refl, sym, ap, subst, ◌∙◌}
+use Rattle.std.specs.Prelude.{IfErr, IfOk, Result, Ok, Err}
+use Rattle.charmlet_model.specs.declared.half.Half.{Half}
+use Rattle.charmlet_model.specs.declared.half.Half.TheVariants.{Zero, One}
+use Rattle.charmlet_model.specs.declared.refusal.Refusal.{Refusal}
+use Rattle.charmlet_model.specs.declared.refusal.Refusal.TheVariants as refusals
+use Rattle.charmlet_model.specs.Core.{Blanks, Core}
+use Rattle.charmlet_model.specs.Sound.{opened as opened_core}
+use Rattle.charmlet_chare.specs.declared.chare.Chare as chares
+use Rattle.charmlet_disk.specs.declared.disk.Disk as disks
+use Rattle.charmlet_disk.specs.File.{File}
+use Rattle.charmlet_image.specs.Halves.{Open, Takes, found, taken}
+use Rattle.charmlet_image.specs.Images.{Saved, spell_half}
+use Rattle.charmlet_recovery.specs.Recovered as files
+use Rattle.charmlet_recovery.specs.Recovered.{recovered}
+use Rattle.charmlet_recovery.specs.Restarts.{taken_refusal}
+use Rattle.charmlet_stock.specs.Stock.{blanks_in}
+use Rattle.charmlet_halves.specs.declared.halves.Halves.{Halves}
+use Rattle.charmlet_halves.specs.declared.opening.Opened.{Opened}
+use Rattle.charmlet_halves.specs.Answers.{is_no_failure}
+use Rattle.charmlet_halves.specs.Found.{Finds, Says}
+use Rattle.charmlet_halves.specs.Opened.{OpensAs}
+use Rattle.charmlet_halves.specs.Halves.{disk_of, taken_half, text_of}
+use Rattle.charmlet_journal.specs.Rest.{GoesOn, IsKept}
+use Rattle.charmlet_recover.specs.declared.restarting.NotRestarted.{NotRestarted}
+use Rattle.charmlet_recover.specs.declared.restarting.Recovered.{Recovered}
+use Rattle.charmlet_replay.specs.Replayed.{IsReplayed}
+use Rattle.charmlet_recover.specs.Restart.{AnswersBy, IsOpenedOn, IsReadFrom, IsShortOfSome, IsTakenFrom, OpensWith, ReadsSame, bytes_on, core_of, is_finding_refusal, is_half_refusal, is_restart_refusal, restarted_or_refused}
+use Rattle.charmlet_recover.proofs.Answered.{half_is_short, taken_is_recovered}
+use Rattle.charmlet_recover.proofs.Kept.{opened_goes_on, opened_keeps, survey_found}
+use Rattle.charmlet_recover.proofs.Left.{left_unwanted}
+
+-- ---- what is true where two facts are
+
+pub then_ok : {A E : Type 0} (P Q : A → Type 0) (r : Result A E) → ((x : A) → P x → Q x) → IfOk r P → IfOk r Q
+then_ok P Q (Ok x) so is = so x is
+then_ok P Q (Err e) so is = tt
+
+pub both_ok : {A E : Type 0} (P Q R : A → Type 0) (r : Result A E) → ((x : A) → P x → Q x → R x) → IfOk r P → IfOk r Q → IfOk r R
+both_ok P Q R (Ok x) so one two = so x one two
+both_ok P Q R (Err e) so one two = tt
+
+pub then_err : {A E : Type 0} (P Q : E → Type 0) (r : Result A E) → ((e : E) → P e → Q e) → IfErr r P → IfErr r Q
+then_err P Q (Ok x) so is = tt
+then_err P Q (Err e) so is = so e is
+
+-- ---- refusals
+
+pub half_is_restart : (refusal : Refusal) → is_half_refusal refusal ≡ true → is_restart_refusal refusal ≡ true
+half_is_restart refusals.Memory e = refl
+half_is_restart refusals.Device e = absurd cc
+half_is_restart refusals.Halted e = absurd cc
+half_is_restart refusals.NoArray e = absurd cc
+half_is_restart (refusals.OutOfTurn number) e = absurd cc
+half_is_restart refusals.Waiting e = absurd cc
+half_is_restart refusals.TooLong e = absurd cc
+half_is_restart refusals.NoMessage e = absurd cc
+half_is_restart refusals.Absent e = absurd cc
+half_is_restart (refusals.Elsewhere processor) e = absurd cc
+half_is_restart (refusals.NoBlank kind) e = absurd cc
+half_is_restart refusals.LogFull e = absurd cc
+half_is_restart refusals.ImageFull e = absurd cc
+half_is_restart refusals.HistoryFull e = absurd cc
+half_is_restart (refusals.Damaged half offset) e = refl
+half_is_restart refusals.NothingHere e = absurd cc
+half_is_restart (refusals.BlanksWanted kind count) e = refl
+half_is_restart refusals.BadPes e = absurd cc
+half_is_restart refusals.Checkpointing e = absurd cc
+half_is_restart refusals.ClientsFull e = absurd cc
+half_is_restart refusals.PassOut e = absurd cc
+half_is_restart refusals.AlreadyHere e = absurd cc
+half_is_restart refusals.Uncommitted e = absurd cc
+half_is_restart refusals.Strayed e = absurd cc
+
+pub finding_is_restart : (refusal : Refusal) → is_finding_refusal refusal ≡ true → is_restart_refusal refusal ≡ true
+finding_is_restart refusals.Memory e = refl
+finding_is_restart refusals.Device e = refl
+finding_is_restart refusals.Halted e = absurd cc
+finding_is_restart refusals.NoArray e = absurd cc
+finding_is_restart (refusals.OutOfTurn number) e = absurd cc
+finding_is_restart refusals.Waiting e = absurd cc
+finding_is_restart refusals.TooLong e = absurd cc
+finding_is_restart refusals.NoMessage e = absurd cc
+finding_is_restart refusals.Absent e = absurd cc
+finding_is_restart (refusals.Elsewhere processor) e = absurd cc
+finding_is_restart (refusals.NoBlank kind) e = absurd cc
+finding_is_restart refusals.LogFull e = absurd cc
+finding_is_restart refusals.ImageFull e = absurd cc
+finding_is_restart refusals.HistoryFull e = absurd cc
+finding_is_restart (refusals.Damaged half offset) e = refl
+finding_is_restart refusals.NothingHere e = refl
+finding_is_restart (refusals.BlanksWanted kind count) e = absurd cc
+finding_is_restart refusals.BadPes e = absurd cc
+finding_is_restart refusals.Checkpointing e = absurd cc
+finding_is_restart refusals.ClientsFull e = absurd cc
+finding_is_restart refusals.PassOut e = absurd cc
+finding_is_restart refusals.AlreadyHere e = absurd cc
+finding_is_restart refusals.Uncommitted e = absurd cc
+finding_is_restart refusals.Strayed e = absurd cc
+
+-- neither is for the number of processors
+pub half_is_not_bad : (refusal : Refusal) → is_half_refusal refusal ≡ true → refusal ≡ refusals.BadPes → ⊥
+half_is_not_bad refusal is bad = let no_half : is_half_refusal refusals.BadPes ≡ true = ap is_half_refusal (sym bad) ∙ is in absurd cc
+
+pub finding_is_not_bad : (refusal : Refusal) → is_finding_refusal refusal ≡ true → refusal ≡ refusals.BadPes → ⊥
+finding_is_not_bad refusal is bad = let no_finding : is_finding_refusal refusals.BadPes ≡ true = ap is_finding_refusal (sym bad) ∙ is in absurd cc
+
+-- and that of a half is no failure
+half_no_failure : (X : Type 0) (refusal : Refusal) → is_half_refusal refusal ≡ true → is_no_failure {X = X} (Err refusal) ≡ true
+half_no_failure X refusals.Memory e = refl
+half_no_failure X refusals.Device e = absurd cc
+half_no_failure X refusals.Halted e = absurd cc
+half_no_failure X refusals.NoArray e = absurd cc
+half_no_failure X (refusals.OutOfTurn number) e = absurd cc
+half_no_failure X refusals.Waiting e = absurd cc
+half_no_failure X refusals.TooLong e = absurd cc
+half_no_failure X refusals.NoMessage e = absurd cc
+half_no_failure X refusals.Absent e = absurd cc
+half_no_failure X (refusals.Elsewhere processor) e = absurd cc
+half_no_failure X (refusals.NoBlank kind) e = absurd cc
+half_no_failure X refusals.LogFull e = absurd cc
+half_no_failure X refusals.ImageFull e = absurd cc
+half_no_failure X refusals.HistoryFull e = absurd cc
+half_no_failure X (refusals.Damaged half offset) e = refl
+half_no_failure X refusals.NothingHere e = absurd cc
+half_no_failure X (refusals.BlanksWanted kind count) e = refl
+half_no_failure X refusals.BadPes e = absurd cc
+half_no_failure X refusals.Checkpointing e = absurd cc
+half_no_failure X refusals.ClientsFull e = absurd cc
+half_no_failure X refusals.PassOut e = absurd cc
+half_no_failure X refusals.AlreadyHere e = absurd cc
+half_no_failure X refusals.Uncommitted e = absurd cc
+half_no_failure X refusals.Strayed e = absurd cc
+
+-- ---- a store that came back
+
+module _ {D C : Type 0} {G : disks.Ghosts D} {H : chares.Ghosts C} where
+  -- a half that is refused is no failure of the device
+  pub came_no_failure : (result : Result (Recovered D C G H) (NotRestarted D C H)) → IfErr result (λ refused. is_half_refusal refused.refusal ≡ true) → is_no_failure (restarted_or_refused result) ≡ true
+  came_no_failure (Ok back) is = refl
+  came_no_failure (Err refused) is = half_no_failure (Recovered D C G H) refused.refusal is
+
+  -- a fact of what came back is one of the answer
+  pub as_answer : (P : Recovered D C G H → Type 0) (result : Result (Recovered D C G H) (NotRestarted D C H)) → IfOk result P → IfOk (restarted_or_refused result) P
+  as_answer P (Ok back) is = is
+  as_answer P (Err refused) is = tt
+
+  -- where blanks lack, some half wants more
+  pub came_short : (given : Blanks) (half : Half) (bytes : List ℕ) (s : Saved) → found bytes ≡ Open s → (result : Result (Recovered D C G H) (NotRestarted D C H)) →
+      AnswersBy (taken_refusal given (Takes half s)) (restarted_or_refused result) → IfErr result (λ refused. IsShortOfSome given refused.refusal)
+  came_short given half bytes s is (Ok back) so = tt
+  came_short given half bytes s is (Err refused) so = half_is_short (Recovered D C G H) given half bytes s refused.refusal is so
+
+  module _ (opened : Opened D G) (s : Saved) (says : Says opened.survey.bytes.items opened.survey.contents s) (opens_as : OpensAs opened) (processors : ℕ) (given : Blanks)
+      (back : Recovered D C G H) (same : back.halves ≡ opened.halves) (is : IsReplayed processors given s back.store) where
+    abbrev core : Core
+    core = core_of back
+
+    pub came_opens : IsOpenedOn processors back
+    came_opens = is.ready.opened ∙ ap (λ (n : ℕ). opened_core n core.opening core.before core.generation core.log_end) is.on
+
+    core_is : core ≡ opened_core processors core.opening core.before s.header.generation (length (spell_half s))
+    core_is = came_opens ∙ (λ i. opened_core processors core.opening core.before (is.generation i) (is.log_end i))
+
+    came_with : OpensWith given back s
+    came_with = record {
+      means = is.means;
+      generation = is.generation;
+      log_end = is.log_end;
+      left = left_unwanted s core.opening core.before says.good is.means given (blanks_in back.store.stock) is.left;
+    }
+
+    pub came_read : IsReadFrom given back
+    came_read = (opened.survey.bytes.items, s, says.found, came_with)
+
+    pub came_goes_on : GoesOn core back.halves
+    came_goes_on =
+        subst (λ (h : Halves D G). GoesOn core h) (sym same)
+        (subst (λ (c : Core). GoesOn {G = G} c opened.halves) (sym core_is) (opened_goes_on {G = G} opened s says opens_as processors core.before core.opening))
+
+    module _ (old : Half → File) (finds : Finds (old Zero).now (old One).now (Ok opened.survey)) where
+      is_taken : taken (bytes_on old Zero) (bytes_on old One) ≡ Takes opened.survey.half s
+      is_taken = (survey_found old opened.survey s finds says).1
+
+      pub came_found : recovered (bytes_on old) ≡ files.Found core.opening core.before core.generation
+      came_found = taken_is_recovered (bytes_on old) opened.survey.half s core.opening core.before is_taken is.means ∙ ap (files.Found core.opening core.before) (sym is.generation)
+
+      pub came_taken : IsTakenFrom given (bytes_on old) back
+      came_taken = (s, is_taken ∙ ap (λ (h : Half). Takes h s) (sym opens_as.taken ∙ ap taken_half (sym same)), came_with)
+
+      pub came_keeps : ReadsSame old (G.file (disk_of opened.halves)) → text_of opened.halves ≡ spell_half s → G.honest (disk_of opened.halves) → IsKept core back.halves
+      came_keeps reads text honest =
+          subst (λ (h : Halves D G). IsKept core h) (sym same)
+          (subst (λ (c : Core). IsKept {G = G} c opened.halves) (sym core_is) (opened_keeps {G = G} opened s says opens_as old finds reads text honest processors core.before core.opening is.means))

@@ -1,0 +1,53 @@
+//! The blanks that a restart lacks.
+
+ghost use Rattle.std.specs.Prelude.{◌≡◌, option_map};
+ghost use Rattle.charmlet_model.specs.declared.refusal.Refusal.TheVariants as refusals;
+ghost use Rattle.charmlet_recovery.specs.Blanks.{least_short, short_of};
+ghost use Rattle.charmlet_recover.specs.Wanted.{blanks_in};
+ghost use Rattle.charmlet_stock.specs.Stock as stocks;
+
+use crate::wanted::Wanted;
+use charmlet_chare::Chare;
+use charmlet_model::{Kind, Refusal};
+use charmlet_stock::Stock;
+
+/// The kind and how many blanks are wanted of it, where the stock has fewer, and else what later kinds lack.
+fn short_of<C: Chare>(
+    stock: &Stock<C>,
+    wanted: &Wanted,
+    kind: Kind,
+    later: Option<(Kind, u64)>,
+) -> Option<(Kind, u64)>
+    ensures { result ≡ short_of (stocks.blanks_in stock.now) (blanks_in wanted.now) kind later }
+{
+    let count = wanted.of(kind);
+    if stock.census().get(kind).in_stock < count {
+        Some((kind, count))
+    } else {
+        later
+    }
+}
+
+/// The least kind of which the stock has fewer blanks than are wanted, and all that are wanted of it.
+fn least_short<C: Chare>(stock: &Stock<C>, wanted: &Wanted) -> Option<(Kind, u64)>
+    ensures { result ≡ least_short (stocks.blanks_in stock.now) (blanks_in wanted.now) }
+{
+    let short = short_of(stock, wanted, Kind::Tape, None);
+    let short = short_of(stock, wanted, Kind::Tree, short);
+    let short = short_of(stock, wanted, Kind::Sum, short);
+    let short = short_of(stock, wanted, Kind::Account, short);
+    let short = short_of(stock, wanted, Kind::Ring, short);
+    short_of(stock, wanted, Kind::Counter, short)
+}
+
+/// The refusal of a restart that wants more blanks than the stock has: `BlanksWanted`, with the least such kind and all that are wanted of
+/// it. There is none where the stock has enough of each kind.
+pub(crate) fn lacking<C: Chare>(stock: &Stock<C>, wanted: &Wanted) -> Option<Refusal>
+    ensures { result ≡ option_map (λ lack. refusals.BlanksWanted lack.0 lack.1)
+        (least_short (stocks.blanks_in stock.now) (blanks_in wanted.now)) }
+{
+    match least_short(stock, wanted) {
+        Some((kind, count)) => Some(Refusal::BlanksWanted { kind, count }),
+        None => None,
+    }
+}

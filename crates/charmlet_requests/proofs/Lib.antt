@@ -1,0 +1,9 @@
+pub mod Covering
+pub mod Rising
+pub mod Numbers
+pub mod Known
+pub mod Rows
+pub mod Truth
+pub mod Turns
+pub mod Refusals
+pub mod Gaps

@@ -1,0 +1,70 @@
+//! Requests and questions that go by a client's pass.
+
+ghost use Rattle.std.specs.Prelude.{◌≡◌, ℕ, IfOk, OnErr};
+ghost use Rattle.charmlet_model.specs.Core as core;
+ghost use Rattle.charmlet_model.specs.Core.{Blanks, Steps};
+ghost use Rattle.charmlet_history.specs.Kept.{IsConsistent, KeepsRoom, core_in, kept_in, told_or_refused};
+ghost use Rattle.charmlet_requests.specs.Pass.{IsHeard, IsUpToDate, with_accept, with_told};
+
+use crate::pass::ClientPass;
+use charmlet_history::{History, Request};
+use charmlet_model::{Elem, Refusal, Told};
+
+/// A request of the pass's client, as [`History::request`] takes it, with the same refusals in the same order. Where it isn't refused
+/// the pass keeps that it was accepted, and what was told of it. A refusal changes nothing.
+///
+/// Where all that the pass knows is true of the durable events, so it is afterwards; and the client is told no less of the request
+/// than it knew, nor other words.
+pub fn request(
+    history: &mut History,
+    pass: &mut ClientPass,
+    number: u64,
+    to: Elem,
+    entry: u16,
+    words: &[u64],
+) -> Result<Told, Refusal>
+    requires consistent { IsConsistent (kept_in history.old) }
+    ensures consistent { IsConsistent (kept_in history.new) }
+    ensures steps { (blanks : Blanks) → Steps (core_in history.old) blanks
+        (core.Request pass.old.client number to entry words.now)
+        (record { answer = told_or_refused result; core = core_in history.new; blanks = blanks }) }
+    ensures room { KeepsRoom history.old history.new }
+    ensures ok { IfOk result (λ told. pass.new
+        ≡ with_accept (with_told pass.old number told) number) }
+    ensures heard { IsHeard pass.old pass.new (core_in history.old) (core_in history.new)
+        number result }
+    ensures up_to_date { IsUpToDate pass.old (core_in history.old) →
+        IsUpToDate pass.new (core_in history.new) }
+    ensures same { OnErr result (core_in history.new ≡ core_in history.old) }
+{
+    let request = Request {
+        client: pass.client(),
+        number,
+        to,
+        entry,
+        words,
+    };
+    let told = history.request(&request)?;
+    pass.hear(number, &told)?;
+    pass.accept(number);
+    Ok(told)
+}
+
+/// Tells the pass's client what is durable of its request, as [`History::status`] does, with the same refusals in the same order; the
+/// pass keeps it. A refusal changes nothing. An answer without words takes no memory.
+///
+/// Where all that the pass knows is true of the durable events, so it is afterwards; and the client is told no less of the request
+/// than it knew, nor other words.
+pub fn status(history: &History, pass: &mut ClientPass, number: u64) -> Result<Told, Refusal>
+    requires consistent { IsConsistent (kept_in history.now) }
+    ensures steps { (blanks : Blanks) → Steps (core_in history.now) blanks
+        (core.Status pass.old.client number)
+        (record { answer = told_or_refused result; core = core_in history.now; blanks = blanks }) }
+    ensures ok { IfOk result (λ told. pass.new ≡ with_told pass.old number told) }
+    ensures heard { IsHeard pass.old pass.new (core_in history.now) (core_in history.now)
+        number result }
+{
+    let told = history.status(pass.client(), number)?;
+    pass.hear(number, &told)?;
+    Ok(told)
+}

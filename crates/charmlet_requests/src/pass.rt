@@ -1,0 +1,111 @@
+//! Clients' passes.
+
+use crate::knowing::hear;
+use charmlet_model::{ClientRow, Told};
+use std::alloc::{AllocError, Global};
+use std::marker::Model;
+
+/// What a client has of its requests over one history: which of them were accepted since the pass was lent, and what it was told of
+/// them. Over the history it was lent for it is never told less than before, nor other words.
+#[derive(Debug, Drop)]
+pub struct ClientPass {
+    alloc: Global,
+    client: u32,
+    /// The client's last number when the pass was lent.
+    lent_at: u64,
+    /// The number of its last accept, or before one the same.
+    last: u64,
+    /// What is known by what it was told.
+    row: ClientRow,
+}
+
+impl Model for ClientPass {
+    ghost use Rattle.std.specs.Prelude.{◌≤◌};
+    ghost use Rattle.charmlet_requests.specs.Knowing.{IsWindowed};
+    ghost use Rattle.charmlet_requests.specs.Pass.{Pass};
+
+    ghost Value = { Pass };
+
+    ghost view = { λ p. record { client = p.client; lent_at = p.lent_at; last = p.last; row = p.row } };
+
+    ghost invariant = { λ p. IsWindowed p.row × (p.lent_at ≤ p.last) };
+}
+
+impl ClientPass {
+    ghost use Rattle.std.specs.Prelude.{◌≡◌, ◌-◌, ℕ, length, take, true, IfOk, OnErr, OnOk};
+    ghost use Rattle.charmlet_model.specs.Core.{Core, has_words};
+    ghost use Rattle.charmlet_model.specs.Sound.{IsSound};
+    ghost use Rattle.charmlet_model.specs.Told.{Holds};
+    ghost use Rattle.charmlet_requests.specs.Knowing.{IsNoLess};
+    ghost use Rattle.charmlet_requests.specs.Pass.{IsTold, accepts_of, known, lent, with_accept, with_told};
+
+    /// A pass that is lent to a client whose last number is this one. It takes no memory.
+    pub(crate) fn lend(alloc: Global, client: u32, last: u64) -> Self
+        ensures { result ≡ lent client last }
+    {
+        ClientPass {
+            alloc,
+            client,
+            lent_at: last,
+            last,
+            row: ClientRow::new(),
+        }
+    }
+
+    /// The client whose pass it is.
+    pub fn client(&self) -> u32
+        ensures { result ≡ self.now.client }
+    {
+        self.client
+    }
+
+    /// The number of its last accept; before one, the client's last number when the pass was lent.
+    pub fn last(&self) -> u64
+        ensures { result ≡ self.now.last }
+    {
+        self.last
+    }
+
+    /// How many requests were accepted since the pass was lent: those with the numbers up to the last one.
+    pub fn accept_count(&self) -> u64
+        ensures number { result ≡ self.now.last - self.now.lent_at }
+        ensures count { result ≡ length (accepts_of self.now) }
+    {
+        self.last - self.lent_at
+    }
+
+    /// What is known of a request: the highest that the client was told of it, or what follows from what it was told of
+    /// others. Of the client's last eight requests replies are kept. It fails only for want of memory, and takes none where
+    /// what is known has no words.
+    pub fn known(&self, number: u64) -> Result<Told, AllocError>
+        ensures known { IfOk result (λ told. told ≡ known self.now number) }
+        ensures words { OnErr result (has_words (known self.now number) ≡ true) }
+    {
+        self.row.told(self.alloc, number)
+    }
+
+    /// Keeps what the client was told of a request, so that no less is known of any request than before. It fails only
+    /// for want of memory, and then nothing changes. It takes none where that has no words.
+    pub fn hear(&mut self, number: u64, told: &Told) -> Result<(), AllocError>
+        ensures ok { OnOk result (self.new ≡ with_told self.old number told.now) }
+        ensures kept { (other : ℕ) → IsNoLess (known self.old other) (known self.new other) }
+        ensures heard { IsNoLess (known self.old number) told.now →
+            OnOk result (IsNoLess told.now (known self.new number)) }
+        ensures holds { (core : Core) → IsSound core →
+            Holds core.opening (take core.durable core.history) self.old.client number told.now →
+            IsTold self.old core → IsTold self.new core }
+        ensures err { OnErr result (self.new ≡ self.old) }
+        ensures words { OnErr result (has_words told.now ≡ true) }
+    {
+        hear(&mut self.row, self.alloc, number, told)
+    }
+
+    /// Keeps that a request was accepted, if its number is above the last one. It takes no memory.
+    pub fn accept(&mut self, number: u64)
+        ensures { self.new ≡ with_accept self.old number }
+    {
+        if self.last < number {
+            self.last = number;
+        }
+    }
+}

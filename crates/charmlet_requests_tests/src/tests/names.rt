@@ -1,0 +1,38 @@
+//! Names of handlers.
+
+use charmlet_requests::{Handler, Handlers};
+use std::process::Abort;
+
+// The handlers have this one under the name.
+fn has(rt: &(impl AllocGlobal + Abort), handlers: &Handlers, name: &str, wanted: Option<Handler>) {
+    assert_eq!(rt; handlers.find(name), wanted);
+}
+
+#[test]
+fn handlers_are_found_by_their_names(rt: HostRuntime) {
+    let rt = &rt;
+    let mut handlers = Handlers::new(rt.alloc());
+    let make = Handler {
+        array: 0,
+        entry: 65_535,
+    };
+    let bump = Handler {
+        array: 65_535,
+        entry: 0,
+    };
+    has(rt, &handlers, "make", None);
+    handlers.register("make", make).ok().expect(rt, "memory");
+    handlers.register("b", bump).ok().expect(rt, "memory");
+    let long = "abcdefghijklmnopqrstuvwxyzABCDEF";
+    handlers.register(long, bump).ok().expect(rt, "memory");
+    has(rt, &handlers, "make", Some(make));
+    has(rt, &handlers, "b", Some(bump));
+    has(rt, &handlers, long, Some(bump));
+    has(rt, &handlers, "mak", None);
+    has(rt, &handlers, "makes", None);
+    has(rt, &handlers, "", None);
+    // One that is registered under a name once more replaces the one before.
+    handlers.register("make", bump).ok().expect(rt, "memory");
+    has(rt, &handlers, "make", Some(bump));
+    has(rt, &handlers, "b", Some(bump));
+}
