@@ -25,7 +25,7 @@ pub trait Chare: Send + Drop {
         ensures size { result ≡ length (pupped (state self.old)) }
         ensures same { state self.new ≡ state self.old };
 
-    /// Appends the object's packed form. The state stays. It fails only for want of memory, and then
+    /// Appends the object's packed form. The state stays. It fails only when out of memory, and then
     /// the bytes stay too.
     fn pack(&mut self, into: &mut Vec<u8>) -> Result<(), AllocError>
         ensures ok { OnOk result (into.new.items ≡ into.old.items ++ pupped (state self.old)) }
@@ -45,7 +45,7 @@ pub trait Chare: Send + Drop {
     /// construction, at the entry `CONSTRUCT` and whatever the state, or else an act on the state. The
     /// outbox gets what is sent and replied; an object that the entry destroys keeps its state.
     ///
-    /// It fails only for want of memory, and then leaves the state; what the outbox holds has no
+    /// It fails only when out of memory, and then leaves the state; what the outbox holds has no
     /// meaning then.
     fn enter(
         &mut self,

@@ -40,8 +40,8 @@ impl Outbox {
         }
     }
 
-    /// Sends a message to an element, behind those that were sent before. An entry sends at most
-    /// `MAX_SENDS`, each of at most `MAX_WORDS` words. It fails only for want of memory, and then
+    /// Sends a message to an element, after those that were sent before. An entry sends at most
+    /// `MAX_SENDS`, each of at most `MAX_WORDS` words. It fails only when out of memory, and then
     /// leaves the outbox as it was.
     pub fn send(&mut self, to: Elem, entry: u16, words: &[u64]) -> Result<(), AllocError>
         requires room { length self.old.sends < MAX_SENDS }
@@ -55,7 +55,7 @@ impl Outbox {
     }
 
     /// Makes these words the reply, at most `MAX_WORDS` of them, in the place of an earlier one. It
-    /// fails only for want of memory, and then leaves the outbox as it was.
+    /// fails only when out of memory, and then leaves the outbox as it was.
     pub fn reply(&mut self, words: &[u64]) -> Result<(), AllocError>
         requires { length words.now ≤ MAX_WORDS }
         ensures ok { OnOk result (self.new ≡ with_reply self.old words.now) }

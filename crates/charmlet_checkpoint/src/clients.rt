@@ -14,7 +14,7 @@ use charmlet_record::write_u32;
 use std::alloc::AllocError;
 use std::collections::BTreeMap;
 
-/// Appends how many clients there are, and each with its present row. It fails only for want of memory.
+/// Appends how many clients there are, and each with its present row. It fails only when out of memory.
 pub(crate) fn append_clients(
     out: &mut Vec<u8>,
     clients: &BTreeMap<u32, Client>,
@@ -32,7 +32,7 @@ pub(crate) fn append_clients(
     Ok(())
 }
 
-/// Appends a client. It fails only for want of memory.
+/// Appends a client. It fails only when out of memory.
 fn append_client(out: &mut Vec<u8>, client: u32, row: &ClientRow) -> Result<(), AllocError>
     requires { AreShort row.now }
     ensures { OnOk result (out.new.items ≡ out.old.items ++ spell_client Second (client, row.now)) }

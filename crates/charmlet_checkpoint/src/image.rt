@@ -90,7 +90,7 @@ fn append_lists<C: Chare>(
     Ok(())
 }
 
-/// Appends how many arrays there are, and each of them. It fails only for want of memory.
+/// Appends how many arrays there are, and each of them. It fails only when out of memory.
 fn append_arrays(alloc: Global, out: &mut Vec<u8>, manifest: &Manifest) -> Result<(), AllocError>
     requires { length manifest.now ≤ 64 }
     ensures { OnOk result (out.new.items ≡ out.old.items ++ spell_list spell_array manifest.now) }
@@ -101,7 +101,7 @@ fn append_arrays(alloc: Global, out: &mut Vec<u8>, manifest: &Manifest) -> Resul
     Ok(())
 }
 
-/// Appends a list that has no items. It fails only for want of memory.
+/// Appends a list that has no items. It fails only when out of memory.
 fn append_no_items(out: &mut Vec<u8>) -> Result<(), AllocError>
     ensures { OnOk result (out.new.items ≡ out.old.items ++ number_bytes 4 0) }
 {
@@ -121,7 +121,7 @@ fn count_of(len: usize) -> Result<u32, Refusal>
     Ok(count)
 }
 
-/// Writes a header over the first bytes, which are its room. It fails only for want of memory.
+/// Writes a header over the first bytes, which are its room. It fails only when out of memory.
 fn fill_header(alloc: Global, out: &mut Vec<u8>, header: &Header) -> Result<(), AllocError>
     requires { HEADER_SIZE ≤ vec_len out.old }
     ensures { OnOk result (out.new.items ≡ spell_header header.now

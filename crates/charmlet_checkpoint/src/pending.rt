@@ -9,7 +9,7 @@ use charmlet_model::Message;
 use charmlet_record::{append_message, write_u32};
 use std::alloc::AllocError;
 
-/// Appends how many messages there are, and each of them. It fails only for want of memory.
+/// Appends how many messages there are, and each of them. It fails only when out of memory.
 pub(crate) fn append_pending(
     out: &mut Vec<u8>,
     count: u32,

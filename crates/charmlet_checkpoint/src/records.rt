@@ -37,7 +37,7 @@ pub(crate) fn count_records(elements: &BTreeMap<Elem, Element>) -> usize
 }
 
 /// Appends how many records there are, and each of them, in rising order of elements. It fails only for
-/// want of memory. The shelves are as before.
+/// lack of memory. The shelves are as before.
 pub(crate) fn append_records<C: Chare>(
     out: &mut Vec<u8>,
     count: u32,
@@ -63,7 +63,7 @@ pub(crate) fn append_records<C: Chare>(
     Ok(())
 }
 
-/// Appends an element with its counts, and with its packed state if it is there. It fails only for want
+/// Appends an element with its counts, and with its packed state if it is there. It fails only when out
 /// of memory. The shelves are as before.
 fn append_record<C: Chare>(
     out: &mut Vec<u8>,
@@ -89,7 +89,7 @@ fn append_record<C: Chare>(
     Ok(())
 }
 
-/// Appends an element with its counts, and with this packed state if there is one. It fails only for want
+/// Appends an element with its counts, and with this packed state if there is one. It fails only when out
 /// of memory.
 fn append_entry(
     out: &mut Vec<u8>,

@@ -12,7 +12,7 @@ use Rattle.charmlet_engine.specs.Engine.{IsEngineConsistent, disk_in}
 use Rattle.charmlet_engine.proofs.Advancing.{advances_still}
 use Rattle.charmlet_engine.proofs.Lawful.{leaves_more}
 use Rattle.charmlet_engine.proofs.Onward.{onward_after}
-use Rattle.charmlet_cli.specs.Lines.{Continues, Follows, Ledger, Prints, ledger_in}
+use Rattle.charmlet_cli.specs.Lines.{Continues, Follows, Ledger, Names, Prints, ledger_in}
 
 module _ {D C : Type 0} {G : disks.Ghosts D} {H : chares.Ghosts C} where
   -- an engine that advances
@@ -34,20 +34,21 @@ module _ {D : Type 0} (G : disks.Ghosts D) where
     honest = ((λ h. b.honest.0 (a.honest.0 h)), (λ h. a.honest.1 (b.honest.1 h)));
   }
 
+module _ {D : Type 0} (G : disks.Ghosts D) (named : Names) where
   -- the run ends later
-  pub prints_until : (end later first last : Ledger D) (lines : List Line) (texts : List Text) → Continues G end later → Prints G end first lines texts last → Prints G later first lines texts last
+  pub prints_until : (end later first last : Ledger D) (lines : List Line) (texts : List Text) → Continues G end later → Prints G named end first lines texts last → Prints G named later first lines texts last
   prints_until end later first last [] texts on h = h
   prints_until end later first last (line ∷ lines) texts on h =
-      (h.0, h.1, h.2, h.3, h.4, continues_after h.0 end later h.5 on, prints_until end later h.0 last lines h.2 on h.6, h.7)
+      (h.0, h.1, h.2, h.3, h.4, continues_after G h.0 end later h.5 on, prints_until end later h.0 last lines h.2 on h.6, h.7)
 
   -- one line more
-  pub prints_more : (end first mid last : Ledger D) (lines : List Line) (line : Line) (texts more : List Text) → Prints G end first lines texts mid → Follows G mid line more last →
-      Continues G mid last → Continues G last end → Prints G end first (lines ++ line ∷ []) (texts ++ more) last
+  pub prints_more : (end first mid last : Ledger D) (lines : List Line) (line : Line) (texts more : List Text) → Prints G named end first lines texts mid → Follows G named mid line more last →
+      Continues G mid last → Continues G last end → Prints G named end first (lines ++ line ∷ []) (texts ++ more) last
   prints_more end first mid last [] line texts more h follows here rest = (
     last,
     more,
     [],
-    subst (λ (ledger : Ledger D). Follows G ledger line more last) h.1 follows,
+    subst (λ (ledger : Ledger D). Follows G named ledger line more last) h.1 follows,
     subst (λ (ledger : Ledger D). Continues G ledger last) h.1 here,
     rest,
     (refl, refl),

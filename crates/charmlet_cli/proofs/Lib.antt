@@ -7,3 +7,4 @@ pub mod Showings
 pub mod Standings
 pub mod Supplies
 pub mod Drainings
+pub mod Naming

@@ -73,7 +73,7 @@ begins_more a b xs ys h = (h.0, h.1 ++ ys, ap (λ zs. zs ++ ys) h.2 ∙ append_a
 pub begins_then : (a b c : Option Text) (xs ys : Text) → Appends a b xs → AppendsBeginning b c ys → AppendsBeginning a c (xs ++ ys)
 begins_then a b c xs ys h k = (xs ++ k.0, k.1, ap (λ zs. xs ++ zs) k.2 ∙ sym (append_assoc xs k.0 k.1), appends_then a b c xs k.0 h k.3)
 
--- lines behind lines
+-- lines after lines
 pub in_lines-append : (xs ys : List Text) → in_lines (xs ++ ys) ≡ in_lines xs ++ in_lines ys
 in_lines-append xs ys = flat_map-append (λ text. text ++ 10 ∷ []) xs ys
 

@@ -26,7 +26,7 @@ use Rattle.charmlet_replay.specs.Unused.{IsUnused}
 use Rattle.charmlet_recover.specs.declared.restarting.NotRestarted.{NotRestarted}
 use Rattle.charmlet_recover.specs.declared.restarting.Recovered.{Recovered}
 use Rattle.charmlet_recover.specs.Restart.{AnswersBy, IsHandedBack, IsOpenedOn, IsTakenFrom, ReadsSame, bytes_on, is_lack, is_restart_refusal}
-use Rattle.charmlet_script.specs.declared.script.Line.{Line}
+use Rattle.charmlet_script.specs.Script.{RestartContents}
 use Rattle.charmlet_engine.specs.declared.engine.Engine.{Engine}
 use Rattle.charmlet_engine.specs.Advances.{Advances}
 use Rattle.charmlet_engine.specs.Engine.{IsEngineConsistent, core_of, disk_in, recovered_in, supplied_of}
@@ -74,16 +74,16 @@ counted_processors false never = absurd (never refl)
 
 module _ {D C W : Type 0} (G : disks.Ghosts D) (state : C → State) (contents : W → Option Text) where
   -- a restart that had enough objects for its script ended early
-  pub restart_ends : {T : Type 0} (processors : ℕ) (given : Blanks) (first end : D) (blanks supplies : List C) (lines : List Line) (before after : W) (r : Result T (RestartError C)) →
-      AreEnough state supplies lines → given ≡ given_of state blanks → IfErr r (EndsRestart G processors given first end lines (contents before) (contents after)) →
-      IfErr r (RestartLeaves G state contents processors first end blanks supplies lines before after)
-  restart_ends processors given first end blanks supplies lines before after (Ok x) enough same so = tt
-  restart_ends processors given first end blanks supplies lines before after (Err (ends.TooFewBlanks back others)) enough same so = absurd so
-  restart_ends processors given first end blanks supplies lines before after (Err ends.Memory) enough same so = absurd so
-  restart_ends processors given first end blanks supplies lines before after (Err (ends.NotRestarted refusal)) enough same so =
+  pub restart_ends : {T : Type 0} (processors : ℕ) (given : Blanks) (first end : D) (blanks supplies : List C) (script : RestartContents) (before after : W) (r : Result T (RestartError C)) →
+      AreEnough state supplies script.lines → given ≡ given_of state blanks → IfErr r (EndsRestart G processors given first end script (contents before) (contents after)) →
+      IfErr r (RestartLeaves G state contents processors first end blanks supplies script before after)
+  restart_ends processors given first end blanks supplies script before after (Ok x) enough same so = tt
+  restart_ends processors given first end blanks supplies script before after (Err (ends.TooFewBlanks back others)) enough same so = absurd so
+  restart_ends processors given first end blanks supplies script before after (Err ends.Memory) enough same so = absurd so
+  restart_ends processors given first end blanks supplies script before after (Err (ends.NotRestarted refusal)) enough same so =
       (enough, subst (λ (g : Blanks). WasNotRestarted G processors g first end refusal) same so.0, so.1)
-  restart_ends processors given first end blanks supplies lines before after (Err (ends.Output error)) enough same so =
-      (enough, subst (λ (g : Blanks). EndsRestartWrite G processors g first end lines (contents before) (contents after)) same so)
+  restart_ends processors given first end blanks supplies script before after (Err (ends.Output error)) enough same so =
+      (enough, subst (λ (g : Blanks). EndsRestartWrite G processors g first end script (contents before) (contents after)) same so)
 
 -- the first line of a store in which nothing has happened since it came back
 pub said_of : (core : Core) (generation events processors : ℕ) → generation ≡ core.generation → events ≡ core.before + core.durable → core.durable ≡ 0 → core.processors ≡ processors →

@@ -1,5 +1,6 @@
 -- What the lines of a script do to a store, and what they print.
-use Rattle.std.specs.Prelude.{◌≡◌, ◌⊎◌, ℕ, ◌+◌, ◌≤◌, true, List, [], ◌∷◌, ◌++◌, map, take, Option, IsSome, Result, unwrap_or}
+use Rattle.std.specs.Prelude.{◌≡◌, ◌⊎◌, ℕ, ◌+◌, ◌≤◌, true, List, [], ◌∷◌, ◌++◌, map, take, if◌then◌else◌, is_some, Option, Some, None, IsSome, Result, unwrap_or}
+use Rattle.std.specs.Str.{bytes_eq}
 use Rattle.std.specs.Io.KnownBytes.{Appends}
 use Rattle.std.specs.List.{flat_map}
 use Rattle.charmlet_model.specs.declared.kind.Kind.{Kind}
@@ -13,6 +14,11 @@ use Rattle.charmlet_model.specs.Manifest.{manifest_of}
 use Rattle.charmlet_model.specs.Texts.{Text, answer_text}
 use Rattle.charmlet_model.specs.Run.{StoreView, Does}
 use Rattle.charmlet_model.specs.RunLaws.{IsToldTrue}
+use Rattle.charmlet_model.specs.declared.step.Step.TheVariants as steps
+use Rattle.charmlet_requests.specs.declared.handlers.Handler.{Handler}
+use Rattle.charmlet_requests.specs.Handlers.{IsTarget, handler_of}
+use Rattle.charmlet_cli.specs.declared.desk.Desk.{Desk}
+use Rattle.charmlet_script.specs.declared.script.HandlerLine.{HandlerLine}
 use Rattle.charmlet_script.specs.declared.script.Line.{Line}
 use Rattle.charmlet_script.specs.declared.script.Line.TheVariants.{Supply, Drain, State, Pending, Census}
 use Rattle.charmlet_script.specs.declared.script.Line.TheVariants as lines
@@ -67,6 +73,25 @@ opening_of script disk = record {
   disk = disk;
 }
 
+-- the handler that a name stands for, if there is one
+abbrev pub Names : Type 0
+Names = Text → Option Handler
+
+-- no name stands for one
+abbrev pub no_names : Names
+no_names name = None
+
+-- of these lines the last one with the name says it
+abbrev pub named_by : List HandlerLine → Names
+named_by [] name = None
+named_by (line ∷ lines) name =
+    if is_some (named_by lines name) then named_by lines name
+    else if bytes_eq line.name name then Some (record { array = line.array; entry = line.entry }) else None
+
+-- the handlers of a desk
+abbrev pub named_at : Desk → Names
+named_at desk name = handler_of desk.handlers name
+
 -- the texts as lines, each with its line feed
 abbrev pub in_lines : List Text → Text
 in_lines = flat_map (λ text. text ++ 10 ∷ [])
@@ -119,6 +144,7 @@ module _ {D : Type 0} (G : disks.Ghosts D) where
     pub counted : G.faults new.disk ≡ faults_after (is_no_fault answer) (G.faults old.disk)
     pub still : is_still answer ≡ true → new.disk ≡ old.disk
 
+module _ {D : Type 0} (G : disks.Ghosts D) (named : Names) where
   -- from one store a line prints these texts and leads to another store
   abbrev pub Follows : Ledger D → Line → List Text → Ledger D → Type 0
   Follows old (Supply kind count) texts new = (text : Text) × Supplies old kind count text new × (texts ≡ text ∷ [])
@@ -128,7 +154,10 @@ module _ {D : Type 0} (G : disks.Ghosts D) where
   Follows old (State elem) texts new = (text : Text) × ShowsState old.store elem text × (texts ≡ text ∷ []) × (new ≡ old)
   Follows old Pending texts new = (text : Text) × ShowsPending old.store text × (texts ≡ text ∷ []) × (new ≡ old)
   Follows old Census texts new = ShowsCensus old texts × (new ≡ old)
-  Follows old (lines.Step step) texts new = (answer : Answer) × IsAnswered step answer old new × (texts ≡ answer_text answer ∷ [])
+  Follows old (lines.Step step) texts new = (answer : Answer) × IsAnswered G step answer old new × (texts ≡ answer_text answer ∷ [])
+  Follows old (lines.Call client number name index words) texts new =
+      (to : Elem) × (entry : ℕ) × IsTarget (present old.store.core) index (named name) to entry
+      × (answer : Answer) × IsAnswered G (steps.Request client number to entry words) answer old new × (texts ≡ answer_text answer ∷ [])
 
   -- a line is run, and its texts are written after what was written before, or where that fails a beginning of them
   abbrev pub IsPrinted : {T E : Type 0} → Result T E → Ledger D → Line → Ledger D → (before after : Option Text) → Type 0
@@ -139,7 +168,7 @@ module _ {D : Type 0} (G : disks.Ghosts D) where
   abbrev pub Prints : (end first : Ledger D) → List Line → List Text → (last : Ledger D) → Type 0
   Prints end first [] texts last = (texts ≡ []) × (last ≡ first)
   Prints end first (line ∷ lines) texts last =
-      (next : Ledger D) × (printed : List Text) × (rest : List Text) × Follows first line printed next × Continues first next × Continues next end
+      (next : Ledger D) × (printed : List Text) × (rest : List Text) × Follows first line printed next × Continues G first next × Continues G next end
       × Prints end next lines rest last × (texts ≡ printed ++ rest)
 
   -- lines are run one after another, in a run that ends in `end`, and their texts written
@@ -151,4 +180,4 @@ module _ {D : Type 0} (G : disks.Ghosts D) where
   BreakOff first lines last before after =
       (whole : List Line) × (line : Line) × (rest : List Line) × (lines ≡ whole ++ line ∷ rest)
       × (mid : Ledger D) × (between : Option Text) × AreRun last first whole mid before between
-      × (texts : List Text) × Follows mid line texts last × Continues mid last × AppendsBeginning between after (in_lines texts)
+      × (texts : List Text) × Follows mid line texts last × Continues G mid last × AppendsBeginning between after (in_lines texts)

@@ -27,7 +27,7 @@ use Rattle.charmlet_disk.specs.File.{MayLeave, Outcome}
 use Rattle.charmlet_recover.specs.declared.finding.Found as findings
 use Rattle.charmlet_recover.specs.declared.wanted.Wanted.{Wanted}
 use Rattle.charmlet_recover.specs.Restart.{AnswersBy, ReadsSame, bytes_on, is_lack, is_restart_refusal}
-use Rattle.charmlet_script.specs.declared.script.Line.{Line}
+use Rattle.charmlet_script.specs.Script.{RestartContents}
 use Rattle.charmlet_engine.specs.Lives.{ComesBack, Past, Remembers}
 use Rattle.charmlet_engine.specs.Outcomes.{Onward, is_lawful_since, not_device}
 use Rattle.charmlet_cli.specs.declared.restarting.FindError.{FindError}
@@ -37,7 +37,7 @@ use Rattle.charmlet_cli.specs.declared.restarting.RestartError.TheVariants.{TooF
 use Rattle.charmlet_cli.specs.declared.restarting.RestartedLine.{RestartedLine}
 use Rattle.charmlet_cli.specs.declared.stop.Stop.{Stop}
 use Rattle.charmlet_cli.specs.declared.stop.Stop.TheVariants as stops
-use Rattle.charmlet_cli.specs.Lines.{AreEnough, AreRun, BreakOff, Ledger, in_lines}
+use Rattle.charmlet_cli.specs.Lines.{AreEnough, AreRun, BreakOff, Ledger, in_lines, named_by}
 use Rattle.charmlet_cli.specs.Run.{Stands}
 use Rattle.charmlet_cli.specs.Writing.{AppendsBeginning}
 
@@ -94,29 +94,29 @@ module _ {D : Type 0} (G : disks.Ghosts D) where
     pub any_moment : G.honest first → LeavesOnly G.moment G.since first back.disk (is_left_by first)
 
   -- the first line is written, and each line of the script is run in its order and prints its texts
-  abbrev pub PrintsRestart : (back : Ledger D) → List Line → (last : Ledger D) → (before after : Option Text) → Type 0
-  PrintsRestart back lines last before after =
-      (between : Option Text) × Appends before between (restarted_text back.store.core) × AreRun G last back lines last between after
+  abbrev pub PrintsRestart : (back : Ledger D) → RestartContents → (last : Ledger D) → (before after : Option Text) → Type 0
+  PrintsRestart back script last before after =
+      (between : Option Text) × Appends before between (restarted_text back.store.core) × AreRun G (named_by script.handlers) last back script.lines last between after
 
   -- a beginning of the first line is written, and nothing is run; or it is written, some lines are run, and a beginning of their texts is printed
-  abbrev pub BreaksOffRestart : (back : Ledger D) → List Line → (last : Ledger D) → (before after : Option Text) → Type 0
-  BreaksOffRestart back lines last before after =
+  abbrev pub BreaksOffRestart : (back : Ledger D) → RestartContents → (last : Ledger D) → (before after : Option Text) → Type 0
+  BreaksOffRestart back script last before after =
       ((last ≡ back) × AppendsBeginning before after (restarted_text back.store.core))
-      ⊎ ((between : Option Text) × Appends before between (restarted_text back.store.core) × BreakOff G back lines last between after)
+      ⊎ ((between : Option Text) × Appends before between (restarted_text back.store.core) × BreakOff G (named_by script.handlers) back script.lines last between after)
 
   -- a store comes back, the first line says so, each line of the script is run and prints its texts, and the last store stands on the disk
-  abbrev pub IsRestarted : (processors : ℕ) → Blanks → (first end : D) → List Line → (before after : Option Text) → Type 0
-  IsRestarted processors given first end lines before after =
+  abbrev pub IsRestarted : (processors : ℕ) → Blanks → (first end : D) → RestartContents → (before after : Option Text) → Type 0
+  IsRestarted processors given first end script before after =
       IsTrue (is_processor_count processors) × (back : Ledger D) × IsBack processors given first back
-      × (last : Ledger D) × PrintsRestart back lines last before after × Stands G (is_left_by first) first end last
+      × (last : Ledger D) × PrintsRestart back script last before after × Stands G (is_left_by first) first end last
 
   -- a store comes back, a beginning of what is to be printed is printed, and the store after the lines that were run stands on the disk
-  abbrev pub IsRestartCutOff : (processors : ℕ) → Blanks → (first end : D) → List Line → (before after : Option Text) → Type 0
-  IsRestartCutOff processors given first end lines before after =
+  abbrev pub IsRestartCutOff : (processors : ℕ) → Blanks → (first end : D) → RestartContents → (before after : Option Text) → Type 0
+  IsRestartCutOff processors given first end script before after =
       IsTrue (is_processor_count processors) × (back : Ledger D) × IsBack processors given first back
-      × (last : Ledger D) × BreaksOffRestart back lines last before after × Stands G (is_left_by first) first end last
+      × (last : Ledger D) × BreaksOffRestart back script last before after × Stands G (is_left_by first) first end last
 
-  -- No store came back from the first disk, for a cause that is found in its files or its blanks, the number of processors, want of memory, or a failure
+  -- No store came back from the first disk, for a cause that is found in its files or its blanks, the number of processors, lack of memory, or a failure
   -- of the device. After a crash of an earlier run the files alone are never the cause. Nothing is written.
   pub record WasNotRestarted (processors : ℕ) (given : Blanks) (first end : D) (refusal : Refusal) : Type 0 where
     pub kind : is_restart_refusal refusal ≡ true
@@ -130,32 +130,32 @@ module _ {D : Type 0} (G : disks.Ghosts D) where
     pub counted : G.faults end ≡ faults_after (not_device refusal) (G.faults first)
 
   -- a line couldn't be written: that of a refusal, or one after the store came back
-  abbrev pub EndsRestartWrite : (processors : ℕ) → Blanks → (first end : D) → List Line → (before after : Option Text) → Type 0
-  EndsRestartWrite processors given first end lines before after =
+  abbrev pub EndsRestartWrite : (processors : ℕ) → Blanks → (first end : D) → RestartContents → (before after : Option Text) → Type 0
+  EndsRestartWrite processors given first end script before after =
       ((refusal : Refusal) × WasNotRestarted processors given first end refusal × AppendsBeginning before after (refusal_text refusal))
-      ⊎ IsRestartCutOff processors given first end lines before after
+      ⊎ IsRestartCutOff processors given first end script before after
 
   -- A restart that had enough objects for its script ends early where no store comes back, or where the output fails or memory for a line's text is refused.
-  abbrev pub EndsRestart : {C : Type 0} → (processors : ℕ) → Blanks → (first end : D) → List Line → (before after : Option Text) → RestartError C → Type 0
-  EndsRestart processors given first end lines before after (TooFewBlanks back others) = ⊥
-  EndsRestart processors given first end lines before after Memory = ⊥
-  EndsRestart processors given first end lines before after (NotRestarted refusal) =
+  abbrev pub EndsRestart : {C : Type 0} → (processors : ℕ) → Blanks → (first end : D) → RestartContents → (before after : Option Text) → RestartError C → Type 0
+  EndsRestart processors given first end script before after (TooFewBlanks back others) = ⊥
+  EndsRestart processors given first end script before after Memory = ⊥
+  EndsRestart processors given first end script before after (NotRestarted refusal) =
       WasNotRestarted processors given first end refusal × Appends before after (refusal_text refusal)
-  EndsRestart processors given first end lines before after (Output error) = EndsRestartWrite processors given first end lines before after
+  EndsRestart processors given first end script before after (Output error) = EndsRestartWrite processors given first end script before after
 
   -- Where the objects for the script's lines are too few, and only there, all come back. Then the disk and the output stay as they were, and so they do where memory is
   -- refused before the store is to come back. A refused restart writes its line.
-  abbrev pub RestartLeaves : {C W : Type 0} → (C → State) → (W → Option Text) → (processors : ℕ) → (first end : D) → (blanks supplies : List C) → List Line →
+  abbrev pub RestartLeaves : {C W : Type 0} → (C → State) → (W → Option Text) → (processors : ℕ) → (first end : D) → (blanks supplies : List C) → RestartContents →
       (before after : W) → RestartError C → Type 0
-  RestartLeaves state contents processors first end blanks supplies lines before after (TooFewBlanks back others) =
-      (end ≡ first) × (back.items ≡ blanks) × (others.items ≡ supplies) × (after ≡ before) × ¬ AreEnough state supplies lines
-  RestartLeaves state contents processors first end blanks supplies lines before after Memory =
-      (end ≡ first) × AreEnough state supplies lines × (after ≡ before)
-  RestartLeaves state contents processors first end blanks supplies lines before after (NotRestarted refusal) =
-      AreEnough state supplies lines × WasNotRestarted processors (given_of state blanks) first end refusal
+  RestartLeaves state contents processors first end blanks supplies script before after (TooFewBlanks back others) =
+      (end ≡ first) × (back.items ≡ blanks) × (others.items ≡ supplies) × (after ≡ before) × ¬ AreEnough state supplies script.lines
+  RestartLeaves state contents processors first end blanks supplies script before after Memory =
+      (end ≡ first) × AreEnough state supplies script.lines × (after ≡ before)
+  RestartLeaves state contents processors first end blanks supplies script before after (NotRestarted refusal) =
+      AreEnough state supplies script.lines × WasNotRestarted processors (given_of state blanks) first end refusal
       × Appends (contents before) (contents after) (refusal_text refusal)
-  RestartLeaves state contents processors first end blanks supplies lines before after (Output error) =
-      AreEnough state supplies lines × EndsRestartWrite processors (given_of state blanks) first end lines (contents before) (contents after)
+  RestartLeaves state contents processors first end blanks supplies script before after (Output error) =
+      AreEnough state supplies script.lines × EndsRestartWrite processors (given_of state blanks) first end script (contents before) (contents after)
 
 -- ---- how the program ends
 

@@ -18,10 +18,10 @@ use Rattle.charmlet_halves.specs.Bytes.{IsOpen}
 use Rattle.charmlet_record.specs.Reading.{Kinds}
 use Rattle.charmlet_engine.specs.Outcomes.{IsNothingOrNew, is_lawful_now, not_device}
 use Rattle.charmlet_script.specs.Script.{Contents, processors_of}
-use Rattle.charmlet_cli.specs.Lines.{AreRun, BreakOff, Ledger, in_lines, kinds_of, opening_of}
+use Rattle.charmlet_cli.specs.Lines.{AreRun, BreakOff, Ledger, in_lines, kinds_of, named_by, opening_of}
 use Rattle.charmlet_cli.specs.Writing.{AppendsBeginning}
 
--- why a store isn't created: for the number of its processors, and else since one is here already, for want of memory, or since the device failed
+-- why a store isn't created: for the number of its processors, and else since one is here already, when out of memory, or since the device failed
 abbrev pub IsCreationRefusal : ℕ → Refusal → Type 0
 IsCreationRefusal processors refusal =
     ((refusal ≡ BadPes) ↔ (is_processor_count processors ≡ false))
@@ -65,13 +65,13 @@ module _ {D : Type 0} (G : disks.Ghosts D) where
   abbrev pub IsRun : (first end : D) → Contents → (before after : Option Text) → Type 0
   IsRun first end script before after =
       IsTrue (is_processor_count (processors_of script)) × (made : D) × IsCreated (kinds_of script) first made
-      × (last : Ledger D) × AreRun G last (opening_of script made) script.lines last before after × Stands IsNothing first end last
+      × (last : Ledger D) × AreRun G (named_by script.handlers) last (opening_of script made) script.lines last before after × Stands IsNothing first end last
 
   -- a store is made, some of its lines are run, a beginning of their texts is printed, and the store after these lines stands on the disk
   abbrev pub IsCutOff : (first end : D) → Contents → (before after : Option Text) → Type 0
   IsCutOff first end script before after =
       IsTrue (is_processor_count (processors_of script)) × (made : D) × IsCreated (kinds_of script) first made
-      × (last : Ledger D) × BreakOff G (opening_of script made) script.lines last before after × Stands IsNothing first end last
+      × (last : Ledger D) × BreakOff G (named_by script.handlers) (opening_of script made) script.lines last before after × Stands IsNothing first end last
 
   -- Of an honest disk on which no store was made: a store that is here already has an open half, and memory lacks only where neither is open; unless the device
   -- failed, nothing was written; and each crash leaves what it would have left before, or of a disk without a store nothing or the new store.

@@ -5,7 +5,7 @@ ghost use Rattle.charmlet_script.specs.declared.script.Line.TheVariants as lines
 ghost use Rattle.charmlet_engine.specs.Advances.{Advances};
 ghost use Rattle.charmlet_engine.specs.Engine.{IsEngineConsistent, disk_in, supplied_of, view_of};
 ghost use Rattle.charmlet_cli.specs.Drain.{DeliversNext, DrainsUpTo};
-ghost use Rattle.charmlet_cli.specs.Lines.{IsPrinted, ledger_in};
+ghost use Rattle.charmlet_cli.specs.Lines.{IsPrinted, no_names, ledger_in};
 
 use crate::writing::{write_answer, write_line};
 use charmlet_chare::Chare;
@@ -29,7 +29,7 @@ pub fn drain_line<D: Disk, C: Chare, W: Write>(
     requires { IsEngineConsistent engine.old }
     ensures consistent { IsEngineConsistent engine.new }
     ensures advances { Advances engine.old engine.new }
-    ensures prints { IsPrinted D.Disk result (ledger_in engine.old) (lines.Drain most)
+    ensures prints { IsPrinted D.Disk no_names result (ledger_in engine.old) (lines.Drain most)
         (ledger_in engine.new) (W.contents writer.old) (W.contents writer.new) }
 {
     let (delivered, refusal) = drain(engine, most);

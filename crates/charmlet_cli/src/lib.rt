@@ -1,6 +1,7 @@
 //! Runs scripts over a store, line by line, a new one or one that comes back, shows a store, and says how the program ends.
 #![tactic(auto)]
 
+mod desk;
 mod draining;
 mod ending;
 mod files;

@@ -1,6 +1,6 @@
 //! Scripts over a store that comes back.
 
-ghost use Rattle.std.specs.Prelude.{◌≡◌, ◌≤◌, Err, IfErr, IfOk, OnErr, OnOk, Result, false, true};
+ghost use Rattle.std.specs.Prelude.{◌≡◌, ◌≤◌, ℕ, List, Err, IfErr, IfOk, OnErr, OnOk, Result, false, true};
 ghost use Rattle.charmlet_model.specs.declared.half.Half.TheVariants as halves;
 ghost use Rattle.charmlet_model.specs.declared.kind.Kind.{Kind};
 ghost use Rattle.charmlet_model.specs.declared.refusal.Refusal.{Refusal};
@@ -17,9 +17,10 @@ ghost use Rattle.charmlet_recover.specs.Found.{IsFoundIn, IsRead};
 ghost use Rattle.charmlet_recover.specs.Wanted.{blanks_in};
 ghost use Rattle.charmlet_engine.specs.Advances.{Advances};
 ghost use Rattle.charmlet_engine.specs.Engine.{IsEngineConsistent, core_of};
-ghost use Rattle.charmlet_cli.specs.Lines.{AreEnough, blanks_left, ledger_in};
+ghost use Rattle.charmlet_cli.specs.Lines.{AreEnough, blanks_left, ledger_in, named_at, named_by};
 ghost use Rattle.charmlet_cli.specs.Restarted.{BreaksOffRestart, EndsRestart, IsRestarted, PrintsRestart, RestartLeaves, TellsWanted, given_of};
 
+use crate::desk::Desk;
 use crate::running::{has_enough, run_lines, stock_of};
 use crate::writing::{write_answer, write_line};
 use charmlet_chare::Chare;
@@ -28,7 +29,7 @@ use charmlet_engine::Engine;
 use charmlet_locate::is_processor_count;
 use charmlet_model::{Answer, Kind, Refusal};
 use charmlet_recover::{NotRestarted, Wanted, manifest};
-use charmlet_script::{Line, RestartScript};
+use charmlet_script::RestartScript;
 use charmlet_stock::Stock;
 use std::alloc::{AllocError, Global};
 use std::io::Write;
@@ -157,7 +158,7 @@ pub fn restart_script<D: Disk, C: Chare, W: Write>(
     supplies: Vec<C>,
     writer: &mut W,
 ) -> Restarted<D, C>
-    ensures enough { OnOk result.result (AreEnough C.state supplies.items script.now) }
+    ensures enough { OnOk result.result (AreEnough C.state supplies.items script.now.lines) }
     ensures ran { OnOk result.result (IsRestarted D.Disk processors
         (given_of C.state blanks.items) disk result.disk script.now
         (W.contents writer.old) (W.contents writer.new)) }
@@ -170,8 +171,8 @@ pub fn restart_script<D: Disk, C: Chare, W: Write>(
         let result = Err(RestartError::TooFewBlanks(blanks, supplies));
         return Restarted { disk, result };
     }
-    match stocks_of(alloc, blanks, supplies) {
-        Ok(stocks) => restart_with(alloc, disk, processors, script.lines(), stocks, writer),
+    match prepare(alloc, script, blanks, supplies) {
+        Ok(prepared) => restart_with(alloc, disk, processors, script, prepared, writer),
         Err(AllocError) => {
             let result = Err(RestartError::Memory);
             Restarted { disk, result }
@@ -181,7 +182,7 @@ pub fn restart_script<D: Disk, C: Chare, W: Write>(
 
 /// How many blanks of each kind the script's lines supply.
 fn supplied_by(script: &RestartScript) -> Wanted
-    ensures { (kind : Kind) → blanks_in result kind ≡ blanks_of kind script.now }
+    ensures { (kind : Kind) → blanks_in result kind ≡ blanks_of kind script.now.lines }
 {
     Wanted {
         counters: script.blanks(Kind::Counter),
@@ -193,30 +194,40 @@ fn supplied_by(script: &RestartScript) -> Wanted
     }
 }
 
-/// The objects of a restart: those of which the store's elements are made, and those that the script's lines supply.
+/// What a restart for a script begins with: the objects of which the store's elements are made, those that the script's lines supply, and its
+/// handlers.
 #[derive(Drop)]
-struct Stocks<C: Chare> {
+struct Prepared<C: Chare> {
     given: Stock<C>,
     source: Stock<C>,
+    desk: Desk,
 }
 
-/// Stocks with these objects. It fails only for want of memory.
-fn stocks_of<C: Chare>(
+/// Stocks with these objects, and the script's handlers. It fails only when out of memory.
+fn prepare<C: Chare>(
     alloc: Global,
+    script: &RestartScript,
     blanks: Vec<C>,
     supplies: Vec<C>,
-) -> Result<Stocks<C>, AllocError>
-    ensures unused { IfOk result (λ stocks. IsUnused stocks.given) }
-    ensures given { IfOk result (λ stocks. (kind : Kind) →
-        supplied_to stocks.given kind ≡ given_of C.state blanks.items kind) }
-    ensures source { IfOk result (λ stocks. (kind : Kind) →
-        blanks_left stocks.source kind ≡ given_of C.state supplies.items kind) }
+) -> Result<Prepared<C>, AllocError>
+    ensures unused { IfOk result (λ prepared. IsUnused prepared.given) }
+    ensures given { IfOk result (λ prepared. (kind : Kind) →
+        supplied_to prepared.given kind ≡ given_of C.state blanks.items kind) }
+    ensures source { IfOk result (λ prepared. (kind : Kind) →
+        blanks_left prepared.source kind ≡ given_of C.state supplies.items kind) }
+    ensures named { IfOk result (λ prepared. (name : List ℕ) →
+        named_at prepared.desk name ≡ named_by script.now.handlers name) }
 {
     let Ok(given) = charmlet_recover::stock_of(alloc, blanks) else {
         return Err(AllocError);
     };
     let source = stock_of(alloc, supplies)?;
-    Ok(Stocks { given, source })
+    let desk = Desk::new(alloc, script.handlers())?;
+    Ok(Prepared {
+        given,
+        source,
+        desk,
+    })
 }
 
 /// Has the store come back and runs lines over it, or writes why none came back.
@@ -224,25 +235,39 @@ fn restart_with<D: Disk, C: Chare, W: Write>(
     alloc: Global,
     disk: D,
     processors: u16,
-    lines: &[Line],
-    stocks: Stocks<C>,
+    script: &RestartScript,
+    prepared: Prepared<C>,
     writer: &mut W,
 ) -> Restarted<D, C>
-    requires unused { IsUnused stocks.given }
-    requires enough { (kind : Kind) → blanks_of kind lines.now ≤ blanks_left stocks.source kind }
+    requires unused { IsUnused prepared.given }
+    requires named { (name : List ℕ) → named_at prepared.desk name ≡ named_by script.now.handlers name }
+    requires enough { (kind : Kind) → blanks_of kind script.now.lines
+        ≤ blanks_left prepared.source kind }
     ensures ran { OnOk result.result (IsRestarted D.Disk processors
-        (supplied_to stocks.given) disk result.disk lines.now
+        (supplied_to prepared.given) disk result.disk script.now
         (W.contents writer.old) (W.contents writer.new)) }
     ensures err { IfErr result.result (EndsRestart D.Disk processors
-        (supplied_to stocks.given) disk result.disk lines.now
+        (supplied_to prepared.given) disk result.disk script.now
         (W.contents writer.old) (W.contents writer.new)) }
     ensures honest { (D.honest disk → D.honest result.disk)
         × (D.honest result.disk → D.honest disk) }
 {
-    let Stocks { given, mut source } = stocks;
+    let Prepared {
+        given,
+        mut source,
+        mut desk,
+    } = prepared;
     match Engine::restart(alloc, disk, given, processors) {
         Ok(mut engine) => {
-            match run_restarted(alloc, &mut engine, processors, &mut source, lines, writer) {
+            match run_restarted(
+                alloc,
+                &mut engine,
+                processors,
+                &mut desk,
+                &mut source,
+                script,
+                writer,
+            ) {
                 Ok(()) => Restarted {
                     disk: engine.into_disk(),
                     result: Ok(()),
@@ -273,18 +298,20 @@ fn run_restarted<D: Disk, C: Chare, W: Write>(
     alloc: Global,
     engine: &mut Engine<D, C>,
     processors: u16,
+    desk: &mut Desk,
     source: &mut Stock<C>,
-    lines: &[Line],
+    script: &RestartScript,
     writer: &mut W,
 ) -> io::Result<()>
     requires consistent { IsEngineConsistent engine.old }
     requires processors { (core_of engine.old).processors ≡ processors }
     requires durable { (core_of engine.old).durable ≡ 0 }
-    requires enough { (kind : Kind) → blanks_of kind lines.now ≤ blanks_left source.old kind }
+    requires named { (name : List ℕ) → named_at desk.old name ≡ named_by script.now.handlers name }
+    requires enough { (kind : Kind) → blanks_of kind script.now.lines ≤ blanks_left source.old kind }
     ensures consistent { IsEngineConsistent engine.new }
-    ensures prints { OnOk result (PrintsRestart D.Disk (ledger_in engine.old) lines.now
+    ensures prints { OnOk result (PrintsRestart D.Disk (ledger_in engine.old) script.now
         (ledger_in engine.new) (W.contents writer.old) (W.contents writer.new)) }
-    ensures breaks_off { OnErr result (BreaksOffRestart D.Disk (ledger_in engine.old) lines.now
+    ensures breaks_off { OnErr result (BreaksOffRestart D.Disk (ledger_in engine.old) script.now
         (ledger_in engine.new) (W.contents writer.old) (W.contents writer.new)) }
     ensures advances { Advances engine.old engine.new }
 {
@@ -294,5 +321,5 @@ fn run_restarted<D: Disk, C: Chare, W: Write>(
         processors,
     };
     write_line(alloc, writer, &line)?;
-    run_lines(alloc, engine, source, lines, writer)
+    run_lines(alloc, engine, desk, source, script.lines(), writer)
 }

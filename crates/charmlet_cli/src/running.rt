@@ -1,6 +1,6 @@
 //! Runs of scripts.
 
-ghost use Rattle.std.specs.Prelude.{◌≡◌, ◌↔◌, ◌+◌, ◌≤◌, Some, true, OnOk, OnErr, IfErr, IfOk};
+ghost use Rattle.std.specs.Prelude.{◌≡◌, ◌↔◌, ◌+◌, ◌≤◌, ℕ, List, Some, true, OnOk, OnErr, IfErr, IfOk};
 ghost use Rattle.charmlet_model.specs.declared.kind.Kind.{Kind};
 ghost use Rattle.charmlet_model.specs.Fit.{IsFit};
 ghost use Rattle.charmlet_model.specs.Manifest.{manifest_of};
@@ -8,16 +8,20 @@ ghost use Rattle.charmlet_model.specs.Shelves.{count_of};
 ghost use Rattle.charmlet_model.specs.Sound.{new_world};
 ghost use Rattle.charmlet_script.specs.Script.{blanks_in, blanks_of, pairs_of};
 ghost use Rattle.charmlet_script.specs.declared.script.Line.TheVariants as lines;
-ghost use Rattle.charmlet_engine.specs.Engine.{IsEngineConsistent};
+ghost use Rattle.charmlet_model.specs.declared.names.Elem as names;
+ghost use Rattle.charmlet_model.specs.declared.step.Step.TheVariants as steps;
+ghost use Rattle.charmlet_requests.specs.Handlers.{IsTarget};
+ghost use Rattle.charmlet_engine.specs.Engine.{IsEngineConsistent, client_answer, world_of};
 ghost use Rattle.charmlet_recover.specs.Wanted as wants;
 ghost use Rattle.charmlet_stock.specs.Stock.{part_of};
-ghost use Rattle.charmlet_cli.specs.Lines.{AreEnough, AreRun, BreakOff, IsPrinted, blanks_left, ledger_in};
+ghost use Rattle.charmlet_cli.specs.Lines.{AreEnough, AreRun, BreakOff, IsAnswered, IsPrinted, blanks_left, ledger_in, named_at, named_by, no_names};
 ghost use Rattle.charmlet_cli.specs.RunError.{EndsRun, Lacks, Leaves};
 ghost use Rattle.charmlet_cli.specs.Run.{IsRun};
 ghost use Rattle.charmlet_disk.specs.Disk.{IsSettled};
 ghost use Rattle.charmlet_engine.specs.Advances.{Advances};
 ghost use Rattle.charmlet_cli.specs.declared.running.RunError.TheVariants as errors;
 
+use crate::desk::{Call, Desk};
 use crate::draining::drain_line;
 use crate::showing::{census_line, pending_line, state_line};
 use crate::writing::{write_answer, write_line, write_memory_refused};
@@ -25,7 +29,8 @@ use charmlet_chare::Chare;
 use charmlet_disk::Disk;
 use charmlet_engine::Engine;
 use charmlet_halves::Refused;
-use charmlet_model::{Answer, Kind, Manifest, Refusal};
+use charmlet_history::Request;
+use charmlet_model::{Answer, Kind, Manifest, Refusal, Step, Told};
 use charmlet_recover::Wanted;
 use charmlet_script::{Line, Script, Supplied};
 use charmlet_stock::{Stock, count_of};
@@ -115,14 +120,15 @@ pub fn run_script<D: Disk, C: Chare, W: Write>(
     }
 }
 
-/// What a store is made of: its arrays, and the blanks that its script supplies.
+/// What a run of a script begins with: the arrays of its store, its handlers, and the blanks that it supplies.
 #[derive(Drop)]
 struct Prepared<C: Chare> {
     manifest: Manifest,
+    desk: Desk,
     source: Stock<C>,
 }
 
-/// The arrays of a script's store, and a stock of the objects that its lines supply. `TooFewBlanks` where
+/// The arrays of a script's store, its handlers, and a stock of the objects that its lines supply. `TooFewBlanks` where
 /// there aren't as many, and `Memory`.
 fn prepare<C: Chare>(
     alloc: Global,
@@ -133,6 +139,8 @@ fn prepare<C: Chare>(
     ensures manifest { IfOk result (λ prepared. manifest_of (pairs_of script.now.arrays)
         ≡ Some prepared.manifest) }
     ensures fit { IfOk result (λ prepared. IsFit (new_world prepared.manifest)) }
+    ensures named { IfOk result (λ prepared. (name : List ℕ) →
+        named_at prepared.desk name ≡ named_by script.now.handlers name) }
     ensures left { IfOk result (λ prepared. (kind : Kind) →
         blanks_of kind script.now.lines ≤ blanks_left prepared.source kind) }
     ensures err { IfErr result (Lacks C.state blanks.items script.now) }
@@ -141,11 +149,16 @@ fn prepare<C: Chare>(
         return Err(RunError::TooFewBlanks(blanks));
     }
     let manifest = script.manifest(alloc)?;
+    let desk = Desk::new(alloc, script.handlers())?;
     let source = stock_of(alloc, blanks)?;
-    Ok(Prepared { manifest, source })
+    Ok(Prepared {
+        manifest,
+        desk,
+        source,
+    })
 }
 
-/// A stock with these objects. It fails only for want of memory.
+/// A stock with these objects. It fails only when out of memory.
 pub(crate) fn stock_of<C: Chare>(alloc: Global, objects: Vec<C>) -> Result<Stock<C>, AllocError>
     ensures { IfOk result (λ stock. (kind : Kind) → blanks_left stock kind ≡ count_of C.state objects.items kind) }
 {
@@ -167,6 +180,7 @@ fn run_in_new_store<D: Disk, C: Chare, W: Write>(
     requires settled { D.honest disk → IsSettled (D.file disk) }
     requires manifest { manifest_of (pairs_of script.now.arrays) ≡ Some prepared.manifest }
     requires fit { IsFit (new_world prepared.manifest) }
+    requires named { (name : List ℕ) → named_at prepared.desk name ≡ named_by script.now.handlers name }
     requires enough { (kind : Kind) → blanks_of kind script.now.lines
         ≤ blanks_left prepared.source kind }
     ensures ran { OnOk result.result (IsRun D.Disk disk result.disk script.now
@@ -178,12 +192,13 @@ fn run_in_new_store<D: Disk, C: Chare, W: Write>(
 {
     let Prepared {
         manifest,
+        mut desk,
         mut source,
     } = prepared;
     match Engine::create(alloc, disk, manifest, script.processors()) {
         Ok(mut engine) => {
             let lines = script.lines();
-            match run_lines(alloc, &mut engine, &mut source, lines, writer) {
+            match run_lines(alloc, &mut engine, &mut desk, &mut source, lines, writer) {
                 Ok(()) => Ran {
                     disk: engine.into_disk(),
                     result: Ok(()),
@@ -213,6 +228,7 @@ fn run_in_new_store<D: Disk, C: Chare, W: Write>(
 pub(crate) fn run_lines<D: Disk, C: Chare, W: Write>(
     alloc: Global,
     engine: &mut Engine<D, C>,
+    desk: &mut Desk,
     source: &mut Stock<C>,
     lines: &[Line],
     writer: &mut W,
@@ -220,14 +236,14 @@ pub(crate) fn run_lines<D: Disk, C: Chare, W: Write>(
     requires consistent { IsEngineConsistent engine.old }
     requires enough { (kind : Kind) → blanks_of kind lines.now ≤ blanks_left source.old kind }
     ensures consistent { IsEngineConsistent engine.new }
-    ensures prints { OnOk result (AreRun D.Disk (ledger_in engine.new) (ledger_in engine.old)
+    ensures prints { OnOk result (AreRun D.Disk (named_at desk.old) (ledger_in engine.new) (ledger_in engine.old)
         lines.now (ledger_in engine.new) (W.contents writer.old) (W.contents writer.new)) }
-    ensures breaks_off { OnErr result (BreakOff D.Disk (ledger_in engine.old) lines.now
+    ensures breaks_off { OnErr result (BreakOff D.Disk (named_at desk.old) (ledger_in engine.old) lines.now
         (ledger_in engine.new) (W.contents writer.old) (W.contents writer.new)) }
     ensures advances { Advances engine.old engine.new }
 {
     for line in lines {
-        run_line(alloc, engine, source, line, writer)?;
+        run_line(alloc, engine, desk, source, line, writer)?;
     }
     Ok(())
 }
@@ -236,6 +252,7 @@ pub(crate) fn run_lines<D: Disk, C: Chare, W: Write>(
 fn run_line<D: Disk, C: Chare, W: Write>(
     alloc: Global,
     engine: &mut Engine<D, C>,
+    desk: &mut Desk,
     source: &mut Stock<C>,
     line: &Line,
     writer: &mut W,
@@ -243,22 +260,96 @@ fn run_line<D: Disk, C: Chare, W: Write>(
     requires consistent { IsEngineConsistent engine.old }
     requires enough { (kind : Kind) → blanks_in kind line.now ≤ blanks_left source.old kind }
     ensures consistent { IsEngineConsistent engine.new }
-    ensures prints { IsPrinted D.Disk result (ledger_in engine.old) line.now
+    ensures prints { IsPrinted D.Disk (named_at desk.old) result (ledger_in engine.old) line.now
         (ledger_in engine.new) (W.contents writer.old) (W.contents writer.new) }
+    ensures handlers { desk.new.handlers ≡ desk.old.handlers }
     ensures left { OnOk result ((kind : Kind) → blanks_left source.old kind ≤ blanks_left source.new kind + blanks_in kind line.now) }
     ensures advances { Advances engine.old engine.new }
 {
-    let step = match line {
-        Line::Supply { kind, count } => return supply_line(
-            alloc, engine, source, *kind, *count, writer,
-        ),
-        Line::Drain { count } => return drain_line(alloc, engine, *count, writer),
-        Line::State(elem) => return state_line(alloc, engine, *elem, writer),
-        Line::Pending => return pending_line(alloc, engine, writer),
-        Line::Census => return census_line(alloc, engine, writer),
-        Line::Step(step) => step,
-    };
-    write_answer(alloc, writer, &engine.step(step))
+    match line {
+        Line::Supply { kind, count } => {
+            supply_line(alloc, engine, source, *kind, *count, writer)
+        }
+        Line::Drain { count } => drain_line(alloc, engine, *count, writer),
+        Line::State(elem) => state_line(alloc, engine, *elem, writer),
+        Line::Pending => pending_line(alloc, engine, writer),
+        Line::Census => census_line(alloc, engine, writer),
+        Line::Call {
+            client,
+            number,
+            name,
+            index,
+            words,
+        } => {
+            let call = Call {
+                client: *client,
+                number: *number,
+                name: name.as_str(),
+                index: *index,
+                words: words.as_slice(),
+            };
+            write_answer(alloc, writer, &answer_to_call(engine, desk, &call))
+        }
+        Line::Step(step) => write_answer(alloc, writer, &answer_to(engine, desk, step)),
+    }
+}
+
+/// Takes a client's request to a named handler.
+fn answer_to_call<D: Disk, C: Chare>(
+    engine: &mut Engine<D, C>,
+    desk: &mut Desk,
+    call: &Call<'_>,
+) -> Answer
+    requires { IsEngineConsistent engine.old }
+    ensures consistent { IsEngineConsistent engine.new }
+    ensures answered { (to : names.Elem) × (entry : ℕ)
+        × IsTarget (world_of engine.old) call.now.index (named_at desk.old call.now.name.now) to entry
+        × IsAnswered D.Disk (steps.Request call.now.client call.now.number to entry
+        call.now.words.now) result (ledger_in engine.old) (ledger_in engine.new) }
+    ensures handlers { desk.new.handlers ≡ desk.old.handlers }
+    ensures advances { Advances engine.old engine.new }
+{
+    told_answer(desk.call(engine, call))
+}
+
+/// Runs one step. What clients ask goes by their passes.
+fn answer_to<D: Disk, C: Chare>(engine: &mut Engine<D, C>, desk: &mut Desk, step: &Step) -> Answer
+    requires { IsEngineConsistent engine.old }
+    ensures consistent { IsEngineConsistent engine.new }
+    ensures answered { IsAnswered D.Disk step.now result (ledger_in engine.old) (ledger_in engine.new) }
+    ensures handlers { desk.new.handlers ≡ desk.old.handlers }
+    ensures advances { Advances engine.old engine.new }
+{
+    match step {
+        Step::Request {
+            client,
+            number,
+            to,
+            entry,
+            words,
+        } => {
+            let request = Request {
+                client: *client,
+                number: *number,
+                to: *to,
+                entry: *entry,
+                words: words.as_slice(),
+            };
+            told_answer(desk.request(engine, &request))
+        }
+        Step::Status { client, number } => told_answer(desk.status(engine, *client, *number)),
+        _ => engine.step(step),
+    }
+}
+
+/// The answer to what a client asks.
+fn told_answer(told: Result<Told, Refusal>) -> Answer
+    ensures { result ≡ client_answer told }
+{
+    match told {
+        Ok(told) => Answer::Told(told),
+        Err(refusal) => Answer::Refused(refusal),
+    }
 }
 
 /// Supplies so many objects of a kind, and writes that it did, or that memory was refused.
@@ -273,7 +364,7 @@ fn supply_line<D: Disk, C: Chare, W: Write>(
     requires consistent { IsEngineConsistent engine.old }
     requires enough { count ≤ blanks_left source.old kind }
     ensures consistent { IsEngineConsistent engine.new }
-    ensures prints { IsPrinted D.Disk result (ledger_in engine.old) (lines.Supply kind count)
+    ensures prints { IsPrinted D.Disk no_names result (ledger_in engine.old) (lines.Supply kind count)
         (ledger_in engine.new) (W.contents writer.old) (W.contents writer.new) }
     ensures left { OnOk result ((k : Kind) → blanks_left source.old k ≤ blanks_left source.new k + part_of kind count k) }
     ensures advances { Advances engine.old engine.new }

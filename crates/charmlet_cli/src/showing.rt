@@ -8,7 +8,7 @@ ghost use Rattle.charmlet_script.specs.declared.script.Line.TheVariants as lines
 ghost use Rattle.charmlet_store.specs.Census.{census_in};
 ghost use Rattle.charmlet_engine.specs.Advances.{Advances};
 ghost use Rattle.charmlet_engine.specs.Engine.{IsEngineConsistent, view_of, world_of};
-ghost use Rattle.charmlet_cli.specs.Lines.{IsPrinted, in_lines, ledger_in};
+ghost use Rattle.charmlet_cli.specs.Lines.{IsPrinted, no_names, in_lines, ledger_in};
 ghost use Rattle.charmlet_cli.specs.Shown.{counted_of, counted_texts, record_text};
 ghost use Rattle.charmlet_cli.specs.Writing.{Writes};
 
@@ -32,7 +32,7 @@ pub fn state_line<D: Disk, C: Chare, W: Write>(
     requires { IsEngineConsistent engine.old }
     ensures consistent { IsEngineConsistent engine.new }
     ensures advances { Advances engine.old engine.new }
-    ensures prints { IsPrinted D.Disk result (ledger_in engine.old) (lines.State elem)
+    ensures prints { IsPrinted D.Disk no_names result (ledger_in engine.old) (lines.State elem)
         (ledger_in engine.new) (W.contents writer.old) (W.contents writer.new) }
 {
     let Ok(shown) = shown(alloc, engine, elem) else {
@@ -41,7 +41,7 @@ pub fn state_line<D: Disk, C: Chare, W: Write>(
     write_line(alloc, writer, &shown)
 }
 
-/// What a line shows of an element. It fails only for want of memory, and not where the element isn't
+/// What a line shows of an element. It fails only when out of memory, and not where the element isn't
 /// there.
 fn shown<D: Disk, C: Chare>(
     alloc: Global,
@@ -83,7 +83,7 @@ pub fn pending_line<D: Disk, C: Chare, W: Write>(
     writer: &mut W,
 ) -> io::Result<()>
     requires { IsEngineConsistent engine.now }
-    ensures { IsPrinted D.Disk result (ledger_in engine.now) lines.Pending
+    ensures { IsPrinted D.Disk no_names result (ledger_in engine.now) lines.Pending
         (ledger_in engine.now) (W.contents writer.old) (W.contents writer.new) }
 {
     let Ok(ids) = engine.pending() else {
@@ -100,7 +100,7 @@ pub fn census_line<D: Disk, C: Chare, W: Write>(
     writer: &mut W,
 ) -> io::Result<()>
     requires { IsEngineConsistent engine.now }
-    ensures { IsPrinted D.Disk result (ledger_in engine.now) lines.Census
+    ensures { IsPrinted D.Disk no_names result (ledger_in engine.now) lines.Census
         (ledger_in engine.now) (W.contents writer.old) (W.contents writer.new) }
 {
     for kind in &Kind::ALL {

@@ -43,7 +43,7 @@ folder_word = record (new_rule (codes "folder")) { value_names = 1; required = t
 abbrev pub dir_option : Rule
 dir_option = record (new_rule (codes "dir")) { long = Some (codes "dir"); value_names = 1; action = Some Set }
 
--- `--pes N`, a number of 16 bits, which is 1 where the line doesn't have it
+-- `--pes N`, a 16-bit number, which is 1 where the line doesn't have it
 abbrev pub pes_option : Rule
 pes_option = record (new_rule (codes "pes")) {
   long = Some (codes "pes");
@@ -65,7 +65,7 @@ show_line = with_rule (new_app (codes "show")) folder_word
 abbrev pub restart_line : App
 restart_line = with_rule (with_rule (with_rule (new_app (codes "restart")) pes_option) folder_word) script_word
 
--- `charmlet`, which wants a subcommand
+-- `charmlet`, which needs a subcommand
 abbrev pub charmlet_line : App
 charmlet_line =
     with_subcommand (with_subcommand (with_subcommand (on_top (λ top. record top { subcommand_required = true }) (new_app (codes "charmlet")))
@@ -87,7 +87,7 @@ run_of rows =
 abbrev pub show_of : List Row → Option Asked
 show_of rows = option_map Shows (first_of (codes "folder") rows)
 
--- the number of 16 bits that a word spells in decimal digits, before which a plus may stand
+-- the 16-bit number that a word spells in decimal digits, before which a plus may stand
 abbrev pub u16_in : Text → Option ℕ
 u16_in word = if is_unsigned_in 0 65535 word then Some (digits_value 10 (without_leading_plus word)) else None
 
@@ -130,12 +130,12 @@ Asks words command = asked words ≡ Some (asked_in command)
 abbrev pub faults_of : List Text → Kinds
 faults_of words = or_else (fault_of charmlet_line words) (MissingSubcommand ∷ [])
 
--- the words ask for no command, and the error tells why, want of memory aside
+-- the words ask for no command, and the error tells why, lack of memory aside
 abbrev pub AsksNothing : List Text → CommandError → Type 0
 AsksNothing words Memory = Unit {0}
 AsksNothing words (Line error) = (asked words ≡ None) × IsAmong (kind_of error) (faults_of words)
 
--- what clap's error becomes: want of memory has no text
+-- what clap's error becomes: lack of memory has no text
 pub record IsErrorOf (error : Error) (answer : CommandError) : Type 0 where
   pub memory : kind_of error ≡ OutOfMemory → answer ≡ Memory
   pub line : kind_of error ≢ OutOfMemory → answer ≡ Line error

@@ -91,25 +91,27 @@ const RUN_ABOUT: &str = "Run a script, and print what each line answers before t
 const RUN_LONG_ABOUT: &str = "\
 Run a script, and print what each line answers before the next one runs.
 
-Lines, of which 'array' and 'pes' come first:
-  array A K          there is an array A of objects of kind K, 1 to 6; at most 64 arrays
-  pes N              there are N processors, 1 to 64, numbered from 0; without it 1
-  supply K N         N blank objects of kind K, at most 10000, come to the stock
-  req C N A I E W..  client C's request N: entry E of element I of array A, with words W..
-  status C N         client C asks what became of its request N
-  deliver PE ID      processor PE delivers the pending message ID
-  drain N            delivers what can be delivered, oldest first, up to N messages, at
-                     most 1000000, or up to a refusal
-  move A I PE        element I of array A goes to processor PE
-  flush              makes all events durable
-  checkpoint         writes an image of the whole store, which takes the place of its log
-  state A I          shows where element I of array A stands, and its state
-  pending            shows the pending messages
-  census             shows where the objects of each kind are
+Lines, of which 'array', 'pes' and 'handler' come first:
+  array A K            there is an array A of objects of kind K, 1 to 6; at most 64 arrays
+  pes N                there are N processors, 1 to 64, numbered from 0; without it 1
+  handler NAME A E     NAME, 1 to 32 letters, stands for entry E of array A
+  supply K N           N blank objects of kind K, at most 10000, come to the stock
+  req C N A I E W..    client C's request N: entry E of element I of array A, with words W..
+  call C N NAME I W..  the same to element I, by the array and the entry of NAME
+  status C N           client C asks what became of its request N
+  deliver PE ID        processor PE delivers the pending message ID
+  drain N              delivers what can be delivered, oldest first, up to N messages, at
+                       most 1000000, or up to a refusal
+  move A I PE          element I of array A goes to processor PE
+  flush                makes all events durable
+  checkpoint           writes an image of the whole store, which takes the place of its log
+  state A I            shows where element I of array A stands, and its state
+  pending              shows the pending messages
+  census               shows where the objects of each kind are
 
-A request and a status print what is durable of the request: 'told unknown', 'told accepted',
-'told replied' with the words of the reply, or 'told past' once it has left the client's
-window of eight. A client may have eight requests without a reply.
+A request, a call and a status print what is durable of the request: 'told unknown',
+'told accepted', 'told replied' with the words of the reply, or 'told past' once it has left
+the client's window of eight. A client may have eight requests without a reply.
 Message cC.N is number N of client C, and eA.I.N number N of element I of array A. A message
 is delivered where its receiver stands, at first processor (A + I) mod the number of them.
 Constructing an element takes a blank of its kind, and so does moving it to another processor.
@@ -172,8 +174,8 @@ printed:
 
 and then what each line answers before the next one runs. The lines are those of
 'charmlet help run' but 'array' and 'pes', which are malformed here: the arrays come back with
-the store, and --pes gives the number of processors, which may be another than before. A script
-may have no line at all.
+the store, and --pes gives the number of processors, which may be another than before. Handlers
+aren't stored, so 'handler' lines come first here too. A script may have no line at all.
 
 Where no store comes back, there is one line, and no line of the script is run:
 'refused 15 NothingHere' where the folder has no store, 'refused 14 Damaged H O' where what
@@ -350,9 +352,9 @@ fn command_in<'a>(matches: &ArgMatches<'a>) -> Option<Command<'a>>
 }
 
 /// What the words ask for; the first is the program's name. Only `run SCRIPT`, with or without `--dir DIR`,
-/// `show DIR`, and `restart DIR SCRIPT`, with or without `--pes N`, are commands. N is a number of 16 bits, and 1
+/// `show DIR`, and `restart DIR SCRIPT`, with or without `--pes N`, are commands. N is a 16-bit number, and 1
 /// where it isn't there. Every other line, a call for help among them, is answered by `CommandError::Line` with
-/// clap's text and a kind of error that clap's meaning of the words has, and want of memory by
+/// clap's text and a kind of error that clap's meaning of the words has, and lack of memory by
 /// `CommandError::Memory`.
 pub fn command_of<'a, S: AsStr>(alloc: Global, words: &'a [S]) -> Result<Command<'a>, CommandError>
     ensures ok { IfOk result (Asks (map S.text words.entry.now)) }

@@ -5,3 +5,4 @@ pub mod Quiets
 pub mod Fresh
 pub mod Advancing
 pub mod Lives
+pub mod Asked

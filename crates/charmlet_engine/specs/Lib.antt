@@ -3,3 +3,4 @@ pub mod Outcomes
 pub mod Engine
 pub mod Advances
 pub mod Lives
+pub mod Taken

@@ -23,7 +23,7 @@ impl<D: Disk, C: Chare> Engine<D, C> {
     /// Takes the engine apart, also a halted one: its disk, the objects of the elements with their counts,
     /// and the stock. The objects show the world after the whole history; each that was supplied is among
     /// them, in the stock, or retired. It makes no call of the disk, so what isn't durable is lost with the
-    /// objects. It fails only for want of memory, and not where no element is there; then the engine comes
+    /// objects. It fails only when out of memory, and not where no element is there; then the engine comes
     /// back as it was.
     pub fn close(self) -> Result<Closed<D, C>, Engine<D, C>>
         requires { IsEngineConsistent self }

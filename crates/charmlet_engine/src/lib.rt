@@ -1,6 +1,7 @@
 //! The engine: a store on the two files of a disk, which survives a crash at any moment.
 #![tactic(auto)]
 
+mod asking;
 mod closing;
 mod creating;
 mod engine;

@@ -6,6 +6,7 @@ ghost use Rattle.charmlet_model.specs.Core.{place_of};
 ghost use Rattle.charmlet_model.specs.Shelves.{count_of};
 ghost use Rattle.charmlet_model.specs.World.{record_of};
 ghost use Rattle.charmlet_history.specs.Kept.{next_in};
+ghost use Rattle.charmlet_checkpoint.specs.Showing.{IsImageOf, IsRefusal, IsWithinLimits};
 ghost use Rattle.charmlet_stock.specs.ByKind.{with_at};
 ghost use Rattle.charmlet_stock.specs.Pile.{with_out};
 ghost use Rattle.charmlet_stock.specs.Stock.{blanks_in, census_of, part_of, tally_in};
@@ -16,8 +17,9 @@ ghost use Rattle.charmlet_engine.specs.Engine.{IsEngineConsistent, core_of, disk
 
 use crate::engine::Engine;
 use charmlet_chare::Chare;
+use charmlet_checkpoint::image_of;
 use charmlet_disk::Disk;
-use charmlet_model::{Elem, Kind, MsgId};
+use charmlet_model::{Elem, Event, Kind, MsgId, Refusal};
 use charmlet_stock::Stock;
 use charmlet_store::{Census, Look};
 use std::alloc::AllocError;
@@ -89,7 +91,7 @@ impl<D: Disk, C: Chare> Engine<D, C> {
         self.store.pending_count()
     }
 
-    /// The ids of the pending messages, in order of birth. It fails only for want of memory.
+    /// The ids of the pending messages, in order of birth. It fails only when out of memory.
     pub fn pending(&self) -> Result<Vec<MsgId>, AllocError>
         requires { IsEngineConsistent self.now }
         ensures { IfOk result (λ ids. ids.items ≡ map (λ m. m.id) (world_of self.now).pending) }
@@ -97,7 +99,7 @@ impl<D: Disk, C: Chare> Engine<D, C> {
         self.store.pending()
     }
 
-    /// What is seen of an element. It fails only for want of memory, which the packed state takes, and
+    /// What is seen of an element. It fails only when out of memory, which the packed state takes, and
     /// so not where the element isn't there. Nothing changes.
     pub fn look(&mut self, elem: Elem) -> Result<Look, AllocError>
         requires { IsEngineConsistent self.old }
@@ -118,6 +120,40 @@ impl<D: Disk, C: Chare> Engine<D, C> {
         ensures adds_up { result.supplied ≡ result.on_shelves + result.in_stock + result.retired }
     {
         self.store.census(kind)
+    }
+
+    /// The events since the engine was created or came back, in order.
+    pub fn events(&self) -> &[Event]
+        ensures { result.now ≡ (core_of self.now).history }
+    {
+        self.store.history.events()
+    }
+
+    /// How many events there are, those before the opening world among them.
+    pub fn event_count(&self) -> u64
+        requires { IsEngineConsistent self.now }
+        ensures { result ≡ (core_of self.now).before + length (core_of self.now).history }
+    {
+        self.store.history.event_count()
+    }
+
+    /// What a checkpoint would write after an open gate: an image of the present world, of the next generation
+    /// and with a count of all events, and a log that has no batch yet. Nothing changes, and no call of the disk
+    /// is made. `Memory` where memory is lacking; `ImageFull` where the next generation would be past 2^40, or
+    /// the file past 2^31 bytes.
+    pub fn image(&mut self) -> Result<Vec<u8>, Refusal>
+        requires { IsEngineConsistent self.old }
+        ensures consistent { IsEngineConsistent self.new }
+        ensures core { view_of self.new ≡ view_of self.old }
+        ensures supplied { supplied_of self.new ≡ supplied_of self.old }
+        ensures disk { disk_in self.new ≡ disk_in self.old }
+        ensures advances { Advances self.old self.new }
+        ensures ok { IfOk result (λ bytes. IsImageOf (core_of self.old) bytes.items) }
+        ensures within { IfOk result (λ _. IsWithinLimits (core_of self.old)) }
+        ensures err { IfErr result (IsRefusal (core_of self.old)) }
+    {
+        let shelves = self.store.shelves.as_mut_slice();
+        image_of(self.store.alloc, &self.store.history, shelves)
     }
 
     /// The generation of the image in the half that is taken.

@@ -5,7 +5,7 @@ use Rattle.charmlet_model.specs.declared.refusal.Refusal.{Refusal}
 use Rattle.charmlet_model.specs.declared.refusal.Refusal.TheVariants.{Memory}
 use Rattle.charmlet_model.specs.Core.{Core, CoreStep, Blanks, Gate, When, MayLackMemory, MayFail, Steps, gates, first_refusal, may_lack_memory, stepped_unless, refused, is_possible, answer_of, next_core, next_blanks}
 
--- ---- one order behind another
+-- ---- one order after another
 
 pub none_of_both : (order more : List Gate) → first_refusal order ≡ None → first_refusal (order ++ more) ≡ first_refusal more
 none_of_both [] more h = refl

@@ -101,7 +101,7 @@ impl Client {
         mark_durable(&mut self.durable, self.present.window.len());
     }
 
-    /// What the client is told of a request, by its durable row. It fails only for want of memory, and
+    /// What the client is told of a request, by its durable row. It fails only when out of memory, and
     /// takes none where the answer has no words.
     pub fn told(&self, alloc: Global, number: u64) -> Result<Told, AllocError>
         ensures told { IfOk result (λ told. told ≡ told_of self.now.durable number) }
@@ -143,7 +143,7 @@ impl Client {
 }
 
 /// What a client is told of a request of its window that has this reply, if it has one. It fails only for
-/// want of memory, and takes none where the answer has no words.
+/// lack of memory, and takes none where the answer has no words.
 fn tell(alloc: Global, reply: Option<&Words>) -> Result<Told, AllocError>
     ensures told { IfOk result (λ told. told ≡ told_of_item (option_copied reply.entry)) }
     ensures words { OnErr result (has_words (told_of_item (option_copied reply.entry)) ≡ true) }

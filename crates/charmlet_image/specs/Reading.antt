@@ -128,7 +128,7 @@ read_entry kinds before = do
   state ← read_option (least_flag received) (read_object (kind_in kinds x.array))
   yield (x, record { state = state; sent = sent; received = received })
 
--- the greatest number of 32 bits
+-- the greatest 32-bit number
 abbrev pub greatest_count : ℕ
 greatest_count = 2 ^ 32 - 1
 

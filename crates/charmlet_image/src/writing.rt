@@ -123,7 +123,7 @@ pub fn write_entry(out: &mut Vec<u8>, entry: &Entry<'_>)
 }
 
 /// What a new store has in its open half after the gate: a header of generation 1, an image of these arrays
-/// and nothing else, and the closed gate of an empty log. It fails only for want of memory.
+/// and nothing else, and the closed gate of an empty log. It fails only when out of memory.
 pub fn new_store(alloc: Global, manifest: &Manifest) -> Result<Vec<u8>, AllocError>
     requires { length manifest.now ≤ 64 }
     ensures { IfOk result (λ bytes. bytes.items ≡ new_half manifest.now) }

@@ -8,7 +8,7 @@ use Rattle.charmlet_kinds.specs.declared.tape.Tape.{Tape}
 use Rattle.charmlet_kinds.specs.Tape.{state_of}
 use Rattle.charmlet_kinds.proofs.States.{same_state}
 
--- numbers of 64 bits, place by place
+-- 64-bit numbers, place by place
 all_words : (ws : List ℕ) → ((at : ℕ) → IsWord (slice_index ws at)) → AllByRecursion IsWord ws
 all_words [] fits = tt
 all_words (w ∷ ws) fits = (fits 0, all_words ws (λ at. fits (suc at)))

@@ -17,7 +17,7 @@ const ADD: u16 = 0;
 /// The entry that replies the count.
 const GET: u16 = 1;
 
-/// An object that adds up numbers. A sum past the greatest number of 64 bits stops there.
+/// An object that adds up numbers. A sum past the greatest 64-bit number stops there.
 #[derive(Debug, Drop)]
 pub struct Counter {
     count: u64,

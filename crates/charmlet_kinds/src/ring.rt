@@ -17,7 +17,7 @@ use std::alloc::AllocError;
 const TOKEN: u16 = 0;
 
 /// An element of a ring. It counts the tokens that come, and passes each on to the next element while
-/// the token has hops left. A count past the greatest number of 64 bits stops there.
+/// the token has hops left. A count past the greatest 64-bit number stops there.
 #[derive(Debug, Drop)]
 pub struct Ring {
     next: u64,

@@ -16,8 +16,8 @@ use std::alloc::AllocError;
 /// The entry that gives a value, its first word.
 const GIVE: u16 = 0;
 
-/// A sum of as many values as it wants. It gives their total to the element `up`, unless that is
-/// itself, and begins anew. Its count and its total stop at the greatest number of 64 bits.
+/// A sum of as many values as it needs. It gives their total to the element `up`, unless that is
+/// itself, and begins anew. Its count and its total stop at the greatest 64-bit number.
 #[derive(Debug, Drop)]
 pub struct Sum {
     want: u64,
@@ -30,7 +30,7 @@ pub struct Sum {
 impl Sum {
     ghost use Rattle.charmlet_kinds.specs.Sum.{state_of};
 
-    /// A sum that wants no value and has none, whose `up` is 0, to be constructed or unpacked. It takes
+    /// A sum that needs no value and has none, whose `up` is 0, to be constructed or unpacked. It takes
     /// no memory.
     pub fn blank() -> Self
         ensures { state_of result ≡ states.Sum 0 0 0 0 }

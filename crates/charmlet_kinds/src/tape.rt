@@ -14,7 +14,7 @@ use std::alloc::{AllocError, Global};
 /// The most items that a tape keeps.
 const MAX_ITEMS: u32 = 64;
 
-/// The entry that puts its first word behind the items.
+/// The entry that puts its first word after the items.
 const PUSH: u16 = 0;
 
 /// The entry that replies the items.
@@ -42,7 +42,7 @@ impl Tape {
         }
     }
 
-    /// Puts an item behind the others. Where the tape is full the oldest one goes, and no memory is
+    /// Puts an item after the others. Where the tape is full the oldest one goes, and no memory is
     /// needed.
     fn push(&mut self, item: u64) -> Result<(), AllocError>
         ensures ok { OnOk result (state_of self.new ≡ states.Tape (pushed self.old.items.items item)) }

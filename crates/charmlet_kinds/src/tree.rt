@@ -18,7 +18,7 @@ use std::alloc::AllocError;
 const DONE: u16 = 0;
 
 /// An element of a tree, that constructs the two below it while it has depth left. The children of
-/// index i are 2i + 1 and 2i + 2; one whose index is past the greatest number of 64 bits isn't there.
+/// index i are 2i + 1 and 2i + 2; one whose index is past the greatest 64-bit number isn't there.
 #[derive(Debug, Drop)]
 pub struct Tree {
     depth: u64,
@@ -62,7 +62,7 @@ impl Tree {
 }
 
 /// Constructs a child of that depth, at the index that is so far above twice the element's, where that
-/// is a number of 64 bits.
+/// is a 64-bit number.
 fn construct_child(me: Elem, place: u64, depth: u64, out: &mut Outbox) -> Result<(), AllocError>
     requires { length out.old.sends < MAX_SENDS }
     ensures { OnOk result (out.new

@@ -43,8 +43,8 @@ impl Locations {
         self.places.get(&elem).copied()
     }
 
-    /// An element comes to a processor, wherever it stood before. Any number of 16 bits is a processor's
-    /// here. It fails only for want of memory, and then nothing has changed.
+    /// An element comes to a processor, wherever it stood before. Any 16-bit number is a processor's
+    /// here. It fails only when out of memory, and then nothing has changed.
     pub(crate) fn place(&mut self, elem: Elem, processor: u16) -> Result<(), AllocError>
         ensures ok { OnOk result (self.new ≡ insert_entry elem_cmp self.old elem processor) }
         ensures err { OnErr result (self.new ≡ self.old) }

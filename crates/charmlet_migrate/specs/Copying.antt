@@ -39,6 +39,6 @@ abbrev pub PlacesCopy : Elem → (source destination : ℕ) → (shelves next : 
 PlacesCopy x source destination shelves next =
     (r : Record) × (lookup (is_at (elem_cmp x)) (shelf_at shelves source).records ≡ Some r) × (next ≡ with_copy shelves x destination r)
 
--- a copy is refused where a delivery is under way, or else for want of memory
+-- a copy is refused where a delivery is under way, or else when out of memory
 abbrev pub copy_refusal : View → View → Refusal
 copy_refusal source destination = if is_idle source.phase && is_idle destination.phase then refusals.Memory else refusals.Uncommitted

@@ -84,7 +84,7 @@ impl Window {
         self.items.remove(0)
     }
 
-    /// The same items, in memory of their own. It fails only for want of memory.
+    /// The same items, in memory of their own. It fails only when out of memory.
     pub fn copy(&self, alloc: Global) -> Result<Self, AllocError>
         ensures { IfOk result (λ copy. copy ≡ self.now) }
     {
@@ -103,7 +103,7 @@ impl Window {
     }
 }
 
-/// The same reply, if there is one, in memory of its own. It fails only for want of memory.
+/// The same reply, if there is one, in memory of its own. It fails only when out of memory.
 fn copy_of(alloc: Global, reply: Option<&Words>) -> Result<Option<Words>, AllocError>
     ensures { IfOk result (λ copy. copy ≡ option_copied reply.entry) }
 {

@@ -13,7 +13,7 @@ pub(crate) const MAX_ITEMS: usize = 64;
 
 /// What a message at this entry makes of an object of this kind, whose state is none where the
 /// element is absent. A construction makes an absent element and leaves a present one; any other
-/// message to an absent element has no reaction. It fails only for want of memory.
+/// message to an absent element has no reaction. It fails only when out of memory.
 pub fn react(
     alloc: Global,
     kind: Kind,
@@ -82,7 +82,7 @@ fn children(alloc: Global, me: Elem, depth: u64) -> Result<Sends, AllocError>
 }
 
 /// Appends the construction of a child whose index is so far above twice the tree's, where that is a
-/// number of 64 bits.
+/// 64-bit number.
 fn push_child(sends: &mut Vec<Outgoing>, me: Elem, depth: u64, step: u64) -> Result<(), AllocError>
     requires { 1 ≤ depth }
     ensures { OnOk result (sends.new.items ≡ sends.old.items ++ child me depth (2 * me.index + step)) }
@@ -332,7 +332,7 @@ fn tape(alloc: Global, items: &[u64], entry: u16, words: &[u64]) -> Result<React
     }
 }
 
-/// The first word goes behind the items.
+/// The first word goes after the items.
 fn push(alloc: Global, items: &[u64], words: &[u64]) -> Result<Reaction, AllocError>
     ensures { IfOk result (λ reaction. reaction ≡ push items.now words.now) }
 {

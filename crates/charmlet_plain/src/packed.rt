@@ -14,7 +14,7 @@ use charmlet_pup::PupFault;
 use std::alloc::{AllocError, Global};
 
 /// The bytes of the fields in their order, each number in eight of them, the lowest first. A tape is its
-/// length in four bytes, and then its items. It fails only for want of memory.
+/// length in four bytes, and then its items. It fails only when out of memory.
 pub fn pack_state(alloc: Global, state: &State) -> Result<Vec<u8>, AllocError>
     ensures { IfOk result (λ bytes. bytes.items ≡ pupped state.now) }
 {
@@ -37,7 +37,7 @@ pub fn pack_state(alloc: Global, state: &State) -> Result<Vec<u8>, AllocError>
 
 /// The state of an object of this kind that the bytes hold, all of them. An `Err` is their first fault:
 /// `Short` where they end too early, `TooMany` where a tape has more than 64 items, `Trailing` where they
-/// go on behind the last field, or `Memory` where memory was refused.
+/// go on after the last field, or `Memory` where memory was refused.
 pub fn read_state(alloc: Global, kind: Kind, bytes: &[u8]) -> Result<State, PupFault>
     ensures ok { IfOk result (λ state. read_state kind bytes.now ≡ Ok state) }
     ensures err { IfErr result (λ fault. fault ≢ Memory → read_state kind bytes.now ≡ Err fault) }
@@ -126,7 +126,7 @@ fn exactly(bytes: &[u8], width: usize) -> Result<usize, PupFault>
     }
 }
 
-/// The state of an object of this kind, whose packed form the bytes are. It fails only for want of memory.
+/// The state of an object of this kind, whose packed form the bytes are. It fails only when out of memory.
 #[tactic(auto, using(crate::proofs::Readings::lengths_of_states))]
 pub fn state_at(alloc: Global, kind: Kind, bytes: &[u8]) -> Result<State, AllocError>
     requires { IsOk (reads_packed kind bytes.now) }
@@ -159,7 +159,7 @@ pub fn state_at(alloc: Global, kind: Kind, bytes: &[u8]) -> Result<State, AllocE
     }
 }
 
-/// So many numbers of eight bytes each, from the front. It fails only for want of memory.
+/// So many numbers of eight bytes each, from the front. It fails only when out of memory.
 fn numbers(alloc: Global, bytes: &[u8], count: usize) -> Result<Words, AllocError>
     requires { 8 * count ≤ length bytes.now }
     ensures { IfOk result (λ words. words ≡ numbers count bytes.now) }

@@ -173,7 +173,7 @@ taken_is_recovered outcome half s w count is means = recovered_is_taken outcome 
 
 -- ---- on any disk
 
--- where the bytes of a half are refused for blanks, these are short of what the half wants
+-- where the bytes of a half are refused for blanks, these are short of what the half needs
 short_by : (given : Blanks) (half : Half) (bytes : List ℕ) (s : Saved) (m : Meaning) (lack : Option (Kind × ℕ)) (kind : Kind) (count : ℕ) → found bytes ≡ Open s → least_short given (wanted_of s) ≡ lack →
     short_refusal lack (fault_refusal half s m) ≡ Some (refusals.BlanksWanted kind count) → IsShortOfSome given (refusals.BlanksWanted kind count)
 short_by given half bytes s (Faulty place) None kind count is e so = absurd cc

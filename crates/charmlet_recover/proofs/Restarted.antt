@@ -146,7 +146,7 @@ module _ {D C : Type 0} {G : disks.Ghosts D} {H : chares.Ghosts C} where
   as_answer P (Ok back) is = is
   as_answer P (Err refused) is = tt
 
-  -- where blanks lack, some half wants more
+  -- where blanks lack, some half needs more
   pub came_short : (given : Blanks) (half : Half) (bytes : List ℕ) (s : Saved) → found bytes ≡ Open s → (result : Result (Recovered D C G H) (NotRestarted D C H)) →
       AnswersBy (taken_refusal given (Takes half s)) (restarted_or_refused result) → IfErr result (λ refused. IsShortOfSome given refused.refusal)
   came_short given half bytes s is (Ok back) so = tt

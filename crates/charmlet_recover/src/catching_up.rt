@@ -25,7 +25,7 @@ pub(crate) fn is_constructed(effect: Effect) -> bool
 }
 
 /// Notes how many messages the receiver of a delivery has received, and says whether the delivery isn't skipped: its count is
-/// above all of its receiver's so far. It fails only for want of memory.
+/// above all of its receiver's so far. It fails only when out of memory.
 fn note_received(
     received: &mut BTreeMap<Elem, u64>,
     delivery: &CaughtUp,
@@ -54,7 +54,7 @@ fn kind_made(manifest: &Manifest, delivery: &CaughtUp, is_new: bool) -> Option<K
     }
 }
 
-/// The blanks that a catch-up list needs, where each element had received so many messages. It fails only for want of memory.
+/// The blanks that a catch-up list needs, where each element had received so many messages. It fails only when out of memory.
 pub(crate) fn count_catch_up(
     manifest: &Manifest,
     received: &mut BTreeMap<Elem, u64>,

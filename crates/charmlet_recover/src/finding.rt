@@ -59,7 +59,7 @@ pub fn manifest<D: Disk>(alloc: Global, disk: &mut D) -> Result<Found, Refusal>
     }
 }
 
-/// What is found in the half that was surveyed. It fails only for want of memory.
+/// What is found in the half that was surveyed. It fails only when out of memory.
 fn found_in(alloc: Global, survey: &Surveyed) -> Result<Found, AllocError>
     requires { surveys.Reads survey.now }
     ensures half { IfOk result (λ found. found.half ≡ survey.now.half) }

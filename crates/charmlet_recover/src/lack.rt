@@ -40,7 +40,7 @@ fn least_short<C: Chare>(stock: &Stock<C>, wanted: &Wanted) -> Option<(Kind, u64
     short_of(stock, wanted, Kind::Counter, short)
 }
 
-/// The refusal of a restart that wants more blanks than the stock has: `BlanksWanted`, with the least such kind and all that are wanted of
+/// The refusal of a restart that needs more blanks than the stock has: `BlanksWanted`, with the least such kind and all that are wanted of
 /// it. There is none where the stock has enough of each kind.
 pub(crate) fn lacking<C: Chare>(stock: &Stock<C>, wanted: &Wanted) -> Option<Refusal>
     ensures { result ≡ option_map (λ lack. refusals.BlanksWanted lack.0 lack.1)

@@ -1,4 +1,4 @@
--- The blanks that a log wants are those that its events use.
+-- The blanks that a log needs are those that its events use.
 use Rattle.std.proofs.Common.{◌≡◌, ℕ, ◌+◌, ◌<◌, ◌≤◌, Bool, true, false, cond, ◌&&◌, List, [], ◌∷◌, ◌++◌, refl, sym, ap, subst, ◌∙◌, arith}
 use Rattle.std.specs.Prelude.{Option, Some, None, IfSome, ◌==◌, if◌then◌else◌}
 use Rattle.std.specs.List.{AllByRecursion}

@@ -56,7 +56,7 @@ pub(crate) fn waiting_of(
     Ok(Waiting { pending, clients })
 }
 
-/// Each client with its row in both worlds. It takes the rows over. It fails only for want of memory.
+/// Each client with its row in both worlds. It takes the rows over. It fails only when out of memory.
 fn clients_of(
     alloc: Global,
     rows: Vec<(u32, ClientRow)>,

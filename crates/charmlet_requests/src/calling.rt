@@ -54,8 +54,9 @@ pub fn call(
     request(history, pass, number, to, handler.entry, words)
 }
 
-/// The handler of a name, or one of an array that isn't there.
-fn target(history: &History, handlers: &Handlers, name: &str) -> Handler
+/// The handler of a name, or one of an array that isn't there, so that a request to it is refused as `NoArray`, at that refusal's place in
+/// the order. It takes no memory.
+pub fn target(history: &History, handlers: &Handlers, name: &str) -> Handler
     requires consistent { IsConsistent (kept_in history.now) }
     ensures { (index : ℕ) → IsTarget (present (core_in history.now)) index
         (handler_of handlers.now name.now) (record { array = result.array; index = index })

@@ -10,7 +10,7 @@ mod pass;
 mod passes;
 
 pub use crate::asking::{request, status};
-pub use crate::calling::call;
+pub use crate::calling::{call, target};
 pub use crate::handlers::{Handler, Handlers};
 pub use crate::laws::{accepts_are_numbered, told_rises};
 pub use crate::pass::ClientPass;

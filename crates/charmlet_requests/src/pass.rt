@@ -75,7 +75,7 @@ impl ClientPass {
     }
 
     /// What is known of a request: the highest that the client was told of it, or what follows from what it was told of
-    /// others. Of the client's last eight requests replies are kept. It fails only for want of memory, and takes none where
+    /// others. Of the client's last eight requests replies are kept. It fails only when out of memory, and takes none where
     /// what is known has no words.
     pub fn known(&self, number: u64) -> Result<Told, AllocError>
         ensures known { IfOk result (λ told. told ≡ known self.now number) }
@@ -85,7 +85,7 @@ impl ClientPass {
     }
 
     /// Keeps what the client was told of a request, so that no less is known of any request than before. It fails only
-    /// for want of memory, and then nothing changes. It takes none where that has no words.
+    /// when out of memory, and then nothing changes. It takes none where that has no words.
     pub fn hear(&mut self, number: u64, told: &Told) -> Result<(), AllocError>
         ensures ok { OnOk result (self.new ≡ with_told self.old number told.now) }
         ensures kept { (other : ℕ) → IsNoLess (known self.old other) (known self.new other) }

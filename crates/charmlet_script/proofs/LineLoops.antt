@@ -4,15 +4,15 @@ use Rattle.std.specs.List.{list_any}
 use Rattle.std.proofs.lemmas.List.{drop_more, at_drop_all}
 use Rattle.charmlet_model.specs.Texts.{Text}
 use Rattle.charmlet_script.specs.Script.{Contents}
-use Rattle.charmlet_script.specs.Line.{◌>>=◌, item_of}
-use Rattle.charmlet_script.specs.Reading.{is_array_line, may_add, may_declare, with_array, with_item, with_line, with_lines, with_processors}
+use Rattle.charmlet_script.specs.Line.{◌>>=◌, is_empty, item_of}
+use Rattle.charmlet_script.specs.Reading.{is_array_line, may_add, may_declare, with_array, with_handler, with_item, with_line, with_lines, with_processors}
 use Rattle.charmlet_script.specs.declared.draft.Purpose.{Purpose}
 use Rattle.charmlet_script.specs.declared.line.Item.{Item}
 use Rattle.charmlet_script.specs.declared.line.Item.TheVariants as items
 
 -- an item adds one line at most
 length-with_item : (purpose : Purpose) (script next : Contents) (item : Item) → with_item purpose script item ≡ Some next → length next.lines ≤ length script.lines + 1
-unfolding with_item with_array with_processors
+unfolding with_item with_array with_handler with_processors
 length-with_item purpose script next items.Skipped e =
     let same : script ≡ next = cc in
     rw (← same) (omega arith)
@@ -28,6 +28,13 @@ length-with_item purpose script next (items.Array line) e = if_added (may_add pu
     if_added : (may : Bool) → if may then Some (record script { arrays = script.arrays ++ line ∷ [] }) else None ≡ Some next → length next.lines ≤ length script.lines + 1
     if_added true added =
         let same : record script { arrays = script.arrays ++ line ∷ [] } ≡ next = cc in
+        rw (← same) (omega arith)
+    if_added false none = absurd (cc)
+length-with_item purpose script next (items.Handler line) e = if_added (is_empty script.lines) e
+  where
+    if_added : (may : Bool) → if may then Some (record script { handlers = script.handlers ++ line ∷ [] }) else None ≡ Some next → length next.lines ≤ length script.lines + 1
+    if_added true added =
+        let same : record script { handlers = script.handlers ++ line ∷ [] } ≡ next = cc in
         rw (← same) (omega arith)
     if_added false none = absurd (cc)
 length-with_item purpose script next (items.Line line) e =

@@ -16,13 +16,14 @@ use Rattle.charmlet_model.specs.Manifest.{manifest_of, with_array as with_entry,
 use Rattle.charmlet_model.proofs.Maps.{lookup-insert_entry}
 use Rattle.charmlet_model.proofs.ManifestLemmas.{manifest-bounded, with_pairs-at}
 use Rattle.charmlet_script.specs.declared.script.ArrayLine.{ArrayLine}
+use Rattle.charmlet_script.specs.declared.script.HandlerLine.{HandlerLine}
 use Rattle.charmlet_model.specs.Texts.{Text}
 use Rattle.charmlet_script.specs.declared.draft.Purpose.{Purpose}
 use Rattle.charmlet_script.specs.declared.line.Item.{Item}
 use Rattle.charmlet_script.specs.declared.line.Item.TheVariants as items
 use Rattle.charmlet_script.specs.Script.{Contents, no_lines, pairs_of}
 use Rattle.charmlet_script.specs.Line.{◌>>=◌, is_empty, item_of}
-use Rattle.charmlet_script.specs.Reading.{has_array, has_header, is_array, is_array_line, may_add, may_declare, with_array, with_item, with_line, with_lines, with_processors}
+use Rattle.charmlet_script.specs.Reading.{has_array, describes_store, is_array, is_array_line, may_add, may_declare, with_array, with_handler, with_item, with_line, with_lines, with_processors}
 
 -- a kind's number names it
 numbered-number : (kind : Kind) → Some kind ≡ numbered_kind (kind_number kind)
@@ -129,7 +130,7 @@ with_array-goes_on purpose script next line so_far e = if_added (may_add purpose
     if_added false may none = absurd (cc)
     if_added true may added =
         let same : record script { arrays = script.arrays ++ line ∷ [] } ≡ next = cc in
-        let header = both_parts (has_header purpose) (is_empty script.lines && (nat_lt (length script.arrays) 64 && not (has_array line.array script.arrays))) may in
+        let header = both_parts (describes_store purpose) (is_empty script.lines && (nat_lt (length script.arrays) 64 && not (has_array line.array script.arrays))) may in
         let parts = both_parts (is_empty script.lines) (nat_lt (length script.arrays) 64 && not (has_array line.array script.arrays)) header.1 in
         let ends = both_parts (nat_lt (length script.arrays) 64) (not (has_array line.array script.arrays)) parts.1 in
         let room : length script.arrays < 64 = grind (arith, nat_tests, ends.0) in
@@ -159,6 +160,21 @@ with_processors-goes_on purpose script next processors so_far e = if_declared (m
           gets = λ is. absurd (cc);
         })
 
+with_handler-goes_on : (script next : Contents) (line : HandlerLine) → IsDeclared script → with_handler script line ≡ Some next → GoesOn script (items.Handler line) next
+unfolding with_handler
+with_handler-goes_on script next line so_far e = if_added (is_empty script.lines) e
+  where
+    if_added : (may : Bool) → (if may then Some (record script { handlers = script.handlers ++ line ∷ [] }) else None) ≡ Some next
+        → GoesOn script (items.Handler line) next
+    if_added false none = absurd (cc)
+    if_added true added =
+        let same : record script { handlers = script.handlers ++ line ∷ [] } ≡ next = cc in
+        subst (GoesOn script (items.Handler line)) same (record {
+          declared = record { entries = so_far.entries; are = so_far.are; few = so_far.few };
+          keeps = λ some. some;
+          gets = λ is. absurd (cc);
+        })
+
 with_item-goes_on : (purpose : Purpose) (script next : Contents) (item : Item) → IsDeclared script → with_item purpose script item ≡ Some next → GoesOn script item next
 unfolding with_item
 with_item-goes_on purpose script next items.Skipped so_far e =
@@ -166,6 +182,7 @@ with_item-goes_on purpose script next items.Skipped so_far e =
     subst (GoesOn script items.Skipped) same (record { declared = so_far; keeps = λ some. some; gets = λ is. absurd (cc) })
 with_item-goes_on purpose script next (items.Processors processors) so_far e = with_processors-goes_on purpose script next processors so_far e
 with_item-goes_on purpose script next (items.Array line) so_far e = with_array-goes_on purpose script next line so_far e
+with_item-goes_on purpose script next (items.Handler line) so_far e = with_handler-goes_on script next line so_far e
 with_item-goes_on purpose script next (items.Line line) so_far e =
     let same : record script { lines = script.lines ++ line ∷ [] } ≡ next = cc in
     subst (GoesOn script (items.Line line)) same (record {

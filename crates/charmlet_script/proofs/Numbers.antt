@@ -78,7 +78,7 @@ below_wide : (b : Bool) (k v n small top : ℕ) → Below b k v top ≡ Some n �
 below_wide false k v n small top e h = refl
 below_wide true k v n small top e h = grind (arith, nat_tests)
 
--- a number of 64 bits that fits fewer bits
+-- a 64-bit number that fits fewer bits
 pub narrow_some : (bits : ℕ) (word : List ℕ) (n : ℕ) → number_of 64 word ≡ Some n → n < 2 ^ bits → number_of bits word ≡ Some n
 unfolding number_of
 narrow_some bits word n e h = below_some (list_all is_ascii_digit word) (length word) (digits_value 10 word) n (2 ^ bits) (2 ^ 64) e h
@@ -88,7 +88,7 @@ pub narrow_wide : (bits : ℕ) (word : List ℕ) (n : ℕ) → number_of 64 word
 unfolding number_of
 narrow_wide bits word n e h = below_wide (list_all is_ascii_digit word) (length word) (digits_value 10 word) n (2 ^ bits) (2 ^ 64) e h
 
--- no number of 64 bits is none of fewer bits
+-- no 64-bit number is none of fewer bits
 pub narrow_none : (bits : ℕ) (word : List ℕ) → 2 ^ bits ≤ 2 ^ 64 → number_of 64 word ≡ None → number_of bits word ≡ None
 unfolding number_of
 narrow_none bits word h e = below_none (list_all is_ascii_digit word) (length word) (digits_value 10 word) (2 ^ bits) (2 ^ 64) h e

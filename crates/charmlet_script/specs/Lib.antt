@@ -1,3 +1,4 @@
+pub mod Name
 pub mod Script
 pub mod Printed
 pub mod Line

@@ -12,10 +12,12 @@ use Rattle.charmlet_model.specs.declared.step.Step.TheVariants.{Request, Status,
 use Rattle.charmlet_model.specs.Kind.{numbered_kind}
 use Rattle.charmlet_model.specs.Texts.{Text}
 use Rattle.charmlet_script.specs.declared.script.ArrayLine.{ArrayLine}
+use Rattle.charmlet_script.specs.declared.script.HandlerLine.{HandlerLine}
 use Rattle.charmlet_script.specs.declared.script.Line.{Line}
 use Rattle.charmlet_script.specs.declared.script.Line.TheVariants as lines
 use Rattle.charmlet_script.specs.declared.line.Item.{Item}
 use Rattle.charmlet_script.specs.declared.line.Item.TheVariants as items
+use Rattle.charmlet_script.specs.Name.{name_of}
 
 infixl 10 ◌>>=◌
 abbrev pub ◌>>=◌ : {A B : Type 0} → Option A → (A → Option B) → Option B
@@ -40,7 +42,7 @@ number_of bits word =
     if list_all is_ascii_digit word && (nat_lt 0 (length word) && nat_lt (digits_value 10 word) (2 ^ bits))
     then Some (digits_value 10 word) else None
 
--- each word a number of 64 bits
+-- each word a 64-bit number
 unfoldable pub numbers_of : List Text → Option (List ℕ)
 numbers_of [] = Some []
 numbers_of (word ∷ words) = do
@@ -48,7 +50,7 @@ numbers_of (word ∷ words) = do
   ns ← numbers_of words
   Some (n ∷ ns)
 
--- a number of 32 bits that is at most so great
+-- a 32-bit number that is at most so great
 unfoldable pub count_up_to : ℕ → Text → Option ℕ
 count_up_to most word = do
   n ← number_of 32 word
@@ -99,6 +101,15 @@ unfoldable pub pes_of : List Text → Option ℕ
 pes_of (processors ∷ []) = number_of 16 processors
 pes_of _ = None
 
+-- what follows `handler`: NAME A E
+unfoldable pub handler_of : List Text → Option HandlerLine
+handler_of (name ∷ array ∷ entry ∷ []) = do
+  n ← name_of name
+  a ← number_of 16 array
+  e ← number_of 16 entry
+  Some (record { name = n; array = a; entry = e })
+handler_of _ = None
+
 -- what follows `supply`: K N, at most 10,000 blanks
 unfoldable pub supply_of : List Text → Option Line
 supply_of (kind ∷ count ∷ []) = do
@@ -131,6 +142,17 @@ pending_of _ = None
 unfoldable pub census_of : List Text → Option Line
 census_of [] = Some lines.Census
 census_of _ = None
+
+-- what follows `call`: C N NAME I W..
+unfoldable pub call_of : List Text → Option Line
+call_of (client ∷ number ∷ name ∷ index ∷ payload) = do
+  c ← number_of 32 client
+  n ← number_of 64 number
+  handler ← name_of name
+  i ← number_of 64 index
+  words ← numbers_of payload
+  Some (lines.Call c n handler i words)
+call_of _ = None
 
 -- what follows `req`: C N A I E W..
 unfoldable pub request_of : List Text → Option Step
@@ -189,7 +211,7 @@ step_of name words =
     else (if bytes_eq name (codes "flush") then flush_of words
     else (if bytes_eq name (codes "checkpoint") then checkpoint_of words else None)))))
 
--- the line behind the header that a first word and the words after it spell
+-- the line after the header that a first word and the words after it spell
 unfoldable pub line_of : Text → List Text → Option Line
 line_of name words =
     if bytes_eq name (codes "supply") then supply_of words
@@ -197,7 +219,8 @@ line_of name words =
     else (if bytes_eq name (codes "state") then state_of words
     else (if bytes_eq name (codes "pending") then pending_of words
     else (if bytes_eq name (codes "census") then census_of words
-    else (step_of name words >>= λ step. Some (lines.Step step))))))
+    else (if bytes_eq name (codes "call") then call_of words
+    else (step_of name words >>= λ step. Some (lines.Step step)))))))
 
 -- what words spell
 unfoldable pub spelled_by : List Text → Option Item
@@ -205,7 +228,8 @@ spelled_by [] = None
 spelled_by (name ∷ words) =
     if bytes_eq name (codes "array") then (array_of words >>= λ line. Some (items.Array line))
     else (if bytes_eq name (codes "pes") then (pes_of words >>= λ processors. Some (items.Processors processors))
-    else (line_of name words >>= λ line. Some (items.Line line)))
+    else (if bytes_eq name (codes "handler") then (handler_of words >>= λ line. Some (items.Handler line))
+    else (line_of name words >>= λ line. Some (items.Line line))))
 
 -- an empty line and a comment are skipped
 abbrev pub is_skipped : Text → Bool

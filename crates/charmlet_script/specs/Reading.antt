@@ -11,27 +11,27 @@ use Rattle.charmlet_script.specs.declared.error.LineFault.TheVariants as faults
 use Rattle.charmlet_script.specs.declared.error.ReadError.{ReadError}
 use Rattle.charmlet_script.specs.declared.error.ReadError.TheVariants as errors
 use Rattle.charmlet_script.specs.declared.script.ArrayLine.{ArrayLine}
+use Rattle.charmlet_script.specs.declared.script.HandlerLine.{HandlerLine}
 use Rattle.charmlet_script.specs.declared.draft.Purpose.{Purpose}
 use Rattle.charmlet_script.specs.declared.draft.Purpose.TheVariants as purposes
-use Rattle.charmlet_script.specs.declared.script.Line.{Line}
 use Rattle.charmlet_script.specs.declared.line.Item.{Item}
 use Rattle.charmlet_script.specs.declared.line.Item.TheVariants as items
-use Rattle.charmlet_script.specs.Script.{Contents, no_lines}
+use Rattle.charmlet_script.specs.Script.{Contents, RestartContents, for_restart, no_lines}
 use Rattle.charmlet_script.specs.Line.{◌>>=◌, is_empty, item_of, parts_of}
 
 -- ---- what a reader of one line answers
 
--- nothing was spelled, want of memory aside
+-- nothing was spelled, lack of memory aside
 abbrev pub IsNotSpelled : {A : Type 0} → LineFault → Option A → Type 0
 IsNotSpelled faults.Memory spelled = Unit {0}
 IsNotSpelled faults.Malformed spelled = spelled ≡ None
 
--- it answers what was spelled, want of memory aside
+-- it answers what was spelled, lack of memory aside
 abbrev pub Spells : {A : Type 0} → Result A LineFault → Option A → Type 0
 Spells (Ok x) spelled = spelled ≡ Some x
 Spells (Err fault) spelled = IsNotSpelled fault spelled
 
--- it leaves what was spelled, want of memory aside
+-- it leaves what was spelled, lack of memory aside
 abbrev pub LeavesLines : {A : Type 0} → Result A LineFault → Contents → Option Contents → Type 0
 LeavesLines (Ok x) new spelled = spelled ≡ Some new
 LeavesLines (Err fault) new spelled = IsNotSpelled fault spelled
@@ -54,35 +54,40 @@ lines_of = parts_of 10
 abbrev pub has_array : ℕ → List ArrayLine → Bool
 has_array array = list_any (λ other. other.array == array)
 
--- the script of a run has a header; that of a restart has none, since its store is there already
-abbrev pub has_header : Purpose → Bool
-has_header purposes.Run = true
-has_header purposes.Restart = false
+-- the header of a run's script describes its store; that of a restart's doesn't, since its store is there already
+abbrev pub describes_store : Purpose → Bool
+describes_store purposes.Run = true
+describes_store purposes.Restart = false
 
--- an array line stands in a header, before the other lines, once for an array, and at most 64 times
+-- an array line stands in the header of a run's script, before the other lines, once for an array, and at most 64 times
 abbrev pub may_add : Purpose → Contents → ArrayLine → Bool
 may_add purpose script line =
-    has_header purpose && (is_empty script.lines && (nat_lt (length script.arrays) 64 && not (has_array line.array script.arrays)))
+    describes_store purpose && (is_empty script.lines && (nat_lt (length script.arrays) 64 && not (has_array line.array script.arrays)))
 
 -- the script with one more array, if it may stand there
 unfoldable pub with_array : Purpose → Contents → ArrayLine → Option Contents
 with_array purpose script line =
     if may_add purpose script line then Some (record script { arrays = script.arrays ++ line ∷ [] }) else None
 
--- a line of the number of processors stands in a header, before the other lines, once
+-- a line of the number of processors stands in the header of a run's script, before the other lines, once
 abbrev pub may_declare : Purpose → Contents → Bool
-may_declare purpose script = has_header purpose && (is_empty script.lines && is_none script.declared_processors)
+may_declare purpose script = describes_store purpose && (is_empty script.lines && is_none script.declared_processors)
 
 -- the script with its number of processors, if that may stand there
 unfoldable pub with_processors : Purpose → Contents → ℕ → Option Contents
 with_processors purpose script processors =
     if may_declare purpose script then Some (record script { declared_processors = Some processors }) else None
 
+-- the script with one more handler: its line stands in a header, before the other lines
+unfoldable pub with_handler : Contents → HandlerLine → Option Contents
+with_handler script line = if is_empty script.lines then Some (record script { handlers = script.handlers ++ line ∷ [] }) else None
+
 -- the script with what a line spells, if it may stand there
 unfoldable pub with_item : Purpose → Contents → Item → Option Contents
 with_item purpose script items.Skipped = Some script
 with_item purpose script (items.Processors processors) = with_processors purpose script processors
 with_item purpose script (items.Array line) = with_array purpose script line
+with_item purpose script (items.Handler line) = with_handler script line
 with_item purpose script (items.Line line) = Some (record script { lines = script.lines ++ line ∷ [] })
 
 -- the script with the next line, unless that line is malformed
@@ -112,29 +117,29 @@ lines_spell lines = if list_any is_array_line lines then with_lines purposes.Run
 abbrev pub script_of : Text → Result Contents ℕ
 script_of bytes = lines_spell (lines_of (within max_length bytes))
 
--- the lines of a script that was spelled
-abbrev pub lines_in : Result Contents ℕ → Result (List Line) ℕ
-lines_in (Ok script) = Ok script.lines
-lines_in (Err number) = Err number
+-- what a script that was spelled holds for a restart
+abbrev pub restart_in : Result Contents ℕ → Result RestartContents ℕ
+restart_in (Ok script) = Ok (for_restart script)
+restart_in (Err number) = Err number
 
 -- what the lines of a restart's script spell: it, or the number of the first malformed line
-unfoldable pub restart_lines_spell : List Text → Result (List Line) ℕ
-restart_lines_spell lines = lines_in (with_lines purposes.Restart no_lines 1 lines)
+unfoldable pub restart_lines_spell : List Text → Result RestartContents ℕ
+restart_lines_spell lines = restart_in (with_lines purposes.Restart no_lines 1 lines)
 
 -- the script of a restart that the bytes spell, or the number of the first malformed line
-abbrev pub restart_script_of : Text → Result (List Line) ℕ
+abbrev pub restart_script_of : Text → Result RestartContents ℕ
 restart_script_of bytes = restart_lines_spell (lines_of (within max_length bytes))
 
 -- ---- what a reader of a script answers
 
--- it answers what the bytes spell, want of memory and a failed read aside
+-- it answers what the bytes spell, lack of memory and a failed read aside
 abbrev pub Answers : {A : Type 0} → Result A ReadError → Result A ℕ → Type 0
 Answers (Ok script) spelled = spelled ≡ Ok script
 Answers (Err (errors.Malformed number)) spelled = spelled ≡ Err number
 Answers (Err errors.Memory) spelled = Unit {0}
 Answers (Err (errors.Failed error)) spelled = Unit {0}
 
--- a failed read is no want of memory, which is told as that, and no interruption, behind which it goes on
+-- a failed read is no lack of memory, which is told as that, and no interruption, after which it goes on
 abbrev pub TellsFailure : ReadError → Type 0
 TellsFailure (errors.Failed error) = (error_kind error ≢ OutOfMemory) × (error_kind error ≢ Interrupted)
 TellsFailure _ = Unit {0}

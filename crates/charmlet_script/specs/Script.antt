@@ -4,18 +4,29 @@ use Rattle.charmlet_model.specs.declared.kind.Kind.{Kind}
 use Rattle.charmlet_model.specs.Kind.{kind_number}
 use Rattle.charmlet_model.specs.Manifest.{manifest_of}
 use Rattle.charmlet_script.specs.declared.script.ArrayLine.{ArrayLine}
+use Rattle.charmlet_script.specs.declared.script.HandlerLine.{HandlerLine}
 use Rattle.charmlet_script.specs.declared.script.Line.{Line}
 use Rattle.charmlet_script.specs.declared.script.Line.TheVariants as lines
 
--- the header of a script, which is how many processors it declares, if it does, and its arrays; and the lines behind it
+-- the header of a script, which is how many processors it declares, if it does, its arrays and its handlers; and the lines after it
 pub record Contents : Type 0 where
   pub declared_processors : Option ℕ
   pub arrays : List ArrayLine
+  pub handlers : List HandlerLine
+  pub lines : List Line
+
+-- the script of a restart: its handlers, which are its header, and the lines after them
+pub record RestartContents : Type 0 where
+  pub handlers : List HandlerLine
   pub lines : List Line
 
 -- an empty script
 abbrev pub no_lines : Contents
-no_lines = record { declared_processors = None; arrays = []; lines = [] }
+no_lines = record { declared_processors = None; arrays = []; handlers = []; lines = [] }
+
+-- what a script holds for a restart
+abbrev pub for_restart : Contents → RestartContents
+for_restart script = record { handlers = script.handlers; lines = script.lines }
 
 -- how many processors a script has, 1 where it declares none
 abbrev pub processors_of : Contents → ℕ

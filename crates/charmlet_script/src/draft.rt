@@ -1,6 +1,7 @@
 //! Scripts that are being read.
 
-use crate::script::{ArrayLine, Line, Script};
+use crate::restart::RestartScript;
+use crate::script::{ArrayLine, HandlerLine, Line, Script};
 use std::alloc::{AllocFailed, Global};
 use std::marker::Model;
 
@@ -9,17 +10,17 @@ use std::marker::Model;
 pub(crate) enum Purpose {
     /// A run over a new store, which the script's header describes.
     Run,
-    /// What comes after a restart. Such a script has no header, since its store is there already.
+    /// What comes after a restart. The header of such a script describes no store, since it is there already.
     Restart,
 }
 
 impl Purpose {
     ghost use Rattle.std.specs.Prelude.{◌≡◌};
-    ghost use Rattle.charmlet_script.specs.Reading.{has_header};
+    ghost use Rattle.charmlet_script.specs.Reading.{describes_store};
 
-    /// Whether such a script has a header.
-    pub(crate) fn has_header(self) -> bool
-        ensures { result ≡ has_header self }
+    /// Whether the header of such a script describes the store.
+    pub(crate) fn describes_store(self) -> bool
+        ensures { result ≡ describes_store self }
     {
         match self {
             Purpose::Run => true,
@@ -29,11 +30,12 @@ impl Purpose {
 }
 
 /// The lines of a script so far. A contract sees the number of processors, if one is declared, and the
-/// two lists.
+/// three lists.
 #[derive(Drop)]
 pub(crate) struct Draft {
     processors: Option<u16>,
     arrays: Vec<ArrayLine>,
+    handlers: Vec<HandlerLine>,
     lines: Vec<Line>,
 }
 
@@ -42,12 +44,17 @@ impl Model for Draft {
 
     ghost Value = { Contents };
 
-    ghost view = { λ draft. record { declared_processors = draft.processors; arrays = draft.arrays.items; lines = draft.lines.items } };
+    ghost view = { λ draft. record {
+      declared_processors = draft.processors;
+      arrays = draft.arrays.items;
+      handlers = draft.handlers.items;
+      lines = draft.lines.items;
+    } };
 }
 
 impl Draft {
-    ghost use Rattle.std.specs.Prelude.{◌≡◌, ◌++◌, ◌∷◌, [], Some, OnOk, OnErr};
-    ghost use Rattle.charmlet_script.specs.Script.{IsScript, no_lines};
+    ghost use Rattle.std.specs.Prelude.{◌≡◌, ◌≤◌, ◌++◌, ◌∷◌, [], Some, OnOk, OnErr, length};
+    ghost use Rattle.charmlet_script.specs.Script.{IsScript, for_restart, most_lines, no_lines};
 
     pub(crate) fn new(alloc: Global) -> Self
         ensures { result ≡ no_lines }
@@ -55,6 +62,7 @@ impl Draft {
         Draft {
             processors: None,
             arrays: Vec::new(alloc),
+            handlers: Vec::new(alloc),
             lines: Vec::new(alloc),
         }
     }
@@ -90,6 +98,14 @@ impl Draft {
         self.arrays.push(line)
     }
 
+    pub(crate) fn push_handler(&mut self, line: HandlerLine) -> Result<(), AllocFailed<HandlerLine>>
+        ensures ok { OnOk result (self.new
+            ≡ record self.old { handlers = self.old.handlers ++ line ∷ [] }) }
+        ensures err { OnErr result (self.new ≡ self.old) }
+    {
+        self.handlers.push(line)
+    }
+
     pub(crate) fn push_line(&mut self, line: Line) -> Result<(), AllocFailed<Line>>
         ensures ok { OnOk result (self.new ≡ record self.old { lines = self.old.lines ++ line ∷ [] }) }
         ensures err { OnErr result (self.new ≡ self.old) }
@@ -97,7 +113,7 @@ impl Draft {
         self.lines.push(line)
     }
 
-    /// The script, once all its lines were read.
+    /// The script of a run, once all its lines were read.
     pub(crate) fn finish(self) -> Script
         requires { IsScript self.arrays self.lines }
         ensures { result ≡ self }
@@ -105,15 +121,23 @@ impl Draft {
         let Draft {
             processors,
             arrays,
+            handlers,
             lines,
         } = self;
-        Script::new(processors, arrays, lines)
+        Script::new(processors, arrays, handlers, lines)
     }
 
-    /// The lines after the header.
-    pub(crate) fn into_lines(self) -> Vec<Line>
-        ensures { result.items ≡ self.lines }
+    /// The script of a restart, once all its lines were read.
+    pub(crate) fn finish_restart(self) -> RestartScript
+        requires { length self.lines ≤ most_lines }
+        ensures { result ≡ for_restart self }
     {
-        self.lines
+        let Draft {
+            processors: _,
+            arrays: _,
+            handlers,
+            lines,
+        } = self;
+        RestartScript::new(handlers, lines)
     }
 }

@@ -1,11 +1,12 @@
 //! The language of Charmlet's scripts: which lines a text spells, and the readers of scripts.
 //!
 //! A script is at most 1,048,576 bytes of ASCII. Its lines end with a line feed, which the last may
-//! lack; an empty line and one that begins with `#` are skipped. In the script of a run the header stands
-//! first, 1 to 64 lines `array A K` and at most one line `pes N`, in any order; that of a restart has no
-//! header. Then come any number of these: `supply K N`,
-//! `req C N A I E W..`, `status C N`, `deliver PE ID`, `drain N`, `move A I PE`, `flush`, `checkpoint`,
-//! `state A I`, `pending` and `census`. Words are parted by spaces, numbers are decimal, and an ID is `cC.N` for
+//! lack; an empty line and one that begins with `#` are skipped. The header stands first. In the script
+//! of a run it is 1 to 64 lines `array A K`, at most one line `pes N`, and any number of lines
+//! `handler NAME A E`, in any order; in that of a restart it is lines `handler NAME A E` alone, if any.
+//! Then come any number of these: `supply K N`, `req C N A I E W..`, `call C N NAME I W..`, `status C N`,
+//! `deliver PE ID`, `drain N`, `move A I PE`, `flush`, `checkpoint`, `state A I`, `pending` and `census`.
+//! Words are parted by spaces, numbers are decimal, a NAME is 1 to 32 ASCII letters, and an ID is `cC.N` for
 //! message N of client C, or `eA.I.N` for that of the element (A, I).
 #![tactic(auto)]
 
@@ -13,6 +14,7 @@ mod draft;
 mod error;
 mod id;
 mod line;
+mod name;
 mod number;
 mod printed;
 mod reading;
@@ -21,8 +23,9 @@ mod script;
 mod split;
 
 pub use error::ReadError;
+pub use name::Name;
 pub use number::{MAX_BLANKS, MAX_DELIVERIES};
 pub use printed::{Counted, Drained, PendingIds, Shown, Standing, Supplied};
 pub use reading::{MAX_LENGTH, read_restart_script, read_script};
 pub use restart::RestartScript;
-pub use script::{ArrayLine, Line, Script};
+pub use script::{ArrayLine, HandlerLine, Line, Script};

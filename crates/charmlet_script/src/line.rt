@@ -2,15 +2,16 @@
 
 ghost use Rattle.std.specs.Prelude.{◌≡◌, map, nat_lt};
 ghost use Rattle.std.specs.List.{list_all};
-ghost use Rattle.charmlet_script.specs.Line.{array_of, census_of, checkpoint_of, deliver_of, drain_of, flush_of, is_skipped, item_of, line_of, move_of, pending_of, pes_of, request_of, spelled_by, state_of, status_of, step_of, supply_of};
+ghost use Rattle.charmlet_script.specs.Line.{array_of, call_of, census_of, checkpoint_of, deliver_of, drain_of, flush_of, handler_of, is_skipped, item_of, line_of, move_of, pending_of, pes_of, request_of, spelled_by, state_of, status_of, step_of, supply_of};
 ghost use Rattle.charmlet_script.specs.Reading.{Spells};
 
 use crate::error::LineFault;
 use crate::id::id_of;
+use crate::name::name_of;
 use crate::number::{
     MAX_BLANKS, MAX_DELIVERIES, count_up_to, kind_of, numbers, u16_of, u32_of, u64_of,
 };
-use crate::script::{ArrayLine, Line};
+use crate::script::{ArrayLine, HandlerLine, Line};
 use crate::split::words;
 use charmlet_model::{Elem, Step};
 use std::alloc::Global;
@@ -23,6 +24,7 @@ pub(crate) enum Item {
     /// A number of processors.
     Processors(u16),
     Array(ArrayLine),
+    Handler(HandlerLine),
     Line(Line),
 }
 
@@ -48,6 +50,20 @@ fn pes_of(words: &[&[u8]]) -> Option<u16>
         return None;
     };
     u16_of(processors)
+}
+
+/// What follows `handler`: `NAME A E`.
+#[tactic(auto, unfolding(crate::specs::Line::handler_of))]
+fn handler_of(alloc: Global, words: &[&[u8]]) -> Result<HandlerLine, LineFault>
+    ensures { Spells result (handler_of (map (λ word. word.now) words.now)) }
+{
+    let [name, array, entry] = words else {
+        return Err(LineFault::Malformed);
+    };
+    let name = name_of(alloc, name)?;
+    let array = u16_of(array).ok_or(LineFault::Malformed)?;
+    let entry = u16_of(entry).ok_or(LineFault::Malformed)?;
+    Ok(HandlerLine { name, array, entry })
 }
 
 /// What follows `supply`: `K N`.
@@ -110,6 +126,28 @@ fn census_of(words: &[&[u8]]) -> Option<Line>
     } else {
         None
     }
+}
+
+/// What follows `call`: `C N NAME I W..`.
+#[tactic(auto, unfolding(crate::specs::Line::call_of))]
+fn call_of(alloc: Global, words: &[&[u8]]) -> Result<Line, LineFault>
+    ensures { Spells result (call_of (map (λ word. word.now) words.now)) }
+{
+    let [client, number, name, index, payload @ ..] = words else {
+        return Err(LineFault::Malformed);
+    };
+    let client = u32_of(client).ok_or(LineFault::Malformed)?;
+    let number = u64_of(number).ok_or(LineFault::Malformed)?;
+    let name = name_of(alloc, name)?;
+    let index = u64_of(index).ok_or(LineFault::Malformed)?;
+    let words = numbers(alloc, payload)?;
+    Ok(Line::Call {
+        client,
+        number,
+        name,
+        index,
+        words,
+    })
 }
 
 /// What follows `req`: `C N A I E W..`.
@@ -223,7 +261,7 @@ fn step_of(alloc: Global, name: &[u8], words: &[&[u8]]) -> Result<Step, LineFaul
     }
 }
 
-/// The line behind the header that a first word and the words after it spell.
+/// The line after the header that a first word and the words after it spell.
 #[tactic(auto, unfolding(crate::specs::Line::line_of))]
 fn line_of(alloc: Global, name: &[u8], words: &[&[u8]]) -> Result<Line, LineFault>
     ensures { Spells result (line_of name.now (map (λ word. word.now) words.now)) }
@@ -238,6 +276,8 @@ fn line_of(alloc: Global, name: &[u8], words: &[&[u8]]) -> Result<Line, LineFaul
         pending_of(words).ok_or(LineFault::Malformed)
     } else if name == b"census".as_slice() {
         census_of(words).ok_or(LineFault::Malformed)
+    } else if name == b"call".as_slice() {
+        call_of(alloc, words)
     } else {
         let step = step_of(alloc, name, words)?;
         Ok(Line::Step(step))
@@ -258,6 +298,9 @@ fn spelled_by(alloc: Global, words: &[&[u8]]) -> Result<Item, LineFault>
     } else if *name == b"pes".as_slice() {
         let processors = pes_of(words).ok_or(LineFault::Malformed)?;
         Ok(Item::Processors(processors))
+    } else if *name == b"handler".as_slice() {
+        let line = handler_of(alloc, words)?;
+        Ok(Item::Handler(line))
     } else {
         let line = line_of(alloc, name, words)?;
         Ok(Item::Line(line))

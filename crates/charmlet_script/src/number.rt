@@ -14,7 +14,7 @@ pub const MAX_BLANKS: u32 = 10_000;
 /// The most messages that one line delivers.
 pub const MAX_DELIVERIES: u32 = 1_000_000;
 
-/// A decimal number of 64 bits. `parse` alone would take a sign too.
+/// A decimal 64-bit number. `parse` alone would take a sign too.
 #[tactic(auto, unfolding(crate::specs::Line::number_of))]
 pub(crate) fn u64_of(word: &[u8]) -> Option<u64>
     ensures { result ≡ number_of 64 word.now }
@@ -31,7 +31,7 @@ pub(crate) fn u64_of(word: &[u8]) -> Option<u64>
     }
 }
 
-/// A decimal number of 32 bits.
+/// A decimal 32-bit number.
 pub(crate) fn u32_of(word: &[u8]) -> Option<u32>
     ensures { result ≡ number_of 32 word.now }
 {
@@ -43,7 +43,7 @@ pub(crate) fn u32_of(word: &[u8]) -> Option<u32>
     }
 }
 
-/// A decimal number of 16 bits.
+/// A decimal 16-bit number.
 pub(crate) fn u16_of(word: &[u8]) -> Option<u16>
     ensures { result ≡ number_of 16 word.now }
 {
@@ -63,7 +63,7 @@ pub(crate) fn kind_of(word: &[u8]) -> Option<Kind>
     Kind::of_number(u16_of(word)?)
 }
 
-/// A decimal number of 32 bits that is at most `most`.
+/// A decimal 32-bit number that is at most `most`.
 #[tactic(auto, unfolding(crate::specs::Line::count_up_to))]
 pub(crate) fn count_up_to(most: u32, word: &[u8]) -> Option<u32>
     ensures { result ≡ count_up_to most word.now }
@@ -72,7 +72,7 @@ pub(crate) fn count_up_to(most: u32, word: &[u8]) -> Option<u32>
     if count <= most { Some(count) } else { None }
 }
 
-/// Each word as a number of 64 bits.
+/// Each word as a 64-bit number.
 pub(crate) fn numbers(alloc: Global, words: &[&[u8]]) -> Result<Words, LineFault>
     ensures { Spells result (numbers_of (map (λ word. word.now) words.now)) }
 {

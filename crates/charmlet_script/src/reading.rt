@@ -5,13 +5,13 @@ ghost use Rattle.std.specs.IoError.{error_kind};
 ghost use Rattle.std.specs.List.{list_any};
 ghost use Rattle.std.specs.declared.io.ErrorKind.TheVariants.{Interrupted};
 ghost use Rattle.charmlet_script.specs.Script.{most_lines, no_lines};
-ghost use Rattle.charmlet_script.specs.Reading.{Answers, TellsFailure, LeavesLines, has_array, is_array_line, lines_spell, may_add, may_declare, restart_lines_spell, restart_script_of, script_of, with_array, with_item, with_line, with_lines, with_processors, within};
+ghost use Rattle.charmlet_script.specs.Reading.{Answers, TellsFailure, LeavesLines, has_array, is_array_line, lines_spell, may_add, may_declare, restart_lines_spell, restart_script_of, script_of, with_array, with_handler, with_item, with_line, with_lines, with_processors, within};
 
 use crate::draft::{Draft, Purpose};
 use crate::error::{LineFault, ReadError};
 use crate::line::{Item, item_of};
 use crate::restart::RestartScript;
-use crate::script::{ArrayLine, Script};
+use crate::script::{ArrayLine, HandlerLine, Script};
 use crate::split::parts;
 use charmlet_model::MAX_ARRAYS;
 use std::alloc::{AllocError, Global};
@@ -30,12 +30,12 @@ fn has_array(arrays: &[ArrayLine], array: u16) -> bool
     arrays.iter().any(|other| other.array == array)
 }
 
-/// Whether an array line may stand here: in a header, before the other lines, once for an array, and at
-/// most 64 times.
+/// Whether an array line may stand here: in the header of a run's script, before the other lines, once
+/// for an array, and at most 64 times.
 fn may_add(purpose: Purpose, script: &Draft, line: ArrayLine) -> bool
     ensures { result ≡ may_add purpose script.now line }
 {
-    if !purpose.has_header() {
+    if !purpose.describes_store() {
         return false;
     }
     let arrays = script.arrays();
@@ -56,11 +56,12 @@ fn add_array(purpose: Purpose, script: &mut Draft, line: ArrayLine) -> Result<()
     Ok(())
 }
 
-/// Whether a line of the number of processors may stand here: in a header, before the other lines, once.
+/// Whether a line of the number of processors may stand here: in the header of a run's script, before
+/// the other lines, once.
 fn may_declare(purpose: Purpose, script: &Draft) -> bool
     ensures { result ≡ may_declare purpose script.now }
 {
-    purpose.has_header() && script.lines().is_empty() && script.declared_processors().is_none()
+    purpose.describes_store() && script.lines().is_empty() && script.declared_processors().is_none()
 }
 
 #[tactic(auto, unfolding(crate::specs::Reading::with_processors))]
@@ -74,6 +75,18 @@ fn add_processors(purpose: Purpose, script: &mut Draft, processors: u16) -> Resu
     Ok(())
 }
 
+/// Adds a handler, where its line may stand there: in a header, before the other lines.
+#[tactic(auto, unfolding(crate::specs::Reading::with_handler))]
+fn add_handler(script: &mut Draft, line: HandlerLine) -> Result<(), LineFault>
+    ensures { LeavesLines result script.new (with_handler script.old line) }
+{
+    if !script.lines().is_empty() {
+        return Err(LineFault::Malformed);
+    }
+    script.push_handler(line)?;
+    Ok(())
+}
+
 /// Adds what a line spells, where it may stand there.
 #[tactic(auto, unfolding(crate::specs::Reading::with_item))]
 fn add_item(purpose: Purpose, script: &mut Draft, item: Item) -> Result<(), LineFault>
@@ -83,6 +96,7 @@ fn add_item(purpose: Purpose, script: &mut Draft, item: Item) -> Result<(), Line
         Item::Skipped => Ok(()),
         Item::Processors(processors) => add_processors(purpose, script, processors),
         Item::Array(line) => add_array(purpose, script, line),
+        Item::Handler(line) => add_handler(script, line),
         Item::Line(line) => {
             script.push_line(line)?;
             Ok(())
@@ -165,7 +179,7 @@ fn read_restart_lines(alloc: Global, lines: &[&[u8]]) -> Result<RestartScript, R
     ensures failure { IfErr result TellsFailure }
 {
     let script = add_lines(alloc, Purpose::Restart, lines)?;
-    Ok(RestartScript::new(script.into_lines()))
+    Ok(script.finish_restart())
 }
 
 /// The reader's bytes, up to one past the greatest length of a script.
@@ -218,7 +232,7 @@ pub fn read_script<R: Read>(alloc: Global, reader: &mut R) -> Result<Script, Rea
 }
 
 /// Reads the script of a restart, of at most 1,048,576 bytes, and nothing past the byte after these.
-/// Such a script has no header, and may have no line at all.
+/// The header of such a script is its `handler` lines, and it may have no line at all.
 ///
 /// Where a line is malformed, it answers `ReadError::Malformed` with the number of the first one; an
 /// `array` line and a `pes` line are malformed wherever they stand. Where a read fails, it answers

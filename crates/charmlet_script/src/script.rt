@@ -3,7 +3,8 @@
 ghost use Rattle.std.specs.Prelude.{◌≡◌, ◌≤◌, IfOk, length};
 ghost use Rattle.charmlet_script.specs.Script.{blanks_of, most_lines, pairs_of};
 
-use charmlet_model::{Elem, Kind, Manifest, Step};
+use crate::name::Name;
+use charmlet_model::{Elem, Kind, Manifest, Step, Words};
 use std::alloc::{AllocError, Global};
 use std::marker::Model;
 
@@ -14,20 +15,42 @@ pub struct ArrayLine {
     pub kind: Kind,
 }
 
-/// A line behind the header.
+/// A handler: the name of an array and an entry, which `call` lines name.
+#[derive(Debug, Drop)]
+pub struct HandlerLine {
+    pub name: Name,
+    pub array: u16,
+    pub entry: u16,
+}
+
+/// A line after the header.
 #[derive(Debug, Drop)]
 pub enum Line {
     /// `supply K N`: N blanks of kind K, at most 10,000, come to the stock.
-    Supply { kind: Kind, count: u32 },
+    Supply {
+        kind: Kind,
+        count: u32,
+    },
     /// `drain N`: the oldest message that can be delivered is delivered, up to N times, at most
     /// 1,000,000.
-    Drain { count: u32 },
+    Drain {
+        count: u32,
+    },
     /// `state A I`: the element is shown.
     State(Elem),
     /// `pending`: the ids of the pending messages are shown.
     Pending,
     /// `census`: it is shown of each kind where its objects are.
     Census,
+    /// `call C N NAME I W..`: a client asks for a delivery to the element with index I of the array that
+    /// the name is registered for, at the entry that it is registered for.
+    Call {
+        client: u32,
+        number: u64,
+        name: Name,
+        index: u64,
+        words: Words,
+    },
     /// A step of the run.
     Step(Step),
 }
@@ -69,13 +92,14 @@ pub(crate) fn total_blanks(lines: &[Line], kind: Kind) -> u64
     total
 }
 
-/// A script that was read: its header, which is a number of processors and arrays that make a manifest,
-/// and the lines behind it in order. A contract sees the number, if a line declares it, and the two
-/// lists.
+/// A script that was read: its header, which is a number of processors, arrays that make a manifest, and
+/// handlers, and the lines after it in order. A contract sees the number, if a line declares it, and the
+/// three lists.
 #[derive(Debug, Drop)]
 pub struct Script {
     processors: Option<u16>,
     arrays: Vec<ArrayLine>,
+    handlers: Vec<HandlerLine>,
     lines: Vec<Line>,
 }
 
@@ -84,7 +108,12 @@ impl Model for Script {
 
     ghost Value = { Contents };
 
-    ghost view = { λ script. record { declared_processors = script.processors; arrays = script.arrays.items; lines = script.lines.items } };
+    ghost view = { λ script. record {
+      declared_processors = script.processors;
+      arrays = script.arrays.items;
+      handlers = script.handlers.items;
+      lines = script.lines.items;
+    } };
 
     ghost invariant = { λ script. IsScript script.arrays.items script.lines.items };
 }
@@ -96,18 +125,29 @@ impl Script {
     ghost use Rattle.charmlet_model.specs.Sound.{new_world};
     ghost use Rattle.charmlet_script.specs.Script.{IsScript, blanks_of, pairs_of, processors_of};
 
-    pub(crate) fn new(processors: Option<u16>, arrays: Vec<ArrayLine>, lines: Vec<Line>) -> Self
+    pub(crate) fn new(
+        processors: Option<u16>,
+        arrays: Vec<ArrayLine>,
+        handlers: Vec<HandlerLine>,
+        lines: Vec<Line>,
+    ) -> Self
         requires { IsScript arrays.items lines.items }
-        ensures { result ≡ record { declared_processors = processors; arrays = arrays.items; lines = lines.items } }
+        ensures { result ≡ record {
+          declared_processors = processors;
+          arrays = arrays.items;
+          handlers = handlers.items;
+          lines = lines.items;
+        } }
     {
         Script {
             processors,
             arrays,
+            handlers,
             lines,
         }
     }
 
-    /// How many processors there are, 1 where no line says it. It may be any number of 16 bits: whether
+    /// How many processors there are, 1 where no line says it. It may be any 16-bit number: whether
     /// there can be a store with so many, the script doesn't know.
     pub fn processors(&self) -> u16
         ensures { result ≡ processors_of self.now }
@@ -122,14 +162,21 @@ impl Script {
         self.arrays.as_slice()
     }
 
-    /// The lines behind the header, in order.
+    /// The handler lines, in order. A name may stand in more than one of them.
+    pub fn handlers(&self) -> &[HandlerLine]
+        ensures { result.now ≡ self.now.handlers }
+    {
+        self.handlers.as_slice()
+    }
+
+    /// The lines after the header, in order.
     pub fn lines(&self) -> &[Line]
         ensures { result.now ≡ self.now.lines }
     {
         self.lines.as_slice()
     }
 
-    /// The manifest of the arrays, with which a new world is fit. It fails only for want of memory.
+    /// The manifest of the arrays, with which a new world is fit. It fails only when out of memory.
     pub fn manifest(&self, alloc: Global) -> Result<Manifest, AllocError>
         ensures manifest { IfOk result (λ manifest. manifest_of (pairs_of self.now.arrays) ≡ Some manifest) }
         ensures fit { IfOk result (λ manifest. IsFit (new_world manifest)) }

@@ -22,7 +22,7 @@ pub struct Image {
     pub packed: Vec<u8>,
 }
 
-/// The image of each element, in rising order. It fails only for want of memory. The objects show what
+/// The image of each element, in rising order. It fails only when out of memory. The objects show what
 /// they showed.
 pub(crate) fn images_of<C: Chare>(
     alloc: Global,
@@ -40,7 +40,7 @@ pub(crate) fn images_of<C: Chare>(
     Ok(images)
 }
 
-/// The elements, in rising order. It fails only for want of memory.
+/// The elements, in rising order. It fails only when out of memory.
 fn elems_of<C: Chare>(
     alloc: Global,
     residents: &BTreeMap<Elem, Resident<C>>,
@@ -50,7 +50,7 @@ fn elems_of<C: Chare>(
     residents.keys().copied().collect(alloc)
 }
 
-/// The image of an element that is there. It fails only for want of memory. The objects show what they
+/// The image of an element that is there. It fails only when out of memory. The objects show what they
 /// showed.
 pub(crate) fn image_at<C: Chare>(
     alloc: Global,
@@ -67,7 +67,7 @@ pub(crate) fn image_at<C: Chare>(
     image_of(alloc, elem, resident)
 }
 
-/// The image of an element with its object. It fails only for want of memory, and the object shows what
+/// The image of an element with its object. It fails only when out of memory, and the object shows what
 /// it showed.
 fn image_of<C: Chare>(
     alloc: Global,

@@ -10,7 +10,7 @@ use charmlet_model::{CONSTRUCT, Message};
 use std::alloc::{AllocError, Global};
 
 /// Has an object react to a message. One that is there stays as it is at a construction, and a newcomer
-/// is constructed. It fails only for want of memory, and then leaves the object's state; where the object
+/// is constructed. It fails only when out of memory, and then leaves the object's state; where the object
 /// is destroyed, it keeps its state.
 pub(crate) fn receive<C: Chare>(
     alloc: Global,

@@ -182,7 +182,7 @@ impl<C: Chare> Shelf<C> {
         Ok(())
     }
 
-    /// Has the receiver of the assigned message react to it. It fails only for want of memory, and then
+    /// Has the receiver of the assigned message react to it. It fails only when out of memory, and then
     /// the shelf is as before.
     pub fn perform(&mut self) -> Result<(), AllocError>
         requires { is_assigned self.old.phase ≡ true }

@@ -49,7 +49,7 @@ impl<C: Chare> Store<C> {
             .collect(self.alloc)
     }
 
-    /// What is seen of an element. It fails only for want of memory, which the packed state takes, and
+    /// What is seen of an element. It fails only when out of memory, which the packed state takes, and
     /// so not where the element isn't there. Nothing changes.
     pub fn look(&mut self, elem: Elem) -> Result<Look, AllocError>
         requires { IsStoreConsistent self.old }
@@ -66,7 +66,7 @@ impl<C: Chare> Store<C> {
         })
     }
 
-    /// Where an element stands, if it is there. It fails only for want of memory. Nothing changes.
+    /// Where an element stands, if it is there. It fails only when out of memory. Nothing changes.
     fn standing_of(&mut self, elem: Elem) -> Result<Option<Standing>, AllocError>
         requires { IsStoreConsistent self.old }
         ensures same { self.new ≡ self.old }

@@ -162,7 +162,7 @@ impl<C: Chare> Store<C> {
     }
 }
 
-/// The shelves of so many processors, with nothing on them. It fails only for want of memory.
+/// The shelves of so many processors, with nothing on them. It fails only when out of memory.
 pub fn empty_shelves<C: Chare>(alloc: Global, processors: u16) -> Result<Vec<Shelf<C>>, AllocError>
     ensures { IfOk result (λ shelves. AreEmpty processors shelves.items) }
 {

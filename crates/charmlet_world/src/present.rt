@@ -160,7 +160,7 @@ impl PresentWorld {
     }
 
     /// What is kept of each element, in rising order, in memory of its own. It sorts, and fails only for
-    /// want of memory.
+    /// lack of memory.
     pub fn rising(&self, alloc: Global) -> Result<BTreeMap<Elem, Element>, AllocError>
         ensures { IfOk result (λ tree. tree.entries ≡ (seen self.now).elements) }
     {
@@ -181,7 +181,7 @@ impl PresentWorld {
         &self.clients
     }
 
-    /// What a client is told by its durable row. It fails only for want of memory, and takes none where the
+    /// What a client is told by its durable row. It fails only when out of memory, and takes none where the
     /// answer has no words.
     pub fn told(&self, alloc: Global, client: u32, number: u64) -> Result<Told, AllocError>
         ensures told { IfOk result (λ told. told ≡ told_of (client_at self.now.clients client).durable number) }

@@ -37,7 +37,7 @@ fn request_of(client: u32) -> Request<'static> {
     }
 }
 
-// An image is taken of the store, and its log then begins behind that.
+// An image is taken of the store, and its log then begins after that.
 fn seal(rt: &(impl AllocGlobal + Abort), store: &mut Store<Counter>) -> Result<(), Fail>
     requires { IsStoreConsistent store.old }
     ensures { IfOk result (λ _. IsConsistent (kept_in store.new.history)) }

@@ -183,7 +183,7 @@ fn restarted(rt: &(impl AllocGlobal + Abort), disk: MemDisk) -> Counters
 
 // A counter is constructed and flushed, and gets another request, which a crash takes away. The store comes back and goes on.
 #[test]
-fn lacking_memory_loses_no_engine(rt: HostRuntime) {
+fn refused_memory_loses_no_engine(rt: HostRuntime) {
     let Some(mut engine) = created(&rt) else {
         return;
     };

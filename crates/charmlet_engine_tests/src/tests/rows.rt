@@ -26,7 +26,7 @@ pub const NEW: &[u8] = b"\x01CKP2\x01\0\0\0\0\0\0\0\0\0\0\0\0\0\0\0\x18\0\0\0\
     \x01\0\0\0\0\0\x01\0\
     \0\0\0\0\0\0\0\0\0\0\0\0\0\0\0\0\0";
 
-// What the flush writes behind the image: its gate, a batch, and a closed gate.
+// What the flush writes after the image: its gate, a batch, and a closed gate.
 const BATCH: &[u8] = b"\x01\x40\0\0\0\x02\0\0\0\
     \x01\x07\0\0\0\x01\0\0\0\0\0\0\0\0\0\0\0\0\0\0\0\0\0\xff\xff\x01\0\0\0\x05\0\0\0\0\0\0\0\
     \x02\0\x07\0\0\0\x01\0\0\0\0\0\0\0\x01\0\0\0\0\0\0\0\x01\0\0\0\0\

@@ -1,5 +1,5 @@
 //! Worked histories of one array, run by the plain program of the world. A transcript has a line `> STEP` for each step,
-//! and behind it the step's answer.
+//! and after it the step's answer.
 
 use charmlet_model::{CONSTRUCT, Elem, Event, Kind, Manifest, MsgId, Origin, Words};
 use charmlet_plain::PlainWorld;

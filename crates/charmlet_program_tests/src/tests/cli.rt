@@ -154,7 +154,7 @@ fn next_of<D: Disk, C: Chare>(alloc: Global, engine: &Engine<D, C>) -> Result<St
     }
 }
 
-// What is next in a new engine, behind a message that waits for its receiver, once that is to be
+// What is next in a new engine, after a message that waits for its receiver, once that is to be
 // constructed, and once it is.
 fn nexts<C: Chare>(alloc: Global, blanks: Vec<C>) -> Result<String, AllocError> {
     let engine = new_engine(alloc, Kind::Counter)?;

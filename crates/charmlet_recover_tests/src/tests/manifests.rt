@@ -74,7 +74,7 @@ fn cut_stores_are_damaged(rt: HostRuntime) {
     }
 }
 
-// A construction that is skipped wants no blank, and a delivery that isn't skipped wants one by what is written of it.
+// A construction that is skipped needs no blank, and a delivery that isn't skipped needs one by what is written of it.
 #[test]
 fn catch_up_lists_want_what_they_construct(rt: HostRuntime) {
     assert_wanted(&rt, &NEW_STORE, &CAUGHT_STORE, Kind::Counter, 2);

@@ -1,7 +1,7 @@
 use charmlet_model::{Elem, Kind, MsgId, Origin, Step};
 use charmlet_script::{
-    ArrayLine, Counted, Drained, Line, MAX_LENGTH, PendingIds, ReadError, RestartScript, Script,
-    Shown, Standing, Supplied, read_restart_script, read_script,
+    ArrayLine, Counted, Drained, HandlerLine, Line, MAX_LENGTH, PendingIds, ReadError,
+    RestartScript, Script, Shown, Standing, Supplied, read_restart_script, read_script,
 };
 use std::alloc::{AllocError, Global};
 use std::io;
@@ -35,9 +35,19 @@ fn malformed_restart(alloc: Global, text: &[u8]) -> u64 {
     }
 }
 
-/// The lines behind the arrays, in words.
+/// The lines after the arrays, in words.
 fn lines_of(alloc: Global, script: &Script) -> Result<String, AllocError> {
     format!(in alloc; "{:?}", script.lines())
+}
+
+/// The handlers of a script, in words.
+fn handlers_in(alloc: Global, handlers: &[HandlerLine]) -> Result<String, AllocError> {
+    let mut text = String::new(alloc);
+    for HandlerLine { name, array, entry } in handlers {
+        let name = name.as_str();
+        text.push_str(format!(in alloc; "{name} {array} {entry};")?.as_str())?;
+    }
+    Ok(text)
 }
 
 /// The number of the malformed line, or 0.
@@ -148,6 +158,93 @@ fn moves_are_read(rt: HostRuntime) -> Result<(), Fail> {
 }
 
 #[test]
+fn handlers_stand_in_the_header(rt: HostRuntime) -> Result<(), Fail> {
+    let alloc = rt.alloc();
+    for (text, handlers) in [
+        ("array 0 1\n", ""),
+        ("handler add 3 7\narray 0 1\n", "add 3 7;"),
+        (
+            "array 0 1\nhandler A 0 0\npes 2\nhandler z 65535 65535",
+            "A 0 0;z 65535 65535;",
+        ),
+        (
+            "array 0 1\n  handler  add  01 002 \n# again\n\nhandler add 1 3\nhandler ADD 4 5\nflush\n",
+            "add 1 2;add 1 3;ADD 4 5;",
+        ),
+        (
+            "handler ABCDEFGHIJKLMNOPQRSTUVWXYZabcdef 1 2\narray 0 1\nhandler ghijklmnopqrstuvwxyz 3 4\n",
+            "ABCDEFGHIJKLMNOPQRSTUVWXYZabcdef 1 2;ghijklmnopqrstuvwxyz 3 4;",
+        ),
+    ] {
+        let script = read(alloc, text.as_bytes())?;
+        let read = handlers_in(alloc, script.handlers())?;
+        assert_eq!(rt; read.as_str(), handlers, "{text:?}");
+        assert_eq!(rt; script.arrays().len(), 1);
+    }
+    Ok(())
+}
+
+#[test]
+fn handlers_are_the_header_of_a_restart(rt: HostRuntime) -> Result<(), Fail> {
+    let alloc = rt.alloc();
+    let text = b"handler add 3 7\n# and\nhandler add 3 8\nhandler Sub 3 9\nsupply 1 2\nflush\n";
+    let script = read_restart(alloc, text)?;
+    let handlers = handlers_in(alloc, script.handlers())?;
+    assert_eq!(rt; handlers.as_str(), "add 3 7;add 3 8;Sub 3 9;");
+    assert_eq!(rt; script.lines().len(), 2);
+    assert_eq!(rt; script.blanks(Kind::Counter), 2);
+    let script = read_restart(alloc, b"handler add 3 7")?;
+    let handlers = handlers_in(alloc, script.handlers())?;
+    assert_eq!(rt; handlers.as_str(), "add 3 7;");
+    assert!(rt; script.lines().is_empty());
+    Ok(())
+}
+
+#[test]
+fn calls_are_read(rt: HostRuntime) -> Result<(), Fail> {
+    let text =
+        "array 0 1\ncall 7 1 add 2\n call  4294967295 18446744073709551615 Z 0018446744073709551615 5 0 18446744073709551615 \n\
+        call 0 0 ABCDEFGHIJKLMNOPQRSTUVWXYZabcdef 0 9";
+    let script = read(rt.alloc(), text.as_bytes())?;
+    let [first, second, third] = script.lines() else {
+        panic!(rt; "three lines");
+    };
+    let Line::Call {
+        client,
+        number,
+        name,
+        index,
+        words,
+    } = first
+    else {
+        panic!(rt; "a call");
+    };
+    assert!(rt; *client == 7 && *number == 1 && name.as_str() == "add" && *index == 2);
+    assert!(rt; words.is_empty());
+    let Line::Call {
+        client,
+        number,
+        name,
+        index,
+        words,
+    } = second
+    else {
+        panic!(rt; "a call");
+    };
+    assert!(rt;
+        *client == u32::MAX && *number == u64::MAX && name.as_str() == "Z" && *index == u64::MAX
+    );
+    assert!(rt; words.as_slice() == [5, 0, u64::MAX].as_slice());
+    let Line::Call { name, words, .. } = third else {
+        panic!(rt; "a call");
+    };
+    assert_eq!(rt; name.as_str(), "ABCDEFGHIJKLMNOPQRSTUVWXYZabcdef");
+    assert!(rt; words.as_slice() == [9].as_slice());
+    assert_eq!(rt; script.blanks(Kind::Counter), 0);
+    Ok(())
+}
+
+#[test]
 fn flushes_and_checkpoints_are_read(rt: HostRuntime) -> Result<(), Fail> {
     let text = "array 0 1\nflush\ncheckpoint\n  checkpoint  \nflush\ncheckpoint";
     let script = read(rt.alloc(), text.as_bytes())?;
@@ -204,6 +301,13 @@ fn the_first_malformed_line_is_named(rt: HostRuntime) {
         ("array 0 1\npending\npes 1\n", 3),
         ("array 0 1\nflush\npes 2\n", 3),
         ("array 0 1\ncheckpoint\npes 2\n", 3),
+        // a handler line that may not stand there
+        ("array 0 1\nsupply 1 1\nhandler add 0 1\n", 3),
+        ("array 0 1\nhandler add 0 1\nflush\nhandler add 0 1\n", 4),
+        ("array 0 1\ncall 7 1 add 2\nhandler add 0 1\n", 3),
+        // a handler line is no array line
+        ("handler add 0 1\n", 1),
+        ("handler add 0 1\nflush\n", 1),
         // no line of the language
         ("bad\narray 0 1\n", 1),
         ("array 0 1\n   \n", 2),
@@ -215,7 +319,7 @@ fn the_first_malformed_line_is_named(rt: HostRuntime) {
     }
 }
 
-// Each of these lines is malformed behind `array 0 1`.
+// Each of these lines is malformed after `array 0 1`.
 const MALFORMED: &str = "\
 array 0 1
 flush now
@@ -238,6 +342,41 @@ move 65536 0 0
 move 0 18446744073709551616 0
 move 0 0 65536
 move 0 0 x
+handler
+handler add
+handler add 0
+handler add 0 1 2
+handler 0 0 1
+handler add2 0 1
+handler 2add 0 1
+handler add_to 0 1
+handler add-to 0 1
+handler a@b 0 1
+handler a[b 0 1
+handler a`b 0 1
+handler a{b 0 1
+handler ABCDEFGHIJKLMNOPQRSTUVWXYZabcdefg 0 1
+handler ABCDEFGHIJKLMNOPQRSTUVWXYZabcdefghijklmnopqrstuvwxyz 0 1
+handler add 65536 0
+handler add 0 65536
+handler add x 0
+handler add 0 -1
+Handler add 0 1
+handlers add 0 1
+call
+call 7
+call 7 1
+call 7 1 add
+call 7 1 2
+call 7 1 add2 2
+call 7 1 2 add
+call 7 add 1 2
+call 7 1 ABCDEFGHIJKLMNOPQRSTUVWXYZabcdefg 2
+call 7 1 add x
+call 7 1 add 2 x
+call 7 1 add 2 3 -4
+Call 7 1 add 2
+calls 7 1 add 2
 drain
 drain 1 2
 state 0
@@ -336,6 +475,10 @@ fn a_script_of_a_restart_has_no_header(rt: HostRuntime) {
         ("pes 4\narray 0 1\n", 1),
         ("array 0 1\nflush\n", 1),
         ("flush\narray 0 1\n", 2),
+        ("handler add 0 1\narray 0 1\n", 2),
+        ("handler add 0 1\npes 1\n", 2),
+        ("flush\nhandler add 0 1\n", 2),
+        ("handler add 0 1\npending\nhandler add 0 1\n", 3),
         ("flush\npes 2\n", 2),
         ("# none\n\narray 65535 6", 3),
         ("supply 1 1\nreq 7 1 0 0 65535 5\n  pes  1  \nflush\n", 3),
@@ -418,7 +561,7 @@ fn a_script_has_at_most_1048576_line_feeds(rt: HostRuntime) -> Result<(), Fail> 
     Ok(())
 }
 
-// Lines with the greatest number that one may have, and behind it the next number.
+// Lines with the greatest number that one may have, and after it the next number.
 const LIMITS: &str = "\
 array 65535 1 | array 65536 1
 array 1 6 | array 1 7
@@ -431,6 +574,14 @@ req 1 1 65535 0 0 | req 1 1 65536 0 0
 req 1 1 0 18446744073709551615 0 | req 1 1 0 18446744073709551616 0
 req 1 1 0 0 65535 | req 1 1 0 0 65536
 req 1 1 0 0 0 18446744073709551615 | req 1 1 0 0 0 18446744073709551616
+call 4294967295 1 a 0 | call 4294967296 1 a 0
+call 1 18446744073709551615 a 0 | call 1 18446744073709551616 a 0
+call 1 1 a 18446744073709551615 | call 1 1 a 18446744073709551616
+call 1 1 a 0 0 18446744073709551615 | call 1 1 a 0 0 18446744073709551616
+call 1 1 abcdefghijklmnopqrstuvwxyzABCDEF 0 | call 1 1 abcdefghijklmnopqrstuvwxyzABCDEFG 0
+handler a 65535 0 | handler a 65536 0
+handler a 0 65535 | handler a 0 65536
+handler abcdefghijklmnopqrstuvwxyzABCDEF 0 0 | handler abcdefghijklmnopqrstuvwxyzABCDEFG 0 0
 status 4294967295 1 | status 4294967296 1
 status 1 18446744073709551615 | status 1 18446744073709551616
 deliver 65535 c1.1 | deliver 65536 c1.1

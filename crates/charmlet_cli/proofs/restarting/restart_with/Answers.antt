@@ -15,11 +15,11 @@ returns-in-Ok-run_restarted-clause-ran g c =
     let first = c.in-Ok.engine in
     let end = c.run_restarted.new.engine in
     let made = c.in-Ok.ensures in
-    let same = all_given {H = g.C.Chare} c.args.stocks.given c.requires.unused in
+    let same = all_given {H = g.C.Chare} c.args.prepared.given c.requires.unused in
     let taken = subst (λ (given : Blanks). g.D.Disk.honest c.args.disk → IsTakenFrom {G = g.D.Disk} {H = g.C.Chare} given (bytes_on (g.D.Disk.file c.args.disk)) (recovered_in first)) same made.taken in (
       counted_processors (is_processor_count c.args.processors) (λ is. made.bad is),
       ledger_in {G = g.D.Disk} {H = g.C.Chare} first,
-      is_back {G = g.D.Disk} {H = g.C.Chare} c.args.processors (supplied_to c.args.stocks.given) c.args.disk first made.opens made.found taken made.supplied made.remembers made.counted made.honest
+      is_back {G = g.D.Disk} {H = g.C.Chare} c.args.processors (supplied_to c.args.prepared.given) c.args.disk first made.opens made.found taken made.supplied made.remembers made.counted made.honest
           (λ honest. made.settled honest refl) made.any_moment,
       ledger_in {G = g.D.Disk} {H = g.C.Chare} end,
       c.in-Ok-run_restarted.ensures.prints,
@@ -31,12 +31,12 @@ returns-in-Ok-clause-err g c =
     let first = c.in-Ok.engine in
     let end = c.run_restarted.new.engine in
     let made = c.in-Ok.ensures in
-    let same = all_given {H = g.C.Chare} c.args.stocks.given c.requires.unused in
+    let same = all_given {H = g.C.Chare} c.args.prepared.given c.requires.unused in
     let taken = subst (λ (given : Blanks). g.D.Disk.honest c.args.disk → IsTakenFrom {G = g.D.Disk} {H = g.C.Chare} given (bytes_on (g.D.Disk.file c.args.disk)) (recovered_in first)) same made.taken in
     inr (
       counted_processors (is_processor_count c.args.processors) (λ is. made.bad is),
       ledger_in {G = g.D.Disk} {H = g.C.Chare} first,
-      is_back {G = g.D.Disk} {H = g.C.Chare} c.args.processors (supplied_to c.args.stocks.given) c.args.disk first made.opens made.found taken made.supplied made.remembers made.counted made.honest
+      is_back {G = g.D.Disk} {H = g.C.Chare} c.args.processors (supplied_to c.args.prepared.given) c.args.disk first made.opens made.found taken made.supplied made.remembers made.counted made.honest
           (λ honest. made.settled honest refl) made.any_moment,
       ledger_in {G = g.D.Disk} {H = g.C.Chare} end,
       c.in-Err-run_restarted.ensures.breaks_off,
@@ -48,9 +48,9 @@ pub returns-in-Ok-write_answer-clause-err : goal.returns-in-Ok-write_answer-clau
 returns-in-Ok-write_answer-clause-err g c =
     let refused = c.in-Err.field-0 in
     let why = c.in-Err.ensures in
-    let same = all_given {H = g.C.Chare} c.args.stocks.given c.requires.unused in
+    let same = all_given {H = g.C.Chare} c.args.prepared.given c.requires.unused in
     let answer = subst (λ (given : Blanks). g.D.Disk.honest c.args.disk → is_processor_count c.args.processors ≡ true → AnswersBy {X = Recovered g.row.D.Denot g.row.C.Denot g.D.Disk g.C.Chare} (restart_refusal given (bytes_on (g.D.Disk.file c.args.disk))) (Err refused.refusal)) same why.answer in (
-      was_not_restarted {G = g.D.Disk} {H = g.C.Chare} c.args.processors (supplied_to c.args.stocks.given) c.args.disk c.args.stocks.given refused why.err why.bad why.only_bad answer why.lawful why.same why.any_moment
+      was_not_restarted {G = g.D.Disk} {H = g.C.Chare} c.args.processors (supplied_to c.args.prepared.given) c.args.disk c.args.prepared.given refused why.err why.bad why.only_bad answer why.lawful why.same why.any_moment
           why.counted,
       c.in-Ok-write_answer.ensures,
     )
@@ -59,11 +59,11 @@ pub returns-clause-err : goal.returns-clause-err
 returns-clause-err g c =
     let refused = c.in-Err.field-0 in
     let why = c.in-Err.ensures in
-    let same = all_given {H = g.C.Chare} c.args.stocks.given c.requires.unused in
+    let same = all_given {H = g.C.Chare} c.args.prepared.given c.requires.unused in
     let answer = subst (λ (given : Blanks). g.D.Disk.honest c.args.disk → is_processor_count c.args.processors ≡ true → AnswersBy {X = Recovered g.row.D.Denot g.row.C.Denot g.D.Disk g.C.Chare} (restart_refusal given (bytes_on (g.D.Disk.file c.args.disk))) (Err refused.refusal)) same why.answer in
     inl (
       refused.refusal,
-      was_not_restarted {G = g.D.Disk} {H = g.C.Chare} c.args.processors (supplied_to c.args.stocks.given) c.args.disk c.args.stocks.given refused why.err why.bad why.only_bad answer why.lawful why.same why.any_moment
+      was_not_restarted {G = g.D.Disk} {H = g.C.Chare} c.args.processors (supplied_to c.args.prepared.given) c.args.disk c.args.prepared.given refused why.err why.bad why.only_bad answer why.lawful why.same why.any_moment
           why.counted,
       c.in-Err-write_answer.ensures,
     )

@@ -1,5 +1,6 @@
-use Rattle.std.proofs.Common.{rules, ◌≡◌, ◌≤◌, true, false, refl, sym, subst}
+use Rattle.std.proofs.Common.{rules, ◌≡◌, ◌≤◌, true, false, refl, sym, ap, subst, ◌∙◌}
 use Rattle.charmlet_script.specs.Script.{blanks_of}
+use Rattle.charmlet_cli.specs.Lines.{named_by}
 use Rattle.charmlet_cli.proofs.Endings.{memory_ends}
 use Rattle.charmlet_cli.proofs.Supplies.{is_enough, is_too_few}
 use Rattle.charmlet_cli.proofs.running.prepare.Goals as goal
@@ -31,3 +32,12 @@ pub returns-clause-enough : goal.returns-clause-enough
 returns-clause-enough g c =
     let is : c.has_enough.result ≡ true = search rules in
     is_enough g.C.Chare.state c.supplied_by.result c.args.script.now.lines c.as_slice.result.now c.args.blanks.items c.as_slice.ensures.value c.supplied_by.ensures c.has_enough.result c.has_enough.ensures is
+
+pub returns-in_err-desk-clause-err : goal.returns-in_err-desk-clause-err
+returns-in_err-desk-clause-err g c =
+    let is : c.has_enough.result ≡ true = search rules in
+    memory_ends g.C.Chare.state c.args.blanks.items c.args.script.now c.from_residual-in_err-desk.result
+    (is_enough g.C.Chare.state c.supplied_by.result c.args.script.now.lines c.as_slice.result.now c.args.blanks.items c.as_slice.ensures.value c.supplied_by.ensures c.has_enough.result c.has_enough.ensures is) c.from_residual-in_err-desk.ensures.1
+
+pub returns-clause-named : goal.returns-clause-named
+returns-clause-named g c name = c.in_ok-desk.ensures name ∙ ap (λ lines. named_by lines name) c.handlers.ensures

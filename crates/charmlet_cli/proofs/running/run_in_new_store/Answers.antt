@@ -1,8 +1,9 @@
 use Rattle.std.proofs.Common.{◌≡◌, ℕ, inl, inr, sym, ap, subst, ◌∙◌}
 use Rattle.charmlet_locate.specs.Locations.{is_processor_count}
 use Rattle.charmlet_engine.specs.Engine.{disk_in}
-use Rattle.charmlet_cli.specs.Lines.{AreRun, BreakOff, ledger_in, opening_of}
+use Rattle.charmlet_cli.specs.Lines.{AreRun, BreakOff, ledger_in, named_at, named_by, opening_of}
 use Rattle.charmlet_cli.specs.Run.{IsCreationRefusal}
+use Rattle.charmlet_cli.proofs.Naming.{same_names}
 use Rattle.charmlet_cli.proofs.Openings.{opens}
 use Rattle.charmlet_cli.proofs.Standings.{created, handed_back, stands, stays_honest}
 use Rattle.charmlet_cli.proofs.running.run_in_new_store.Goals as goal
@@ -23,8 +24,9 @@ returns-in-Ok-run_lines-clause-ran g c =
       disk_in {G = g.D.Disk} {H = g.C.Chare} first,
       created g.D.Disk c.args.disk (disk_in {G = g.D.Disk} {H = g.C.Chare} first) script c.args.prepared.manifest c.requires.manifest made.counted made.honest leaves,
       last,
-      subst (λ ledger. AreRun g.D.Disk last ledger script.lines last old new) opening
-          (subst (λ lines. AreRun g.D.Disk last (ledger_in {G = g.D.Disk} {H = g.C.Chare} first) lines last old new) c.lines-lines.ensures c.in-Ok-run_lines.ensures.prints),
+      subst (λ ledger. AreRun g.D.Disk (named_by script.handlers) last ledger script.lines last old new) opening
+          (subst (λ named. AreRun g.D.Disk named last (ledger_in {G = g.D.Disk} {H = g.C.Chare} first) script.lines last old new) (same_names c.args.prepared.desk script.handlers c.requires.named)
+          (subst (λ lines. AreRun g.D.Disk (named_at c.args.prepared.desk) last (ledger_in {G = g.D.Disk} {H = g.C.Chare} first) lines last old new) c.lines-lines.ensures c.in-Ok-run_lines.ensures.prints)),
       stands {G = g.D.Disk} {H = g.C.Chare} c.args.prepared.manifest c.processors.result c.args.disk c.into_disk.result first end made.opens c.run_lines.ensures.consistent c.run_lines.ensures.advances made.honest.0 leaves c.into_disk.ensures,
     )
 
@@ -49,8 +51,9 @@ returns-in-Ok-clause-err g c =
       disk_in {G = g.D.Disk} {H = g.C.Chare} first,
       created g.D.Disk c.args.disk (disk_in {G = g.D.Disk} {H = g.C.Chare} first) script c.args.prepared.manifest c.requires.manifest made.counted made.honest leaves,
       last,
-      subst (λ ledger. BreakOff g.D.Disk ledger script.lines last old new) opening
-          (subst (λ lines. BreakOff g.D.Disk (ledger_in {G = g.D.Disk} {H = g.C.Chare} first) lines last old new) c.lines-lines.ensures c.in-Err-run_lines.ensures.breaks_off),
+      subst (λ ledger. BreakOff g.D.Disk (named_by script.handlers) ledger script.lines last old new) opening
+          (subst (λ named. BreakOff g.D.Disk named (ledger_in {G = g.D.Disk} {H = g.C.Chare} first) script.lines last old new) (same_names c.args.prepared.desk script.handlers c.requires.named)
+          (subst (λ lines. BreakOff g.D.Disk (named_at c.args.prepared.desk) (ledger_in {G = g.D.Disk} {H = g.C.Chare} first) lines last old new) c.lines-lines.ensures c.in-Err-run_lines.ensures.breaks_off)),
       stands {G = g.D.Disk} {H = g.C.Chare} c.args.prepared.manifest c.processors.result c.args.disk c.into_disk-in-Err-run_lines.result first end made.opens c.run_lines.ensures.consistent c.run_lines.ensures.advances made.honest.0 leaves c.into_disk-in-Err-run_lines.ensures,
     )
 

@@ -1,12 +1,15 @@
-use Rattle.std.proofs.Common.{◌≡◌, ◌≤◌, cond, ◌∷◌, [], refl, sym, ap, subst, ◌∙◌}
+use Rattle.std.proofs.Common.{◌≡◌, ◌≤◌, ℕ, List, cond, ◌∷◌, [], refl, sym, ap, subst, ◌∙◌}
 use Rattle.std.specs.Cmp.{nat_eq_equiv}
 use Rattle.charmlet_model.specs.Kind.{kind_number}
+use Rattle.charmlet_model.specs.Core.{present}
 use Rattle.charmlet_model.specs.Texts.{answer_text}
+use Rattle.charmlet_model.specs.declared.step.Step.TheVariants as steps
+use Rattle.charmlet_requests.specs.Handlers.{IsTarget}
 use Rattle.charmlet_script.specs.declared.script.Line.TheVariants.{Supply}
 use Rattle.charmlet_script.specs.Script.{blanks_in}
 use Rattle.charmlet_engine.specs.Engine.{disk_in}
 use Rattle.charmlet_engine.proofs.Advancing.{advances_still}
-use Rattle.charmlet_cli.specs.Lines.{Follows, IsAnswered, IsPrinted, blanks_left, ledger_in}
+use Rattle.charmlet_cli.specs.Lines.{Follows, IsAnswered, IsPrinted, blanks_left, ledger_in, named_at}
 use Rattle.charmlet_cli.proofs.running.run_line.Goals as goal
 
 pub supply_line-requires-clause-enough : goal.supply_line-requires-clause-enough
@@ -19,24 +22,34 @@ supply_line-requires-clause-enough g c κs within =
 
 pub returns-in-Supply-clause-prints : goal.returns-in-Supply-clause-prints
 returns-in-Supply-clause-prints g c =
-    subst (λ line. IsPrinted g.D.Disk c.supply_line.result (ledger_in c.args.engine.now) line (ledger_in c.supply_line.new.engine) (g.W.Write.contents c.args.writer.now) (g.W.Write.contents c.supply_line.new.writer))
+    subst (λ line. IsPrinted g.D.Disk (named_at c.args.desk.now) c.supply_line.result (ledger_in c.args.engine.now) line (ledger_in c.supply_line.new.engine) (g.W.Write.contents c.args.writer.now) (g.W.Write.contents c.supply_line.new.writer))
     (sym c.in-Supply.is) c.supply_line.ensures.prints
 
-pub returns-clause-prints : goal.returns-clause-prints
-returns-clause-prints g c =
+pub returns-in-Call-clause-prints : goal.returns-in-Call-clause-prints
+returns-in-Call-clause-prints g c =
     let before = ledger_in c.args.engine.now in
-    let next = ledger_in c.step.new.self in
-    let text = answer_text c.step.result in
-    let answered : IsAnswered g.D.Disk c.in-Step.step c.step.result before next = record {
-      does = c.step.ensures.does;
-      told = c.step.ensures.told;
-      supplied = c.step.ensures.supplied;
-      counted = c.step.ensures.counted;
-      still = c.step.ensures.still;
-    } in
-    let follows : Follows g.D.Disk before c.args.line.now (text ∷ []) next =
-    subst (λ line. Follows g.D.Disk before line (text ∷ []) next) (sym c.in-Step.is) (c.step.result, answered, refl) in
-    (text ∷ [], follows, c.write_answer.ensures)
+    let next = ledger_in c.answer_to_call.new.engine in
+    let text = answer_text c.answer_to_call.result in
+    let asked = c.answer_to_call.ensures.answered in
+    let named = named_at c.args.desk.now in
+    let target : IsTarget (present before.store.core) c.in-Call.index (named c.in-Call.name) asked.0 asked.1 =
+    subst (λ (name : List ℕ). IsTarget (present before.store.core) c.in-Call.index (named name) asked.0 asked.1) c.as_str.ensures asked.2 in
+    let answered : IsAnswered g.D.Disk (steps.Request c.in-Call.client c.in-Call.number asked.0 asked.1 c.in-Call.words) c.answer_to_call.result before next =
+    subst (λ (words : List ℕ). IsAnswered g.D.Disk (steps.Request c.in-Call.client c.in-Call.number asked.0 asked.1 words) c.answer_to_call.result before next) c.as_slice.ensures asked.3 in (
+      text ∷ [],
+      subst (λ line. Follows g.D.Disk named before line (text ∷ []) next) (sym c.in-Call.is) (asked.0, asked.1, target, c.answer_to_call.result, answered, refl),
+      c.write_answer.ensures,
+    )
+
+pub returns-in-Step-clause-prints : goal.returns-in-Step-clause-prints
+returns-in-Step-clause-prints g c =
+    let before = ledger_in c.args.engine.now in
+    let next = ledger_in c.answer_to.new.engine in
+    let text = answer_text c.answer_to.result in (
+      text ∷ [],
+      subst (λ line. Follows g.D.Disk (named_at c.args.desk.now) before line (text ∷ []) next) (sym c.in-Step.is) (c.answer_to.result, c.answer_to.ensures.answered, refl),
+      c.write_answer-in-Step.ensures,
+    )
 
 pub returns-in-Pending-clause-advances : goal.returns-in-Pending-clause-advances
 returns-in-Pending-clause-advances g c =

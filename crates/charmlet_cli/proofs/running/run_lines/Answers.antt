@@ -6,9 +6,10 @@ use Rattle.charmlet_model.specs.Texts.{Text}
 use Rattle.charmlet_script.specs.Script.{blanks_in, blanks_of}
 use Rattle.charmlet_engine.specs.Engine.{disk_in}
 use Rattle.charmlet_engine.proofs.Advancing.{advances_after, advances_still}
-use Rattle.charmlet_cli.specs.Lines.{Continues, Prints, blanks_left, ledger_in}
+use Rattle.charmlet_cli.specs.Lines.{Continues, Follows, Names, Prints, blanks_left, ledger_in, named_at}
 use Rattle.charmlet_cli.proofs.Continuing.{continued, continues_now, prints_more, prints_until}
 use Rattle.charmlet_cli.proofs.Endings.{on_err}
+use Rattle.charmlet_cli.proofs.Naming.{same_desk}
 use Rattle.charmlet_cli.proofs.Printing.{lines_then, split_at}
 use Rattle.charmlet_cli.proofs.running.run_lines.Goals as goal
 
@@ -16,11 +17,14 @@ pub returns-in_err-run_line-clause-breaks_off : goal.returns-in_err-run_line-cla
 returns-in_err-run_line-clause-breaks_off g c =
     let lines = c.args.lines.now in
     let at = c.loop-line.line-index in
+    let named = named_at c.args.desk.now in
     let printed = c.in_err-run_line.ensures.prints in
     let first = ledger_in {G = g.D.Disk} {H = g.C.Chare} c.args.engine.now in
     let mid = ledger_in {G = g.D.Disk} {H = g.C.Chare} c.loop-line.engine in
     let last = ledger_in {G = g.D.Disk} {H = g.C.Chare} c.run_line.new.engine in
     let so_far = c.loop-line.invariant.1 in
+    let follows : Follows g.D.Disk named mid c.line-item.result printed.0 last =
+    subst (λ (names : Names). Follows g.D.Disk names mid c.line-item.result printed.0 last) (same_desk c.loop-line.desk c.args.desk.now c.loop-line.invariant.2) printed.1 in
     let here : Continues g.D.Disk mid last = continued {G = g.D.Disk} {H = g.C.Chare} c.loop-line.engine c.run_line.new.engine c.run_line.ensures.advances in
     on_err c.from_residual.result (
       take at lines,
@@ -29,9 +33,9 @@ returns-in_err-run_line-clause-breaks_off g c =
       split_at lines at c.line-item.result c.loop-line-test.true ∙ ap (λ line. take at lines ++ line ∷ drop (at + 1) lines) (sym c.line-item.is),
       mid,
       g.W.Write.contents c.loop-line.writer,
-      (so_far.0, prints_until g.D.Disk mid last first mid (take at lines) so_far.0 here so_far.1, so_far.2),
+      (so_far.0, prints_until g.D.Disk named mid last first mid (take at lines) so_far.0 here so_far.1, so_far.2),
       printed.0,
-      printed.1,
+      follows,
       here,
       printed.2,
     )
@@ -40,6 +44,7 @@ pub loop-line-preserved : goal.loop-line-preserved
 loop-line-preserved g c =
     let lines = c.args.lines.now in
     let at = c.loop-line.line-index in
+    let named = named_at c.args.desk.now in
     let laws = g.met.D.Disk g.world.𝓛 g.world.𝓜 g.world.𝓡 ((λ s x. x), (λ x. x), (λ x. x), (λ x. x)) in
     let first = ledger_in {G = g.D.Disk} {H = g.C.Chare} c.args.engine.now in
     let before = ledger_in {G = g.D.Disk} {H = g.C.Chare} c.loop-line.engine in
@@ -49,26 +54,29 @@ loop-line-preserved g c =
     continues_now {G = g.D.Disk} {H = g.C.Chare} c.run_line.new.engine c.run_line.ensures.consistent (λ honest o left. laws.only_now (disk_in c.run_line.new.engine) o honest left) in
     let so_far = c.loop-line.invariant.1 in
     let printed = c.in_ok-run_line.ensures.prints in
+    let follows : Follows g.D.Disk named before c.line-item.result printed.0 next =
+    subst (λ (names : Names). Follows g.D.Disk names before c.line-item.result printed.0 next) (same_desk c.loop-line.desk c.args.desk.now c.loop-line.invariant.2) printed.1 in
     let more : take (at + 1) lines ≡ take at lines ++ c.line-item.result ∷ [] =
     take_more lines at c.line-item.result c.loop-line-test.true ∙ ap (λ line. take at lines ++ line ∷ []) (sym c.line-item.is) in
     let texts : List Text = so_far.0 ++ printed.0 in
-    let until : Prints g.D.Disk next first (take at lines) so_far.0 before = prints_until g.D.Disk before next first before (take at lines) so_far.0 here so_far.1 in
-    let prints : Prints g.D.Disk next first (take (at + 1) lines) texts next =
-    subst (λ lines. Prints g.D.Disk next first lines texts next) (sym more) (prints_more g.D.Disk next first before next (take at lines) c.line-item.result so_far.0 printed.0 until printed.1 here now) in (
+    let until : Prints g.D.Disk named next first (take at lines) so_far.0 before = prints_until g.D.Disk named before next first before (take at lines) so_far.0 here so_far.1 in
+    let prints : Prints g.D.Disk named next first (take (at + 1) lines) texts next =
+    subst (λ lines. Prints g.D.Disk named next first lines texts next) (sym more) (prints_more g.D.Disk named next first before next (take at lines) c.line-item.result so_far.0 printed.0 until follows here now) in (
       c.run_line.ensures.consistent,
       (texts, prints, lines_then _ _ _ so_far.0 printed.0 so_far.2 printed.2),
+      c.run_line.ensures.handlers ∙ c.loop-line.invariant.2,
       λ kind.
           let split : blanks_of kind (drop at lines) ≡ blanks_in kind (get_or lines at c.line-item.result) + blanks_of kind (drop (at + 1) lines) =
           sum_by-drop_more (blanks_in kind) lines at c.line-item.result c.loop-line-test.true in
           let here : blanks_in kind c.line-item.result ≡ blanks_in kind (get_or lines at c.line-item.result) = ap (blanks_in kind) c.line-item.is in
-          let enough : blanks_of kind (drop at lines) ≤ blanks_left c.loop-line.source kind = c.loop-line.invariant.2 kind in
+          let enough : blanks_of kind (drop at lines) ≤ blanks_left c.loop-line.source kind = c.loop-line.invariant.3 kind in
           let left : blanks_left c.loop-line.source kind ≤ blanks_left c.run_line.new.source kind + blanks_in kind c.line-item.result = c.in_ok-run_line.ensures.left kind in
           omega arith,
-      advances_after {G = g.D.Disk} {H = g.C.Chare} c.args.engine.now c.loop-line.engine c.run_line.new.engine c.loop-line.invariant.3 c.run_line.ensures.advances,
+      advances_after {G = g.D.Disk} {H = g.C.Chare} c.args.engine.now c.loop-line.engine c.run_line.new.engine c.loop-line.invariant.4 c.run_line.ensures.advances,
     )
 
 pub returns-in_err-run_line-clause-advances : goal.returns-in_err-run_line-clause-advances
-returns-in_err-run_line-clause-advances g c = advances_after {G = g.D.Disk} {H = g.C.Chare} c.args.engine.now c.loop-line.engine c.run_line.new.engine c.loop-line.invariant.3 c.run_line.ensures.advances
+returns-in_err-run_line-clause-advances g c = advances_after {G = g.D.Disk} {H = g.C.Chare} c.args.engine.now c.loop-line.engine c.run_line.new.engine c.loop-line.invariant.4 c.run_line.ensures.advances
 
 pub loop-line-init : goal.loop-line-init
 loop-line-init g c =
@@ -76,6 +84,7 @@ loop-line-init g c =
     let engine = c.args.engine.now in (
       c.requires.consistent,
       search rules,
+      refl,
       c.requires.enough,
       advances_still {G = g.D.Disk} {H = g.C.Chare} engine engine c.requires.consistent refl refl (λ honest o left. laws.only_now (disk_in engine) o honest left),
     )

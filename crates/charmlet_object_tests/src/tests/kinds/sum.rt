@@ -86,7 +86,7 @@ fn sums_that_are_their_own_up_send_nothing(rt: HostRuntime) -> Result<(), Fail> 
     acts(&rt, &mut sum, 0, &[5], &[], &[], &own)
 }
 
-// A sum that wants 3 and got 1 gets two more values.
+// A sum that needs 3 and got 1 gets two more values.
 #[test]
 fn totals_stop_at_the_greatest_number(rt: HostRuntime) -> Result<(), Fail> {
     let sent = Sent {

@@ -1,4 +1,4 @@
-//! A disk that takes no memory once it is made, so that no write fails for want of it.
+//! A disk that takes no memory once it is made, so that no write fails for lack of it.
 
 ghost use Rattle.std.specs.Prelude.{◌≡◌, is_ok};
 ghost use Rattle.charmlet_disk.specs.Disk.{faults_after};

@@ -1,0 +1,157 @@
+//! Where clients ask: the handlers that are registered, and the clients' passes.
+
+ghost use Rattle.std.specs.Prelude.{◌≡◌, ℕ, List, IfOk};
+ghost use Rattle.charmlet_model.specs.declared.names.Elem as names;
+ghost use Rattle.charmlet_model.specs.declared.step.Step.TheVariants as steps;
+ghost use Rattle.charmlet_requests.specs.Handlers.{IsTarget, handler_of};
+ghost use Rattle.charmlet_engine.specs.Engine.{IsEngineConsistent, client_answer, world_of};
+ghost use Rattle.charmlet_engine.specs.Taken.{Takes};
+ghost use Rattle.charmlet_cli.specs.Lines.{named_at, named_by};
+
+use charmlet_chare::Chare;
+use charmlet_disk::Disk;
+use charmlet_engine::Engine;
+use charmlet_history::Request;
+use charmlet_model::{Elem, Refusal, Told};
+use charmlet_requests::{ClientPass, Handler, Handlers, Passes};
+use charmlet_script::HandlerLine;
+use std::alloc::{AllocError, Global};
+use std::collections::BTreeMap;
+
+/// The handlers of a script, and the passes of its clients. Each client has one from its first request or question on; where
+/// memory for it is refused it goes without one, and is answered the same.
+#[derive(Drop)]
+pub(crate) struct Desk {
+    handlers: Handlers,
+    passes: Passes,
+    held: BTreeMap<u32, ClientPass>,
+}
+
+/// What a client asks of a named handler.
+#[derive(Clone, Copy)]
+pub(crate) struct Call<'a> {
+    pub(crate) client: u32,
+    pub(crate) number: u64,
+    pub(crate) name: &'a str,
+    pub(crate) index: u64,
+    pub(crate) words: &'a [u64],
+}
+
+impl Desk {
+    /// A desk with these handlers, of which the last one of a name counts. It fails only when out of memory.
+    pub(crate) fn new(alloc: Global, lines: &[HandlerLine]) -> Result<Self, AllocError>
+        ensures { IfOk result (λ desk. (name : List ℕ) → named_at desk name ≡ named_by lines.now name) }
+    {
+        Ok(Desk {
+            handlers: handlers_of(alloc, lines)?,
+            passes: Passes::new(alloc),
+            held: BTreeMap::new(alloc),
+        })
+    }
+
+    /// Lends the client its pass, if it has none yet and there is memory for it.
+    fn lend<D: Disk, C: Chare>(&mut self, engine: &Engine<D, C>, client: u32)
+        requires { IsEngineConsistent engine.now }
+        ensures { self.new.handlers ≡ self.old.handlers }
+    {
+        if self.held.contains_key(&client) {
+            return;
+        }
+        if let Ok(pass) = engine.lend(&mut self.passes, client) {
+            // A pass that can't be held is dropped, and isn't lent again.
+            let _ = self.held.insert(client, pass);
+        }
+    }
+
+    /// A client's request, by its pass.
+    pub(crate) fn request<D: Disk, C: Chare>(
+        &mut self,
+        engine: &mut Engine<D, C>,
+        request: &Request<'_>,
+    ) -> Result<Told, Refusal>
+        requires { IsEngineConsistent engine.old }
+        ensures consistent { IsEngineConsistent engine.new }
+        ensures takes { Takes engine.old engine.new (steps.Request request.now.client
+            request.now.number request.now.to request.now.entry request.now.words.now)
+            (client_answer result) }
+        ensures handlers { self.new.handlers ≡ self.old.handlers }
+    {
+        self.lend(engine, request.client);
+        match self.held.get_mut(&request.client) {
+            Some(pass) if pass.client() == request.client => engine.request(
+                pass,
+                request.number,
+                request.to,
+                request.entry,
+                request.words,
+            ),
+            _ => engine.ask(request),
+        }
+    }
+
+    /// What is durable of a client's request, by its pass.
+    pub(crate) fn status<D: Disk, C: Chare>(
+        &mut self,
+        engine: &mut Engine<D, C>,
+        client: u32,
+        number: u64,
+    ) -> Result<Told, Refusal>
+        requires { IsEngineConsistent engine.old }
+        ensures consistent { IsEngineConsistent engine.new }
+        ensures takes { Takes engine.old engine.new (steps.Status client number)
+            (client_answer result) }
+        ensures handlers { self.new.handlers ≡ self.old.handlers }
+    {
+        self.lend(engine, client);
+        match self.held.get_mut(&client) {
+            Some(pass) if pass.client() == client => engine.status(pass, number),
+            _ => engine.tell(client, number),
+        }
+    }
+
+    /// A client's request to a named handler, by its pass. A repeat is answered before the name is looked up.
+    pub(crate) fn call<D: Disk, C: Chare>(
+        &mut self,
+        engine: &mut Engine<D, C>,
+        call: &Call<'_>,
+    ) -> Result<Told, Refusal>
+        requires { IsEngineConsistent engine.old }
+        ensures consistent { IsEngineConsistent engine.new }
+        ensures takes { (to : names.Elem) × (entry : ℕ)
+            × IsTarget (world_of engine.old) call.now.index
+            (named_at self.old call.now.name.now) to entry
+            × Takes engine.old engine.new (steps.Request call.now.client call.now.number to entry
+            call.now.words.now) (client_answer result) }
+        ensures handlers { self.new.handlers ≡ self.old.handlers }
+    {
+        let handler = engine.target(&self.handlers, call.name);
+        let request = Request {
+            client: call.client,
+            number: call.number,
+            to: Elem {
+                array: handler.array,
+                index: call.index,
+            },
+            entry: handler.entry,
+            words: call.words,
+        };
+        self.request(engine, &request)
+    }
+}
+
+/// The handlers of these lines, of which the last one of a name counts. It fails only when out of memory.
+fn handlers_of(alloc: Global, lines: &[HandlerLine]) -> Result<Handlers, AllocError>
+    ensures { IfOk result (λ handlers. (name : List ℕ) → handler_of handlers name ≡ named_by lines.now name) }
+{
+    let mut handlers = Handlers::new(alloc);
+    for line in lines {
+        let handler = Handler {
+            array: line.array,
+            entry: line.entry,
+        };
+        if handlers.register(line.name.as_str(), handler).is_err() {
+            return Err(AllocError);
+        }
+    }
+    Ok(handlers)
+}
