@@ -1,0 +1,4 @@
+pub mod Folded
+pub mod Maps
+pub mod Read
+pub mod Rounds

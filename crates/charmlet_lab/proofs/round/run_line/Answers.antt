@@ -1,0 +1,22 @@
+use Rattle.std.proofs.Common.{refl}
+use Rattle.charmlet_engine.specs.Engine.{disk_in}
+use Rattle.charmlet_engine.proofs.Advancing.{advances_still}
+use Rattle.charmlet_lab.proofs.round.run_line.Goals as goal
+
+pub returns-clause-advances : goal.returns-clause-advances
+returns-clause-advances g c =
+    let laws = g.met.D.Disk g.world.𝓛 g.world.𝓜 g.world.𝓡 ((λ s x. x), (λ x. x), (λ x. x), (λ x. x)) in
+    let engine = c.args.engine.now in
+    advances_still {G = g.D.Disk} {H = g.C.Chare} engine engine c.requires refl refl (λ honest o left. laws.only_now (disk_in engine) o honest left)
+
+pub returns-2-clause-advances : goal.returns-2-clause-advances
+returns-2-clause-advances g c =
+    let laws = g.met.D.Disk g.world.𝓛 g.world.𝓜 g.world.𝓡 ((λ s x. x), (λ x. x), (λ x. x), (λ x. x)) in
+    let engine = c.args.engine.now in
+    advances_still {G = g.D.Disk} {H = g.C.Chare} engine engine c.requires refl refl (λ honest o left. laws.only_now (disk_in engine) o honest left)
+
+pub returns-3-clause-advances : goal.returns-3-clause-advances
+returns-3-clause-advances g c =
+    let laws = g.met.D.Disk g.world.𝓛 g.world.𝓜 g.world.𝓡 ((λ s x. x), (λ x. x), (λ x. x), (λ x. x)) in
+    let engine = c.args.engine.now in
+    advances_still {G = g.D.Disk} {H = g.C.Chare} engine engine c.requires refl refl (λ honest o left. laws.only_now (disk_in engine) o honest left)

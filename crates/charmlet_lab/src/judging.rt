@@ -1,0 +1,107 @@
+//! Whether what came back after a crash is a world of a run.
+
+ghost use Rattle.std.specs.Prelude.{◌≡◌, ◌↔◌, ◌≤◌, false, true, length, take, IfErr, IfOk, OnOk};
+ghost use Rattle.charmlet_model.specs.Fit.{IsFit};
+ghost use Rattle.charmlet_model.specs.Sound.{new_world};
+ghost use Rattle.charmlet_model.specs.World.{IsLegal, world};
+ghost use Rattle.charmlet_engine.specs.Engine.{IsEngineConsistent, core_of, world_of};
+ghost use Rattle.charmlet_lab.specs.Judged.{HasFirst, IsGood};
+ghost use Rattle.charmlet_lab.specs.Rounds.{arrays_of};
+
+use crate::same::is_same_world;
+use charmlet_chare::Chare;
+use charmlet_disk::Disk;
+use charmlet_engine::Engine;
+use charmlet_model::{Event, Refusal};
+use charmlet_plain::PlainWorld;
+use charmlet_plain_recovery::{Recovered, recover};
+use charmlet_recover::NotRestarted;
+use charmlet_script::Script;
+use std::alloc::{AllocError, Global};
+
+/// The gate of an open half.
+const OPEN: u8 = 1;
+
+/// Whether a restart after a run's crash came to what it shouldn't: it was refused, though not for `NothingHere` where the store
+/// wasn't said to be made; or the store hasn't the world after the first events of the run, as many as it counts, or not all
+/// that were durable among them. The world is that of a plain program, which knows no file. The engine goes on as before.
+///
+/// `Memory` where memory is lacking; `ImageFull` where the store is too large for an image, of which its world is read.
+pub fn lab_bad<D: Disk, C: Chare>(
+    alloc: Global,
+    script: &Script,
+    answer: &mut Result<Engine<D, C>, NotRestarted<D, C>>,
+    events: &[Event],
+    durable: Option<u64>,
+) -> Result<bool, Refusal>
+    requires consistent { IfOk answer.old IsEngineConsistent }
+    requires legal { IsLegal (new_world (arrays_of script.now)) 0 events.now }
+    ensures ok { IfOk result (λ bad.
+        (bad ≡ false) ↔ IsGood (arrays_of script.now) events.now durable answer.old) }
+    ensures consistent { IfOk answer.new IsEngineConsistent }
+{
+    match answer {
+        Ok(engine) => {
+            let is_good = has_first(alloc, script, engine, events, durable.unwrap_or(0))?;
+            Ok(!is_good)
+        }
+        Err(refused) => Ok(durable.is_some() || refused.refusal != Refusal::NothingHere),
+    }
+}
+
+/// Whether a store has the world after the first of these events, as many as it counts, with so many among them.
+fn has_first<D: Disk, C: Chare>(
+    alloc: Global,
+    script: &Script,
+    engine: &mut Engine<D, C>,
+    events: &[Event],
+    durable: u64,
+) -> Result<bool, Refusal>
+    requires consistent { IsEngineConsistent engine.old }
+    requires legal { IsLegal (new_world (arrays_of script.now)) 0 events.now }
+    ensures ok { IfOk result (λ good.
+        (good ≡ true) ↔ HasFirst (arrays_of script.now) events.now durable (core_of engine.old)) }
+    ensures consistent { IsEngineConsistent engine.new }
+{
+    let count = engine.event_count();
+    if count < durable || count > events.len() as u64 {
+        return Ok(false);
+    }
+    let wanted = world_after(alloc, script, &events[..count as usize])?;
+    let found = world_in(alloc, engine)?;
+    Ok(is_same_world(alloc, &found, &wanted)?)
+}
+
+/// The world after these events. It fails only when out of memory.
+fn world_after(alloc: Global, script: &Script, events: &[Event]) -> Result<PlainWorld, AllocError>
+    requires { IsLegal (new_world (arrays_of script.now)) 0 events.now }
+    ensures is { IfOk result (λ plain. plain ≡ world (new_world (arrays_of script.now)) events.now) }
+    ensures fit { IfOk result (λ plain. IsFit plain) }
+{
+    let mut plain = PlainWorld::new(alloc, script.manifest(alloc)?);
+    for event in events {
+        plain.after(event)?;
+    }
+    Ok(plain)
+}
+
+/// The world of a store, read of its image by the plain program. `Memory` where memory is lacking; `ImageFull` where
+/// the store is too large for an image. The engine goes on as before.
+fn world_in<D: Disk, C: Chare>(
+    alloc: Global,
+    engine: &mut Engine<D, C>,
+) -> Result<PlainWorld, Refusal>
+    requires { IsEngineConsistent engine.old }
+    ensures is { IfOk result (λ plain. plain ≡ world_of engine.old) }
+    ensures fit { IfOk result (λ plain. IsFit plain) }
+    ensures consistent { IsEngineConsistent engine.new }
+{
+    let image = engine.image()?;
+    let mut half = Vec::with_capacity(alloc, image.len() + 1)?;
+    half.push(OPEN)?;
+    half.extend_from_slice(&image)?;
+    match recover(alloc, &half, &[])? {
+        Recovered::Found { world, .. } => Ok(world),
+        _ => unreachable!(),
+    }
+}

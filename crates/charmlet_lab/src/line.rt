@@ -1,0 +1,26 @@
+//! What the laboratory prints.
+
+use std::fmt;
+
+/// How many runs were stopped, how many restarts were tried after them, and how many of these were bad.
+#[derive(Clone, Copy, Debug, PartialEq, Eq)]
+pub struct LabLine {
+    pub stops: u64,
+    pub outcomes: u64,
+    pub bad: u64,
+}
+
+/// Writes `lab stops S outcomes O bad B`, without a line feed.
+impl fmt::Display for LabLine {
+    ghost use Rattle.std.specs.Prelude.{Some};
+    ghost use Rattle.charmlet_lab.specs.Printed.{lab_line_text};
+
+    ghost output = { λ line. Some (lab_line_text line) };
+
+    fn fmt<W: fmt::Write>(&self, f: &mut fmt::Formatter<W>) -> fmt::Result {
+        let stops = self.stops;
+        let outcomes = self.outcomes;
+        let bad = self.bad;
+        write!(f, "lab stops {stops} outcomes {outcomes} bad {bad}")
+    }
+}

@@ -1,0 +1,4 @@
+mod forgetful;
+mod judged;
+mod rows;
+mod trials;
