@@ -1,17 +1,25 @@
-//! `charmlet`: runs scripts over a store of migratable objects, a new one or one that comes back, and shows one.
+//! `charmlet`: runs scripts over a store of migratable objects, a new one or one that comes back, shows one, and tries the crashes of a
+//! script.
 #![tactic(auto)]
 
 ghost use Rattle.charmlet_disk.specs.Disk.{IsSettled};
+ghost use Rattle.charmlet_model.specs.Sound.{new_world};
+ghost use Rattle.charmlet_model.specs.World.{IsLegal};
+ghost use Rattle.charmlet_lab.specs.Rounds.{arrays_of};
 
 use charmlet_chare::Chare;
 use charmlet_cli::{
     Failure, Stop, end_program, find_blanks, open_script, restart_script, run_script, show_store,
+    write_line,
 };
 use charmlet_command::{Command, command_of};
-use charmlet_disk::{Disk, FileDisk, MemDisk};
+use charmlet_disk::{CrashChoice, Disk, FileDisk, MemDisk};
 use charmlet_kinds::{Account, Counter, Ring, Sum, Tape, Tree};
-use charmlet_model::Kind;
+use charmlet_lab::{LabLine, Round, lab_outcome, lab_round};
+use charmlet_model::{Answer, Event, Kind, Refusal};
+use charmlet_recover::manifest;
 use charmlet_script::{Script, read_restart_script, read_script};
+use std::alloc::Global;
 use std::io::{BufWriter, Write};
 use std::process::ExitCode;
 use std::rt::Runtime;
@@ -103,6 +111,86 @@ fn show(rt: HostRuntime, dir: &str) -> Result<(), Stop> {
     Ok(())
 }
 
+/// Whether a restart from a disk after a crash comes to no world of the run, or to one that lacks what was durable.
+fn is_bad(
+    alloc: Global,
+    script: &Script,
+    disk: MemDisk,
+    events: &[Event],
+    durable: Option<u64>,
+) -> Result<bool, Refusal>
+    requires { IsLegal (new_world (arrays_of script.now)) 0 events.now }
+{
+    let mut disk = disk;
+    let mut blanks = Vec::new(alloc);
+    if let Ok(found) = manifest(alloc, &mut disk) {
+        for kind in &Kind::ALL {
+            for _ in 0..found.wanted.of(*kind) {
+                blanks.push(blank!(alloc, kind))?;
+            }
+        }
+    }
+    lab_outcome(alloc, script, disk, blanks, events, durable)
+}
+
+/// Runs a script on disks in memory of which each fails one call later than the one before, until one doesn't fail, and
+/// tries six crashes after each run.
+fn try_crashes(alloc: Global, script: &Script) -> Result<LabLine, Refusal> {
+    let mut line = LabLine {
+        stops: 0,
+        outcomes: 0,
+        bad: 0,
+    };
+    for calls in 0..u64::MAX {
+        for choice in &CrashChoice::ALL {
+            let mut blanks = Vec::new(alloc);
+            for kind in &Kind::ALL {
+                for _ in 0..script.blanks(*kind) {
+                    blanks.push(blank!(alloc, kind))?;
+                }
+            }
+            let Round {
+                disk,
+                events,
+                durable,
+                is_stopped,
+            } = lab_round(alloc, script, calls, blanks, MemDisk::new(alloc))?;
+            if !is_stopped {
+                return Ok(line);
+            }
+            line.outcomes = line.outcomes.saturating_add(1);
+            if is_bad(alloc, script, disk.crash(*choice), &events, durable)? {
+                line.bad = line.bad.saturating_add(1);
+            }
+        }
+        line.stops = line.stops.saturating_add(1);
+    }
+    Ok(line)
+}
+
+/// Tries the crashes of a script, and writes what was found on standard output.
+fn lab(rt: HostRuntime, path: &str) -> Result<(), Stop> {
+    let alloc = rt.alloc();
+    let mut file = open_script(&rt, path)?;
+    let script = read_script(alloc, &mut file)?;
+    let mut writer = BufWriter::new(alloc, io::writer(&rt))?;
+    let line = match try_crashes(alloc, &script) {
+        Ok(line) => line,
+        Err(Refusal::BadPes) => {
+            write_line(alloc, &mut writer, &Answer::Refused(Refusal::BadPes))?;
+            writer.flush()?;
+            return Err(Stop::NotCreated);
+        }
+        Err(_) => return Err(Stop::CannotGoOn),
+    };
+    write_line(alloc, &mut writer, &line)?;
+    writer.flush()?;
+    if line.bad > 0 {
+        return Err(Stop::NotSurvived);
+    }
+    Ok(())
+}
+
 /// The words of the command line, the first of which is the program's name.
 fn words<R: Runtime + AllocGlobal>(rt: &R) -> io::Result<Vec<String>> {
     Ok(env::args(rt)?.collect(rt.alloc())?)
@@ -119,6 +207,7 @@ fn charmlet(rt: HostRuntime) -> Result<(), Failure> {
             script,
             processors,
         } => restart(rt, dir, script, processors)?,
+        Command::Lab { script } => lab(rt, script)?,
     }
     Ok(())
 }

@@ -21,12 +21,13 @@ use Rattle.charmlet_image.specs.declared.entries.Entry.{Entry}
 use Rattle.charmlet_image.specs.Images.{spell_entry, spell_option, spell_state}
 use Rattle.charmlet_image.specs.NewStores.{spell_packed_entry}
 use Rattle.charmlet_image.proofs.ImageLemmas.{length-packed}
-use Rattle.charmlet_history.specs.declared.element.Element.{Element}
+use Rattle.charmlet_world.specs.declared.element.Element.{Element}
 use Rattle.charmlet_history.specs.declared.history.History.{History}
-use Rattle.charmlet_history.specs.Kept.{core_in, element_at, kept_in}
+use Rattle.charmlet_history.specs.Kept.{core_in, kept_in}
+use Rattle.charmlet_world.specs.Seen.{element_at}
 use Rattle.charmlet_history.specs.Records.{record_with}
 use Rattle.charmlet_history.proofs.Assigning.{there_is}
-use Rattle.charmlet_history.proofs.Places.{seen_place}
+use Rattle.charmlet_world.proofs.Places.{seen_place}
 use Rattle.charmlet_shelf.specs.Image.{IsImage, IsImageIf}
 use Rattle.charmlet_shelf.specs.declared.image.Image.{Image}
 use Rattle.charmlet_shelf.specs.Shelf.{View, is_idle}

@@ -19,10 +19,11 @@ use Rattle.charmlet_model.specs.Spelling.{spell_list}
 use Rattle.charmlet_model.proofs.Maps.{elem_total}
 use Rattle.charmlet_image.specs.declared.header.Mark.TheVariants.{Second}
 use Rattle.charmlet_image.specs.Images.{spell_client}
-use Rattle.charmlet_history.specs.Client.{Rows}
-use Rattle.charmlet_history.specs.declared.element.Element.{Element}
-use Rattle.charmlet_history.specs.Kept.{element_at, no_element, present_rows}
-use Rattle.charmlet_history.specs.Records.{has_record, record_with, records_from}
+use Rattle.charmlet_world.specs.Client.{Rows}
+use Rattle.charmlet_world.specs.declared.element.Element.{Element}
+use Rattle.charmlet_world.specs.Seen.{element_at, no_element, present_rows}
+use Rattle.charmlet_history.specs.Records.{record_with, records_from}
+use Rattle.charmlet_world.specs.Seen.{has_record}
 
 -- a client with its present row
 abbrev pub spell_rows : ℕ × Rows → List ℕ

@@ -21,8 +21,8 @@ use Rattle.charmlet_image.specs.declared.header.Mark.TheVariants.{Second}
 use Rattle.charmlet_image.specs.FitImages.{image_of}
 use Rattle.charmlet_image.specs.Images.{Saved, spell_array, spell_client, spell_entry, spell_half, spell_header, spell_image}
 use Rattle.charmlet_image.proofs.FitImageLemmas.{all_entries, few_in}
-use Rattle.charmlet_history.specs.Client.{Rows}
-use Rattle.charmlet_history.specs.Kept.{present_rows}
+use Rattle.charmlet_world.specs.Client.{Rows}
+use Rattle.charmlet_world.specs.Seen.{present_rows}
 use Rattle.charmlet_recovery.specs.Stores.{saved_of}
 use Rattle.charmlet_recovery.proofs.Writing.{halves_have_size, images_have_size}
 use Rattle.charmlet_checkpoint.specs.Showing.{AreShort, IsImageOf, PassesLimit, event_count, spell_present}

@@ -4,13 +4,13 @@ ghost use Rattle.std.specs.Prelude.{◌≡◌, ◌≤◌, ◌++◌, All, OnOk, l
 ghost use Rattle.charmlet_model.specs.Spelling.{spell_list};
 ghost use Rattle.charmlet_image.specs.declared.header.Mark.TheVariants.{Second};
 ghost use Rattle.charmlet_image.specs.Images.{spell_client};
-ghost use Rattle.charmlet_history.specs.Kept.{present_rows};
+ghost use Rattle.charmlet_world.specs.Seen.{present_rows};
 ghost use Rattle.charmlet_checkpoint.specs.Showing.{AreShort};
 
-use charmlet_history::Client;
 use charmlet_image::{client_size, write_client};
 use charmlet_model::ClientRow;
 use charmlet_record::write_u32;
+use charmlet_world::Client;
 use std::alloc::AllocError;
 use std::collections::BTreeMap;
 

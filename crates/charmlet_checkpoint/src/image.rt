@@ -81,11 +81,11 @@ fn append_lists<C: Chare>(
 {
     append_arrays(alloc, out, history.manifest())?;
     append_clients(out, history.clients())?;
-    let pending = history.pending();
-    let count = count_of(pending.len())?;
-    append_pending(out, count, pending)?;
-    let count = count_of(count_records(history.elements()))?;
-    append_records(out, count, history, shelves)?;
+    let count = count_of(history.pending_count())?;
+    append_pending(alloc, out, count, history.messages())?;
+    let elements = history.elements()?;
+    let count = count_of(count_records(&elements))?;
+    append_records(out, count, history, &elements, shelves)?;
     append_no_items(out)?;
     Ok(())
 }

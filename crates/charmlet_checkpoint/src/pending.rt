@@ -4,25 +4,42 @@ ghost use Rattle.std.specs.Prelude.{◌≡◌, ◌++◌, All, OnOk, length};
 ghost use Rattle.charmlet_model.specs.Spelling.{spell_list, spell_message};
 ghost use Rattle.charmlet_record.specs.Limits.{AreFewWords};
 ghost use Rattle.charmlet_model.specs.declared.message.Message as messages;
+ghost use Rattle.charmlet_world.specs.Waiting.{message_of};
 
-use charmlet_model::Message;
+use charmlet_model::MsgId;
 use charmlet_record::{append_message, write_u32};
-use std::alloc::AllocError;
+use charmlet_world::{Letter, Messages};
+use std::alloc::{AllocError, Global};
 
 /// Appends how many messages there are, and each of them. It fails only when out of memory.
 pub(crate) fn append_pending(
+    alloc: Global,
     out: &mut Vec<u8>,
     count: u32,
-    pending: &[Message],
+    pending: Messages<'_>,
 ) -> Result<(), AllocError>
-    requires count { count ≡ length pending.now }
-    requires short { All (λ (m : messages.Message). AreFewWords m.words) pending.now }
-    ensures { OnOk result (out.new.items ≡ out.old.items ++ spell_list spell_message pending.now) }
+    requires count { count ≡ length pending }
+    requires short { All (λ (m : messages.Message). AreFewWords m.words) pending }
+    ensures { OnOk result (out.new.items ≡ out.old.items ++ spell_list spell_message pending.entry) }
 {
     out.reserve(4)?;
     write_u32(out, count);
-    for message in pending {
-        append_message(out, message)?;
+    for (id, letter) in pending {
+        append_letter(alloc, out, id, letter)?;
     }
     Ok(())
+}
+
+/// Appends the message of this id. It fails only when out of memory.
+fn append_letter(
+    alloc: Global,
+    out: &mut Vec<u8>,
+    id: MsgId,
+    letter: &Letter,
+) -> Result<(), AllocError>
+    requires { AreFewWords letter.now.words }
+    ensures { OnOk result (out.new.items ≡ out.old.items ++ spell_message (message_of id letter.now)) }
+{
+    let message = letter.copy(alloc, id)?;
+    append_message(out, &message)
 }

@@ -8,16 +8,19 @@ ghost use Rattle.charmlet_model.specs.Core.{present};
 ghost use Rattle.charmlet_model.specs.Packed.{pupped};
 ghost use Rattle.charmlet_model.specs.Spelling.{spell_list};
 ghost use Rattle.charmlet_image.specs.Images.{spell_entry};
-ghost use Rattle.charmlet_history.specs.Kept.{core_in, element_at, kept_in};
-ghost use Rattle.charmlet_history.specs.Records.{has_record, record_with, records_from};
+ghost use Rattle.charmlet_history.specs.Kept.{core_in, kept_in};
+ghost use Rattle.charmlet_world.specs.Seen.{element_at};
+ghost use Rattle.charmlet_history.specs.Records.{record_with, records_from};
+ghost use Rattle.charmlet_world.specs.Seen.{has_record};
 ghost use Rattle.charmlet_checkpoint.specs.Showing.{IsShown, state_in};
 
 use charmlet_chare::Chare;
-use charmlet_history::{Element, History};
+use charmlet_history::History;
 use charmlet_image::{Entry, entry_size, write_entry};
 use charmlet_model::{Elem, Refusal};
 use charmlet_record::write_u32;
 use charmlet_shelf::Shelf;
+use charmlet_world::Element;
 use std::alloc::AllocError;
 use std::collections::BTreeMap;
 
@@ -42,9 +45,11 @@ pub(crate) fn append_records<C: Chare>(
     out: &mut Vec<u8>,
     count: u32,
     history: &History,
+    elements: &BTreeMap<Elem, Element>,
     shelves: &mut [Shelf<C>],
 ) -> Result<(), Refusal>
     requires shown { IsShown history.now shelves.old }
+    requires elements { elements.now.entries ≡ (kept_in history.now).elements }
     requires count { count ≡ length (present (core_in history.now)).records }
     ensures ok { OnOk result (out.new.items ≡ out.old.items
         ++ spell_list spell_entry (present (core_in history.now)).records) }
@@ -53,7 +58,7 @@ pub(crate) fn append_records<C: Chare>(
 {
     out.reserve(4)?;
     write_u32(out, count);
-    for (elem, element) in history.elements() {
+    for (elem, element) in elements {
         let is_written = element.has_record();
         if !is_written {
             continue;

@@ -5,14 +5,15 @@ use Rattle.charmlet_model.specs.Texts.{Text}
 use Rattle.charmlet_script.specs.declared.error.ReadError.{ReadError}
 use Rattle.charmlet_script.specs.declared.error.ReadError.TheVariants.{Memory, Failed, Malformed}
 use Rattle.charmlet_cli.specs.declared.stop.Stop.{Stop}
-use Rattle.charmlet_cli.specs.declared.stop.Stop.TheVariants.{CannotGoOn, NotCreated, NotRestarted, NotShown, UnreadableScript, MalformedLine}
+use Rattle.charmlet_cli.specs.declared.stop.Stop.TheVariants.{CannotGoOn, NotCreated, NotRestarted, NotShown, NotSurvived, UnreadableScript, MalformedLine}
 
--- 1 where it can't go on, or has no store or shows none, and 2 for a script that can't be run
+-- 1 where it can't go on, has no store, shows none, or found bad outcomes, and 2 for a script that can't be run
 abbrev pub status_of : Stop → ℕ
 status_of CannotGoOn = 1
 status_of NotCreated = 1
 status_of NotRestarted = 1
 status_of NotShown = 1
+status_of NotSurvived = 1
 status_of UnreadableScript = 2
 status_of (MalformedLine line) = 2
 
@@ -22,6 +23,7 @@ stop_text CannotGoOn = codes "cannot go on"
 stop_text NotCreated = codes "cannot create store"
 stop_text NotRestarted = codes "cannot restart store"
 stop_text NotShown = codes "cannot show store"
+stop_text NotSurvived = codes "cannot survive each crash"
 stop_text UnreadableScript = codes "cannot read script"
 stop_text (MalformedLine line) = codes "script line " ++ decimal line
 

@@ -20,6 +20,8 @@ pub enum Stop {
     NotRestarted,
     /// No store was shown. The output says why.
     NotShown,
+    /// The laboratory found bad outcomes. The output says how many.
+    NotSurvived,
     /// The script isn't there, is a folder, or a read of it failed.
     UnreadableScript,
     /// The script's first malformed line. Lines count from 1.
@@ -30,13 +32,17 @@ impl Stop {
     ghost use Rattle.std.specs.Prelude.{◌≡◌};
     ghost use Rattle.charmlet_cli.specs.Stop.{status_of};
 
-    /// The program's exit status: 1 where it can't go on, or has no store or shows none, and 2 for a script
+    /// The program's exit status: 1 where it can't go on, has no store, shows none, or found bad outcomes, and 2 for a script
     /// that can't be run.
     pub fn status(&self) -> u8
         ensures { result ≡ status_of self.now }
     {
         match self {
-            Stop::CannotGoOn | Stop::NotCreated | Stop::NotRestarted | Stop::NotShown => 1,
+            Stop::CannotGoOn
+            | Stop::NotCreated
+            | Stop::NotRestarted
+            | Stop::NotShown
+            | Stop::NotSurvived => 1,
             Stop::UnreadableScript | Stop::MalformedLine(_) => 2,
         }
     }
@@ -55,6 +61,7 @@ impl fmt::Display for Stop {
             Stop::NotCreated => write!(f, "cannot create store"),
             Stop::NotRestarted => write!(f, "cannot restart store"),
             Stop::NotShown => write!(f, "cannot show store"),
+            Stop::NotSurvived => write!(f, "cannot survive each crash"),
             Stop::UnreadableScript => write!(f, "cannot read script"),
             Stop::MalformedLine(line) => write!(f, "script line {line}"),
         }

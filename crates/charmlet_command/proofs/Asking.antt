@@ -17,7 +17,7 @@ use Rattle.clap.specs.declared.error.kind.ErrorKind.TheVariants.{MissingSubcomma
 use Rattle.clap.specs.declared.parser.matches.Found.{Found}
 use Rattle.clap.proofs.OnLiterals.{clap_on_literals}
 use Rattle.clap.proofs.WalkLemmas.{first_value-rows}
-use Rattle.charmlet_command.specs.CommandLine.{AsksNothing, IsErrorOf, Runs, Shows, asked, asked_by, charmlet_line, run_of, show_of}
+use Rattle.charmlet_command.specs.CommandLine.{AsksNothing, IsErrorOf, Runs, Shows, Tries, asked, asked_by, charmlet_line, lab_of, run_of, show_of}
 use Rattle.charmlet_command.specs.declared.CommandError.{CommandError}
 use Rattle.charmlet_command.specs.declared.CommandError.TheVariants.{Memory, Line}
 
@@ -48,6 +48,14 @@ show_of_value found dir d = rw (d ∙ first_value-rows found (codes "folder")) r
 -- and where there is none, there is no showing
 pub no_show_of : (found : Found) → None ≡ first_value found (codes "folder") → None ≡ show_of (rows_of found)
 no_show_of found d = rw (← first_value-rows found (codes "folder"), ← d) refl
+
+-- the script, as the getter has it, makes the trial
+pub lab_of_value : (found : Found) (script : Option Text) → script ≡ first_value found (codes "script") → option_map Tries script ≡ lab_of (rows_of found)
+lab_of_value found script s = rw (s ∙ first_value-rows found (codes "script")) refl
+
+-- and where there is none, there is no trial
+pub no_lab_of : (found : Found) → None ≡ first_value found (codes "script") → None ≡ lab_of (rows_of found)
+no_lab_of found s = rw (← first_value-rows found (codes "script"), ← s) refl
 
 -- the name and the values of the subcommand that was met
 pub run_is : (found : Option (Text × List Row)) (name : Text) (rows : List Row)

@@ -15,7 +15,7 @@ use Rattle.clap.specs.declared.builder.command.Command.TheViews.{out-Command}
 use Rattle.clap.specs.declared.error.Error.{Error}
 use Rattle.clap.specs.declared.error.kind.ErrorKind.TheVariants.{MissingSubcommand, OutOfMemory}
 use Rattle.charmlet_command.specs.declared.Command.{Command}
-use Rattle.charmlet_command.specs.declared.Command.TheVariants.{Restart, Run, Show}
+use Rattle.charmlet_command.specs.declared.Command.TheVariants.{Lab, Restart, Run, Show}
 use Rattle.charmlet_command.specs.declared.CommandError.{CommandError}
 use Rattle.charmlet_command.specs.declared.CommandError.TheVariants.{Memory, Line}
 
@@ -65,18 +65,23 @@ show_line = with_rule (new_app (codes "show")) folder_word
 abbrev pub restart_line : App
 restart_line = with_rule (with_rule (with_rule (new_app (codes "restart")) pes_option) folder_word) script_word
 
+-- `lab SCRIPT`
+abbrev pub lab_line : App
+lab_line = with_rule (new_app (codes "lab")) script_word
+
 -- `charmlet`, which needs a subcommand
 abbrev pub charmlet_line : App
 charmlet_line =
-    with_subcommand (with_subcommand (with_subcommand (on_top (λ top. record top { subcommand_required = true }) (new_app (codes "charmlet")))
-    run_line.top) show_line.top) restart_line.top
+    with_subcommand (with_subcommand (with_subcommand (with_subcommand (on_top (λ top. record top { subcommand_required = true }) (new_app (codes "charmlet")))
+    run_line.top) show_line.top) restart_line.top) lab_line.top
 
--- what is asked for: a run of a script, maybe with a folder for its store; a showing of the store in a folder; or a
--- restart of the store in a folder, on so many processors, with a script
+-- what is asked for: a run of a script, maybe with a folder for its store; a showing of the store in a folder; a restart of the
+-- store in a folder, on so many processors, with a script; or a trial of a script's crashes
 pub data Asked : Type 0 where
   Runs : (script : Text) (dir : Option Text) → Asked
   Shows : (dir : Text) → Asked
   Restarts : (dir script : Text) (processors : ℕ) → Asked
+  Tries : (script : Text) → Asked
 
 -- the run that a subcommand's values name
 abbrev pub run_of : List Row → Option Asked
@@ -100,12 +105,17 @@ restart_of rows = do
   processors ← u16_in word
   Some (Restarts dir script processors)
 
+-- the laboratory's script that a subcommand's values name
+abbrev pub lab_of : List Row → Option Asked
+lab_of rows = option_map Tries (first_of (codes "script") rows)
+
 -- what a subcommand and its values ask for
 abbrev pub asked_by : Text × List Row → Option Asked
 asked_by found =
     if bytes_eq found.0 (codes "run") then run_of found.1
     else (if bytes_eq found.0 (codes "show") then show_of found.1
-    else (if bytes_eq found.0 (codes "restart") then restart_of found.1 else None))
+    else (if bytes_eq found.0 (codes "restart") then restart_of found.1
+    else (if bytes_eq found.0 (codes "lab") then lab_of found.1 else None)))
 
 -- nothing is asked where clap finds a fault
 abbrev pub unless_faulty : Kinds → Option Asked → Option Asked
@@ -121,6 +131,7 @@ abbrev pub asked_in : Command → Asked
 asked_in (Run script dir) = Runs script.now (option_map (λ dir. dir.now) dir)
 asked_in (Show dir) = Shows dir.now
 asked_in (Restart dir script processors) = Restarts dir.now script.now processors
+asked_in (Lab script) = Tries script.now
 
 -- the words ask for the command
 abbrev pub Asks : List Text → Command → Type 0

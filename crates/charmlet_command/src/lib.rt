@@ -5,7 +5,7 @@ ghost use Rattle.std.specs.Prelude.{◌≡◌, map, IfOk, IfErr, option_map, opt
 ghost use Rattle.clap.specs.Matches.{found_of};
 ghost use Rattle.clap.specs.Simple.{app_of, subcommand_rows_of};
 ghost use Rattle.clap.specs.Walk.{rows_of, rule_of};
-ghost use Rattle.charmlet_command.specs.CommandLine.{Asks, AsksNothing, asked_by, asked_in, charmlet_line, dir_option, folder_word, has_globals, needed_word, pes_option, restart_line, restart_of, run_line, run_of, script_word, show_line, show_of};
+ghost use Rattle.charmlet_command.specs.CommandLine.{Asks, AsksNothing, asked_by, asked_in, charmlet_line, dir_option, folder_word, has_globals, lab_line, lab_of, needed_word, pes_option, restart_line, restart_of, run_line, run_of, script_word, show_line, show_of};
 
 use clap::error::ErrorKind;
 use clap::{Arg, ArgAction, ArgMatches, value_parser};
@@ -32,6 +32,10 @@ pub enum Command<'a> {
         dir: &'a str,
         script: &'a str,
         processors: u16,
+    },
+    /// Try the crashes of the script in the file `script`.
+    Lab {
+        script: &'a str,
     },
 }
 
@@ -83,7 +87,8 @@ const STATUSES: &str = "\
 Exit status:
   0  the script ran to its end, or the store was shown; a refused line of a script is an
      answer like any other
-  1  no store could be created or shown or came back, or memory or the output failed
+  1  no store could be created or shown or came back, a crash was not survived, or memory
+     or the output failed
   2  a bad command line, a call for help, or a script that is malformed or can't be read";
 
 const RUN_ABOUT: &str = "Run a script, and print what each line answers before the next one runs";
@@ -189,6 +194,29 @@ Exit status:
   1  no store came back, or memory or the output failed
   2  a bad command line, a call for help, or a script that is malformed or can't be read";
 
+const LAB_ABOUT: &str = "Try the crashes of a script, and count those that are not survived";
+
+const LAB_LONG_ABOUT: &str = "\
+Try the crashes of a script, and count those that are not survived.
+
+The script is run on a disk in memory that fails from its first write or sync on, then on one
+that fails from the second on, and so on, until a run ends without a failure. After each of
+these stops a crash leaves what was not synced in one of six ways: as it was before, as it was
+written, as zeros, as ones, as sevens, or half written. From each of them the store is
+restarted, on as many processors as the script has, and its world is compared with the one
+that a plain program makes of the run's first events. In the end this is printed:
+
+  lab stops S outcomes O bad B  S runs were stopped, O restarts were tried, and B of them came
+                                to no world of the run, or to one that lacks what was durable
+
+What the lines of the script print is not.";
+
+const LAB_STATUSES: &str = "\
+Exit status:
+  0  each crash was survived
+  1  one was not, no store could be created, or memory or the output failed
+  2  a bad command line, a call for help, or a script that is malformed or can't be read";
+
 const PES_HELP: &str = "How many processors the store is on, 1 to 64, numbered from 0";
 
 /// A word that has to be there.
@@ -289,6 +317,18 @@ fn restart_parser<'a>(alloc: Global) -> Result<clap::Command<'a>, AllocError>
         .arg(script_arg(alloc))
 }
 
+/// `lab SCRIPT`.
+fn lab_parser<'a>(alloc: Global) -> Result<clap::Command<'a>, AllocError>
+    ensures reads { IfOk result (λ parser. app_of parser ≡ lab_line) }
+    ensures local { IfOk result (λ parser. has_globals parser ≡ false) }
+{
+    clap::Command::new(alloc, "lab")
+        .about(LAB_ABOUT)
+        .long_about(LAB_LONG_ABOUT)
+        .after_help(LAB_STATUSES)
+        .arg(script_arg(alloc))
+}
+
 /// The whole command line.
 fn parser<'a>(alloc: Global) -> Result<clap::Command<'a>, AllocError>
     ensures { IfOk result (λ parser. app_of parser ≡ charmlet_line) }
@@ -300,7 +340,8 @@ fn parser<'a>(alloc: Global) -> Result<clap::Command<'a>, AllocError>
         .subcommand_required(true)
         .subcommand(run_parser(alloc)?)?
         .subcommand(show_parser(alloc)?)?
-        .subcommand(restart_parser(alloc)?)
+        .subcommand(restart_parser(alloc)?)?
+        .subcommand(lab_parser(alloc)?)
 }
 
 /// The run that the values of its line name.
@@ -334,6 +375,14 @@ fn restart_in<'a>(values: &ArgMatches<'a>) -> Option<Command<'a>>
     })
 }
 
+/// The laboratory's script that the values of its line name.
+fn lab_in<'a>(values: &ArgMatches<'a>) -> Option<Command<'a>>
+    ensures { option_map asked_in result ≡ lab_of (rows_of (found_of values.now)) }
+{
+    let script = values.get_str("script")?;
+    Some(Command::Lab { script })
+}
+
 /// The command that the matches of a line ask for.
 fn command_in<'a>(matches: &ArgMatches<'a>) -> Option<Command<'a>>
     ensures { option_map asked_in result
@@ -346,13 +395,15 @@ fn command_in<'a>(matches: &ArgMatches<'a>) -> Option<Command<'a>>
         show_in(values)
     } else if name == "restart" {
         restart_in(values)
+    } else if name == "lab" {
+        lab_in(values)
     } else {
         None
     }
 }
 
 /// What the words ask for; the first is the program's name. Only `run SCRIPT`, with or without `--dir DIR`,
-/// `show DIR`, and `restart DIR SCRIPT`, with or without `--pes N`, are commands. N is a 16-bit number, and 1
+/// `show DIR`, `restart DIR SCRIPT`, with or without `--pes N`, and `lab SCRIPT` are commands. N is a 16-bit number, and 1
 /// where it isn't there. Every other line, a call for help among them, is answered by `CommandError::Line` with
 /// clap's text and a kind of error that clap's meaning of the words has, and lack of memory by
 /// `CommandError::Memory`.

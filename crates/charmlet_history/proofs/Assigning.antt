@@ -1,7 +1,9 @@
 -- What a test and an assignment make of what is kept.
-use Rattle.std.proofs.Common.{◌≡◌, ℕ, ◌+◌, ◌<◌, ◌==◌, Bool, true, false, cond, not, ◌&&◌, ◌||◌, List, [], ◌∷◌, ◌++◌, refl, sym, ap, subst, ◌∙◌, if◌then◌else◌}
+use Rattle.std.proofs.Common.{◌≡◌, ℕ, ◌+◌, ◌<◌, ◌==◌, Bool, true, false, cond, not, ◌&&◌, ◌||◌, List, [], ◌∷◌, ◌++◌, length, refl, sym, ap, subst, ◌∙◌, arith, if◌then◌else◌}
 use Rattle.std.proofs.lemmas.Bool.{lt-ltb}
-use Rattle.std.specs.Prelude.{Option, Some, None, is_some, nat_le, nat_lt, unwrap_or, option_and_then, Result, Ok, Err, IfOk, IfErr}
+use Rattle.std.proofs.lemmas.List.{length-map}
+use Rattle.std.specs.Cmp.{nat_cmp_total}
+use Rattle.std.specs.Prelude.{Option, Some, None, IfSome, IsSome, is_some, nat_le, nat_lt, unwrap_or, option_and_then, Result, Ok, Err, IfOk, IfErr}
 use Rattle.std.specs.Ordering.{eq_by_cmp, nat_cmp}
 use Rattle.std.specs.BTreeMap.{insert_entry, is_at}
 use Rattle.std.specs.List.Sorted.{IsStrictlySortedBy}
@@ -19,19 +21,26 @@ use Rattle.charmlet_model.specs.Reaction.{greatest}
 use Rattle.charmlet_model.specs.World.{message_among, record_of}
 use Rattle.charmlet_model.specs.Core as model
 use Rattle.charmlet_model.specs.Core.{Core, Gate, When, MayLackMemory, present, home, place_of, place_or_home, is_present, assigned_to, pending_message, gates, message_gates, lacks_blank, are_counts_full, blank_for, blank_of_id, first_refusal, next_core, Assign, Release}
-use Rattle.charmlet_model.specs.Sound.{IsSound}
-use Rattle.charmlet_model.proofs.Maps.{elem_total, elem_exact, rising-insert_entry}
+use Rattle.charmlet_model.specs.Sound.{IsAssigned, IsSound}
+use Rattle.charmlet_model.proofs.CanLemmas.{assigned_can}
+use Rattle.charmlet_model.proofs.Deliveries.{message_of}
+use Rattle.charmlet_model.proofs.Maps.{elem_total, elem_exact, length-insert_entry, rising-insert_entry}
+use Rattle.charmlet_model.proofs.Removals.{length-removed}
 use Rattle.charmlet_model.proofs.SoundLemmas.{step_sound}
-use Rattle.charmlet_history.specs.declared.element.Element.{Element}
-use Rattle.charmlet_history.specs.Kept.{Kept, IsConsistent, IsCountedBy, core_of, element_at, places_of, place_or_home_in, is_full, plenty, refusal_in}
-use Rattle.charmlet_history.specs.Delivered.{lacks_count, receiver_gates, blank_of, with_entry, with_receiver, with_room}
+use Rattle.charmlet_world.specs.declared.element.Element.{Element}
+use Rattle.charmlet_history.specs.Kept.{Kept, IsConsistent, core_of, place_or_home_in, is_full, plenty, refusal_in}
+use Rattle.charmlet_world.specs.Seen.{IsCountedBy, element_at}
+use Rattle.charmlet_world.specs.Standing.{places_of}
+use Rattle.charmlet_history.specs.Delivered.{receiver_gates, blank_of, with_receiver, with_room}
+use Rattle.charmlet_world.specs.Changed.{lacks_count, with_entry}
 use Rattle.charmlet_history.proofs.Consistency.{manifest_is}
+use Rattle.charmlet_history.proofs.Counts.{at_most}
 use Rattle.charmlet_history.proofs.Orders.{is_done}
-use Rattle.charmlet_history.proofs.Places.{element_at-insert, places_stay, seen_place}
+use Rattle.charmlet_world.proofs.Places.{element_at-insert, places_stay, seen_place}
 
 -- a message is assigned, and there is room for its delivery
 abbrev pub assigned_in : Kept → ℕ → MsgId → Kept
-assigned_in k processor id = record (with_room k id) { assigned = insert_entry nat_cmp k.assigned processor id }
+assigned_in k processor id = record (with_room k id) { assigned = insert_entry nat_cmp k.assigned processor id; promised = k.promised + 1 }
 
 -- ---- entries of elements
 
@@ -63,6 +72,13 @@ none_removed test (e ∷ es) none = elim (test e.0) as (λ b. cond b (Some e.1) 
   | true ↦ λ some. absurd (let never : ⊥ = cc in never)
   | false ↦ λ none. ap (λ fs. e ∷ fs) (none_removed test es none)
 ] none
+
+-- a processor that an assignment passes has none
+free : (halted away busy : Bool) (more : List Gate) → first_refusal (When halted refusals.Halted ∷ When away refusals.BadPes ∷ When busy refusals.Uncommitted ∷ more) ≡ None → busy ≡ false
+free true away busy more h = absurd (let never : ⊥ = cc in never)
+free false true busy more h = absurd (let never : ⊥ = cc in never)
+free false false true more h = absurd (let never : ⊥ = cc in never)
+free false false false more h = refl
 
 -- ---- the order of an assignment
 
@@ -182,11 +198,40 @@ module _ (k : Kept) (consistent : IsConsistent k) where
       clients = consistent.clients;
       durable_rows = consistent.durable_rows;
       backlog = consistent.backlog;
+      promised = consistent.promised;
     }
 
   -- ---- an assignment
 
   module _ (processor : ℕ) (id : MsgId) (can : first_refusal (gates core plenty (Assign processor id)) ≡ None) where
+    -- the processor has no message yet
+    pub is_free : is_some (lookup (is_at (nat_cmp processor)) k.assigned) ≡ false
+    is_free = free k.halted (not (nat_lt processor k.processors)) (is_some (lookup (is_at (nat_cmp processor)) k.assigned)) (message_gates core plenty processor (pending_message core id)) can
+
+    one_more : k.promised + 1 ≡ length (insert_entry nat_cmp k.assigned processor id)
+    one_more =
+        let count = length-insert_entry nat_cmp nat_cmp_total processor id k.assigned consistent.sound.rising_assigned in
+        omega (arith, consistent.promised, count ∙ ap (λ b. if b then length k.assigned else length k.assigned + 1) is_free)
+
+    -- there is a processor for it
+    pub few_promised : k.promised < 64
+    few_promised =
+        let new = step_sound core plenty (Assign processor id) _ consistent.sound tt (is_done core plenty (Assign processor id) refl can) in
+        let es = insert_entry nat_cmp k.assigned processor id in
+        let count = at_most es k.processors new.rising_assigned (λ p there. on_processor p (lookup (is_at (nat_cmp p)) es) refl there (new.assigned p)) in
+        let length_is : length (keys_of es) ≡ length es = length-map es (λ e. e.0) in
+        omega (arith, consistent.sound.few_processors, one_more, count, length_is)
+      where
+        on_processor : (p : ℕ) (o : Option MsgId) → lookup (is_at (nat_cmp p)) (insert_entry nat_cmp k.assigned processor id) ≡ o → is_some o ≡ true → IfSome o (IsAssigned (next_core core (Assign processor id)) p) → p < k.processors
+        on_processor p None is there a = absurd (let never : ⊥ = cc in never)
+        on_processor p (Some i) is there a = a.on_processor
+
+    -- it is pending
+    pub is_pending : IsSome (message_among id k.pending)
+    is_pending =
+        let m = message_of (present core) id (assigned_can core plenty processor id can).0 in
+        subst IsSome (sym (ap (message_among id) consistent.pending ∙ m.1)) refl
+
     pub assigned_core : core_of (assigned_in k processor id) ≡ next_core core (Assign processor id)
     assigned_core = ap (λ (c : Core). record c { assigned = insert_entry nat_cmp k.assigned processor id }) (room_core id)
 
@@ -201,14 +246,34 @@ module _ (k : Kept) (consistent : IsConsistent k) where
           clients = room.clients;
           durable_rows = room.durable_rows;
           backlog = room.backlog;
+          promised = one_more;
         }
 
   -- ---- a release
 
   module _ (processor : ℕ) where
     abbrev released : Kept
-    released = record k { assigned = remove_entry (is_at (nat_cmp processor)) k.assigned }
+    released = record k { assigned = remove_entry (is_at (nat_cmp processor)) k.assigned; promised = length (remove_entry (is_at (nat_cmp processor)) k.assigned) }
 
     released_sound : (o : Option MsgId) → assigned_to core processor ≡ o → IsSound (core_of released)
     released_sound None none = subst (λ assigned. IsSound (record core { assigned = assigned })) (sym (none_removed (is_at (nat_cmp processor)) k.assigned none)) consistent.sound
     released_sound (Some id) is = step_sound core plenty (Release processor) _ consistent.sound tt (is_done core plenty (Release processor) (ap is_some is) refl)
+
+    pub released_consistent : IsConsistent released
+    released_consistent = record {
+      sound = released_sound (assigned_to core processor) refl;
+      rising = consistent.rising;
+      counts = consistent.counts;
+      pending = consistent.pending;
+      clients = consistent.clients;
+      durable_rows = consistent.durable_rows;
+      backlog = consistent.backlog;
+      promised = refl;
+    }
+
+    -- one fewer is promised where there was one
+    pub one_fewer : (o : Option MsgId) → lookup (is_at (nat_cmp processor)) k.assigned ≡ o → (promised : ℕ) → (if is_some o then promised + 1 else promised) ≡ k.promised → promised ≡ released.promised
+    one_fewer None none promised same = same ∙ consistent.promised ∙ ap length (sym (none_removed (is_at (nat_cmp processor)) k.assigned none))
+    one_fewer (Some id) is promised same =
+        let count = length-removed (is_at (nat_cmp processor)) k.assigned (ap is_some is) in
+        omega (arith, consistent.promised, count, same)

@@ -1,13 +1,12 @@
-pub mod ShownLemmas
-pub mod RowsLemmas
 pub mod Consistency
 pub mod Orders
 pub mod Requests
 pub mod Flushes
 pub mod Nexts
-pub mod MessagePlaces
 pub mod Places
+pub mod Counts
 pub mod Assigning
+pub mod Shown
 pub mod Delivering
 pub mod Moves
 pub mod Openings

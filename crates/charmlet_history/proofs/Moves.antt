@@ -15,13 +15,14 @@ use Rattle.charmlet_model.specs.Core.{Core, Gate, When, MayLackMemory, Move, hom
 use Rattle.charmlet_model.specs.Sound.{IsSound}
 use Rattle.charmlet_model.proofs.Maps.{elem_total, elem_exact, rising-insert_entry}
 use Rattle.charmlet_model.proofs.SoundLemmas.{step_sound}
-use Rattle.charmlet_history.specs.declared.element.Element.{Element}
-use Rattle.charmlet_history.specs.Kept.{Kept, IsConsistent, IsCountedBy, core_of, blank_of_move, element_at, place_or_home_in, plenty}
+use Rattle.charmlet_world.specs.declared.element.Element.{Element}
+use Rattle.charmlet_history.specs.Kept.{Kept, IsConsistent, core_of, blank_of_move, place_or_home_in, plenty}
+use Rattle.charmlet_world.specs.Seen.{IsCountedBy, element_at}
 use Rattle.charmlet_history.specs.Delivered.{relocated}
 use Rattle.charmlet_history.proofs.Assigning.{place_or_home_is, there_is}
 use Rattle.charmlet_history.proofs.Orders.{is_done}
 use Rattle.charmlet_history.proofs.Consistency.{manifest_is}
-use Rattle.charmlet_history.proofs.Places.{element_at-insert, places_moved}
+use Rattle.charmlet_world.proofs.Places.{element_at-insert, places_moved}
 
 -- of a move to another processor, where the stock lacks nothing
 abbrev pub away_order : Kept → ℕ → ℕ → List Gate
@@ -109,6 +110,7 @@ module _ (k : Kept) (consistent : IsConsistent k) (x : Elem) (processor : ℕ) w
         clients = consistent.clients;
         durable_rows = consistent.durable_rows;
         backlog = consistent.backlog;
+        promised = consistent.promised;
       }
 
     -- it is there

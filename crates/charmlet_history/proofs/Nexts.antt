@@ -1,6 +1,6 @@
 -- The oldest message that can be delivered.
-use Rattle.std.proofs.Common.{◌≡◌, ◌+◌, ◌==◌, ◌&&◌, ◌||◌, true, false, cond, List, [], ◌∷◌, refl, sym, ap, subst, ◌∙◌}
-use Rattle.std.specs.Prelude.{Some, None, nat_le, option_and_then, option_map}
+use Rattle.std.proofs.Common.{◌≡◌, ℕ, ◌+◌, ◌==◌, ◌&&◌, ◌||◌, true, false, cond, List, [], ◌∷◌, refl, sym, ap, subst, ◌∙◌}
+use Rattle.std.specs.Prelude.{Option, Some, None, nat_le, option_and_then, option_map}
 use Rattle.std.specs.Cmp.{nat_eq_equiv}
 use Rattle.std.specs.Cmp.Derive.{both_true}
 use Rattle.std.specs.List.{AllByRecursion}
@@ -18,7 +18,8 @@ use Rattle.charmlet_model.specs.Core.{present, place_or_home}
 use Rattle.charmlet_model.proofs.Deliveries.{message_of}
 use Rattle.charmlet_model.proofs.Fits.{same_id-is}
 use Rattle.charmlet_model.proofs.SoundLemmas.{sound_fit}
-use Rattle.charmlet_history.specs.Kept.{Kept, IsConsistent, core_of, due_on, processor_for, is_deliverable, next_in, oldest, place_or_home_in}
+use Rattle.charmlet_world.specs.Seen.{is_deliverable, next_due}
+use Rattle.charmlet_history.specs.Kept.{Kept, IsConsistent, core_of, due_on, processor_for, next_in, place_or_home_in, seen_of}
 use Rattle.charmlet_history.proofs.Assigning.{place_or_home_is, there_is}
 
 -- ---- ids
@@ -53,47 +54,29 @@ module _ (k : Kept) (consistent : IsConsistent k) where
   abbrev w : World
   w = present (core_of k)
 
-  deliverable_is : (m : Message) → is_deliverable k m ≡ can_deliver w (Some m)
+  deliverable_is : (m : Message) → is_deliverable (seen_of k) m ≡ can_deliver w (Some m)
   deliverable_is m =
       let counts = consistent.counts m.to in
       λ i. (sym (there_is k consistent m.to) i || (m.entry == CONSTRUCT)) && nat_le (counts.received i + 1) greatest && nat_le (counts.sent i + 16) greatest
 
-  same_oldest : (ms : List Message) → AllByRecursion (λ m. message_among m.id w.pending ≡ Some m) ms → oldest k ms ≡ oldest_deliverable w ms
-  same_oldest [] named = refl
-  same_oldest (m ∷ ms) named =
-      ap (λ b. cond b (Some m.id) (oldest k ms)) (deliverable_is m ∙ ap (can_deliver w) (sym named.0))
-      ∙ ap (λ o. cond (can w (Deliver m.id)) (Some m.id) o) (same_oldest ms named.1)
+  same_next : (ms : List Message) → AllByRecursion (λ m. message_among m.id w.pending ≡ Some m) ms → next_due (seen_of k) ms ≡ option_and_then (due_on (core_of k)) (oldest_deliverable w ms)
+  same_next [] named = refl
+  same_next (m ∷ ms) named =
+      let core = core_of k in
+      let here : Option (ℕ × MsgId) = Some (place_or_home_in k m.to, m.id) in
+      let due : due_on core m.id ≡ here =
+      ap (option_map (λ n. (place_or_home core n.to, m.id))) named.0 ∙ ap (λ p. Some (p, m.id)) (place_or_home_is k consistent m.to) in
+      ap (λ b. cond b here (next_due (seen_of k) ms)) (deliverable_is m ∙ ap (can_deliver w) (sym named.0))
+      ∙ elim (can w (Deliver m.id)) as (λ b. cond b here (next_due (seen_of k) ms) ≡ option_and_then (due_on core) (cond b (Some m.id) (oldest_deliverable w ms))) [
+        | true ↦ sym due
+        | false ↦ same_next ms named.1
+      ]
 
-  pub oldest_is : oldest k k.pending ≡ oldest_deliverable w w.pending
-  oldest_is = ap (oldest k) consistent.pending ∙ same_oldest w.pending (all_named w.pending (sound_fit (core_of k) consistent.sound).distinct)
-
-  -- and its processor by what is kept
-  pub next_is : (id : MsgId) (m : Message) → oldest k k.pending ≡ Some id → message_among id k.pending ≡ Some m → Some (place_or_home_in k m.to, id) ≡ next_in (core_of k)
-  next_is id m first found =
-      sym (ap (option_and_then (due_on (core_of k))) (sym oldest_is ∙ first)
-      ∙ ap (option_map (λ n. (place_or_home (core_of k) n.to, id))) (ap (message_among id) (sym consistent.pending) ∙ found)
-      ∙ ap (λ p. Some (p, id)) (place_or_home_is k consistent m.to))
+  pub next_is : next_due (seen_of k) k.pending ≡ next_in (core_of k)
+  next_is = ap (next_due (seen_of k)) consistent.pending ∙ same_next w.pending (all_named w.pending (sound_fit (core_of k) consistent.sound).distinct)
 
   -- the processor of any pending message
   pub due_is : (id : MsgId) (m : Message) → message_among id k.pending ≡ Some m → Some (place_or_home_in k m.to) ≡ processor_for (core_of k) id
   due_is id m found =
       sym (ap (option_map (λ n. place_or_home (core_of k) n.to)) (ap (message_among id) (sym consistent.pending) ∙ found)
       ∙ ap (λ p. Some p) (place_or_home_is k consistent m.to))
-
-  pub none_is_next : oldest k k.pending ≡ None → next_in (core_of k) ≡ None
-  none_is_next none = ap (option_and_then (due_on (core_of k))) (sym oldest_is ∙ none)
-
-  -- the oldest one is pending
-  pub oldest_found : (id : MsgId) → oldest k k.pending ≡ Some id → message_among id k.pending ≡ None → ⊥
-  oldest_found id first none =
-      let can_be = oldest_can w.pending (sym oldest_is ∙ first) in
-      let some = message_of w id can_be in
-      let both : Some some.0 ≡ None = sym some.1 ∙ ap (message_among id) (sym consistent.pending) ∙ none in
-      let never : ⊥ = cc in never
-    where
-      oldest_can : (ms : List Message) → oldest_deliverable w ms ≡ Some id → can w (Deliver id) ≡ true
-      oldest_can [] h = absurd (let never : ⊥ = cc in never)
-      oldest_can (m ∷ ms) h = elim (can w (Deliver m.id)) as (λ b. can w (Deliver m.id) ≡ b → cond b (Some m.id) (oldest_deliverable w ms) ≡ Some id → can w (Deliver id) ≡ true) [
-        | true ↦ λ yes_it h. subst (λ i. can w (Deliver i) ≡ true) (let same : m.id ≡ id = cc in same) yes_it
-        | false ↦ λ _ h. oldest_can ms h
-      ] refl h

@@ -21,62 +21,19 @@ use Rattle.charmlet_model.specs.Core.{assigned_to, home, present}
 use Rattle.charmlet_model.proofs.Fits.{IfSome-map}
 use Rattle.charmlet_model.specs.Sound.{IsAssigned, IsSound, homes, opened}
 use Rattle.charmlet_model.proofs.Maps.{elem_total}
+use Rattle.charmlet_world.proofs.Made.{all_made, keys_of-made}
 use Rattle.charmlet_model.proofs.OpenedLemmas.{opened_sound}
 use Rattle.charmlet_model.proofs.SoundLemmas.{sound_fit}
-use Rattle.charmlet_history.specs.declared.element.Element.{Element}
-use Rattle.charmlet_history.specs.Client.{Rows, same_rows}
+use Rattle.charmlet_world.specs.declared.element.Element.{Element}
+use Rattle.charmlet_world.specs.Client.{Rows, same_rows}
 use Rattle.charmlet_record.specs.Backlog.{Batched, IsBacklog}
-use Rattle.charmlet_history.specs.Kept.{Kept, IsConsistent, IsCountedBy, core_of, client_at, element_at, new_client, no_element, places_of, present_rows, with_place}
+use Rattle.charmlet_history.specs.Kept.{Kept, IsConsistent, core_of}
+use Rattle.charmlet_world.specs.Seen.{IsCountedBy, client_at, element_at, new_client, no_element, present_rows}
+use Rattle.charmlet_world.specs.Standing.{places_of, with_place}
 use Rattle.charmlet_history.specs.Flushed.{all_durable}
-use Rattle.charmlet_history.specs.Opened.{opened_client, opened_clients, opened_element, opened_elements, with_clients, with_elements, with_made}
+use Rattle.charmlet_history.specs.Opened.{opened_client, opened_clients, opened_element, opened_elements, with_clients, with_elements}
+use Rattle.charmlet_world.specs.Made.{with_made}
 use Rattle.charmlet_history.proofs.Flushes.{present-all, rows_durable}
-
--- ---- entries that are inserted in rising order
-
-module _ {K X Y : Type 0} (R : K → K → Ordering) (total : IsTotalOrder R) (make : K → X → Y) where
-  abbrev made : List (K × X) → List (K × Y)
-  made = map (λ e. (e.0, make e.0 e.1))
-
-  -- the keys are all below this one
-  abbrev IsPast : List (K × Y) → K → Type 0
-  IsPast es k = AllByRecursion (λ q. R k q ≡ Greater) (keys_of es)
-
-  inserted_last : (es : List (K × Y)) (k : K) (v : Y) → IsPast es k → insert_entry R es k v ≡ es ++ (k, v) ∷ []
-  inserted_last [] k v h = refl
-  inserted_last (e ∷ es) k v h =
-      ap (λ r. match_ordering r ((k, v) ∷ e ∷ es) ((e.0, v) ∷ es) (e ∷ insert_entry R es k v)) h.0
-      ∙ ap (λ fs. e ∷ fs) (inserted_last es k v h.1)
-
-  past_one_more : (es : List (K × Y)) (k q : K) (v : Y) → IsPast es k → R q k ≡ Less → IsPast (es ++ (q, v) ∷ []) k
-  past_one_more [] k q v h below = (total.antisymm k q ∙ ap ordering_reverse below, tt)
-  past_one_more (e ∷ es) k q v h below = (h.0, past_one_more es k q v h.1 below)
-
-  all_past : (es : List (K × Y)) (q : K) (v : Y) (ks : List K) → AllByRecursion (IsPast es) ks → AllByRecursion (λ y. R q y ≡ Less) ks →
-      AllByRecursion (IsPast (es ++ (q, v) ∷ [])) ks
-  all_past es q v [] h below = tt
-  all_past es q v (k ∷ ks) h below = (past_one_more es k q v h.0 below.0, all_past es q v ks h.1 below.1)
-
-  made_after : (es : List (K × Y)) (xs : List (K × X)) → IsStrictlySortedBy R (keys_of xs) → AllByRecursion (IsPast es) (keys_of xs) →
-      with_made R make es xs ≡ es ++ made xs
-  unfolding IsStrictlySortedBy
-  made_after es [] rising h = sym (append-nil es)
-  made_after es (x ∷ xs) rising h =
-      let v = make x.0 x.1 in
-      ap (λ fs. with_made R make fs xs) (inserted_last es x.0 v h.0)
-      ∙ made_after (es ++ (x.0, v) ∷ []) xs rising.1 (all_past es x.0 v (keys_of xs) h.1 rising.0)
-      ∙ append_assoc es ((x.0, v) ∷ []) (made xs)
-
-  none_past : (ks : List K) → AllByRecursion (IsPast []) ks
-  none_past [] = tt
-  none_past (k ∷ ks) = (tt, none_past ks)
-
-  -- they are the entries with their values made
-  pub all_made : (xs : List (K × X)) → IsStrictlySortedBy R (keys_of xs) → with_made R make [] xs ≡ map (λ e. (e.0, make e.0 e.1)) xs
-  all_made xs rising = made_after [] xs rising (none_past (keys_of xs))
-
-  pub keys_of-made : (xs : List (K × X)) → keys_of (map (λ e. (e.0, make e.0 e.1)) xs) ≡ keys_of xs
-  keys_of-made [] = refl
-  keys_of-made (x ∷ xs) = ap (λ ks. x.0 ∷ ks) (keys_of-made xs)
 
 -- ---- elements and clients
 
@@ -141,6 +98,7 @@ module _ (processors : ℕ) (w : World) (before generation log_end : ℕ) (backl
     durable = 0;
     backlog = backlog;
     assigned = [];
+    promised = 0;
   }
 
   -- it is the core of a store that opens so
@@ -156,6 +114,7 @@ module _ (processors : ℕ) (w : World) (before generation log_end : ℕ) (backl
     clients = present_are w.clients;
     durable_rows = λ c. durable_are c w.clients;
     backlog = empty;
+    promised = refl;
   }
 
 -- ---- a present world that becomes the opening one
@@ -192,4 +151,5 @@ renewed_consistent k backlog consistent empty =
       clients = present-all k.clients new ∙ consistent.clients;
       durable_rows = rows_durable k consistent;
       backlog = empty;
+      promised = consistent.promised;
     }

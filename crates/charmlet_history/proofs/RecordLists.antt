@@ -19,9 +19,11 @@ use Rattle.charmlet_model.specs.Fit.{IsKept}
 use Rattle.charmlet_model.specs.Core.{present}
 use Rattle.charmlet_model.proofs.Maps.{elem_total, elem_exact, absent, same_maps}
 use Rattle.charmlet_model.proofs.SoundLemmas.{sound_fit}
-use Rattle.charmlet_history.specs.declared.element.Element.{Element}
-use Rattle.charmlet_history.specs.Kept.{Kept, IsConsistent, core_of, element_at, no_element}
-use Rattle.charmlet_history.specs.Records.{has_record, record_with, records_from}
+use Rattle.charmlet_world.specs.declared.element.Element.{Element}
+use Rattle.charmlet_history.specs.Kept.{Kept, IsConsistent, core_of}
+use Rattle.charmlet_world.specs.Seen.{element_at, no_element}
+use Rattle.charmlet_history.specs.Records.{record_with, records_from}
+use Rattle.charmlet_world.specs.Seen.{has_record}
 use Rattle.charmlet_history.proofs.Assigning.{there_is}
 
 module _ (state : Elem → Option State) where

@@ -1,6 +1,6 @@
 -- Room that stays.
 use Rattle.std.proofs.Common.{◌≡◌, ℕ, true, false, cond, List, [], ◌∷◌, ◌++◌, refl, sym, ap, subst, ◌∙◌}
-use Rattle.std.specs.Prelude.{Some, None, IfSome, is_some}
+use Rattle.std.specs.Prelude.{Option, Some, None, IfSome, IsSome, is_some}
 use Rattle.std.specs.Ordering.{eq_by_cmp, nat_cmp}
 use Rattle.std.specs.BTreeMap.{insert_entry, is_at}
 use Rattle.std.specs.Map.{lookup}
@@ -11,20 +11,29 @@ use Rattle.charmlet_model.specs.Names.{elem_cmp, same_id}
 use Rattle.charmlet_model.specs.World.{message_among}
 use Rattle.charmlet_model.specs.Core.{present}
 use Rattle.charmlet_model.specs.Sound.{IsAssigned}
-use Rattle.charmlet_model.proofs.Maps.{elem_total, lookup-insert_entry}
+use Rattle.charmlet_model.proofs.Maps.{elem_total, lookup-insert_entry, tied_elem}
 use Rattle.charmlet_model.proofs.Deliveries.{message_of}
-use Rattle.charmlet_history.specs.declared.element.Element.{Element}
+use Rattle.charmlet_world.specs.declared.element.Element.{Element}
+use Rattle.charmlet_world.specs.Seen.{Seen}
 use Rattle.charmlet_history.specs.Kept.{Kept, IsConsistent, core_of}
 
 -- the message's receiver has an entry
 abbrev pub HasEntry : List (Elem × Element) → Message → Type 0
 HasEntry elements m = is_some (lookup (is_at (elem_cmp m.to)) elements) ≡ true
 
+-- the receiver of a pending message has one
+abbrev pub HasReceiver : MsgId → Seen → Type 0
+HasReceiver id s = IfSome (message_among id s.pending) (HasEntry s.elements)
+
 -- an entry stays where another one is written
 pub entry_stays : (es : List (Elem × Element)) (y : Elem) (e : Element) (m : Message) → HasEntry es m → HasEntry (insert_entry elem_cmp es y e) m
 entry_stays es y e m there =
     ap is_some (lookup-insert_entry elem_cmp elem_total m.to y e es)
     ∙ elim (eq_by_cmp elem_cmp m.to y) as (λ b. is_some (cond b (Some e) (lookup (is_at (elem_cmp m.to)) es)) ≡ true) [ true ↦ refl | false ↦ there ]
+
+-- and is there where it is written
+pub own_entry : (es : List (Elem × Element)) (e : Element) (m : Message) → HasEntry (insert_entry elem_cmp es m.to e) m
+own_entry es e m = ap is_some (lookup-insert_entry elem_cmp elem_total m.to m.to e es ∙ ap (λ b. cond b (Some e) (lookup (is_at (elem_cmp m.to)) es)) (tied_elem m.to))
 
 -- a pending message stays the one of its id
 pub still_among : (id : MsgId) (ms ns : List Message) (m : Message) → message_among id ms ≡ Some m → message_among id (ms ++ ns) ≡ Some m
@@ -57,3 +66,8 @@ receiver_stays k consistent processor more P =
           let entry : HasEntry k.elements m.0 = subst (λ o. IfSome o (HasEntry k.elements)) m.1 h.1 in
           (h.0, subst (λ o. IfSome o (HasEntry k.elements)) (sym (still_among id k.pending more m.0 m.1)) entry)
     ] refl
+
+-- a message that is there
+pub the_message : (o : Option Message) → IsSome o → (m : Message) × (o ≡ Some m)
+the_message None h = absurd (let never : ⊥ = cc in never)
+the_message (Some m) h = (m, refl)

@@ -18,52 +18,23 @@ use Rattle.charmlet_model.specs.Names.{elem_cmp}
 use Rattle.charmlet_model.specs.declared.reaction.Reaction.{Reaction}
 use Rattle.charmlet_model.specs.World.{World, record_of, client_of, message_among, request, reaction_of, kind_of_array, oldest_deliverable}
 use Rattle.charmlet_model.specs.declared.refusal.Refusal.TheVariants as refusals
-use Rattle.charmlet_model.specs.declared.TheConstants.{CONSTRUCT}
-use Rattle.charmlet_model.specs.Reaction.{capped, greatest}
+use Rattle.charmlet_model.specs.Reaction.{capped}
 use Rattle.charmlet_model.specs.Core.{Core, present, durable_world, unwritten, pending_message, assigned_to, home, place_or_home, Blanks, Gate, When, CoreAnswer, Tells, Counts, Refuses}
 use Rattle.charmlet_model.specs.Told.{told_of}
-use Rattle.charmlet_model.specs.Row.{no_client, in_window, follows_last, has_place, with_request}
+use Rattle.charmlet_model.specs.Row.{in_window, follows_last, has_place, with_request}
 use Rattle.charmlet_model.specs.Sound.{IsSound}
 use Rattle.std.specs.Vec.{vec_len, vec_capacity}
 use Rattle.charmlet_record.specs.Backlog.{Batched, IsBacklog}
 use Rattle.charmlet_record.specs.Backlog as backlogs
 use Rattle.charmlet_chare.specs.declared.output.Output.{Output}
 use Rattle.charmlet_chare.specs.Output.{output_of}
-use Rattle.charmlet_history.specs.declared.element.Element.{Element}
+use Rattle.charmlet_world.specs.declared.element.Element.{Element}
+use Rattle.charmlet_world.specs.Changed.{with_row}
+use Rattle.charmlet_world.specs.Seen.{Seen, IsCountedBy, client_at, element_at, present_rows}
+use Rattle.charmlet_world.specs.Standing.{places_of, risen}
+use Rattle.charmlet_history.specs.Opened.{with_arrays}
 use Rattle.charmlet_history.specs.declared.history.History.{History}
-use Rattle.charmlet_history.specs.Client.{Rows, same_rows, with_present}
-
--- an element that was never constructed
-abbrev pub no_element : Element
-no_element = record { place = None; sent = 0; received = 0 }
-
-abbrev pub element_at : List (Elem × Element) → Elem → Element
-element_at elements x = unwrap_or (lookup (is_at (elem_cmp x)) elements) no_element
-
--- its two counts are those of the record
-pub record IsCountedBy (r : Record) (e : Element) : Type 0 where
-  pub sent : e.sent ≡ r.sent
-  pub received : e.received ≡ r.received
-
--- the elements that have a place, each with its place
-abbrev pub with_place : Elem → Option ℕ → List (Elem × ℕ) → List (Elem × ℕ)
-with_place x None places = places
-with_place x (Some place) places = (x, place) ∷ places
-
-abbrev pub places_of : List (Elem × Element) → List (Elem × ℕ)
-places_of [] = []
-places_of (e ∷ es) = with_place e.0 e.1.place (places_of es)
-
--- of a client that never made a request
-abbrev pub new_client : Rows
-new_client = same_rows no_client
-
-abbrev pub client_at : List (ℕ × Rows) → ℕ → Rows
-client_at clients c = unwrap_or (lookup (is_at (nat_cmp c)) clients) new_client
-
--- the clients' rows in the present world
-abbrev pub present_rows : List (ℕ × Rows) → List (ℕ × ClientRow)
-present_rows = map (λ e. (e.0, e.1.present))
+use Rattle.charmlet_world.specs.Client.{Rows}
 
 -- a backlog, its room aside
 abbrev pub roomless : Batched → Batched
@@ -84,23 +55,29 @@ pub record Kept : Type 0 where
   pub durable : ℕ
   pub backlog : Batched
   pub assigned : List (ℕ × MsgId)
+  pub promised : ℕ
 
 abbrev pub kept_in : History → Kept
 kept_in h = record {
-  opening = h.opening;
+  opening = with_arrays h.present.manifest h.opening.world;
   before = h.before;
   generation = h.generation;
   log_end = h.log_end;
   halted = h.halted;
-  processors = h.processors;
-  elements = h.elements.entries;
-  pending = h.pending.items;
-  clients = h.clients.entries;
+  processors = h.present.processors;
+  elements = risen h.present.rows;
+  pending = h.present.pending;
+  clients = h.present.clients;
   events = h.events.items;
   durable = h.durable;
   backlog = roomless h.backlog;
   assigned = h.assigned.entries;
+  promised = h.present.promised;
 }
+
+-- what of it is the present world
+abbrev pub seen_of : Kept → Seen
+seen_of k = record { manifest = k.opening.manifest; processors = k.processors; elements = k.elements; pending = k.pending; clients = k.clients }
 
 -- the core of a store that keeps this
 abbrev pub core_of : Kept → Core
@@ -121,8 +98,12 @@ core_of k = record {
 abbrev pub core_in : History → Core
 core_in h = core_of (kept_in h)
 
+-- the world after the whole history
+abbrev pub present_in : History → World
+present_in h = present (core_in h)
+
 -- What is kept is the present world, the places of its elements, the durable rows of its clients, and the bytes of the events that
--- aren't durable.
+-- aren't durable. There is room for what each assigned delivery sends.
 pub record IsConsistent (k : Kept) : Type 0 where
   pub sound : IsSound (core_of k)
   pub rising : IsStrictlySortedBy elem_cmp (keys_of k.elements)
@@ -131,6 +112,7 @@ pub record IsConsistent (k : Kept) : Type 0 where
   pub clients : present_rows k.clients ≡ (present (core_of k)).clients
   pub durable_rows : (c : ℕ) → (client_at k.clients c).durable ≡ client_of (durable_world (core_of k)) c
   pub backlog : IsBacklog k.backlog (unwritten (core_of k))
+  pub promised : k.promised ≡ length k.assigned
 
 -- the refusal, if there is one
 abbrev pub refusal_in : {T : Type 0} → Result T Refusal → Option Refusal
@@ -176,10 +158,6 @@ told_by k client number = told_of (client_at k.clients client).durable number
 
 -- ---- what each call makes of it
 
--- the client's present row becomes this one
-abbrev pub with_row : List (ℕ × Rows) → ℕ → ClientRow → List (ℕ × Rows)
-with_row clients c row = insert_entry nat_cmp clients c (with_present (client_at clients c) row)
-
 -- a request is accepted, after which the backlog is this one
 abbrev pub accepted : Kept → Batched → ℕ → ℕ → Elem → ℕ → List ℕ → Kept
 accepted k backlog client number to entry words = record k {
@@ -194,17 +172,6 @@ accepted k backlog client number to entry words = record k {
 -- an element's place, or its home
 abbrev pub place_or_home_in : Kept → Elem → ℕ
 place_or_home_in k x = unwrap_or (element_at k.elements x).place (home x k.processors)
-
--- the receiver is there or is constructed, and its counts have room
-abbrev pub is_deliverable : Kept → Message → Bool
-is_deliverable k m =
-    (is_some (element_at k.elements m.to).place || (m.entry == CONSTRUCT))
-    && nat_le ((element_at k.elements m.to).received + 1) greatest && nat_le ((element_at k.elements m.to).sent + 16) greatest
-
--- the oldest of the messages that can be delivered
-abbrev pub oldest : Kept → List Message → Option MsgId
-oldest k [] = None
-oldest k (m ∷ ms) = if is_deliverable k m then Some m.id else oldest k ms
 
 -- the processor on which the receiver of a pending message stands, or its home
 abbrev pub processor_for : Core → MsgId → Option ℕ
@@ -234,15 +201,14 @@ assigned_reaction core processor = option_and_then (reaction_of (present core)) 
 abbrev pub IsOutcome : Core → ℕ → Output → Type 0
 IsOutcome core processor output = (r : Reaction) × (assigned_reaction core processor ≡ Some r) × (output ≡ output_of r)
 
--- room for the event of a delivery and its bytes, and for all that it may send
+-- room for the event of a delivery and its bytes
 abbrev pub HasSpace : History → Type 0
-HasSpace h =
-    (vec_len h.events < vec_capacity h.events) × (vec_len h.pending + 16 ≤ vec_capacity h.pending) × backlogs.HasRoomFor h.backlog 1
+HasSpace h = (vec_len h.events < vec_capacity h.events) × backlogs.HasRoomFor h.backlog 1
 
 -- and for its receiver
 pub record HasRoomFor (h : History) (id : MsgId) : Type 0 where
   pub space : HasSpace h
-  pub receiver : IfSome (message_among id h.pending.items) (λ m. is_some (lookup (is_at (elem_cmp m.to)) h.elements.entries) ≡ true)
+  pub receiver : IfSome (message_among id h.present.pending) (λ m. is_some (lookup (is_at (elem_cmp m.to)) (risen h.present.rows)) ≡ true)
 
 -- for what is assigned to the processor
 abbrev pub HasRoom : History → ℕ → Type 0

@@ -1,5 +1,4 @@
 -- The definitions that contracts cite.
-pub mod Client
 pub mod Kept
 pub mod Flushed
 pub mod Records

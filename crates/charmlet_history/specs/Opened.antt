@@ -6,24 +6,19 @@ use Rattle.std.specs.BTreeMap.{insert_entry}
 use Rattle.charmlet_model.specs.declared.names.Elem.{Elem}
 use Rattle.charmlet_model.specs.declared.state.Record.{Record}
 use Rattle.charmlet_model.specs.declared.client.ClientRow.{ClientRow}
+use Rattle.charmlet_model.specs.declared.kind.Kind.{Kind}
 use Rattle.charmlet_model.specs.Names.{elem_cmp}
 use Rattle.charmlet_model.specs.Core.{Core, home, present}
 use Rattle.charmlet_locate.specs.Locations.{is_processor_count}
-use Rattle.charmlet_history.specs.declared.element.Element.{Element}
-use Rattle.charmlet_history.specs.declared.history.History.{History}
-use Rattle.charmlet_history.specs.declared.opening.Opening.{Opening}
-use Rattle.charmlet_history.specs.Client.{Rows, same_rows}
-use Rattle.charmlet_history.specs.Kept.{core_in}
+use Rattle.charmlet_world.specs.declared.element.Element.{Element}
+use Rattle.charmlet_world.specs.Client.{Rows, same_rows}
 use Rattle.charmlet_model.specs.World.{World}
+use Rattle.charmlet_world.specs.Made.{with_made}
+use Rattle.charmlet_world.specs.Seen.{Held, seen}
 
 -- an element that is there stands on its home
 abbrev pub opened_element : ℕ → Elem → Record → Element
 opened_element processors x r = record { place = if is_some r.state then Some (home x processors) else None; sent = r.sent; received = r.received }
-
--- each of these entries is inserted, with a value made of it
-abbrev pub with_made : {K X Y : Type 0} → (K → K → Ordering) → (K → X → Y) → List (K × Y) → List (K × X) → List (K × Y)
-with_made cmp make made [] = made
-with_made cmp make made (e ∷ es) = with_made cmp make (insert_entry cmp made e.0 (make e.0 e.1)) es
 
 abbrev pub with_elements : ℕ → List (Elem × Element) → List (Elem × Record) → List (Elem × Element)
 with_elements processors = with_made elem_cmp (opened_element processors)
@@ -45,17 +40,22 @@ opened_elements processors = map (λ e. (e.0, opened_element processors e.0 e.1)
 abbrev pub opened_clients : List (ℕ × ClientRow) → List (ℕ × Rows)
 opened_clients = map (λ e. (e.0, opened_client e.0 e.1))
 
--- what is given is that of the world: the elements on their homes, with their counts, the pending messages, and the clients' rows
-pub record IsOpening (o : Opening) : Type 0 where
+-- the world with these arrays
+abbrev pub with_arrays : List (ℕ × Kind) → World → World
+with_arrays manifest w = record w { manifest = manifest }
+
+-- the opening world, on so many processors, and what is kept of it
+pub record FirstWorld : Type 0 where
+  pub world : World
+  pub processors : ℕ
+  pub held : Held
+
+-- what is kept is that of the world: the elements on their homes, with their counts, the pending messages, and the clients' rows
+pub record IsOpening (o : FirstWorld) : Type 0 where
   pub processors : is_processor_count o.processors ≡ true
-  pub elements : o.elements.entries ≡ opened_elements o.processors o.world.records
-  pub pending : o.pending.items ≡ o.world.pending
-  pub clients : o.clients.entries ≡ opened_clients o.world.clients
+  pub seen : seen o.held ≡ record { manifest = o.world.manifest; processors = o.processors; elements = opened_elements o.processors o.world.records; pending = o.world.pending; clients = opened_clients o.world.clients }
+  pub promised : o.held.promised ≡ 0
 
 -- a store whose present world has become its opening one
 abbrev pub renewed : Core → Core
 renewed core = record core { opening = present core; before = core.before + length core.history; history = []; durable = 0 }
-
--- the world after the whole history
-abbrev pub present_in : History → World
-present_in h = present (core_in h)

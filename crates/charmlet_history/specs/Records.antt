@@ -1,13 +1,10 @@
 -- The records of a world, by what is kept of its elements.
-use Rattle.std.specs.Prelude.{Bool, ◌||◌, is_some, nat_lt, List, [], ◌∷◌, if◌then◌else◌, Option}
+use Rattle.std.specs.Prelude.{List, [], ◌∷◌, if◌then◌else◌, Option}
 use Rattle.charmlet_model.specs.declared.names.Elem.{Elem}
 use Rattle.charmlet_model.specs.declared.state.State.{State}
 use Rattle.charmlet_model.specs.declared.state.Record.{Record}
-use Rattle.charmlet_history.specs.declared.element.Element.{Element}
-
--- the world has a record of the element: it is there, or it has received a message
-abbrev pub has_record : Element → Bool
-has_record e = is_some e.place || nat_lt 0 e.received
+use Rattle.charmlet_world.specs.declared.element.Element.{Element}
+use Rattle.charmlet_world.specs.Seen.{has_record}
 
 -- its record, with this state
 abbrev pub record_with : Option State → Element → Record

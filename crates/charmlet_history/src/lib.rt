@@ -1,9 +1,7 @@
 //! Histories: the events of a store, and what clients are told of them.
 #![tactic(auto)]
 
-mod client;
 mod delivery;
-mod element;
 mod flush;
 mod history;
 mod look;
@@ -13,10 +11,8 @@ mod opening;
 mod request;
 mod world;
 
-pub use crate::client::Client;
 pub use crate::delivery::RefusedCommit;
-pub use crate::element::Element;
 pub use crate::history::History;
 pub use crate::opening::Opening;
 pub use crate::request::Request;
-pub use crate::world::{HasWorld, OpeningWorld, SeenWorld, WorldParts};
+pub use crate::world::{HasWorld, SeenWorld, WorldParts};

@@ -23,7 +23,7 @@ impl History {
         if self.halted {
             return Err(Refusal::Halted);
         }
-        if processor >= self.processors {
+        if processor >= self.present.processors() {
             return Err(Refusal::BadPes);
         }
         let Some(place) = self.element(elem).place else {
@@ -35,7 +35,7 @@ impl History {
         if self.is_one_busy(place, processor) {
             return Err(Refusal::Uncommitted);
         }
-        Ok(self.opening.manifest().kind_of(elem.array))
+        Ok(self.present.manifest().kind_of(elem.array))
     }
 
     /// The element stands on the processor from now on. It takes no memory.
@@ -46,13 +46,10 @@ impl History {
         ensures moved { core_in self.new ≡ next_core (core_in self.old) (core.Move elem processor) }
         ensures room { KeepsRoom self.old self.new }
     {
-        if self.place_or_home(elem) == processor {
+        if self.present.place_or_home(elem) == processor {
             return;
         }
-        let Some(element) = self.elements.get_mut(&elem) else {
-            unreachable!()
-        };
-        element.place = Some(processor);
+        self.present.relocate(elem, processor);
     }
 
     /// Whether one of two processors has an assigned message.

@@ -1,19 +1,28 @@
 //! The pending messages, and which of them is delivered next.
 
-ghost use Rattle.std.specs.Prelude.{◌≡◌};
+ghost use Rattle.std.specs.Prelude.{◌≡◌, length};
 ghost use Rattle.charmlet_model.specs.Core.{present};
-ghost use Rattle.charmlet_history.specs.Kept.{IsConsistent, core_in, is_deliverable, kept_in, next_in, oldest, processor_for};
+ghost use Rattle.charmlet_history.specs.Kept.{IsConsistent, core_in, kept_in, next_in, processor_for};
 
 use crate::history::History;
-use charmlet_model::{CONSTRUCT, Message, MsgId};
+use charmlet_model::MsgId;
+use charmlet_world::Messages;
 
 impl History {
-    /// The pending messages, in order of birth.
-    pub fn pending(&self) -> &[Message]
+    /// How many messages are pending.
+    pub fn pending_count(&self) -> usize
         requires { IsConsistent (kept_in self.now) }
-        ensures { result.now ≡ (present (core_in self.now)).pending }
+        ensures { result ≡ length (present (core_in self.now)).pending }
     {
-        self.pending.as_slice()
+        self.present.pending_count()
+    }
+
+    /// The pending messages, in order of birth, each as its id and what is kept under it. It takes no memory.
+    pub fn messages(&self) -> Messages<'_>
+        requires { IsConsistent (kept_in self.now) }
+        ensures { result ≡ (present (core_in self.now)).pending }
+    {
+        self.present.messages()
     }
 
     /// The oldest pending message that can be delivered, if there is one, and before it the processor
@@ -22,11 +31,7 @@ impl History {
         requires { IsConsistent (kept_in self.now) }
         ensures { result ≡ next_in (core_in self.now) }
     {
-        let id = self.oldest()?;
-        let Some(message) = self.find(id) else {
-            unreachable!()
-        };
-        Some((self.place_or_home(message.to), id))
+        self.present.next()
     }
 
     /// The processor that is to deliver a pending message: the place of its receiver, or the home of one
@@ -35,27 +40,7 @@ impl History {
         requires { IsConsistent (kept_in self.now) }
         ensures { result ≡ processor_for (core_in self.now) id }
     {
-        let message = self.find(id)?;
-        Some(self.place_or_home(message.to))
-    }
-
-    /// The oldest pending message that can be delivered by the counts that are kept.
-    fn oldest(&self) -> Option<MsgId>
-        ensures { result ≡ oldest (kept_in self.now) (kept_in self.now).pending }
-    {
-        for message in &self.pending {
-            if self.is_deliverable(message) {
-                return Some(message.id);
-            }
-        }
-        None
-    }
-
-    /// Whether the receiver is there or is constructed, and its counts have room.
-    fn is_deliverable(&self, message: &Message) -> bool
-        ensures { result ≡ is_deliverable (kept_in self.now) message.now }
-    {
-        let element = self.element(message.to);
-        (element.place.is_some() || message.entry == CONSTRUCT) && element.has_room()
+        let letter = self.present.find(id)?;
+        Some(self.present.place_or_home(letter.to))
     }
 }

@@ -6,7 +6,9 @@ mod judging;
 mod line;
 mod round;
 mod same;
+mod trying;
 
 pub use crate::judging::lab_bad;
 pub use crate::line::LabLine;
 pub use crate::round::{Round, lab_round};
+pub use crate::trying::lab_outcome;

@@ -3,9 +3,9 @@ use Rattle.std.specs.Prelude.{◌≡◌, ℕ, List}
 use Rattle.charmlet_model.specs.declared.client.ClientRow.{ClientRow}
 use Rattle.charmlet_model.specs.declared.names.Elem.{Elem}
 use Rattle.charmlet_model.specs.World.{World, client_of, record_of}
-use Rattle.charmlet_history.specs.declared.element.Element.{Element}
-use Rattle.charmlet_history.specs.Client.{Rows}
-use Rattle.charmlet_history.specs.Kept.{client_at, element_at}
+use Rattle.charmlet_world.specs.declared.element.Element.{Element}
+use Rattle.charmlet_world.specs.Client.{Rows}
+use Rattle.charmlet_world.specs.Seen.{client_at, element_at}
 
 -- each element has sent as many messages as in the world, and each client's row is the one that it has there
 pub record IsCountedIn (w : World) (elements : List (Elem × Element)) (clients : List (ℕ × Rows)) : Type 0 where

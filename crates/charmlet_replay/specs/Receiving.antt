@@ -8,8 +8,8 @@ use Rattle.charmlet_model.specs.declared.kind.Kind.{Kind}
 use Rattle.charmlet_model.specs.declared.state.Record.{Record}
 use Rattle.charmlet_model.specs.Names.{elem_cmp}
 use Rattle.charmlet_model.specs.Reaction.{kind_of, react}
-use Rattle.charmlet_history.specs.declared.element.Element.{Element}
-use Rattle.charmlet_history.specs.Kept.{IsCountedBy}
+use Rattle.charmlet_world.specs.declared.element.Element.{Element}
+use Rattle.charmlet_world.specs.Seen.{IsCountedBy}
 use Rattle.charmlet_history.specs.Opened.{opened_element}
 use Rattle.charmlet_model.specs.World.{advanced, record_at}
 use Rattle.charmlet_replay.specs.Home.{AreHome}

@@ -12,7 +12,7 @@ use Rattle.charmlet_model.specs.declared.logged.Effect.TheVariants.{Constructed,
 use Rattle.charmlet_model.specs.declared.logged.Effect.{Effect}
 use Rattle.charmlet_model.specs.declared.TheConstants.{CONSTRUCT}
 use Rattle.charmlet_model.specs.Reaction.{greatest}
-use Rattle.charmlet_history.specs.declared.element.Element.{Element}
+use Rattle.charmlet_world.specs.declared.element.Element.{Element}
 use Rattle.charmlet_model.specs.declared.state.Record.{Record}
 use Rattle.charmlet_model.specs.Core.{Blanks}
 use Rattle.charmlet_model.specs.Fit.{IsRecord}

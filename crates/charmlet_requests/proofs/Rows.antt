@@ -7,8 +7,8 @@ use Rattle.std.specs.Map.{lookup}
 use Rattle.std.proofs.lemmas.Map.Made.{lookup-map_values}
 use Rattle.charmlet_model.specs.Row.{no_client}
 use Rattle.charmlet_model.specs.World.{row_of}
-use Rattle.charmlet_history.specs.Client.{Rows}
-use Rattle.charmlet_history.specs.Kept.{present_rows}
+use Rattle.charmlet_world.specs.Client.{Rows}
+use Rattle.charmlet_world.specs.Seen.{present_rows}
 
 -- the present row of what is kept of a client
 pub row_in : (clients : List (ℕ × Rows)) (c : ℕ) (o : Option Rows) → lookup (is_at (nat_cmp c)) clients ≡ o →

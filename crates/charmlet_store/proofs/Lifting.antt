@@ -21,8 +21,7 @@ use Rattle.charmlet_model.specs.Shelves.{record_in, records_of}
 use Rattle.charmlet_model.specs.World.{World, record_of}
 use Rattle.charmlet_model.proofs.Maps.{absent, elem_exact, tied_elem}
 use Rattle.charmlet_history.specs.declared.history.History.{History}
-use Rattle.charmlet_history.specs.declared.element.Element.{Element}
-use Rattle.charmlet_history.specs.Kept.{IsConsistent, core_in, kept_in, places_of, with_place}
+use Rattle.charmlet_history.specs.Kept.{IsConsistent, core_in, kept_in}
 use Rattle.charmlet_shelf.specs.Shelf.{View}
 use Rattle.charmlet_migrate.specs.Copying.{empty_shelf, shelf_at}
 use Rattle.charmlet_migrate.specs.Moving.{IsIdle, ShowsPresent}
@@ -168,12 +167,3 @@ none_taken state history shelves consistent count idle shows residents none =
           (omega arith, stands_here shelves core.places (present core) shows x p place);
       shown = ap (λ es. records_of state es ++ standing (present core) core.places) none;
     }
-
--- ---- places, element by element
-
-module _ (e : Elem × Element) (es : List (Elem × Element)) where
-  pub places_more : (p : ℕ) → e.1.place ≡ Some p → places_of (e ∷ es) ≡ (e.0, p) ∷ places_of es
-  places_more p some = ap (λ o. with_place e.0 o (places_of es)) some
-
-  pub places_less : e.1.place ≡ None → places_of (e ∷ es) ≡ places_of es
-  places_less none = ap (λ o. with_place e.0 o (places_of es)) none

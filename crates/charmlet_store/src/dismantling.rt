@@ -8,7 +8,7 @@ ghost use Rattle.std.specs.Vec.{vec_capacity, vec_len};
 ghost use Rattle.charmlet_model.specs.Core.{present};
 ghost use Rattle.charmlet_model.specs.Names.{elem_cmp};
 ghost use Rattle.charmlet_model.specs.Shelves.{ShowsAll, record_in, records_of};
-ghost use Rattle.charmlet_history.specs.Kept.{IsConsistent, core_in, kept_in, places_of};
+ghost use Rattle.charmlet_history.specs.Kept.{IsConsistent, core_in, kept_in};
 ghost use Rattle.charmlet_migrate.specs.Copying.{shelf_at};
 ghost use Rattle.charmlet_migrate.specs.Moving.{IsIdle, ShowsPresent};
 ghost use Rattle.charmlet_store.specs.Dismantled.{IsCountedIn, IsOnShelf, standing, without};
@@ -16,7 +16,7 @@ ghost use Rattle.charmlet_store.specs.Store.{IsStoreConsistent, world_in};
 
 use crate::store::Store;
 use charmlet_chare::Chare;
-use charmlet_history::{Element, History};
+use charmlet_history::History;
 use charmlet_model::{Elem, Resident};
 use charmlet_shelf::Shelf;
 use charmlet_stock::Stock;
@@ -43,8 +43,10 @@ impl<C: Chare> Store<C> {
         ensures nothing { (core_in self.history).places ≡ [] → IsOk result }
         ensures err { IfErr result (λ back. back ≡ self) }
     {
-        let count = count_placed(self.history.elements());
-        let Ok(mut residents) = Vec::with_capacity(self.alloc, count) else {
+        let Ok(places) = self.history.places() else {
+            return Err(self);
+        };
+        let Ok(mut residents) = Vec::with_capacity(self.alloc, places.len()) else {
             return Err(self);
         };
         let Store {
@@ -53,45 +55,31 @@ impl<C: Chare> Store<C> {
             stock,
             ..
         } = self;
-        lift_all(&mut residents, &history, shelves.as_mut_slice());
+        lift_all(&mut residents, &history, &places, shelves.as_mut_slice());
         Ok(Dismantled { residents, stock })
     }
 }
 
-/// How many of the elements have a place.
-fn count_placed(elements: &BTreeMap<Elem, Element>) -> usize
-    ensures { result ≡ length (places_of elements.now.entries) }
-{
-    let mut count = 0;
-    for (_elem, element) in elements {
-        if element.place.is_some() {
-            count += 1;
-        }
-    }
-    count
-}
-
-/// Takes each element that is there from its shelf into the list, in rising order. The list has room
-/// for them.
+/// Takes each element that is there from its shelf into the list, in rising order: these are the places
+/// of the history. The list has room for them.
 fn lift_all<C: Chare>(
     residents: &mut Vec<(Elem, Resident<C>)>,
-    history: &History,
+    _history: &History,
+    places: &BTreeMap<Elem, u16>,
     shelves: &mut [Shelf<C>],
 )
     requires empty { residents.old.items ≡ [] }
-    requires room { length (core_in history.now).places ≤ vec_capacity residents.old }
-    requires consistent { IsConsistent (kept_in history.now) }
-    requires count { length shelves.old ≡ (core_in history.now).processors }
+    requires places { places.now.entries ≡ (core_in _history.now).places }
+    requires room { length (core_in _history.now).places ≤ vec_capacity residents.old }
+    requires consistent { IsConsistent (kept_in _history.now) }
+    requires count { length shelves.old ≡ (core_in _history.now).processors }
     requires idle { All IsIdle shelves.old }
-    requires shows { ShowsPresent shelves.old history.now }
+    requires shows { ShowsPresent shelves.old _history.now }
     ensures { records_of C.state residents.new.items
-        ≡ standing (present (core_in history.now)) (core_in history.now).places }
+        ≡ standing (present (core_in _history.now)) (core_in _history.now).places }
 {
-    for (elem, element) in history.elements() {
-        let Some(place) = element.place else {
-            continue;
-        };
-        let resident = lift_from(shelves, place, *elem);
+    for (elem, place) in places {
+        let resident = lift_from(shelves, *place, *elem);
         push_within(residents, (*elem, resident));
     }
 }

@@ -34,7 +34,7 @@ impl<C: Chare> Store<C> {
         requires { IsStoreConsistent self.now }
         ensures { result ≡ length (world_in self.now).pending }
     {
-        self.history.pending().len()
+        self.history.pending_count()
     }
 
     /// The ids of the pending messages, in order of birth.
@@ -42,11 +42,11 @@ impl<C: Chare> Store<C> {
         requires { IsStoreConsistent self.now }
         ensures { IfOk result (λ ids. ids.items ≡ map (λ m. m.id) (world_in self.now).pending) }
     {
-        let messages = self.history.pending();
-        messages
-            .iter()
-            .map(|message| message.id)
-            .collect(self.alloc)
+        let mut ids = Vec::with_capacity(self.alloc, self.pending_count())?;
+        for (id, _letter) in self.history.messages() {
+            ids.push(id)?;
+        }
+        Ok(ids)
     }
 
     /// What is seen of an element. It fails only when out of memory, which the packed state takes, and

@@ -1,5 +1,7 @@
 pub mod Holes
 pub mod Ids
+pub mod Made
+pub mod Places
 pub mod Suiting
 pub mod Risen
 pub mod Rows

@@ -4,6 +4,7 @@ use Rattle.std.specs.Prelude.{Option, Some, None, unwrap_or, is_some}
 use Rattle.std.proofs.Common.{drop, suc}
 use Rattle.std.specs.BTreeMap.{insert_entry, is_at}
 use Rattle.std.specs.List.{IsDistinct}
+use Rattle.std.specs.Ordering.{eq_by_cmp}
 use Rattle.std.specs.List.Sorted.{IsStrictlySortedBy}
 use Rattle.std.specs.Map.{keys_of, lookup}
 use Rattle.indexmap.specs.IndexMap.{set_value_at}
@@ -78,3 +79,14 @@ pub one_more_row : (es : Rows) (i : ℕ) (x : Elem) (w : Element) → slice_get 
 one_more_row [] i x w at = absurd (let no : ⊥ = cc in no)
 one_more_row (e ∷ es) Prim.Native.Nat.zero x w at = let same : e ≡ (x, w) = (λ j. unwrap_or (at j) e) in λ j. insert_entry elem_cmp (risen es) (same j).0 (same j).1
 one_more_row (e ∷ es) (suc i) x w at = one_more_row es i x w at
+
+-- what is kept last of an element stays
+pub inserted_again : (es : Rows) (x : Elem) (e w : Element) → insert_entry elem_cmp (insert_entry elem_cmp (risen es) x e) x w ≡ insert_entry elem_cmp (risen es) x w
+inserted_again es x e w =
+    let first = rising-insert_entry elem_cmp elem_total x e (risen es) (rising es) in
+    same_maps elem_cmp elem_total elem_exact (insert_entry elem_cmp (insert_entry elem_cmp (risen es) x e) x w) (insert_entry elem_cmp (risen es) x w)
+    (rising-insert_entry elem_cmp elem_total x w (insert_entry elem_cmp (risen es) x e) first) (rising-insert_entry elem_cmp elem_total x w (risen es) (rising es))
+    (λ q. lookup-insert_entry elem_cmp elem_total q x w (insert_entry elem_cmp (risen es) x e)
+    ∙ ap (cond (eq_by_cmp elem_cmp q x) (Some w)) (lookup-insert_entry elem_cmp elem_total q x e (risen es))
+    ∙ elim (eq_by_cmp elem_cmp q x) as (λ b. cond b (Some w) (cond b (Some e) (lookup (is_at (elem_cmp q)) (risen es))) ≡ cond b (Some w) (lookup (is_at (elem_cmp q)) (risen es))) [ true ↦ refl | false ↦ refl ]
+    ∙ sym (lookup-insert_entry elem_cmp elem_total q x w (risen es)))

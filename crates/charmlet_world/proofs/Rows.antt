@@ -63,7 +63,7 @@ pub new_row : (x : Elem) (es : Rows) → lookup (same_elem x) es ≡ None → sl
 new_row x es none = rw none (last_row es (x, no_element))
 
 -- the element of a row is not one that no row has
-apart_at : (x z : Elem) (es : Rows) (i : ℕ) (e : Element) → AllByRecursion (λ k. same_elem z k ≡ false) (keys_of es) → slice_get es i ≡ Some (x, e) → same_elem z x ≡ false
+pub apart_at : (x z : Elem) (es : Rows) (i : ℕ) (e : Element) → AllByRecursion (λ k. same_elem z k ≡ false) (keys_of es) → slice_get es i ≡ Some (x, e) → same_elem z x ≡ false
 apart_at x z [] i e h at = absurd (let no : ⊥ = cc in no)
 apart_at x z (f ∷ es) Prim.Native.Nat.zero e h at = let key : f.0 ≡ x = λ j. (unwrap_or (at j) f).0 in subst (λ k. same_elem z k ≡ false) key h.0
 apart_at x z (f ∷ es) (suc i) e h at = apart_at x z es i e h.1 at

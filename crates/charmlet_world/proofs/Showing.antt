@@ -21,7 +21,7 @@ use Rattle.charmlet_model.specs.declared.client.ClientRow.{ClientRow}
 use Rattle.charmlet_model.specs.Names.{elem_cmp, same_elem}
 use Rattle.charmlet_model.specs.Row.{no_client, with_reply, with_request}
 use Rattle.charmlet_model.specs.World.{World, after, delivered, performed, reaction_of, message_among, without, numbered, record_of, client_of, advanced, answered, request}
-use Rattle.charmlet_model.proofs.Maps.{elem_total, elem_exact, lookup-insert_entry, unwrapped}
+use Rattle.charmlet_model.proofs.Maps.{elem_exact}
 use Rattle.charmlet_model.proofs.Histories.{record_at-insert}
 use Rattle.charmlet_chare.specs.declared.output.Output.{Output}
 use Rattle.charmlet_world.specs.declared.element.Element.{Element}
@@ -30,6 +30,7 @@ use Rattle.charmlet_world.specs.Seen.{Held, Seen, Shows, IsCountedBy, IsSlot, cl
 use Rattle.charmlet_world.specs.Changed.{IsOutcome, accepted, advanced_by, counted, delivered_in, place_after, relocated, with_answer, with_entry}
 use Rattle.charmlet_world.specs.Standing.{element_in, risen}
 use Rattle.charmlet_world.specs.Standing as standing
+use Rattle.charmlet_world.proofs.Places.{element_at-insert}
 use Rattle.charmlet_world.proofs.Risen.{found_risen}
 
 -- ---- rows and slots
@@ -85,10 +86,6 @@ never_absent h v same x there none =
     absent (Some e) n t = let no : ⊥ = cc in no
 
 -- ---- one element
-
-pub element_at-insert : (es : List (Elem × Element)) (y : Elem) (e : Element) (x : Elem) → element_at (insert_entry elem_cmp es y e) x ≡ cond (eq_by_cmp elem_cmp x y) e (element_at es x)
-element_at-insert es y e x =
-    ap (λ o. unwrap_or o no_element) (lookup-insert_entry elem_cmp elem_total x y e es) ∙ unwrapped (eq_by_cmp elem_cmp x y) e no_element (lookup (is_at (elem_cmp x)) es)
 
 -- an entry is made, and not seen
 pub entry_unseen : (es : List (Elem × Element)) (y x : Elem) → element_at (with_entry es y) x ≡ element_at es x

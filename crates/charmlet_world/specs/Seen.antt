@@ -98,13 +98,20 @@ pub record Shows (k : Seen) (w : World) : Type 0 where
 
 -- ---- deliveries
 
--- the receiver is there or is constructed, and its counts have room
+-- an element takes a message with this entry: it is there or is constructed, and its counts have room
+abbrev pub takes : Element → ℕ → Bool
+takes e entry = (is_some e.place || (entry == CONSTRUCT)) && nat_le (e.received + 1) greatest && nat_le (e.sent + 16) greatest
+
+-- the receiver takes the message
 abbrev pub is_deliverable : Seen → Message → Bool
-is_deliverable k m =
-    (is_some (element_at k.elements m.to).place || (m.entry == CONSTRUCT))
-    && nat_le ((element_at k.elements m.to).received + 1) greatest && nat_le ((element_at k.elements m.to).sent + 16) greatest
+is_deliverable k m = takes (element_at k.elements m.to) m.entry
 
 -- the oldest of the messages that can be delivered
 abbrev pub oldest : Seen → List Message → Option MsgId
 oldest k [] = None
 oldest k (m ∷ ms) = if is_deliverable k m then Some m.id else oldest k ms
+
+-- the oldest one with the processor on which its receiver stands, or its home
+abbrev pub next_due : Seen → List Message → Option (ℕ × MsgId)
+next_due k [] = None
+next_due k (m ∷ ms) = if is_deliverable k m then Some (place_or_home_in k m.to, m.id) else next_due k ms

@@ -1,5 +1,5 @@
 -- What is kept of the elements, in the order in which they came.
-use Rattle.std.specs.Prelude.{ℕ, List, [], ◌∷◌, ◌++◌, None, unwrap_or, is_some, if◌then◌else◌}
+use Rattle.std.specs.Prelude.{ℕ, List, [], ◌∷◌, ◌++◌, Option, Some, None, unwrap_or, is_some, if◌then◌else◌}
 use Rattle.std.specs.BTreeMap.{insert_entry}
 use Rattle.std.specs.Map.{lookup}
 use Rattle.charmlet_model.specs.declared.names.Elem.{Elem}
@@ -25,3 +25,15 @@ with_row entries x = if is_some (lookup (same_elem x) entries) then entries else
 abbrev pub risen : List (Elem × Element) → List (Elem × Element)
 risen [] = []
 risen (e ∷ es) = insert_entry elem_cmp (risen es) e.0 e.1
+
+-- ---- places
+
+-- the element has this place, if it has one
+abbrev pub with_place : Elem → Option ℕ → List (Elem × ℕ) → List (Elem × ℕ)
+with_place x None places = places
+with_place x (Some place) places = (x, place) ∷ places
+
+-- the elements that have a place, each with its place
+abbrev pub places_of : List (Elem × Element) → List (Elem × ℕ)
+places_of [] = []
+places_of (e ∷ es) = with_place e.0 e.1.place (places_of es)

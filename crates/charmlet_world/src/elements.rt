@@ -1,13 +1,13 @@
 //! What is kept of each element.
 
-ghost use Rattle.std.specs.Prelude.{◌≡◌, ◌≤◌, ◌<◌, [], ◌∷◌, ◌++◌, length, slice_get, Some, IfSome, IfOk, IsOk, OnOk, OnErr, is_some, if◌then◌else◌};
+ghost use Rattle.std.specs.Prelude.{◌≡◌, ◌≤◌, ◌<◌, [], ◌∷◌, ◌++◌, length, slice_get, Some, None, IfSome, IfOk, IsOk, OnOk, OnErr, is_some, true, if◌then◌else◌};
 ghost use Rattle.std.specs.Map.{keys_of, lookup, values_of};
 ghost use Rattle.indexmap.specs.IndexMap.{set_value_at};
 ghost use Rattle.charmlet_model.specs.Names.{elem_cmp, same_elem};
 ghost use Rattle.std.specs.BTreeMap.{insert_entry, is_at};
 ghost use Rattle.std.specs.List.Sorted.{IsStrictlySortedBy};
 ghost use Rattle.charmlet_model.specs.declared.names.Elem.{Elem as AnElem};
-ghost use Rattle.charmlet_world.specs.Standing.{element_in, risen, with_row};
+ghost use Rattle.charmlet_world.specs.Standing.{element_in, places_of, risen, with_row};
 ghost use Rattle.charmlet_world.specs.declared.element.Element.{Element as AnElement};
 
 use crate::element::Element;
@@ -59,6 +59,28 @@ impl Elements {
         }
     }
 
+    /// What this tree has, and nothing else. It fails only for lack of memory.
+    pub fn of_tree(alloc: Global, tree: BTreeMap<Elem, Element>) -> Result<Self, AllocError>
+        ensures { IfOk result (λ elements. risen elements.entries ≡ tree.entries) }
+    {
+        // The length is what says that the keys rise.
+        let _len = tree.len();
+        let mut elements = Elements::new(alloc);
+        for (elem, element) in tree {
+            elements.put(elem, element)?;
+        }
+        Ok(elements)
+    }
+
+    /// Keeps this of an element, whatever was kept of it. It fails only for lack of memory.
+    fn put(&mut self, elem: Elem, element: Element) -> Result<(), AllocError>
+        ensures { OnOk result (risen self.new.entries ≡ insert_entry elem_cmp (risen self.old.entries) elem element) }
+    {
+        let slot = self.slot_for(elem)?;
+        self.set(slot, element);
+        Ok(())
+    }
+
     /// Where an element is kept, if it is.
     pub fn slot_of(&self, elem: Elem) -> Option<Slot>
         ensures found { IfSome result (λ slot. slice_get self.now.entries slot ≡ Some (elem, element_in self.now.entries elem)) }
@@ -90,6 +112,15 @@ impl Elements {
         rising_rows(&self.rows, alloc)
     }
 
+    /// The processor of each element that is there, in rising order of the elements, in memory of its own. It
+    /// takes none where no element is there.
+    pub fn places(&self, alloc: Global) -> Result<BTreeMap<Elem, u16>, AllocError>
+        ensures places { IfOk result (λ tree. tree.entries ≡ places_of (risen self.now.entries)) }
+        ensures nothing { places_of (risen self.now.entries) ≡ [] → IsOk result }
+    {
+        rising_places(&self.rows, alloc)
+    }
+
     /// What is kept there.
     pub fn at(&self, slot: Slot) -> Element
         requires { slot < length self.now.entries }
@@ -118,6 +149,7 @@ impl Elements {
         ensures risen { OnOk result (risen self.new.entries ≡ insert_entry elem_cmp (risen self.old.entries) elem (element_in self.old.entries elem)) }
         ensures err { OnErr result (self.new.entries ≡ self.old.entries) }
         ensures succeeds { 0 < self.old.room → IsOk result }
+        ensures there { is_some (lookup (same_elem elem) self.old.entries) ≡ true → IsOk result }
     {
         if let Some(index) = self.rows.get_index_of(&elem) {
             return Ok(Slot { index });
@@ -144,4 +176,39 @@ fn rising_rows(
         }
     }
     Ok(tree)
+}
+
+/// The places of these rows in rising order of their elements. It takes no memory where there is none.
+fn rising_places(
+    rows: &IndexMap<Elem, Element>,
+    alloc: Global,
+) -> Result<BTreeMap<Elem, u16>, AllocError>
+    ensures places { IfOk result (λ tree. tree.entries ≡ places_of (risen rows.now.entries)) }
+    ensures nothing { places_of (risen rows.now.entries) ≡ [] → IsOk result }
+{
+    let mut tree = BTreeMap::new(alloc);
+    let mut index = rows.len();
+    while index > 0 {
+        index -= 1;
+        if let Some((elem, element)) = rows.get_index(index) {
+            put_place(&mut tree, *elem, element)?;
+        }
+    }
+    Ok(tree)
+}
+
+/// Puts the place of an element into the tree, if it has one. It takes no memory where it has none.
+fn put_place(
+    tree: &mut BTreeMap<Elem, u16>,
+    elem: Elem,
+    element: &Element,
+) -> Result<(), AllocError>
+    ensures some { OnOk result (IfSome element.now.place (λ place. tree.new.entries ≡ insert_entry elem_cmp tree.old.entries elem place)) }
+    ensures none { element.now.place ≡ None → tree.new.entries ≡ tree.old.entries }
+    ensures nothing { element.now.place ≡ None → IsOk result }
+{
+    if let Some(place) = element.place {
+        tree.insert(elem, place)?;
+    }
+    Ok(())
 }

@@ -1,11 +1,12 @@
 //! The present world.
 
-ghost use Rattle.std.specs.Prelude.{◌≡◌, ℕ, ◌+◌, ◌<◌, ◌≤◌, [], ◌∷◌, List, length, true, is_some, option_map, option_copied, slice_get, Some, None, IfOk, IfSome, OnOk, OnErr, IsSome, unwrap_or, if◌then◌else◌};
+ghost use Rattle.std.specs.Prelude.{◌≡◌, ℕ, ◌+◌, ◌<◌, ◌≤◌, [], ◌∷◌, List, length, true, is_some, option_map, option_copied, slice_get, Some, None, IfOk, IfSome, OnOk, OnErr, IsSome, IsOk, unwrap_or, if◌then◌else◌};
 ghost use Rattle.std.specs.BTreeMap.{is_at};
 ghost use Rattle.std.specs.Map.{keys_of, lookup, values_of};
 ghost use Rattle.std.specs.Ordering.{nat_cmp};
 ghost use Rattle.charmlet_model.specs.Core.{has_words, home};
 ghost use Rattle.charmlet_model.specs.Sound.{new_world};
+ghost use Rattle.charmlet_model.specs.Fit.{AreDistinct};
 ghost use Rattle.charmlet_model.specs.Told.{told_of};
 ghost use Rattle.charmlet_model.specs.Names.{elem_cmp, same_elem};
 ghost use Rattle.charmlet_model.specs.World.{World as AWorld, after, message_among};
@@ -16,8 +17,8 @@ ghost use Rattle.charmlet_model.specs.declared.names.Origin.TheVariants as origi
 ghost use Rattle.charmlet_locate.specs.Locations.{is_processor_count};
 ghost use Rattle.charmlet_world.specs.declared.element.Element.{Element as AnElement};
 ghost use Rattle.charmlet_world.specs.Changed.{IsOutcome, Suits, accepted, delivered_in, flushed_row, place_after, relocated, with_entry};
-ghost use Rattle.charmlet_world.specs.Seen.{IsSlot, Shows, client_at, element_at, is_deliverable, oldest, place_or_home_in, seen};
-ghost use Rattle.charmlet_world.specs.Standing.{risen};
+ghost use Rattle.charmlet_world.specs.Seen.{IsSlot, Shows, client_at, element_at, is_deliverable, next_due, oldest, place_or_home_in, seen, takes};
+ghost use Rattle.charmlet_world.specs.Standing.{places_of, risen};
 ghost use Rattle.charmlet_world.specs.Waiting.{message_of};
 
 use crate::client::Client;
@@ -84,6 +85,31 @@ impl PresentWorld {
             clients: BTreeMap::new(alloc),
             promised: 0,
         }
+    }
+
+    /// A world with these arrays and so many processors, of which this is kept. It fails only for lack of
+    /// memory.
+    pub fn of(
+        alloc: Global,
+        manifest: Manifest,
+        processors: u16,
+        elements: BTreeMap<Elem, Element>,
+        pending: Vec<Message>,
+        clients: BTreeMap<u32, Client>,
+    ) -> Result<Self, AllocError>
+        requires processors { is_processor_count processors ≡ true }
+        requires distinct { AreDistinct pending.items }
+        ensures seen { IfOk result (λ world. seen world ≡ record { manifest = manifest; processors = processors; elements = elements.entries; pending = pending.items; clients = clients.entries }) }
+        ensures promised { IfOk result (λ world. world.promised ≡ 0) }
+    {
+        Ok(PresentWorld {
+            manifest,
+            processors,
+            elements: Elements::of_tree(alloc, elements)?,
+            pending: Pending::of(alloc, pending)?,
+            clients,
+            promised: 0,
+        })
     }
 
     /// The kind of each array.
@@ -167,6 +193,15 @@ impl PresentWorld {
         self.elements.rising(alloc)
     }
 
+    /// The processor of each element that is there, in rising order of the elements, in memory of its own. It
+    /// takes none where no element is there.
+    pub fn places(&self, alloc: Global) -> Result<BTreeMap<Elem, u16>, AllocError>
+        ensures places { IfOk result (λ tree. tree.entries ≡ places_of (seen self.now).elements) }
+        ensures nothing { places_of (seen self.now).elements ≡ [] → IsOk result }
+    {
+        self.elements.places(alloc)
+    }
+
     /// What is kept of a client, if it made a request.
     pub fn client(&self, client: u32) -> Option<&Client>
         ensures { option_copied result ≡ lookup (is_at (nat_cmp client)) self.now.clients }
@@ -205,12 +240,25 @@ impl PresentWorld {
         None
     }
 
+    /// The oldest pending message that can be delivered by the counts that are kept, and before it the
+    /// processor of its receiver, or the home of one that isn't there.
+    pub fn next(&self) -> Option<(u16, MsgId)>
+        ensures { result ≡ next_due (seen self.now) self.now.pending }
+    {
+        for (id, letter) in self.pending.iter() {
+            let element = self.element(letter.to);
+            if is_taken_by(&element, letter) {
+                return Some((place_in(self.processors, letter.to, element.place), id));
+            }
+        }
+        None
+    }
+
     /// Whether the receiver is there or is constructed, and its counts have room.
     fn is_deliverable(&self, letter: &Letter) -> bool
         ensures { (id : AnId) → result ≡ is_deliverable (seen self.now) (message_of id letter.now) }
     {
-        let element = self.element(letter.to);
-        (element.place.is_some() || letter.entry == CONSTRUCT) && element.has_room()
+        is_taken_by(&self.element(letter.to), letter)
     }
 
     /// Takes a client's request, whose id no pending message has. The room of deliveries stays. Where memory is
@@ -243,6 +291,17 @@ impl PresentWorld {
         Ok(())
     }
 
+    /// Where an element is kept, from now on if it wasn't. Where memory is refused, nothing changes.
+    pub fn slot_for(&mut self, elem: Elem) -> Result<Slot, AllocError>
+        ensures slot { IfOk result (λ slot. IsSlot self.new.rows slot elem) }
+        ensures seen { OnOk result (seen self.new ≡ record (seen self.old) { elements = with_entry (seen self.old).elements elem }) }
+        ensures promised { self.new.promised ≡ self.old.promised }
+        ensures there { is_some (lookup (is_at (elem_cmp elem)) (seen self.old).elements) ≡ true → IsOk result }
+        ensures err { OnErr result (self.new ≡ self.old) }
+    {
+        self.elements.slot_for(elem)
+    }
+
     /// Makes all room for the delivery of a pending message, so that its commit takes no memory, and says
     /// where its receiver is kept. There are at most 64 such deliveries. Where memory is refused, nothing
     /// changes.
@@ -250,7 +309,7 @@ impl PresentWorld {
         requires pending { IsSome (message_among id self.old.pending) }
         requires few { self.old.promised < 64 }
         ensures slot { IfOk result (λ slot. IfSome (message_among id self.old.pending) (λ m. IsSlot self.new.rows slot m.to)) }
-        ensures elements { OnOk result (IfSome (message_among id self.old.pending) (λ m. (seen self.new).elements ≡ with_entry (seen self.old).elements m.to)) }
+        ensures seen { OnOk result (IfSome (message_among id self.old.pending) (λ m. seen self.new ≡ record (seen self.old) { elements = with_entry (seen self.old).elements m.to })) }
         ensures pending { self.new.pending ≡ self.old.pending }
         ensures clients { self.new.clients ≡ self.old.clients }
         ensures promised { OnOk result (self.new.promised ≡ self.old.promised + 1) }
@@ -329,6 +388,14 @@ impl PresentWorld {
     {
         flush_row(&mut self.clients, client);
     }
+}
+
+/// Whether an element of which this is kept is there or is constructed by the message, and its counts have
+/// room.
+fn is_taken_by(element: &Element, letter: &Letter) -> bool
+    ensures { result ≡ takes element.now letter.now.entry }
+{
+    (element.place.is_some() || letter.entry == CONSTRUCT) && element.has_room()
 }
 
 /// The place of an element, or the home of one that has none.

@@ -6,8 +6,9 @@ ghost use Rattle.charmlet_history.specs.Kept.{IsOutcome, IsConsistent, core_in, 
 
 use super::opening::counter_at;
 use charmlet_chare::Output;
-use charmlet_history::{Element, History, RefusedCommit, Request};
+use charmlet_history::{History, RefusedCommit, Request};
 use charmlet_model::{CONSTRUCT, Elem, Kind, MsgId, Origin, Refusal, Sends, Told, Words};
+use charmlet_world::Element;
 use std::alloc::{AllocError, Global};
 use std::process::Abort;
 
@@ -155,7 +156,7 @@ fn looked_up(history: &History, step: Step) -> Option<Answer>
         Step::WhereIs(elem) => Answer::Place(history.where_is(elem)),
         Step::Counts(elem) => Answer::Counted(history.element(elem)),
         Step::Next => Answer::Next(history.next()),
-        Step::Pending => Answer::Pending(history.pending().len()),
+        Step::Pending => Answer::Pending(history.pending_count()),
         _ => return None,
     };
     Some(found)
@@ -164,8 +165,8 @@ fn looked_up(history: &History, step: Step) -> Option<Answer>
 fn assigned(history: &History, processor: u16) -> Option<MsgId>
     requires { IsConsistent (kept_in history.now) }
 {
-    let message = history.assigned(processor)?;
-    Some(message.id)
+    let (id, _letter) = history.assigned(processor)?;
+    Some(id)
 }
 
 // The element moves to the processor, where it can.
@@ -232,10 +233,10 @@ fn assign(history: &mut History, processor: u16, id: MsgId) -> Option<Refusal>
     if history.assign(processor, id).is_err() {
         return Some(Refusal::Memory);
     }
-    let Some(message) = history.assigned(processor) else {
+    let Some((_id, letter)) = history.assigned(processor) else {
         return Some(Refusal::Strayed);
     };
-    if message.entry != 2 || message.to.array != 0 {
+    if letter.entry != 2 || letter.to.array != 0 {
         return Some(Refusal::Strayed);
     }
     None

@@ -300,7 +300,9 @@ fn logs_fill_to_their_last_byte(rt: HostRuntime) {
 fn histories_show_what_they_keep(rt: HostRuntime) {
     let mut history = open(&rt, 5, 3, 100);
     assert_eq!(rt; history.manifest().kind_of(1), Some(Kind::Tree));
-    assert_eq!(rt; (history.clients().len(), history.elements().len()), (2, 3));
+    let elements = history.elements().expect(&rt, "memory");
+    assert_eq!(rt; (history.clients().len(), elements.len()), (2, 3));
+    assert_eq!(rt; history.places().expect(&rt, "memory").len(), 2);
     assert_eq!(rt; history.generation(), 3);
     assert_eq!(rt; (history.event_count(), history.durable_count()), (5, 5));
     assert!(rt; history.backlog().is_empty());
@@ -324,7 +326,7 @@ fn renewed_histories_go_on(rt: HostRuntime) {
     assert_eq!(rt; (history.event_count(), history.durable_count()), (6, 6));
     assert!(rt; history.backlog().is_empty());
     assert_eq!(rt; (history.generation(), history.test_flush()), (3, Ok(100)));
-    assert_eq!(rt; history.pending().len(), 4);
+    assert_eq!(rt; history.pending_count(), 4);
     run(&rt, &mut history, &[Step::Ask(7, 3)], "told accepted\n");
     run(&rt, &mut history, &[Step::Ask(7, 4)], "told unknown\n");
     assert_eq!(rt; (history.event_count(), history.durable_count()), (7, 6));

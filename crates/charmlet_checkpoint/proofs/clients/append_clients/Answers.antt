@@ -2,7 +2,7 @@ use Rattle.std.proofs.Common.{◌≡◌, ◌++◌, ℕ, [], ◌∷◌, ap, sym, 
 use Rattle.std.proofs.lemmas.List.Elements.{All-tail, All-same}
 use Rattle.charmlet_image.specs.declared.header.Mark.TheVariants.{Second}
 use Rattle.charmlet_image.specs.Images.{spell_client}
-use Rattle.charmlet_history.specs.Client.{Rows}
+use Rattle.charmlet_world.specs.Client.{Rows}
 use Rattle.charmlet_checkpoint.specs.Showing.{AreShort}
 use Rattle.charmlet_checkpoint.proofs.Lists.{spell_rows, one_appended, all_appended, clients_text}
 use Rattle.charmlet_checkpoint.proofs.clients.append_clients.Goals as goal

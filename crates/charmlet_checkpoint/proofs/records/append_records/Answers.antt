@@ -8,7 +8,7 @@ use Rattle.charmlet_model.specs.declared.state.State.{State}
 use Rattle.charmlet_model.specs.declared.state.Record.{Record}
 use Rattle.charmlet_model.specs.Core.{present}
 use Rattle.charmlet_image.specs.Images.{spell_entry}
-use Rattle.charmlet_history.specs.declared.element.Element.{Element}
+use Rattle.charmlet_world.specs.declared.element.Element.{Element}
 use Rattle.charmlet_history.specs.Kept.{core_in, kept_in}
 use Rattle.charmlet_history.specs.Records.{record_with, records_from}
 use Rattle.charmlet_history.proofs.RecordLists.{records_are}
@@ -20,7 +20,7 @@ pub loop-elem-init : goal.loop-elem-init
 loop-elem-init g c =
     let elements = (kept_in c.args.history.now).elements in
     let state : Elem → Option State = state_in c.args.history.now in
-    let entries : c.into_iter-elem-iterator.result ≡ elements = c.into_iter-elem-iterator.ensures.into_iter_gives.0 ∙ c.elements-elem-items.ensures in
+    let entries : c.into_iter-elem-iterator.result ≡ elements = c.into_iter-elem-iterator.ensures.into_iter_gives.0 ∙ c.requires.elements in
     record {
       bytes = λ i. (c.write_u32.ensures.bytes ∙ (λ j. c.in_ok-reserve.ensures.items j ++ number_bytes 4 (c.requires.count j))) i ++ flat_map spell_entry (records_from state (entries i));
       own = All-same (IsOwn elements) c.into_iter-elem-iterator.result elements entries (all_own elements c.requires.shown.consistent.rising);

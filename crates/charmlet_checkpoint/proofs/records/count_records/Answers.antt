@@ -1,7 +1,7 @@
 use Rattle.std.proofs.Common.{◌≡◌, [], ◌∷◌, length, sym, ap, ◌∙◌, arith}
 use Rattle.charmlet_model.specs.declared.names.Elem.{Elem}
 use Rattle.charmlet_model.specs.declared.state.Record.{Record}
-use Rattle.charmlet_history.specs.declared.element.Element.{Element}
+use Rattle.charmlet_world.specs.declared.element.Element.{Element}
 use Rattle.charmlet_history.specs.Records.{records_from}
 use Rattle.charmlet_checkpoint.proofs.Lists.{records_less, records_more}
 use Rattle.charmlet_checkpoint.proofs.records.count_records.Goals as goal

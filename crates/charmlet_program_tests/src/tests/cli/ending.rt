@@ -54,6 +54,7 @@ fn stops_end_with_1_or_2(rt: HostRuntime) {
         (Stop::CannotGoOn, 1, "cannot go on\n"),
         (Stop::NotCreated, 1, "cannot create store\n"),
         (Stop::NotShown, 1, "cannot show store\n"),
+        (Stop::NotSurvived, 1, "cannot survive each crash\n"),
         (Stop::UnreadableScript, 2, "cannot read script\n"),
         (
             Stop::MalformedLine(u64::MAX),

@@ -1,7 +1,8 @@
 use Rattle.std.proofs.Common.{◌≡◌, true, sym, ap, ◌∙◌}
-use Rattle.std.specs.Prelude.{Option, Some, None, Result, Ok, Err, IfErr, is_err, option_copied}
+use Rattle.std.specs.Prelude.{Option, Some, None, Result, Ok, Err, IfErr, is_err, option_map}
 use Rattle.charmlet_model.specs.declared.message.Message.{Message}
 use Rattle.charmlet_model.specs.declared.refusal.Refusal.{Refusal}
+use Rattle.charmlet_world.specs.Waiting.{shown_message}
 use Rattle.charmlet_history.specs.Kept.{assigned_message, core_in}
 use Rattle.charmlet_shelf.specs.Shelf.{Assigns, is_idle, refusal_at}
 use Rattle.charmlet_stock.proofs.Results.{when_ok}
@@ -19,7 +20,7 @@ unreachable-requires g c =
     let history = c.args.history.now in
     let m = c.in_ok-message.message in
     let here : assigned_message (core_in history) old.number ≡ Some m =
-    ap (assigned_message (core_in history)) (sym c.number.ensures) ∙ sym c.assigned.ensures ∙ ap option_copied c.in-Some.is ∙ ap Some (sym c.in_ok-message.ensures) in
+    ap (assigned_message (core_in history)) (sym c.number.ensures) ∙ sym c.assigned.ensures ∙ ap (option_map shown_message) c.in-Some.is ∙ ap Some (sym c.in_ok-message.ensures) in
     has_reason c.assign.result (refusal_at old m.to) m (sym c.is_err.ensures.value ∙ c.if-is_err.true) c.assign.ensures.err
     (not_refused history c.requires.history old c.assign.new.self c.requires.shelf c.requires.idle m here c.requires.unwanted)
 
@@ -29,6 +30,6 @@ returns-clause-ok g c =
     let history = c.args.history.now in
     let m = c.in_ok-message.message in
     let here : assigned_message (core_in history) old.number ≡ Some m =
-    ap (assigned_message (core_in history)) (sym c.number.ensures) ∙ sym c.assigned.ensures ∙ ap option_copied c.in-Some.is ∙ ap Some (sym c.in_ok-message.ensures) in
+    ap (assigned_message (core_in history)) (sym c.number.ensures) ∙ sym c.assigned.ensures ∙ ap (option_map shown_message) c.in-Some.is ∙ ap Some (sym c.in_ok-message.ensures) in
     let assigned = when_ok ((is_idle old.phase ≡ true) × Assigns old m c.assign.new.self) c.assign.result (sym c.is_err.ensures.value ∙ c.if-is_err.false) c.assign.ensures.ok in
     delivering_there history c.requires.history old c.assign.new.self c.requires.shelf c.requires.idle m here assigned.1

@@ -1,8 +1,9 @@
 use Rattle.std.proofs.Common.{◌≡◌, sym, ap, ◌∙◌}
-use Rattle.std.specs.Prelude.{Some, option_copied}
+use Rattle.std.specs.Prelude.{Some, option_map}
 use Rattle.charmlet_model.specs.Core.{present}
 use Rattle.charmlet_model.specs.World.{record_of}
-use Rattle.charmlet_history.specs.declared.element.Element.{Element}
+use Rattle.charmlet_world.specs.declared.element.Element.{Element}
+use Rattle.charmlet_world.specs.Waiting.{shown_message}
 use Rattle.charmlet_history.specs.Kept.{assigned_message, core_in}
 use Rattle.charmlet_store.proofs.Delivering.{delivering_new}
 use Rattle.charmlet_store.proofs.delivery.shelve_newcomer.Goals as goal
@@ -13,7 +14,7 @@ returns-in-Ok-assign_new-clause-ok g c =
     let history = c.args.history.now in
     let m = c.in-Ok.message in
     let here : assigned_message (core_in history) old.number ≡ Some m =
-    ap (assigned_message (core_in history)) (sym c.number.ensures) ∙ sym c.assigned.ensures ∙ ap option_copied c.in-Some.is ∙ ap Some (sym c.in-Ok.ensures) in
+    ap (assigned_message (core_in history)) (sym c.number.ensures) ∙ sym c.assigned.ensures ∙ ap (option_map shown_message) c.in-Some.is ∙ ap Some (sym c.in-Ok.ensures) in
     let counts = c.requires.history.counts m.to in
     let sends : c.element-counts.result.sent ≡ (record_of (present (core_in history)) m.to).sent = ap (λ (e : Element). e.sent) c.element-counts.ensures ∙ counts.sent in
     let receives : c.element-counts.result.received ≡ (record_of (present (core_in history)) m.to).received = ap (λ (e : Element). e.received) c.element-counts.ensures ∙ counts.received in

@@ -3,23 +3,19 @@ use Rattle.charmlet_model.specs.declared.event.Event.{Event}
 use Rattle.charmlet_model.specs.Core.{present}
 use Rattle.charmlet_model.specs.World.{World}
 use Rattle.charmlet_history.specs.Flushed.{all_durable}
+use Rattle.charmlet_history.specs.Opened.{with_arrays}
 use Rattle.charmlet_history.specs.Kept.{Kept, IsConsistent, core_of, kept_in}
 use Rattle.charmlet_history.proofs.Consistency.{manifest_is}
 use Rattle.charmlet_history.proofs.Openings.{renewed_consistent}
 use Rattle.charmlet_history.proofs.history.History.renew.Goals as goal
-
-pub renew-requires : goal.renew-requires
-renew-requires c =
-    let k = kept_in c.args.self.now in
-    let same : (kept_in c.make_durable.new.self).opening ≡ k.opening = ap (λ (j : Kept). j.opening) c.make_durable.ensures.durable in
-    ap (λ (w : World). w.manifest) c.of-seen.ensures ∙ manifest_is k ∙ ap (λ (w : World). w.manifest) (sym same)
 
 pub returns-clause-consistent : goal.returns-clause-consistent
 returns-clause-consistent c =
     let k = kept_in c.args.self.now in
     let backlog = (kept_in c.make_durable.new.self).backlog in
     let made : kept_in c.make_durable.new.self ≡ all_durable k k.log_end backlog = c.make_durable.ensures.durable in
-    let world : c.renew.new.self ≡ present (core_of k) = c.renew.ensures ∙ c.of-seen.ensures in
+    let arrays : c.make_durable.new.self.present.manifest ≡ (present (core_of k)).manifest = ap (λ (j : Kept). j.opening.manifest) made ∙ sym (manifest_is k) in
+    let world : with_arrays c.make_durable.new.self.present.manifest c.of-seen.result.world ≡ present (core_of k) = λ i. with_arrays (arrays i) (c.of-seen.ensures i) in
     let counted : c.len.result ≡ length (kept_in c.make_durable.new.self).events = search rules in
     let count : c.len.result ≡ length k.events = counted ∙ ap (λ (j : Kept). length j.events) made in
     let none : c.clear.new.self.items ≡ [] = c.clear.ensures.items in
@@ -31,7 +27,8 @@ returns-clause-renewed c =
     let k = kept_in c.args.self.now in
     let backlog = (kept_in c.make_durable.new.self).backlog in
     let made : kept_in c.make_durable.new.self ≡ all_durable k k.log_end backlog = c.make_durable.ensures.durable in
-    let world : c.renew.new.self ≡ present (core_of k) = c.renew.ensures ∙ c.of-seen.ensures in
+    let arrays : c.make_durable.new.self.present.manifest ≡ (present (core_of k)).manifest = ap (λ (j : Kept). j.opening.manifest) made ∙ sym (manifest_is k) in
+    let world : with_arrays c.make_durable.new.self.present.manifest c.of-seen.result.world ≡ present (core_of k) = λ i. with_arrays (arrays i) (c.of-seen.ensures i) in
     let counted : c.len.result ≡ length (kept_in c.make_durable.new.self).events = search rules in
     let count : c.len.result ≡ length k.events = counted ∙ ap (λ (j : Kept). length j.events) made in
     let none : c.clear.new.self.items ≡ [] = c.clear.ensures.items in

@@ -5,7 +5,7 @@ use Rattle.std.specs.Ordering.{nat_cmp}
 use Rattle.std.proofs.lemmas.Bool.{eq-eqb, ne_eqb}
 use Rattle.charmlet_model.specs.declared.refusal.Refusal.TheVariants as refusals
 use Rattle.charmlet_model.specs.Core.{When, first_refusal}
-use Rattle.charmlet_history.specs.declared.element.Element.{Element}
+use Rattle.charmlet_world.specs.declared.element.Element.{Element}
 use Rattle.charmlet_history.specs.Kept.{kept_in}
 use Rattle.charmlet_history.proofs.Moves.{absent_refused, away_order, blank_there, order_there}
 use Rattle.charmlet_history.proofs.history.History.test_move.Goals as goal

@@ -3,6 +3,7 @@ use Rattle.charmlet_model.specs.declared.kind.Kind.{Kind}
 use Rattle.charmlet_model.specs.declared.kind.Kind.TheVariants as kinds
 use Rattle.charmlet_model.specs.World.{kind_of_array}
 use Rattle.charmlet_model.specs.Core.{Assign, Core, next_core, present}
+use Rattle.charmlet_world.specs.Waiting.{message_of}
 use Rattle.charmlet_history.specs.Kept.{assigned_message, blank_of_move, core_in}
 use Rattle.charmlet_history_tests.specs.Opening.{counter_at}
 use Rattle.charmlet_history_tests.proofs.Outcomes.{plain_outcome}
@@ -16,7 +17,7 @@ pub returns-clause-outcome : goal.returns-clause-outcome
 returns-clause-outcome c =
     let old = core_in c.args.history.now in
     let new = core_in c.assign.new.self in
-    let m = c.in-Some.message.now in
+    let m = message_of c.in-Some._id c.in-Some.letter.now in
     let is : assigned_message new c.args.processor ≡ Some m = search rules in
     let entry : m.entry ≡ 2 = omega arith in
     let array : m.to.array ≡ 0 = omega arith in

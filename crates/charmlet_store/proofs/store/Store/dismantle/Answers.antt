@@ -1,8 +1,12 @@
-use Rattle.std.proofs.Common.{sym, subst}
+use Rattle.std.proofs.Common.{ℕ, arith, ap, length, sym, subst}
 use Rattle.std.specs.List.{All}
+use Rattle.charmlet_model.specs.declared.names.Elem.{Elem}
 use Rattle.charmlet_migrate.specs.Moving.{IsIdle}
 use Rattle.charmlet_store.proofs.Residents.{residents_counted, residents_show}
 use Rattle.charmlet_store.proofs.store.Store.dismantle.Goals as goal
+
+pub lift_all-requires-clause-room : goal.lift_all-requires-clause-room
+lift_all-requires-clause-room g c = omega (arith, c.in-Ok-with_capacity.ensures.capacity, c.len.ensures.len, ap (length {A = Elem × ℕ}) c.in-Ok.ensures.places)
 
 pub lift_all-requires-clause-idle : goal.lift_all-requires-clause-idle
 lift_all-requires-clause-idle g c κs within = subst (All IsIdle) (sym c.as_mut_slice.ensures.value) c.requires.idle

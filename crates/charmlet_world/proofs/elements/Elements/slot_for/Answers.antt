@@ -1,4 +1,4 @@
-use Rattle.std.proofs.Common.{◌≡◌, ◌++◌, ◌∷◌, [], sym, ap, subst, ◌∙◌, slice_get, Some, None}
+use Rattle.std.proofs.Common.{◌≡◌, ◌++◌, ◌∷◌, [], sym, ap, subst, ◌∙◌, slice_get, Some, None, true, false}
 use Rattle.std.specs.Map.{lookup}
 use Rattle.indexmap.proofs.CallerLemmas.{insert_entry-new}
 use Rattle.charmlet_model.specs.Names.{same_elem}
@@ -45,3 +45,8 @@ pub returns-in-Some-clause-risen : goal.returns-in-Some-clause-risen
 returns-in-Some-clause-risen c =
     risen-same c.args.elem c.args.self.now.entries
     (ap (λ (s : Standing). is_some (lookup (same_elem c.args.elem) s.entries)) (sym c.self.view_is) ∙ sym c.in-Some.ensures.found)
+
+pub returns-in_err-insert-clause-there : goal.returns-in_err-insert-clause-there
+returns-in_err-insert-clause-there c = λ there.
+    let no : false ≡ true = c.in_default.ensures.found ∙ ap (λ (s : Standing). is_some (lookup (same_elem c.args.elem) s.entries)) c.self.view_is ∙ there in
+    let never : ⊥ = cc in absurd never

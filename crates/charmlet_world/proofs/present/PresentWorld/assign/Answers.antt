@@ -19,13 +19,16 @@ returns-clause-slot c =
     to_some c.args.self.now _ c.self.view_is c.args.id m is (λ h m. IsSlot c.slot_for.new.self.entries c.in_ok-slot.slot m.to)
     (c.in_ok-slot.ensures.found ∙ ap (λ e. Some (m.to, e)) (sym (row_unseen rows c.slot_for.new.self.entries m.to c.in_ok-slot.ensures.risen m.to)))
 
-pub returns-clause-elements : goal.returns-clause-elements
-returns-clause-elements c =
+pub returns-clause-seen : goal.returns-clause-seen
+returns-clause-seen c =
     let m : Message = message_of c.args.id c.in-Some.letter.now in
     let is = c.in-Some.ensures ∙ ap (message_among c.args.id) c.in_ok-reserve.ensures.messages in
-    let rows = c.self.inside.elements.entries in
-    to_some c.args.self.now _ c.self.view_is c.args.id m is (λ h m. risen c.slot_for.new.self.entries ≡ with_entry (risen h.rows) m.to)
-    (c.in_ok-slot.ensures.risen ∙ ap (insert_entry elem_cmp (risen rows) m.to) (sym (element_risen m.to rows)))
+    let own = c.self.inside in
+    let rows = own.elements.entries in
+    let put = c.in_ok-slot.ensures.risen ∙ ap (insert_entry elem_cmp (risen rows) m.to) (sym (element_risen m.to rows)) in
+    to_some c.args.self.now _ c.self.view_is c.args.id m is (λ h m. record { manifest = own.manifest; processors = own.processors; elements = risen c.slot_for.new.self.entries; pending = c.reserve.new.self.messages; clients = own.clients.entries }
+    ≡ record (seen h) { elements = with_entry (risen h.rows) m.to })
+    (λ i. record { manifest = own.manifest; processors = own.processors; elements = put i; pending = c.in_ok-reserve.ensures.messages i; clients = own.clients.entries })
 
 pub returns-clause-slots : goal.returns-clause-slots
 returns-clause-slots c = λ i x e at.

@@ -1,0 +1,13 @@
+use Rattle.std.proofs.lemmas.Result.{IfOk-weaker}
+use Rattle.charmlet_recover.specs.Restart.{bytes_on}
+use Rattle.charmlet_lab.specs.Rounds.{arrays_of}
+use Rattle.charmlet_lab.proofs.Tried.{good_is_lawful}
+use Rattle.charmlet_lab.proofs.trying.lab_outcome.Goals as goal
+
+pub returns : goal.returns
+returns g c = record {
+  sound = λ honest.
+      IfOk-weaker c.lab_bad.result _ _ (λ bad judged no n is.
+      good_is_lawful {G = g.D.Disk} {H = g.C.Chare} (arrays_of c.args.script.now) c.args.events.now c.args.durable n c.processors.result (bytes_on (g.D.Disk.file c.args.disk)) c.restart-answer.result is
+      c.restart-answer.ensures.opens (c.restart-answer.ensures.found honest) (judged.0 no)) c.lab_bad.ensures.ok;
+}
