@@ -1,7 +1,6 @@
-"""Restarts each store that the benchmark made in the current folder, in a process of its own, and tells its memory; then reads as many rows with SQLite."""
+"""Restarts each store that the benchmark made in the current folder, in a process of its own; then reads as many rows with SQLite."""
 
 import os
-import resource
 import sqlite3
 import subprocess
 import sys
@@ -10,9 +9,8 @@ import time
 
 def restart(program, folder):
     size = sum(os.path.getsize(f"{folder}/{half}") for half in os.listdir(folder))
-    line = subprocess.run([program, folder], check=True, capture_output=True, text=True).stdout.strip()
-    peak = resource.getrusage(resource.RUSAGE_CHILDREN).ru_maxrss * 1024
-    print(f"{line}; the files have {size} bytes, and the greatest process so far {peak}")
+    lines = subprocess.run([program, folder], check=True, capture_output=True, text=True).stdout
+    print(f"{lines.strip()}\n{folder}: {size} bytes in its files")
 
 
 def rows(count):

@@ -10,7 +10,7 @@ use super::forgetful::ForgetfulDisk;
 use charmlet_disk::{CrashChoice, Disk, MemDisk};
 use charmlet_engine::Engine;
 use charmlet_kinds::Counter;
-use charmlet_lab::{LabLine, Round, lab_bad, lab_round};
+use charmlet_lab::{LabLine, Round, lab_bad, lab_outcome, lab_round};
 use charmlet_model::{Event, Kind};
 use charmlet_recover::{manifest, stock_of};
 use charmlet_script::Script;
@@ -37,6 +37,14 @@ fn unused(alloc: Global, count: u64) -> Result<Stock<Counter>, AllocError>
     }
 }
 
+// How many counters a restart from this disk needs.
+fn wanted<D: Disk>(alloc: Global, disk: &mut D) -> u64 {
+    match manifest(alloc, disk) {
+        Ok(found) => found.wanted.of(Kind::Counter),
+        Err(_) => 0,
+    }
+}
+
 // Whether a restart from a disk after a crash comes to what it shouldn't.
 pub(super) fn is_bad<D: Disk>(
     rt: &impl AllocGlobal,
@@ -49,13 +57,27 @@ pub(super) fn is_bad<D: Disk>(
 {
     let alloc = rt.alloc();
     let mut disk = disk;
-    let count = match manifest(alloc, &mut disk) {
-        Ok(found) => found.wanted.of(Kind::Counter),
-        Err(_) => 0,
-    };
-    let blanks = unused(alloc, count)?;
+    let blanks = unused(alloc, wanted(alloc, &mut disk))?;
     let mut answer = Engine::restart(alloc, disk, blanks, script.processors());
     match lab_bad(alloc, script, &mut answer, events, durable) {
+        Ok(bad) => Ok(bad),
+        Err(refusal) => Err(Fail::new(refusal)),
+    }
+}
+
+// The same, as the laboratory asks it: with the counters that a restart needs.
+fn is_bad_outcome<D: Disk>(
+    alloc: Global,
+    script: &Script,
+    disk: D,
+    events: &[Event],
+    durable: Option<u64>,
+) -> Result<bool, Fail>
+    requires { IsLegal (new_world (arrays_of script.now)) 0 events.now }
+{
+    let mut disk = disk;
+    let blanks = blanks(alloc, wanted(alloc, &mut disk))?;
+    match lab_outcome(alloc, script, disk, blanks, events, durable) {
         Ok(bad) => Ok(bad),
         Err(refusal) => Err(Fail::new(refusal)),
     }
@@ -89,7 +111,8 @@ pub(super) fn found_in_memory(rt: &impl AllocGlobal, script: &Script) -> Result<
             if !is_stopped {
                 return Ok(line);
             }
-            let bad = is_bad(rt, script, disk.crash(*choice), &events, durable)?;
+            let crashed = disk.crash(*choice);
+            let bad = is_bad_outcome(alloc, script, crashed, &events, durable)?;
             count(&mut line, bad);
         }
         line.stops = line.stops.saturating_add(1);
@@ -117,7 +140,8 @@ pub(super) fn found_forgetful(rt: &impl AllocGlobal, script: &Script) -> Result<
             if !is_stopped {
                 return Ok(line);
             }
-            let bad = is_bad(rt, script, disk.crash(*choice), &events, durable)?;
+            let crashed = disk.crash(*choice);
+            let bad = is_bad_outcome(alloc, script, crashed, &events, durable)?;
             count(&mut line, bad);
         }
         line.stops = line.stops.saturating_add(1);
