@@ -20,9 +20,10 @@ use charmlet_model::{Answer, Event, Kind, Refusal};
 use charmlet_recover::manifest;
 use charmlet_script::{Script, read_restart_script, read_script};
 use std::alloc::Global;
-use std::io::{BufWriter, Write};
+use std::io::{BufWriter, IsTerminal, Write};
 use std::process::ExitCode;
 use std::rt::Runtime;
+use std::time::Instant;
 use std::{env, io};
 
 /// A new blank object of a kind, boxed. It is a macro, since the checker has each function make the boxes of a `dyn` type
@@ -133,9 +134,58 @@ fn is_bad(
     lab_outcome(alloc, script, disk, blanks, events, durable)
 }
 
+/// What is said of how far the laboratory is: on standard error, where that is a terminal, once a second.
+#[derive(Drop)]
+struct Progress {
+    rt: HostRuntime,
+    /// When something was said last, or when the laboratory began; none where nothing is said.
+    last: Option<Instant>,
+    is_shown: bool,
+}
+
+impl Progress {
+    fn new(rt: HostRuntime) -> Self {
+        let is_terminal = rt.stderr().is_terminal();
+        Progress {
+            rt,
+            last: if is_terminal {
+                Instant::now(&rt).ok()
+            } else {
+                None
+            },
+            is_shown: false,
+        }
+    }
+
+    /// Says what was found so far, in the place of what was said before.
+    fn tell(&mut self, line: &LabLine) {
+        let Some(last) = &self.last else {
+            return;
+        };
+        let Ok(passed) = last.elapsed(&self.rt) else {
+            return;
+        };
+        if passed.as_secs() > 0 {
+            self.is_shown = eprint!(self.rt; "\r{line} so far").is_ok();
+            self.last = Instant::now(&self.rt).ok();
+        }
+    }
+
+    /// Takes away what was said.
+    fn clear(&self) {
+        if self.is_shown {
+            let _cleared = eprint!(self.rt; "\r\x1b[K");
+        }
+    }
+}
+
 /// Runs a script on disks in memory of which each fails one call later than the one before, until one doesn't fail, and
 /// tries six crashes after each run.
-fn try_crashes(alloc: Global, script: &Script) -> Result<LabLine, Refusal> {
+fn try_crashes(
+    alloc: Global,
+    script: &Script,
+    progress: &mut Progress,
+) -> Result<LabLine, Refusal> {
     let mut line = LabLine {
         stops: 0,
         outcomes: 0,
@@ -164,6 +214,7 @@ fn try_crashes(alloc: Global, script: &Script) -> Result<LabLine, Refusal> {
             }
         }
         line.stops = line.stops.saturating_add(1);
+        progress.tell(&line);
     }
     Ok(line)
 }
@@ -174,7 +225,10 @@ fn lab(rt: HostRuntime, path: &str) -> Result<(), Stop> {
     let mut file = open_script(&rt, path)?;
     let script = read_script(alloc, &mut file)?;
     let mut writer = BufWriter::new(alloc, io::writer(&rt))?;
-    let line = match try_crashes(alloc, &script) {
+    let mut progress = Progress::new(rt);
+    let found = try_crashes(alloc, &script, &mut progress);
+    progress.clear();
+    let line = match found {
         Ok(line) => line,
         Err(Refusal::BadPes) => {
             write_line(alloc, &mut writer, &Answer::Refused(Refusal::BadPes))?;
