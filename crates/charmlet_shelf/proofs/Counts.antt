@@ -1,8 +1,9 @@
 -- How many objects a shelf has, by what they show.
 use Rattle.std.proofs.Common.{◌≡◌, ℕ, ◌+◌, ◌==◌, ◌&&◌, true, false, cond, List, [], ◌∷◌, refl, sym, ap, ◌∙◌, arith}
-use Rattle.std.specs.Prelude.{Option, Some, None, IfSome, is_none, is_some, not, option_map, unwrap_or}
+use Rattle.std.specs.Prelude.{Option, Some, None, IfSome, is_none, is_some, not, option_map, unwrap_or, sum_by}
 use Rattle.std.specs.BTreeMap.{insert_entry, is_at}
-use Rattle.std.specs.Map.{remove_entry, values_of}
+use Rattle.std.specs.List.{IsDistinct}
+use Rattle.std.specs.Map.{keys_of, remove_entry, values_of}
 use Rattle.std.proofs.lemmas.List.Sums.{sum_by-cons}
 use Rattle.std.proofs.lemmas.Map.Entries.{sum_by-insert_entry, sum_by-remove_entry}
 use Rattle.charmlet_model.specs.declared.names.Elem.{Elem}
@@ -10,18 +11,20 @@ use Rattle.charmlet_model.specs.declared.kind.Kind.{Kind}
 use Rattle.charmlet_model.specs.declared.state.Record.{Record}
 use Rattle.charmlet_model.specs.declared.state.Resident.{Resident}
 use Rattle.charmlet_model.specs.declared.state.State.{State}
-use Rattle.charmlet_model.specs.Names.{elem_cmp}
+use Rattle.charmlet_model.specs.Names.{elem_cmp, same_elem}
 use Rattle.charmlet_model.specs.Kind.{kind_number}
 use Rattle.charmlet_model.specs.Reaction.{kind_of}
 use Rattle.charmlet_model.specs.Shelves.{count_of, if_there, is_there_as, objects_of, record_in, records_of, there_in}
 use Rattle.charmlet_model.proofs.Maps.{elem_total, tied_elem}
 use Rattle.charmlet_shelf.specs.Count.{came_out, comes_as, is_newcomer_of}
 use Rattle.charmlet_shelf.specs.Due.{Due, record_after}
+use Rattle.charmlet_shelf.specs.Risen.{risen}
 use Rattle.charmlet_shelf.specs.Shelf.{Holds, ShowsPhase, before_due, records_before, with_record}
 use Rattle.charmlet_shelf.specs.declared.phase.Phase.{Phase}
 use Rattle.charmlet_shelf.specs.declared.phase.Phase.TheVariants.{Idle, Assigned, Done}
 use Rattle.charmlet_shelf.proofs.Holding.{before_is}
 use Rattle.charmlet_shelf.proofs.Records.{Rising, at, found_with, rising_shown, rising_with, shown_there}
+use Rattle.charmlet_shelf.proofs.Risen.{sum_risen}
 use Rattle.charmlet_model.proofs.ShelfCounts.{absent_weighs_nothing}
 
 pub is_none_not : {A : Type 0} (o : Option A) → is_none o ≡ not (is_some o)
@@ -73,6 +76,20 @@ module _ (kind : Kind) where
         sum_by-cons (λ object. of_kind (kind_of (state object))) e.1.object (objects_of es)
         ∙ ap (λ n. of_kind (kind_of (state e.1.object)) + n) (by_shown es)
         ∙ sym (sum_by-cons weight (record_in state e.1) (values_of (records_of state es)))
+
+    -- and as many as in rising order
+    abbrev weighs : Resident C → ℕ
+    weighs resident = of_kind (kind_of (state resident.object))
+
+    by_weight : (es : List (Elem × Resident C)) → count_of state (objects_of es) kind ≡ sum_by weighs (values_of es)
+    by_weight [] = refl
+    by_weight (e ∷ es) =
+        sum_by-cons (λ object. of_kind (kind_of (state object))) e.1.object (objects_of es)
+        ∙ ap (λ n. of_kind (kind_of (state e.1.object)) + n) (by_weight es)
+        ∙ sym (sum_by-cons weighs e.1 (values_of es))
+
+    pub count_risen : (es : List (Elem × Resident C)) → IsDistinct same_elem (keys_of es) → count_of state (objects_of (risen es)) kind ≡ count_of state (objects_of es) kind
+    count_risen es distinct = by_weight (risen es) ∙ sum_risen weighs es distinct ∙ sym (by_weight es)
 
     -- ---- a delivery under way
 

@@ -45,6 +45,19 @@ module _ {C : Type 0} (state : C → State) where
       let held : state_if there (state resident.object) ≡ due.receiver.state = ap (λ b. state_if b (state resident.object)) is ∙ state_is due.receiver.state (state resident.object) receiver.state in
       λ i. react (receiver.kind i) due.message.to (held i) due.message.entry due.message.words
 
+  -- a destroyed object goes
+  pub destroyed_shown : (es : List (Elem × Resident C)) (due : Due) → Rising es → is_none (record_after due).state ≡ true →
+      records_of state (remove_entry (is_at (elem_cmp due.message.to)) es) ≡ with_record (before_due (records_of state es) due) due.message.to (record_after due)
+  destroyed_shown es due rising gone =
+      let rs = records_of state es in
+      let rising_rs = rising_shown state es rising in
+      shown_removed state es rising due.message.to (record_after due) (not_some (record_after due).state gone)
+      ∙ sym (written_over rs rising_rs due.message.to due.receiver (record_after due))
+    where
+      not_some : (o : Option State) → is_none o ≡ true → is_some o ≡ false
+      not_some None h = refl
+      not_some (Some s) h = cc
+
   module _ (es : List (Elem × Resident C)) (due : Due) (old : Resident C) (here : at es due.message.to ≡ Some old) where
     -- the object at its place is the receiver's
     pub receiver_is : (becomes : Option State) → Holds state es due becomes → IsReceiver state due becomes old
@@ -100,21 +113,6 @@ module _ {C : Type 0} (state : C → State) where
 
       pub rising_written : Rising es → Rising written
       rising_written rising = subst (IsStrictlySortedBy elem_cmp) (sym (keys-set_value (is_at (elem_cmp due.message.to)) es new)) rising
-
-      -- it goes, whatever was written
-      pub destroyed_shown : Rising es → is_none (record_after due).state ≡ true →
-          records_of state (remove_entry (is_at (elem_cmp due.message.to)) written) ≡ with_record (before_due (records_of state es) due) due.message.to (record_after due)
-      destroyed_shown rising gone =
-          let rs = records_of state es in
-          let rising_rs = rising_shown state es rising in
-          shown_removed state written (rising_written rising) due.message.to (record_after due) (not_some (record_after due).state gone)
-          ∙ ap (λ records. with_record records due.message.to (record_after due)) (shown_written state es rising due.message.to old new here)
-          ∙ written_over rs rising_rs due.message.to (record_in state new) (record_after due)
-          ∙ sym (written_over rs rising_rs due.message.to due.receiver (record_after due))
-        where
-          not_some : (o : Option State) → is_none o ≡ true → is_some o ≡ false
-          not_some None h = refl
-          not_some (Some s) h = cc
 
       pub holds_written : (becomes : Option State) → IsReceiver state due becomes new → Holds state written due becomes
       holds_written becomes receiver = (new, written_here, receiver)

@@ -4,3 +4,4 @@ pub mod Holding
 pub mod Idle
 pub mod Images
 pub mod Counts
+pub mod Risen

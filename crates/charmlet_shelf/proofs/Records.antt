@@ -29,7 +29,7 @@ abbrev pub at : {X : Type 0} → List (Elem × X) → Elem → Option X
 at es x = lookup (is_at (elem_cmp x)) es
 
 -- entries that are found alike are equal
-alike : {X : Type 0} (es fs : List (Elem × X)) → Rising es → Rising fs → ((q : Elem) → at es q ≡ at fs q) → es ≡ fs
+pub alike : {X : Type 0} (es fs : List (Elem × X)) → Rising es → Rising fs → ((q : Elem) → at es q ≡ at fs q) → es ≡ fs
 alike es fs = same_maps elem_cmp elem_total elem_exact es fs
 
 -- ---- one record over the others

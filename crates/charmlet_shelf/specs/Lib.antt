@@ -5,3 +5,4 @@ pub mod Shelf
 pub mod Receiving
 pub mod Image
 pub mod Count
+pub mod Risen

@@ -5,16 +5,19 @@ ghost use Rattle.std.specs.List.Sorted.{IsStrictlySortedBy};
 ghost use Rattle.std.specs.Map.{keys_of};
 ghost use Rattle.charmlet_model.specs.Names.{elem_cmp};
 ghost use Rattle.charmlet_model.specs.Shelves.{count_of, objects_of};
+ghost use Rattle.charmlet_shelf.specs.Risen.{risen};
 
 use charmlet_chare::Chare;
 use charmlet_model::{Elem, Kind, Resident};
-use std::collections::BTreeMap;
+use indexmap::IndexMap;
 
 /// How many of the residents' objects are of the kind.
-pub(crate) fn count_residents<C: Chare>(residents: &BTreeMap<Elem, Resident<C>>, kind: Kind) -> u64
-    ensures count { result ≡ count_of C.state (objects_of residents.now.entries) kind }
-    ensures ordered { IsStrictlySortedBy elem_cmp (keys_of residents.now.entries) }
+pub(crate) fn count_residents<C: Chare>(residents: &IndexMap<Elem, Resident<C>>, kind: Kind) -> u64
+    ensures count { result ≡ count_of C.state (objects_of (risen residents.now.entries)) kind }
+    ensures ordered { IsStrictlySortedBy elem_cmp (keys_of (risen residents.now.entries)) }
 {
+    // The length is what says that no element stands there twice.
+    let _len = residents.len();
     let mut count = 0;
     for resident in residents.values() {
         if resident.object.kind() == kind.number() {

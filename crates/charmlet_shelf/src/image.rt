@@ -6,11 +6,14 @@ ghost use Rattle.std.specs.Map.{keys_of, lookup};
 ghost use Rattle.charmlet_model.specs.Names.{elem_cmp};
 ghost use Rattle.charmlet_model.specs.Shelves.{record_in, records_of};
 ghost use Rattle.charmlet_shelf.specs.Image.{AreImages, IsImage};
+ghost use Rattle.charmlet_shelf.specs.Risen.{risen};
 
+use crate::residents::index_of;
 use charmlet_chare::Chare;
 use charmlet_model::{Elem, Resident};
+use indexmap::IndexMap;
 use std::alloc::{AllocError, Global};
-use std::collections::BTreeMap;
+use std::collections::BTreeSet;
 
 /// An element that is there: its packed state, and how many messages it sent and received in its whole
 /// life.
@@ -26,10 +29,10 @@ pub struct Image {
 /// they showed.
 pub(crate) fn images_of<C: Chare>(
     alloc: Global,
-    residents: &mut BTreeMap<Elem, Resident<C>>,
+    residents: &mut IndexMap<Elem, Resident<C>>,
 ) -> Result<Vec<Image>, AllocError>
-    ensures ok { IfOk result (λ images. AreImages (records_of C.state residents.old.entries) (keys_of residents.old.entries) images.items) }
-    ensures same { records_of C.state residents.new.entries ≡ records_of C.state residents.old.entries }
+    ensures ok { IfOk result (λ images. AreImages (records_of C.state (risen residents.old.entries)) (keys_of (risen residents.old.entries)) images.items) }
+    ensures same { records_of C.state (risen residents.new.entries) ≡ records_of C.state (risen residents.old.entries) }
 {
     let elems = elems_of(alloc, residents)?;
     let mut images = Vec::new(alloc);
@@ -43,27 +46,47 @@ pub(crate) fn images_of<C: Chare>(
 /// The elements, in rising order. It fails only when out of memory.
 fn elems_of<C: Chare>(
     alloc: Global,
-    residents: &BTreeMap<Elem, Resident<C>>,
+    residents: &IndexMap<Elem, Resident<C>>,
 ) -> Result<Vec<Elem>, AllocError>
-    ensures { IfOk result (λ elems. elems.items ≡ keys_of residents.now.entries) }
+    ensures { IfOk result (λ elems. elems.items ≡ keys_of (risen residents.now.entries)) }
 {
-    residents.keys().copied().collect(alloc)
+    let elems = rising_elems(alloc, residents)?;
+    elems.iter().copied().collect(alloc)
+}
+
+/// The elements as a set, which has them in rising order. It fails only when out of memory.
+fn rising_elems<C: Chare>(
+    alloc: Global,
+    residents: &IndexMap<Elem, Resident<C>>,
+) -> Result<BTreeSet<Elem>, AllocError>
+    ensures { IfOk result (λ elems. elems.keys ≡ keys_of (risen residents.now.entries)) }
+{
+    let mut elems = BTreeSet::new(alloc);
+    let mut index = residents.len();
+    while index > 0 {
+        index -= 1;
+        if let Some((elem, _)) = residents.get_index(index) {
+            elems.insert(*elem)?;
+        }
+    }
+    Ok(elems)
 }
 
 /// The image of an element that is there. It fails only when out of memory. The objects show what they
 /// showed.
 pub(crate) fn image_at<C: Chare>(
     alloc: Global,
-    residents: &mut BTreeMap<Elem, Resident<C>>,
+    residents: &mut IndexMap<Elem, Resident<C>>,
     elem: Elem,
 ) -> Result<Image, AllocError>
-    requires { is_some (lookup (is_at (elem_cmp elem)) residents.old.entries) ≡ true }
-    ensures ok { IfOk result (λ image. IfSome (lookup (is_at (elem_cmp elem)) (records_of C.state residents.old.entries)) (IsImage image elem)) }
-    ensures same { records_of C.state residents.new.entries ≡ records_of C.state residents.old.entries }
+    requires { is_some (lookup (is_at (elem_cmp elem)) (risen residents.old.entries)) ≡ true }
+    ensures ok { IfOk result (λ image. IfSome (lookup (is_at (elem_cmp elem)) (records_of C.state (risen residents.old.entries))) (IsImage image elem)) }
+    ensures same { records_of C.state (risen residents.new.entries) ≡ records_of C.state (risen residents.old.entries) }
 {
-    let Some(resident) = residents.get_mut(&elem) else {
+    let Some(index) = index_of(residents, elem) else {
         unreachable!()
     };
+    let (_elem, resident) = residents.pair_mut(index);
     image_of(alloc, elem, resident)
 }
 

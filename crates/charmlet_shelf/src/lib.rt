@@ -8,6 +8,7 @@ mod image;
 mod outcome;
 mod phase;
 mod receiving;
+mod residents;
 mod seen;
 mod shelf;
 

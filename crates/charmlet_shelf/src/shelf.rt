@@ -6,10 +6,11 @@ use crate::delivery::Delivery;
 use crate::image::{Image, image_at, images_of};
 use crate::outcome::Outcome;
 use crate::phase::Phase;
+use crate::residents::{put, take};
 use charmlet_chare::{Chare, Output, kind_of};
 use charmlet_model::{Elem, Kind, Message, Refusal, Resident};
+use indexmap::IndexMap;
 use std::alloc::{AllocError, Global};
-use std::collections::BTreeMap;
 use std::marker::Model;
 use std::mem;
 
@@ -20,23 +21,26 @@ use std::mem;
 pub struct Shelf<C: Chare> {
     alloc: Global,
     number: u16,
-    residents: BTreeMap<Elem, Resident<C>>,
+    residents: IndexMap<Elem, Resident<C>>,
+    /// Where the receiver stands, or once stood: there it is looked for first.
+    last: usize,
     phase: Phase,
 }
 
 impl<C: Chare> Model for Shelf<C> {
     ghost use Rattle.charmlet_model.specs.Shelves.{records_of};
+    ghost use Rattle.charmlet_shelf.specs.Risen.{risen};
     ghost use Rattle.charmlet_shelf.specs.Shelf.{View, ShowsPhase, records_before};
 
     ghost Value = { View };
 
     ghost view = { λ s. record {
       number = s.number;
-      records = records_before (records_of C.state s.residents.entries) s.phase;
+      records = records_before (records_of C.state (risen s.residents.entries)) s.phase;
       phase = s.phase;
     } };
 
-    ghost invariant = { λ s. ShowsPhase C.state s.residents.entries s.phase };
+    ghost invariant = { λ s. ShowsPhase C.state (risen s.residents.entries) s.phase };
 }
 
 impl<C: Chare> Shelf<C> {
@@ -62,7 +66,8 @@ impl<C: Chare> Shelf<C> {
         Shelf {
             alloc,
             number,
-            residents: BTreeMap::new(alloc),
+            residents: IndexMap::new(alloc),
+            last: 0,
             phase: Phase::Idle,
         }
     }
@@ -99,10 +104,10 @@ impl<C: Chare> Shelf<C> {
         if !self.is_idle() {
             return Err((Refusal::Uncommitted, resident));
         }
-        match self.residents.insert(elem, resident) {
-            Ok(_) => Ok(()),
-            Err(refused) => Err((Refusal::Memory, refused.value.1)),
+        if let Err(resident) = put(&mut self.residents, elem, resident) {
+            return Err((Refusal::Memory, resident));
         }
+        Ok(())
     }
 
     /// Takes an element away, with its object and counts. `Uncommitted` where a delivery is under way, else
@@ -115,21 +120,21 @@ impl<C: Chare> Shelf<C> {
         if !self.is_idle() {
             return Err(Refusal::Uncommitted);
         }
-        let Some(resident) = self.residents.remove(&elem) else {
+        let Some(resident) = take(&mut self.residents, elem) else {
             return Err(Refusal::Absent);
         };
         Ok(resident)
     }
 
-    /// Takes the first element away, with its object and counts, where there is one. No delivery may be under
-    /// way. It takes no memory.
-    pub fn lift_first(&mut self) -> Option<(Elem, Resident<C>)>
+    /// Takes one element away, with its object and counts, where there is one. No delivery may be under way. It
+    /// takes no memory.
+    pub fn lift_any(&mut self) -> Option<(Elem, Resident<C>)>
         requires { is_idle self.old.phase ≡ true }
-        ensures some { IfSome result (λ first. self.old.records ≡ (first.0, record_in C.state first.1) ∷ self.new.records) }
+        ensures some { IfSome result (λ taken. (lookup (is_at (elem_cmp taken.0)) self.old.records ≡ Some (record_in C.state taken.1)) × (self.new.records ≡ remove_entry (is_at (elem_cmp taken.0)) self.old.records)) }
         ensures none { result ≡ None → (self.old.records ≡ []) × (self.new.records ≡ []) }
         ensures others { self.new ≡ record self.old { records = self.new.records } }
     {
-        self.residents.pop_first()
+        self.residents.pop()
     }
 
     /// Assigns a message to an element that is here. `Uncommitted` where a delivery is under way, else
@@ -144,7 +149,7 @@ impl<C: Chare> Shelf<C> {
         if !self.is_idle() {
             return Err((Refusal::Uncommitted, message));
         }
-        match delivery_at(&self.residents, message) {
+        match delivery_at(&self.residents, &mut self.last, message) {
             Ok(delivery) => {
                 self.phase = Phase::Assigned(delivery);
                 Ok(())
@@ -174,8 +179,9 @@ impl<C: Chare> Shelf<C> {
         }
         let kind = kind_of(&newcomer.object);
         let (sent, received) = (newcomer.sent, newcomer.received);
-        if let Err(refused) = self.residents.insert(message.to, newcomer) {
-            return Err((Refusal::Memory, message, refused.value.1));
+        self.last = self.residents.len();
+        if let Err(newcomer) = put(&mut self.residents, message.to, newcomer) {
+            return Err((Refusal::Memory, message, newcomer));
         }
         let delivery = Delivery::to_newcomer(message, kind, sent, received);
         self.phase = Phase::Assigned(delivery);
@@ -192,7 +198,7 @@ impl<C: Chare> Shelf<C> {
         let Phase::Assigned(delivery) = mem::replace(&mut self.phase, Phase::Idle) else {
             unreachable!()
         };
-        match react(self.alloc, &mut self.residents, delivery) {
+        match react(self.alloc, &mut self.residents, self.last, delivery) {
             Ok(outcome) => {
                 self.phase = Phase::Done(outcome);
                 Ok(())
@@ -234,7 +240,7 @@ impl<C: Chare> Shelf<C> {
         ensures count { (kind : Kind) → objects_on self.old kind ≡ objects_on self.new kind + came_out C.state result kind }
     {
         match mem::replace(&mut self.phase, Phase::Idle) {
-            Phase::Done(outcome) => bring_forward(&mut self.residents, &outcome),
+            Phase::Done(outcome) => bring_forward(&mut self.residents, self.last, &outcome),
             phase => {
                 self.phase = phase;
                 None

@@ -1,5 +1,6 @@
 pub mod Holes
 pub mod Ids
+pub mod Indices
 pub mod Made
 pub mod Places
 pub mod Suiting

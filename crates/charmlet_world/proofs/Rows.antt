@@ -1,8 +1,8 @@
 -- What a row is to its element.
-use Rattle.std.proofs.Common.{◌≡◌, ℕ, ◌+◌, ◌<◌, suc, Bool, true, false, cond, not, nat_lt, List, [], ◌∷◌, ◌++◌, length, refl, sym, ap, subst, ◌∙◌, if◌then◌else◌, slice_get}
+use Rattle.std.proofs.Common.{◌≡◌, ℕ, ◌+◌, ◌<◌, suc, Bool, true, false, cond, not, nat_lt, List, [], ◌∷◌, ◌++◌, length, refl, sym, ap, subst, ◌∙◌, if◌then◌else◌, slice_get, rules}
 use Rattle.std.proofs.Common.{arith}
 use Rattle.std.proofs.lemmas.Bool.{ltb-true}
-use Rattle.std.specs.Prelude.{Option, Some, None, position, unwrap_or, is_some}
+use Rattle.std.specs.Prelude.{Option, Some, None, IfSome, position, unwrap_or, is_some}
 use Rattle.std.specs.List.{AllByRecursion, IsDistinct, position_or_len}
 use Rattle.std.specs.Map.{keys_of, lookup}
 use Rattle.indexmap.specs.IndexMap.{set_value_at}
@@ -67,6 +67,11 @@ pub apart_at : (x z : Elem) (es : Rows) (i : ℕ) (e : Element) → AllByRecursi
 apart_at x z [] i e h at = absurd (let no : ⊥ = cc in no)
 apart_at x z (f ∷ es) Prim.Native.Nat.zero e h at = let key : f.0 ≡ x = λ j. (unwrap_or (at j) f).0 in subst (λ k. same_elem z k ≡ false) key h.0
 apart_at x z (f ∷ es) (suc i) e h at = apart_at x z es i e h.1 at
+
+-- and so is it where a table finds it
+pub is_found : (x : Elem) (es : Rows) (r : Option ℕ) → r ≡ position (same_elem x) (keys_of es) → IfSome r (λ i. slice_get es i ≡ Some (x, element_in es x))
+is_found x es None is = search rules
+is_found x es (Some i) is = at_position x es i (sym is)
 
 -- a change by index is a change of that element, and of no other
 pub changed : (x y : Elem) (e w : Element) (es : Rows) (i : ℕ) → IsDistinct same_elem (keys_of es) → slice_get es i ≡ Some (x, e)

@@ -1,5 +1,5 @@
 -- The pending messages, as the table that holds them says them.
-use Rattle.std.specs.Prelude.{◌≡◌, ℕ, ◌+◌, ◌≤◌, List, [], ◌∷◌, length, take, Option, Some, None}
+use Rattle.std.specs.Prelude.{◌≡◌, ℕ, ◌+◌, ◌≤◌, List, [], ◌∷◌, length, take, slice_get, Option, Some, None}
 use Rattle.std.specs.Borrow.{Bor}
 use Rattle.charmlet_model.specs.declared.names.MsgId.{MsgId}
 use Rattle.charmlet_model.specs.declared.message.Message.{Message}
@@ -27,6 +27,10 @@ pub record Counts (entries : List (MsgId × Option Letter)) (holes start : ℕ) 
   pub counted : length (live entries) + holes ≡ length entries
   pub within : start ≤ length entries
   pub before : live (take start entries) ≡ []
+
+-- the entry there is the id's
+abbrev pub IsAt : List (MsgId × Option Letter) → ℕ → MsgId → Type 0
+IsAt entries i id = (letter : Option Letter) × (slice_get entries i ≡ Some (id, letter))
 
 -- what an iterator lends, as a message
 abbrev pub shown_message : MsgId × Bor Letter → Message

@@ -38,6 +38,8 @@ impl Model for Slot {
 #[derive(Drop)]
 pub struct Elements {
     rows: IndexMap<Elem, Element>,
+    /// The index at which a row is looked for first.
+    expected: usize,
 }
 
 impl Model for Elements {
@@ -56,6 +58,7 @@ impl Elements {
     {
         Elements {
             rows: IndexMap::new(alloc),
+            expected: 0,
         }
     }
 
@@ -86,9 +89,18 @@ impl Elements {
         ensures found { IfSome result (λ slot. slice_get self.now.entries slot ≡ Some (elem, element_in self.now.entries elem)) }
         ensures which { is_some result ≡ is_some (lookup (same_elem elem) self.now.entries) }
     {
-        match self.rows.get_index_of(&elem) {
+        match index_of(&self.rows, self.expected, elem) {
             Some(index) => Some(Slot { index }),
             None => None,
+        }
+    }
+
+    /// Looks for the row of this element, so that from now on it is found by one comparison. Nothing that is kept changes.
+    pub(crate) fn expect(&mut self, elem: Elem)
+        ensures { self.new ≡ self.old }
+    {
+        if let Some(slot) = self.slot_of(elem) {
+            self.expected = slot.index;
         }
     }
 
@@ -99,8 +111,8 @@ impl Elements {
         ensures risen { lookup (is_at (elem_cmp elem)) (risen self.now.entries) ≡ lookup (same_elem elem) self.now.entries }
         ensures rising { IsStrictlySortedBy elem_cmp (keys_of (risen self.now.entries)) }
     {
-        match self.rows.get(&elem) {
-            Some(element) => *element,
+        match self.slot_of(elem) {
+            Some(slot) => self.at(slot),
             None => Element::new(),
         }
     }
@@ -151,13 +163,28 @@ impl Elements {
         ensures succeeds { 0 < self.old.room → IsOk result }
         ensures there { is_some (lookup (same_elem elem) self.old.entries) ≡ true → IsOk result }
     {
-        if let Some(index) = self.rows.get_index_of(&elem) {
-            return Ok(Slot { index });
+        if let Some(slot) = self.slot_of(elem) {
+            return Ok(slot);
         }
         let index = self.rows.len();
         self.rows.insert(elem, Element::new())?;
         Ok(Slot { index })
     }
+}
+
+/// The index of the element's row, if it has one. It is looked for where it is expected first.
+fn index_of(rows: &IndexMap<Elem, Element>, expected: usize, elem: Elem) -> Option<usize>
+    ensures found { IfSome result (λ i. slice_get rows.now.entries i ≡ Some (elem, element_in rows.now.entries elem)) }
+    ensures which { is_some result ≡ is_some (lookup (same_elem elem) rows.now.entries) }
+{
+    // The length is what says that the elements are distinct.
+    let _len = rows.len();
+    if let Some((here, _element)) = rows.get_index(expected) {
+        if *here == elem {
+            return Some(expected);
+        }
+    }
+    rows.get_index_of(&elem)
 }
 
 /// These rows in rising order of their elements, as a checkpoint needs them.

@@ -178,6 +178,13 @@ impl PresentWorld {
         self.element(elem).place
     }
 
+    /// The processor of an element of which this is kept, or the home of one that isn't there.
+    pub fn place_of(&self, elem: Elem, element: &Element) -> u16
+        ensures { result ≡ unwrap_or element.now.place (home elem self.now.processors) }
+    {
+        place_in(self.processors, elem, element.place)
+    }
+
     /// The processor of an element, or the home of one that isn't there.
     pub fn place_or_home(&self, elem: Elem) -> u16
         ensures { result ≡ place_or_home_in (seen self.now) elem }
@@ -288,6 +295,7 @@ impl PresentWorld {
             entry,
             words,
         });
+        self.expect_oldest();
         Ok(())
     }
 
@@ -364,6 +372,16 @@ impl PresentWorld {
         push_sends(&mut self.pending, message.to, element.sent, sends);
         keep_reply(&mut self.clients, message.id, reply);
         self.promised -= 1;
+        self.expect_oldest();
+    }
+
+    /// Looks for the receiver of the oldest message, which is mostly the next one that is delivered.
+    fn expect_oldest(&mut self)
+        ensures { self.new ≡ self.old }
+    {
+        if let Some(letter) = self.pending.at_start() {
+            self.elements.expect(letter.to);
+        }
     }
 
     /// An element that is there stands on the processor from now on. It takes no memory.

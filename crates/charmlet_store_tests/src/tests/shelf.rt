@@ -241,8 +241,8 @@ fn lifts<C: Chare>(
     lacks(rt, shelf, elem);
 }
 
-// The first element is this one, with these counts and this packed form. Afterwards it isn't there any more.
-fn lifts_first<C: Chare>(
+// The element that is lifted is this one, with these counts and this packed form. Afterwards it isn't there any more.
+fn lifts_any<C: Chare>(
     rt: &(impl AllocGlobal + Abort),
     shelf: &mut Shelf<C>,
     elem: Elem,
@@ -252,10 +252,11 @@ fn lifts_first<C: Chare>(
     requires { is_idle shelf.old.phase ≡ true }
     ensures { is_idle shelf.new.phase ≡ true }
 {
-    let (first, mut resident) = shelf.lift_first().expect(rt, "an element is there");
-    assert!(rt; first == elem);
+    let (lifted, mut resident) = shelf.lift_any().expect(rt, "an element is there");
+    assert!(rt; lifted == elem);
     assert!(rt; (resident.sent, resident.received) == counts);
     packs_to(rt, &mut resident.object, packed);
+    lacks(rt, shelf, elem);
 }
 
 // A delivery is under way. Once it is settled, the element is on the shelf with these counts and this
@@ -405,12 +406,12 @@ fn images_are_in_rising_order(rt: HostRuntime) {
 }
 
 #[test]
-fn objects_are_lifted_in_rising_order(rt: HostRuntime) {
+fn objects_are_lifted_one_by_one(rt: HostRuntime) {
     let mut shelf = shelf_with(&rt, OTHER, ring(&rt));
     assert!(rt; shelf.place(ME, resident(Ring::blank(), 1, 2)).is_ok());
-    lifts_first(&rt, &mut shelf, ME, (1, 2), &[0; 16]);
-    lifts_first(&rt, &mut shelf, OTHER, (4, 5), &RING);
-    assert!(rt; shelf.lift_first().is_none());
+    lifts_any(&rt, &mut shelf, ME, (1, 2), &[0; 16]);
+    lifts_any(&rt, &mut shelf, OTHER, (4, 5), &RING);
+    assert!(rt; shelf.lift_any().is_none());
 }
 
 #[test]

@@ -1,4 +1,11 @@
-use Rattle.std.proofs.Common.{◌≡◌, true, Some, None, refl, sym, ap, subst, ◌∙◌, arith}
+use Rattle.std.proofs.Common.{◌≡◌, true, false, Some, None, refl, sym, ap, subst, ◌∙◌, arith}
+use Rattle.std.specs.Prelude.{Result, Ok, Err, IfErr}
+use Rattle.std.specs.Result.{IsErrAnd}
+use Rattle.charmlet_model.specs.declared.refusal.Refusal.{Refusal}
+use Rattle.charmlet_model.specs.declared.refusal.Refusal.TheVariants.{BadPes, Device, Memory}
+use Rattle.charmlet_locate.specs.Locations.{is_processor_count}
+use Rattle.charmlet_script.specs.Script.{processors_of}
+use Rattle.charmlet_engine.specs.Outcomes.{not_device}
 use Rattle.charmlet_model.specs.declared.half.Half.TheVariants.{Zero, One}
 use Rattle.charmlet_model.specs.World.{IsLegal}
 use Rattle.charmlet_model.specs.Sound.{new_world}
@@ -7,7 +14,7 @@ use Rattle.charmlet_image.specs.Spelled.{IsClosed}
 use Rattle.charmlet_record.specs.Reading.{Kinds}
 use Rattle.charmlet_history.specs.Kept.{core_in}
 use Rattle.charmlet_engine.proofs.Lawful.{lawful_now}
-use Rattle.charmlet_lab.specs.Rounds.{IsRound}
+use Rattle.charmlet_lab.specs.Rounds.{IsRound, is_shortage}
 use Rattle.charmlet_lab.proofs.Rounds.{durable_within, lawful_events, legal_events, same_arrays}
 use Rattle.charmlet_lab.proofs.round.lab_round.Goals as goal
 
@@ -60,3 +67,37 @@ returns-in-Err-Device-clause-ok g c =
           let any = c.in-Err-Device.ensures.any_moment here (subst (λ d. IsClosed (g.D.Disk.file d Zero).now) (sym fuse) zero) (subst (λ d. IsClosed (g.D.Disk.file d One).now) (sym fuse) one) in
           any.each o (laws.counts_now end.disk (g.D.Disk.moment c.new-fuse.result.disk) o (forth honest) any.later (subst (λ d. MayLeave (g.D.Disk.file d) o) inner left));
     })
+
+-- ---- what is told where memory or blanks lack
+
+no_device : (refusal : Refusal) → is_shortage refusal ≡ true → not_device refusal ≡ true
+no_device Device short = short
+no_device _ short = refl
+
+-- it is a shortage, and no other refusal
+short_of : {T : Type 0} (result : Result T Refusal) (refusal : Refusal) → IsErrAnd result (λ told. told ≡ refusal) → is_shortage refusal ≡ true
+    → (P : Refusal → Type 0) → ((told : Refusal) → is_shortage told ≡ true → P told) → IfErr result P
+short_of (Ok x) refusal is short P each = tt
+short_of (Err told) refusal is short P each = each told (ap is_shortage is ∙ short)
+
+pub returns-in_err-run_lines-in-Ok-create-clause-bad : goal.returns-in_err-run_lines-in-Ok-create-clause-bad
+returns-in_err-run_lines-in-Ok-create-clause-bad g c =
+    short_of c.from_residual-in_err-run_lines-in-Ok-create.result c.in_err-run_lines-in-Ok-create.field-0.0 c.from_residual-in_err-run_lines-in-Ok-create.ensures.1
+    c.in_err-run_lines-in-Ok-create.ensures.err (λ refusal. refusal ≡ BadPes → is_processor_count (processors_of c.args.script.now) ≡ false)
+    (λ told short same. absurd (let no : false ≡ true = ap is_shortage (sym same) ∙ short in let never : ⊥ = cc in never))
+
+pub returns-in_err-run_lines-in-Ok-create-clause-err : goal.returns-in_err-run_lines-in-Ok-create-clause-err
+returns-in_err-run_lines-in-Ok-create-clause-err g c =
+    short_of c.from_residual-in_err-run_lines-in-Ok-create.result c.in_err-run_lines-in-Ok-create.field-0.0 c.from_residual-in_err-run_lines-in-Ok-create.ensures.1
+    c.in_err-run_lines-in-Ok-create.ensures.err (λ refusal. not_device refusal ≡ true) no_device
+
+pub returns-in_err-events-in-Ok-create-clause-bad : goal.returns-in_err-events-in-Ok-create-clause-bad
+returns-in_err-events-in-Ok-create-clause-bad g c =
+    short_of c.from_residual-in_err-events-in-Ok-create.result Memory c.from_residual-in_err-events-in-Ok-create.ensures.1
+    refl (λ refusal. refusal ≡ BadPes → is_processor_count (processors_of c.args.script.now) ≡ false)
+    (λ told short same. absurd (let no : false ≡ true = ap is_shortage (sym same) ∙ short in let never : ⊥ = cc in never))
+
+pub returns-in_err-events-in-Ok-create-clause-err : goal.returns-in_err-events-in-Ok-create-clause-err
+returns-in_err-events-in-Ok-create-clause-err g c =
+    short_of c.from_residual-in_err-events-in-Ok-create.result Memory c.from_residual-in_err-events-in-Ok-create.ensures.1
+    refl (λ refusal. not_device refusal ≡ true) no_device

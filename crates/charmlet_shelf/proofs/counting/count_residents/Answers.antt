@@ -4,7 +4,10 @@ use Rattle.std.proofs.lemmas.List.Sums.{sum_by-cons}
 use Rattle.charmlet_model.specs.declared.state.Resident.{Resident}
 use Rattle.charmlet_model.specs.Kind.{kind_number}
 use Rattle.charmlet_model.specs.Reaction.{kind_of}
+use Rattle.charmlet_model.specs.Shelves.{count_of, objects_of}
 use Rattle.std.proofs.lemmas.Bool.{eq-eqb, ne_eqb}
+use Rattle.charmlet_shelf.proofs.Counts.{count_risen}
+use Rattle.charmlet_shelf.proofs.Risen.{rising_always}
 use Rattle.charmlet_shelf.proofs.counting.count_residents.Goals as goal
 
 pub loop-resident-preserved-then-kind-number : goal.loop-resident-preserved-then-kind-number
@@ -28,3 +31,12 @@ loop-resident-preserved g c =
     let none : weight resident ≡ 0 = ap (λ b. cond b 1 0) other in
     let before = c.loop-resident.invariant in
     omega arith
+
+pub returns-clause-count : goal.returns-clause-count
+returns-clause-count g c =
+    let es = c.args.residents.now.entries in
+    let counted : c.loop-resident.count ≡ count_of g.C.Chare.state (objects_of es) c.args.kind = search rules in
+    counted ∙ sym (count_risen c.args.kind g.C.Chare.state es c.len-len.ensures.unique)
+
+pub returns-clause-ordered : goal.returns-clause-ordered
+returns-clause-ordered g c = rising_always c.args.residents.now.entries

@@ -5,6 +5,7 @@ use Rattle.std.specs.Map.{remove_entry}
 use Rattle.charmlet_model.specs.declared.message.Message.{Message}
 use Rattle.charmlet_model.specs.Names.{elem_cmp}
 use Rattle.charmlet_model.specs.Shelves.{records_of}
+use Rattle.charmlet_shelf.specs.Risen.{risen}
 use Rattle.charmlet_shelf.proofs.Counts.{counts_released, is_none_not}
 use Rattle.charmlet_shelf.proofs.Holding.{receiver_is}
 use Rattle.charmlet_shelf.proofs.Records.{at, shown_taken}
@@ -12,24 +13,24 @@ use Rattle.charmlet_shelf.proofs.delivering.take_newcomer.Goals as goal
 
 pub returns-then-is_there-clause-records : goal.returns-then-is_there-clause-records
 returns-then-is_there-clause-records g c =
-    let rs = records_of g.C.Chare.state c.args.residents.now.entries in
+    let rs = records_of g.C.Chare.state (risen c.args.residents.now.entries) in
     sym (ap (λ b. cond b rs (remove_entry (is_at (elem_cmp c.args.delivery.now.message.to)) rs)) (sym c.is_there.ensures.there ∙ c.if-is_there.true))
 
 pub returns-clause-records : goal.returns-clause-records
 returns-clause-records g c =
     let state = g.C.Chare.state in
-    let es = c.args.residents.now.entries in
+    let es = risen c.args.residents.now.entries in
     let rs = records_of state es in
-    ap (records_of state) c.remove.ensures.entries
+    ap (records_of state) c.take.ensures.entries
     ∙ shown_taken state (is_at (elem_cmp c.message.result.now.to)) es
     ∙ ap (λ (m : Message). remove_entry (is_at (elem_cmp m.to)) rs) c.message.ensures
     ∙ sym (ap (λ b. cond b rs (remove_entry (is_at (elem_cmp c.args.delivery.now.message.to)) rs)) (sym c.is_there.ensures.there ∙ c.if-is_there.false))
 
 pub returns-clause-kind : goal.returns-clause-kind
 returns-clause-kind g c =
-    let es = c.args.residents.now.entries in
+    let es = risen c.args.residents.now.entries in
     let due = c.args.delivery.now in
-    let here : at es due.message.to ≡ Some c.in_ok-resident.resident = ap (λ (m : Message). at es m.to) (sym c.message.ensures) ∙ sym c.remove.ensures.value ∙ c.in_ok-resident.was in
+    let here : at es due.message.to ≡ Some c.in_ok-resident.resident = ap (λ (m : Message). at es m.to) (sym c.message.ensures) ∙ sym c.take.ensures.value ∙ c.in_ok-resident.was in
     (receiver_is g.C.Chare.state es due c.in_ok-resident.resident here due.receiver.state c.requires).kind
 
 pub returns-then-is_there-clause-count : goal.returns-then-is_there-clause-count

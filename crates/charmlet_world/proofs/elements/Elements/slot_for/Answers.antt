@@ -1,4 +1,4 @@
-use Rattle.std.proofs.Common.{◌≡◌, ◌++◌, ◌∷◌, [], sym, ap, subst, ◌∙◌, slice_get, Some, None, true, false}
+use Rattle.std.proofs.Common.{◌≡◌, ◌++◌, ◌∷◌, [], sym, ap, ◌∙◌, slice_get, Some, None, true, false}
 use Rattle.std.specs.Map.{lookup}
 use Rattle.indexmap.proofs.CallerLemmas.{insert_entry-new}
 use Rattle.charmlet_model.specs.Names.{same_elem}
@@ -10,15 +10,12 @@ use Rattle.charmlet_model.specs.Names.{elem_cmp}
 use Rattle.charmlet_world.specs.Standing.{risen}
 use Rattle.charmlet_world.specs.declared.element.Element.{Element}
 use Rattle.charmlet_world.proofs.Risen.{risen-new, risen-same}
-use Rattle.charmlet_world.proofs.Rows.{at_position, none_found, with_new_row, new_row}
-
-pub returns-in-Some-clause-found : goal.returns-in-Some-clause-found
-returns-in-Some-clause-found c =
-    subst (λ (s : Standing). slice_get s.entries c.in-Some.index ≡ Some (c.args.elem, element_in s.entries c.args.elem)) c.self.view_is
-    (at_position c.args.elem c.self.inside.rows.entries c.in-Some.index (sym c.in-Some.ensures.index))
+use Rattle.charmlet_world.proofs.Rows.{none_found, with_new_row, new_row}
 
 none : (c : goal.In_ok-insert) → lookup (same_elem c.args.elem) c.self.inside.rows.entries ≡ None
-none c = none_found (lookup (same_elem c.args.elem) c.self.inside.rows.entries) c.in_default.ensures.found
+none c =
+    none_found (lookup (same_elem c.args.elem) c.self.inside.rows.entries)
+    (c.in_default.ensures.which ∙ ap (λ (s : Standing). is_some (lookup (same_elem c.args.elem) s.entries)) (sym c.self.view_is))
 
 after : (c : goal.In_ok-insert) → c.insert.new.self.entries ≡ c.self.inside.rows.entries ++ (c.args.elem, no_element) ∷ []
 after c =
@@ -43,10 +40,9 @@ returns-clause-risen c =
 
 pub returns-in-Some-clause-risen : goal.returns-in-Some-clause-risen
 returns-in-Some-clause-risen c =
-    risen-same c.args.elem c.args.self.now.entries
-    (ap (λ (s : Standing). is_some (lookup (same_elem c.args.elem) s.entries)) (sym c.self.view_is) ∙ sym c.in-Some.ensures.found)
+    risen-same c.args.elem c.args.self.now.entries (sym c.in-Some.ensures.which)
 
 pub returns-in_err-insert-clause-there : goal.returns-in_err-insert-clause-there
 returns-in_err-insert-clause-there c = λ there.
-    let no : false ≡ true = c.in_default.ensures.found ∙ ap (λ (s : Standing). is_some (lookup (same_elem c.args.elem) s.entries)) c.self.view_is ∙ there in
+    let no : false ≡ true = c.in_default.ensures.which ∙ there in
     let never : ⊥ = cc in absurd never

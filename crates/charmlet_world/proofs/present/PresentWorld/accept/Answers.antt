@@ -11,7 +11,8 @@ pub returns-clause-ok : goal.returns-clause-ok
 returns-clause-ok c =
     let own = c.self.inside in
     let pending = c.push.ensures.messages ∙ ap (λ ms. ms ++ request c.args.client c.args.number c.args.to c.args.entry c.args.words ∷ []) c.in_ok-reserve.ensures.messages in
-    (λ i. record { manifest = own.manifest; processors = own.processors; elements = risen own.elements.entries; pending = pending i; clients = c.in_ok-note_request.ensures.ok i })
+    ap seen c.expect_oldest.ensures
+    ∙ (λ i. record { manifest = own.manifest; processors = own.processors; elements = risen own.elements.entries; pending = pending i; clients = c.in_ok-note_request.ensures.ok i })
     ∙ ap (λ (h : Held). accepted (seen h) c.args.client c.args.number c.args.to c.args.entry c.args.words) c.self.view_is
 
 pub returns-clause-world : goal.returns-clause-world

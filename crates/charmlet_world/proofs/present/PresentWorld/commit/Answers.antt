@@ -89,8 +89,8 @@ returns-clause-delivered c =
     let left = c.in-Some.ensures.left ∙ ap (λ id. without id own.pending.messages) (found-id c.args.id own.pending.messages m (sym c.in-Some.ensures.taken)) in
     let pending = c.push_sends.ensures.messages ∙ (λ i. left i ++ numbered m.to (at i).sent (c.into_vec-sends.ensures i)) in
     to_some c.args.self.now _ c.self.view_is c.args.id m c.in-Some.ensures.taken
-    (λ h m. record { manifest = own.manifest; processors = own.processors; elements = risen c.set.new.self.entries; pending = c.push_sends.new.pending.messages; clients = c.keep_reply.new.clients.entries } ≡ delivered_in (seen h) m output)
-    (λ i. record { manifest = own.manifest; processors = own.processors; elements = elements i; pending = pending i; clients = c.keep_reply.ensures i })
+    (λ h m. seen c.expect_oldest.new.self ≡ delivered_in (seen h) m output)
+    (ap seen c.expect_oldest.ensures ∙ λ i. record { manifest = own.manifest; processors = own.processors; elements = elements i; pending = pending i; clients = c.keep_reply.ensures i })
 
 pub returns-clause-world : goal.returns-clause-world
 returns-clause-world c = λ w shows outcome.
@@ -100,7 +100,7 @@ returns-clause-world c = λ w shows outcome.
     let output = c.args.output in
     let before : Seen = record { manifest = own.manifest; processors = own.processors; elements = risen rows; pending = own.pending.messages; clients = own.clients.entries } in
     let done = from_some c.args.self.now _ c.self.view_is c.args.id m c.in-Some.ensures.taken
-    (λ h m. record { manifest = own.manifest; processors = own.processors; elements = risen c.set.new.self.entries; pending = c.push_sends.new.pending.messages; clients = c.keep_reply.new.clients.entries } ≡ delivered_in (seen h) m output)
+    (λ h m. seen c.expect_oldest.new.self ≡ delivered_in (seen h) m output)
     (returns-clause-delivered c) in
     subst (λ (k : Seen). Shows k (after w (Deliver c.args.id))) (sym done)
     (delivered_shows before w (subst (λ (h : Held). Shows (seen h) w) (sym c.self.view_is) shows) c.args.id m (sym c.in-Some.ensures.taken) output outcome)

@@ -1,11 +1,11 @@
-use Rattle.std.proofs.Common.{◌≡◌, true, sym, ap, ◌∙◌}
-use Rattle.std.specs.Prelude.{Result, Ok, Err, IfOk, OnOk, Some, is_some, slice_get}
+use Rattle.std.proofs.Common.{sym, ap, ◌∙◌}
+use Rattle.std.specs.Prelude.{Result, Ok, Err, IfOk, OnOk, Some, is_some}
 use Rattle.std.specs.BTreeMap.{insert_entry, is_at}
 use Rattle.std.specs.Map.{lookup}
-use Rattle.charmlet_model.specs.Names.{elem_cmp, same_elem}
+use Rattle.charmlet_model.specs.Names.{elem_cmp}
 use Rattle.charmlet_world.specs.Changed.{with_entry}
-use Rattle.charmlet_world.specs.Seen.{Held, Seen, IsSlot, seen}
-use Rattle.charmlet_world.specs.Standing.{element_in, risen}
+use Rattle.charmlet_world.specs.Seen.{Held, seen}
+use Rattle.charmlet_world.specs.Standing.{risen}
 use Rattle.charmlet_world.proofs.Risen.{found_risen}
 use Rattle.charmlet_world.proofs.Showing.{element_risen, row_unseen}
 use Rattle.charmlet_world.proofs.present.PresentWorld.slot_for.Goals as goal
