@@ -5,6 +5,7 @@ pub mod Flushes
 pub mod Nexts
 pub mod Places
 pub mod Counts
+pub mod Apart
 pub mod Assigning
 pub mod Shown
 pub mod Delivering

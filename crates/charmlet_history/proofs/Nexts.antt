@@ -1,6 +1,6 @@
 -- The oldest message that can be delivered.
-use Rattle.std.proofs.Common.{◌≡◌, ℕ, ◌+◌, ◌==◌, ◌&&◌, ◌||◌, true, false, cond, List, [], ◌∷◌, refl, sym, ap, subst, ◌∙◌}
-use Rattle.std.specs.Prelude.{Option, Some, None, nat_le, option_and_then, option_map}
+use Rattle.std.proofs.Common.{◌≡◌, ℕ, ◌+◌, ◌==◌, ◌&&◌, ◌||◌, true, false, cond, List, [], ◌∷◌, refl, sym, ap, ◌∙◌}
+use Rattle.std.specs.Prelude.{Option, Some, nat_le, option_and_then, option_map}
 use Rattle.std.specs.Cmp.{nat_eq_equiv}
 use Rattle.std.specs.Cmp.Derive.{both_true}
 use Rattle.std.specs.List.{AllByRecursion}
@@ -15,7 +15,6 @@ use Rattle.charmlet_model.specs.Reaction.{greatest}
 use Rattle.charmlet_model.specs.World.{World, can, can_deliver, message_among, oldest_deliverable}
 use Rattle.charmlet_model.specs.Fit.{AreDistinct, AreApart}
 use Rattle.charmlet_model.specs.Core.{present, place_or_home}
-use Rattle.charmlet_model.proofs.Deliveries.{message_of}
 use Rattle.charmlet_model.proofs.Fits.{same_id-is}
 use Rattle.charmlet_model.proofs.SoundLemmas.{sound_fit}
 use Rattle.charmlet_world.specs.Seen.{is_deliverable, next_due}

@@ -1,15 +1,11 @@
 -- What a history keeps of the world with which it opens.
-use Rattle.std.proofs.Common.{arith, drop, length, ◌+◌, ◌≡◌, ℕ, ◌≤◌, ◌^◌, true, false, cond, List, [], ◌∷◌, ◌++◌, refl, sym, ap, subst, ◌∙◌, append_assoc, if◌then◌else◌}
+use Rattle.std.proofs.Common.{arith, drop, length, ◌+◌, ◌≡◌, ℕ, ◌≤◌, ◌^◌, true, false, cond, List, [], ◌∷◌, refl, sym, ap, subst, ◌∙◌, if◌then◌else◌}
 use Rattle.std.specs.Prelude.{Some, None, is_some, map, unwrap_or}
-use Rattle.std.specs.declared.cmp.Ordering.{Ordering}
-use Rattle.std.specs.declared.cmp.Ordering.TheVariants.{Less, Greater}
-use Rattle.std.specs.Ordering.{nat_cmp, match_ordering, ordering_reverse}
-use Rattle.std.specs.Cmp.{IsTotalOrder, nat_cmp_total}
-use Rattle.std.specs.List.{AllByRecursion}
+use Rattle.std.specs.Ordering.{nat_cmp}
+use Rattle.std.specs.Cmp.{nat_cmp_total}
 use Rattle.std.specs.List.Sorted.{IsStrictlySortedBy}
-use Rattle.std.specs.BTreeMap.{insert_entry, is_at}
-use Rattle.std.specs.Map.{lookup, keys_of}
-use Rattle.std.proofs.lemmas.List.{append-nil}
+use Rattle.std.specs.BTreeMap.{is_at}
+use Rattle.std.specs.Map.{lookup}
 use Rattle.charmlet_model.specs.declared.names.Elem.{Elem}
 use Rattle.charmlet_model.specs.declared.state.Record.{Record}
 use Rattle.charmlet_model.specs.declared.client.ClientRow.{ClientRow}
@@ -32,7 +28,6 @@ use Rattle.charmlet_world.specs.Seen.{IsCountedBy, client_at, element_at, new_cl
 use Rattle.charmlet_world.specs.Standing.{places_of, with_place}
 use Rattle.charmlet_history.specs.Flushed.{all_durable}
 use Rattle.charmlet_history.specs.Opened.{opened_client, opened_clients, opened_element, opened_elements, with_clients, with_elements}
-use Rattle.charmlet_world.specs.Made.{with_made}
 use Rattle.charmlet_history.proofs.Flushes.{present-all, rows_durable}
 
 -- ---- elements and clients

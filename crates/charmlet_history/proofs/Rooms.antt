@@ -3,7 +3,9 @@ use Rattle.std.proofs.Common.{◌≡◌, ℕ, true, false, cond, List, [], ◌�
 use Rattle.std.specs.Prelude.{Option, Some, None, IfSome, IsSome, is_some}
 use Rattle.std.specs.Ordering.{eq_by_cmp, nat_cmp}
 use Rattle.std.specs.BTreeMap.{insert_entry, is_at}
-use Rattle.std.specs.Map.{lookup}
+use Rattle.std.specs.Cmp.{nat_cmp_total}
+use Rattle.std.specs.List.Sorted.{IsStrictlySortedBy}
+use Rattle.std.specs.Map.{keys_of, lookup, remove_entry}
 use Rattle.charmlet_model.specs.declared.names.Elem.{Elem}
 use Rattle.charmlet_model.specs.declared.names.MsgId.{MsgId}
 use Rattle.charmlet_model.specs.declared.message.Message.{Message}
@@ -13,6 +15,8 @@ use Rattle.charmlet_model.specs.Core.{present}
 use Rattle.charmlet_model.specs.Sound.{IsAssigned}
 use Rattle.charmlet_model.proofs.Maps.{elem_total, lookup-insert_entry, tied_elem}
 use Rattle.charmlet_model.proofs.Deliveries.{message_of}
+use Rattle.charmlet_model.proofs.Fits.{IfSome-map}
+use Rattle.charmlet_model.proofs.Removals.{lookup-removed}
 use Rattle.charmlet_world.specs.declared.element.Element.{Element}
 use Rattle.charmlet_world.specs.Seen.{Seen}
 use Rattle.charmlet_history.specs.Kept.{Kept, IsConsistent, core_of}
@@ -71,3 +75,11 @@ receiver_stays k consistent processor more P =
 pub the_message : (o : Option Message) → IsSome o → (m : Message) × (o ≡ Some m)
 the_message None h = absurd (let never : ⊥ = cc in never)
 the_message (Some m) h = (m, refl)
+
+-- what is assigned to each processor keeps its room where one's assignment is taken
+pub taken_room : (assigned : List (ℕ × MsgId)) → IsStrictlySortedBy nat_cmp (keys_of assigned) → (taken processor : ℕ) (P Q : MsgId → Type 0) → ((id : MsgId) → P id → Q id) →
+    IfSome (lookup (is_at (nat_cmp processor)) assigned) P → IfSome (lookup (is_at (nat_cmp processor)) (remove_entry (is_at (nat_cmp taken)) assigned)) Q
+taken_room assigned rising taken processor P Q stays room =
+    let at = lookup (is_at (nat_cmp processor)) assigned in
+    subst (λ o. IfSome o Q) (sym (lookup-removed nat_cmp_total processor taken assigned rising))
+    (elim (eq_by_cmp nat_cmp processor taken) as (λ b. IfSome (cond b None at) Q) [ true ↦ tt | false ↦ IfSome-map P Q at stays room ])

@@ -1,5 +1,5 @@
 -- What is kept is the present world.
-use Rattle.std.proofs.Common.{◌≡◌, ℕ, sym}
+use Rattle.std.proofs.Common.{ℕ, sym}
 use Rattle.charmlet_model.specs.Core.{present}
 use Rattle.charmlet_world.specs.Seen.{Seen, Shows}
 use Rattle.charmlet_history.specs.Kept.{Kept, IsConsistent, core_of, seen_of}

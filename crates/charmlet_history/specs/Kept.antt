@@ -1,14 +1,13 @@
 -- What a history keeps, and the core that it is.
-use Rattle.std.specs.Prelude.{◌≡◌, ℕ, ◌+◌, Bool, true, false, not, ◌&&◌, ◌||◌, IfSome, is_some, option_and_then, option_map, ◌<◌, ◌≤◌, is_none, nat_le, nat_lt, ◌^◌, ◌==◌, List, [], ◌∷◌, ◌++◌, length, map, if◌then◌else◌, Option, Some, None, unwrap_or, Result, Ok, Err}
+use Rattle.std.specs.Prelude.{◌≡◌, ℕ, ◌+◌, Bool, true, false, not, ◌||◌, IfSome, is_some, option_and_then, option_map, ◌<◌, is_none, nat_le, nat_lt, ◌^◌, ◌==◌, List, [], ◌∷◌, ◌++◌, length, if◌then◌else◌, Option, Some, None, unwrap_or, Result, Ok, Err}
 use Rattle.std.specs.Ordering.{nat_cmp}
-use Rattle.std.specs.BTreeMap.{insert_entry, is_at}
+use Rattle.std.specs.BTreeMap.{is_at}
 use Rattle.std.specs.List.Sorted.{IsStrictlySortedBy}
 use Rattle.std.specs.Map.{keys_of, lookup}
 use Rattle.charmlet_model.specs.declared.names.Elem.{Elem}
 use Rattle.charmlet_model.specs.declared.names.MsgId.{MsgId}
 use Rattle.charmlet_model.specs.declared.message.Message.{Message}
 use Rattle.charmlet_model.specs.declared.kind.Kind.{Kind}
-use Rattle.charmlet_model.specs.declared.state.Record.{Record}
 use Rattle.charmlet_model.specs.declared.event.Event.{Event}
 use Rattle.charmlet_model.specs.declared.event.Event.TheVariants.{Accept}
 use Rattle.charmlet_model.specs.declared.client.ClientRow.{ClientRow}
@@ -30,7 +29,7 @@ use Rattle.charmlet_chare.specs.declared.output.Output.{Output}
 use Rattle.charmlet_chare.specs.Output.{output_of}
 use Rattle.charmlet_world.specs.declared.element.Element.{Element}
 use Rattle.charmlet_world.specs.Changed.{with_row}
-use Rattle.charmlet_world.specs.Seen.{Seen, IsCountedBy, client_at, element_at, present_rows}
+use Rattle.charmlet_world.specs.Seen.{Seen, IsCountedBy, client_at, element_at, new_client, present_rows}
 use Rattle.charmlet_world.specs.Standing.{places_of, risen}
 use Rattle.charmlet_history.specs.Opened.{with_arrays}
 use Rattle.charmlet_history.specs.declared.history.History.{History}
@@ -147,6 +146,10 @@ limit_gates k client array words =
     ∷ When (nat_lt 512 (length words)) refusals.TooLong
     ∷ When (not (is_some (lookup (is_at (nat_cmp client)) k.clients) || nat_lt (length k.clients) 1024)) refusals.ClientsFull
     ∷ When (is_full k) refusals.HistoryFull ∷ []
+
+-- the rows that were found of a client, or those of one that never asked
+abbrev pub rows_found : Option Rows → Rows
+rows_found found = unwrap_or found new_client
 
 -- a repeat of a request of the client's window
 abbrev pub repeats : Kept → ℕ → ℕ → Bool

@@ -1,4 +1,5 @@
 -- The definitions that contracts cite.
+pub mod Assigned
 pub mod Kept
 pub mod Flushed
 pub mod Records

@@ -1,8 +1,6 @@
 -- What a history keeps of the world with which it opens.
-use Rattle.std.specs.Prelude.{◌≡◌, ℕ, ◌+◌, true, List, [], ◌∷◌, length, map, if◌then◌else◌, is_some, Some, None}
-use Rattle.std.specs.declared.cmp.Ordering.{Ordering}
+use Rattle.std.specs.Prelude.{◌≡◌, ℕ, ◌+◌, true, List, [], length, map, if◌then◌else◌, is_some, Some, None}
 use Rattle.std.specs.Ordering.{nat_cmp}
-use Rattle.std.specs.BTreeMap.{insert_entry}
 use Rattle.charmlet_model.specs.declared.names.Elem.{Elem}
 use Rattle.charmlet_model.specs.declared.state.Record.{Record}
 use Rattle.charmlet_model.specs.declared.client.ClientRow.{ClientRow}

@@ -1,6 +1,7 @@
 //! Histories: the events of a store, and what clients are told of them.
 #![tactic(auto)]
 
+mod assigned;
 mod delivery;
 mod flush;
 mod history;

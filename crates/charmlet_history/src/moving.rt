@@ -56,6 +56,6 @@ impl History {
     fn is_one_busy(&self, processor: u16, other: u16) -> bool
         ensures { result ≡ (is_some (lookup (is_at (nat_cmp processor)) (kept_in self.now).assigned) || is_some (lookup (is_at (nat_cmp other)) (kept_in self.now).assigned)) }
     {
-        self.assigned.contains_key(&processor) || self.assigned.contains_key(&other)
+        self.assigned.contains(processor) || self.assigned.contains(other)
     }
 }

@@ -5,3 +5,4 @@ pub mod Idle
 pub mod Images
 pub mod Counts
 pub mod Risen
+pub mod Lent

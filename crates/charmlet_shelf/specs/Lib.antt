@@ -6,3 +6,4 @@ pub mod Receiving
 pub mod Image
 pub mod Count
 pub mod Risen
+pub mod Lending

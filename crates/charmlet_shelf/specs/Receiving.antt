@@ -1,6 +1,5 @@
 -- What objects do with messages.
-use Rattle.std.specs.Prelude.{◌≡◌, Bool, true, false, Option, Some, None, IfSome, if◌then◌else◌}
-use Rattle.charmlet_model.specs.declared.message.Message.{Message}
+use Rattle.std.specs.Prelude.{◌≡◌, ℕ, Bool, true, false, Option, Some, None, IfSome, if◌then◌else◌}
 use Rattle.charmlet_model.specs.declared.reaction.Reaction.{Reaction}
 use Rattle.charmlet_model.specs.declared.state.State.{State}
 use Rattle.charmlet_model.specs.declared.TheConstants.{CONSTRUCT}
@@ -8,9 +7,9 @@ use Rattle.charmlet_chare.specs.declared.output.Output.{Output}
 use Rattle.charmlet_chare.specs.Output.{output_of}
 
 -- an element that isn't there gets a message that constructs it
-abbrev pub IsConstructed : Bool → Message → Type 0
-IsConstructed true message = Unit {0}
-IsConstructed false message = message.entry ≡ CONSTRUCT
+abbrev pub IsConstructed : Bool → ℕ → Type 0
+IsConstructed true entry = Unit {0}
+IsConstructed false entry = entry ≡ CONSTRUCT
 
 -- the state of an element that is there
 abbrev pub state_if : Bool → State → Option State

@@ -61,7 +61,9 @@ pub(crate) fn react<C: Chare>(
         unreachable!()
     };
     let (_elem, resident) = residents.pair_mut(index);
-    match receive(alloc, &mut resident.object, is_there, message) {
+    let words = message.words.as_slice();
+    let (to, entry) = (message.to, message.entry);
+    match receive(alloc, &mut resident.object, is_there, to, entry, words) {
         Ok(output) => Ok(Outcome::new(delivery, output)),
         Err(_) => Err(delivery),
     }

@@ -5,6 +5,7 @@ mod counting;
 mod delivering;
 mod delivery;
 mod image;
+mod lending;
 mod outcome;
 mod phase;
 mod receiving;
@@ -14,6 +15,7 @@ mod shelf;
 
 pub use crate::delivery::Delivery;
 pub use crate::image::Image;
+pub use crate::lending::Delivered;
 pub use crate::outcome::Outcome;
 pub use crate::phase::Phase;
 pub use crate::shelf::Shelf;

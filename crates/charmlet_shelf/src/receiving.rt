@@ -6,36 +6,38 @@ ghost use Rattle.charmlet_model.specs.declared.TheConstants.{CONSTRUCT};
 ghost use Rattle.charmlet_shelf.specs.Receiving.{Becomes, IsConstructed, state_if};
 
 use charmlet_chare::{Chare, Outbox, Output};
-use charmlet_model::{CONSTRUCT, Message};
+use charmlet_model::{CONSTRUCT, Elem};
 use std::alloc::{AllocError, Global};
 
-/// Has an object react to a message. One that is there stays as it is at a construction, and a newcomer
+/// Has an object react to a message of this entry and these words. One that is there stays as it is at a construction, and a newcomer
 /// is constructed. It fails only when out of memory, and then leaves the object's state; where the object
 /// is destroyed, it keeps its state.
 pub(crate) fn receive<C: Chare>(
     alloc: Global,
     object: &mut C,
     is_there: bool,
-    message: &Message,
+    to: Elem,
+    entry: u16,
+    words: &[u64],
 ) -> Result<Output, AllocError>
-    requires { IsConstructed is_there message.now }
-    ensures ok { IfOk result (λ output. Becomes (react (kind_of (C.state object.old)) message.now.to (state_if is_there (C.state object.old)) message.now.entry message.now.words) output (C.state object.new)) }
+    requires { IsConstructed is_there entry }
+    ensures ok { IfOk result (λ output. Becomes (react (kind_of (C.state object.old)) to
+        (state_if is_there (C.state object.old)) entry words.now) output (C.state object.new)) }
     ensures few { IfOk result (λ output. length output.sends ≤ 16) }
     ensures kind { kind_of (C.state object.new) ≡ kind_of (C.state object.old) }
     ensures err { OnErr result (C.state object.new ≡ C.state object.old) }
 {
-    if stays(is_there, message) {
+    if stays(is_there, entry) {
         return Ok(Outbox::new(alloc).into_output());
     }
     let mut outbox = Outbox::new(alloc);
-    let words = message.words.as_slice();
-    object.enter(message.to, message.entry, words, &mut outbox)?;
+    object.enter(to, entry, words, &mut outbox)?;
     Ok(outbox.into_output())
 }
 
-/// Whether the message constructs an element that is there, which leaves it.
-fn stays(is_there: bool, message: &Message) -> bool
-    ensures { result ≡ (is_there && (message.now.entry == CONSTRUCT)) }
+/// Whether a message of this entry constructs an element that is there, which leaves it.
+fn stays(is_there: bool, entry: u16) -> bool
+    ensures { result ≡ (is_there && (entry == CONSTRUCT)) }
 {
-    is_there && message.entry == CONSTRUCT
+    is_there && entry == CONSTRUCT
 }

@@ -4,9 +4,10 @@ use crate::counting::count_residents;
 use crate::delivering::{bring_forward, delivery_at, react, take_newcomer};
 use crate::delivery::Delivery;
 use crate::image::{Image, image_at, images_of};
+use crate::lending::{Delivered, deliver_at};
 use crate::outcome::Outcome;
 use crate::phase::Phase;
-use crate::residents::{put, take};
+use crate::residents::{index_from, put, take};
 use charmlet_chare::{Chare, Output, kind_of};
 use charmlet_model::{Elem, Kind, Message, Refusal, Resident};
 use indexmap::IndexMap;
@@ -44,9 +45,10 @@ impl<C: Chare> Model for Shelf<C> {
 }
 
 impl<C: Chare> Shelf<C> {
-    ghost use Rattle.std.specs.Prelude.{◌≡◌, ◌+◌, ◌≤◌, [], ◌∷◌, Some, None, true, if◌then◌else◌, IfOk, IfErr, IfSome, OnOk, OnErr, IsOk, IsSome, is_some, option_copied};
+    ghost use Rattle.std.specs.Prelude.{◌≡◌, ◌+◌, ◌≤◌, [], ◌∷◌, Some, None, true, if◌then◌else◌, IfOk, IfErr, IfSome, OnOk, OnErr, IsOk, IsSome, is_some, option_copied, unwrap_or};
     ghost use Rattle.std.specs.BTreeMap.{insert_entry, is_at};
     ghost use Rattle.std.specs.Map.{keys_of, lookup, remove_entry};
+    ghost use Rattle.charmlet_model.specs.declared.names.MsgId.{MsgId};
     ghost use Rattle.charmlet_model.specs.Names.{elem_cmp};
     ghost use Rattle.charmlet_model.specs.Reaction.{greatest, kind_of};
     ghost use Rattle.charmlet_model.specs.Shelves.{record_in};
@@ -55,9 +57,10 @@ impl<C: Chare> Shelf<C> {
     ghost use Rattle.charmlet_model.specs.declared.TheConstants.{CONSTRUCT};
     ghost use Rattle.charmlet_shelf.specs.declared.phase.Phase.TheVariants as phases;
     ghost use Rattle.charmlet_shelf.specs.Count.{came_out, objects_on};
-    ghost use Rattle.charmlet_shelf.specs.Due.{newcomer_due};
+    ghost use Rattle.charmlet_shelf.specs.Due.{Due, newcomer_due};
     ghost use Rattle.charmlet_shelf.specs.Image.{AreImages, IsImageIf};
-    ghost use Rattle.charmlet_shelf.specs.Shelf.{Assigns, HasCounts, has_newcomer, is_assigned, is_destroyed, is_idle, outcome_in, output_in, performed, receiver_kind, refusal_at, released, settled, without_output};
+    ghost use Rattle.charmlet_shelf.specs.Lending.{IsCarriedOut};
+    ghost use Rattle.charmlet_shelf.specs.Shelf.{Assigns, HasCounts, IsDueAt, has_newcomer, is_assigned, is_destroyed, is_idle, outcome_in, output_in, performed, receiver_kind, refusal_at, released, settled, without_output};
 
     /// An empty shelf of a processor. It takes no memory.
     pub fn new(alloc: Global, number: u16) -> Self
@@ -208,6 +211,33 @@ impl<C: Chare> Shelf<C> {
                 Err(AllocError)
             }
         }
+    }
+
+    /// Delivers a message to an element that is here, at once: its receiver reacts and is counted. It does what
+    /// `assign`, `perform`, `take_output` and `settle` do one after another, but the message is only lent.
+    /// `Uncommitted` where a delivery is under way, else `Absent` where the element isn't here, else
+    /// `Memory`; then the shelf is as before.
+    pub fn deliver(&mut self, to: Elem, entry: u16, words: &[u64]) -> Result<Delivered<C>, Refusal>
+        requires { IfSome (lookup (is_at (elem_cmp to)) self.old.records) HasCounts }
+        ensures ok { (id : MsgId) → IfOk result (λ done. (due : Due) × IsDueAt self.old.records (record { id = id; to = to; entry = entry; words = words.now }) due
+            × IsCarriedOut C.state self.old.records due done.output done.destroyed self.new.records) }
+        ensures idle { OnOk result (is_idle self.old.phase ≡ true) }
+        ensures others { self.new ≡ record self.old { records = self.new.records } }
+        ensures err { IfErr result (λ refusal. refusal ≡ unwrap_or (refusal_at self.old to) refusals.Memory) }
+        ensures same { OnErr result (self.new ≡ self.old) }
+    {
+        if !self.is_idle() {
+            return Err(Refusal::Uncommitted);
+        }
+        let Some(index) = index_from(&self.residents, self.last, to) else {
+            return Err(Refusal::Absent);
+        };
+        self.last = index;
+        let Ok(delivered) = deliver_at(self.alloc, &mut self.residents, index, to, entry, words)
+        else {
+            return Err(Refusal::Memory);
+        };
+        Ok(delivered)
     }
 
     /// The delivery that was performed and isn't settled yet.

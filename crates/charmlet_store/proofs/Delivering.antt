@@ -251,7 +251,7 @@ module _ {C : Type 0} {G : Ghosts C} (old : Desk C G) (due : Due) where
     pub counted_so : (shelf : View) → shelf ≡ taken → (kind : Kind) → objects_on shelf kind ≡ objects_on old.shelf kind
     counted_so shelf is kind = ap (λ v. objects_on v kind) is ∙ counted_taken kind
 
-    settled_is : settled taken ≡ record { number = on; records = with_record old.shelf.records due.message.to (record_after due); phase = phases.Idle }
+    pub settled_is : settled taken ≡ record { number = on; records = with_record old.shelf.records due.message.to (record_after due); phase = phases.Idle }
     settled_is =
         let made = some_of (reaction_in due) busy.delivering.under_way.reacts in
         ap (λ phase. settled (record old.shelf { phase = without_output phase })) (busy.delivering.phase_is ∙ ap (done_by due) made.1)

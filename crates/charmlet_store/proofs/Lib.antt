@@ -8,3 +8,4 @@ pub mod Looks
 pub mod Theres
 pub mod Lifting
 pub mod Residents
+pub mod Entering

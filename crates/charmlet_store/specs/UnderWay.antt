@@ -1,5 +1,5 @@
 -- A delivery that is under way.
-use Rattle.std.specs.Prelude.{◌≡◌, ℕ, true, false, is_some, Some, Result, Ok, Err}
+use Rattle.std.specs.Prelude.{◌≡◌, ℕ, true, false, is_some, Option, Some, Result, Ok, Err}
 use Rattle.charmlet_model.specs.declared.names.MsgId.{MsgId}
 use Rattle.charmlet_model.specs.declared.refusal.Refusal.{Refusal}
 use Rattle.charmlet_model.specs.World.{kind_of_array, record_of}
@@ -8,10 +8,13 @@ use Rattle.charmlet_model.specs.Run.{StoreView, Goes, IsDelivered, IsNotDelivere
 use Rattle.charmlet_chare.specs.declared.chare.Chare.{Ghosts}
 use Rattle.charmlet_history.specs.declared.history.History.{History}
 use Rattle.charmlet_history.specs.Kept.{HasRoom, IsConsistent, assigned_message, core_in, kept_in}
+use Rattle.charmlet_model.specs.declared.state.State.{State}
+use Rattle.charmlet_chare.specs.declared.output.Output.{Output}
+use Rattle.charmlet_shelf.specs.Lending.{IsCarriedOut}
 use Rattle.charmlet_shelf.specs.Due.{Due, reaction_in}
 use Rattle.charmlet_shelf.specs.Shelf.{View}
 use Rattle.charmlet_shelf.specs.declared.phase.Phase.{Phase}
-use Rattle.charmlet_shelf.specs.declared.phase.Phase.TheVariants.{Assigned}
+use Rattle.charmlet_shelf.specs.declared.phase.Phase.TheVariants.{Assigned, Idle}
 use Rattle.charmlet_migrate.specs.Moving.{store_with}
 use Rattle.charmlet_store.specs.Desk.{Desk, IsWithin, ShowsPart}
 
@@ -35,6 +38,20 @@ pub record IsBusyAt {C : Type 0} {G : Ghosts C} (desk : Desk C G) (due : Due) (p
   pub running : (core_in desk.history).halted ≡ false
   pub room : HasRoom desk.history desk.shelf.number
   pub delivering : IsDelivering desk.history desk.shelf due phase
+  pub census : IsWithin desk.shelf desk.stock
+
+-- the receiver of the delivery, which was there, has reacted and was counted on the shelf, which before that showed the
+-- history's world; the history has room for the delivery
+pub record IsEntered {C : Type 0} {G : Ghosts C} (look : C → State) (desk : Desk C G) (due : Due) (output : Output) (destroyed : Option C) (after : View) : Type 0 where
+  pub history : IsConsistent (kept_in desk.history)
+  pub running : (core_in desk.history).halted ≡ false
+  pub room : HasRoom desk.history desk.shelf.number
+  pub under_way : IsUnderWay (core_in desk.history) desk.shelf.number due
+  pub part : ShowsPart desk.history desk.shelf
+  pub idle : desk.shelf.phase ≡ Idle
+  pub there : is_some due.receiver.state ≡ true
+  pub done : IsCarriedOut look desk.shelf.records due output destroyed after.records
+  pub others : after ≡ record desk.shelf { records = after.records }
   pub census : IsWithin desk.shelf desk.stock
 
 -- the message is assigned to the processor, in the history and on its shelf

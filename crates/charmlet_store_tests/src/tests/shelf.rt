@@ -11,7 +11,7 @@ use charmlet_chare::{Chare, Outbox, Output};
 use charmlet_kinds::{Ring, Tree};
 use charmlet_model::{CONSTRUCT, Elem, Kind, Message, MsgId, Origin, Refusal, Resident, Words};
 use charmlet_pup::PupFault;
-use charmlet_shelf::{Image, Outcome, Shelf};
+use charmlet_shelf::{Delivered, Image, Outcome, Shelf};
 use std::alloc::AllocError;
 use std::process::Abort;
 use std::sync::Arc;
@@ -388,6 +388,38 @@ fn destroyed_objects_come_out(rt: HostRuntime) {
     lacks(&rt, &mut shelf, ME);
 }
 
+// Delivers a message that is lent. Where memory is refused, the shelf is as before, and it is delivered at the second
+// try.
+fn lends<C: Chare>(rt: &impl Abort, shelf: &mut Shelf<C>, words: &[u64]) -> Delivered<C>
+    requires { IfSome (lookup (is_at (elem_cmp ME)) shelf.old.records) HasCounts }
+{
+    if let Ok(delivered) = shelf.deliver(ME, 0, words) {
+        return delivered;
+    }
+    shelf.deliver(ME, 0, words).ok().expect(rt, "a delivery")
+}
+
+#[test]
+fn refused_memory_leaves_a_lent_message(rt: HostRuntime) {
+    let mut shelf = shelf_with(&rt, ME, ring(&rt));
+    let delivered = lends(&rt, &mut shelf, &[6]);
+    passes_token(&rt, &delivered.output);
+    assert!(rt; delivered.destroyed.is_none());
+    lifts(&rt, &mut shelf, ME, (5, 6), &SEEN);
+}
+
+#[test]
+fn objects_that_lent_messages_destroy_come_out(rt: HostRuntime) {
+    let entries = Arc::new(rt.alloc(), AtomicU64::new(0)).expect(&rt, "a count");
+    let mut shelf = shelf_with(&rt, ME, probe_of(&rt, &entries, &FIVE));
+    let mut tree = lends(&rt, &mut shelf, &[])
+        .destroyed
+        .expect(&rt, "an object");
+    assert!(rt; entries.load(Ordering::SeqCst) == 1);
+    packs_to(&rt, &mut tree, &FIVE);
+    lacks(&rt, &mut shelf, ME);
+}
+
 // It is the image of the element, with these counts and this packed form.
 fn is_image(rt: &impl Abort, image: Option<&Image>, elem: Elem, counts: (u64, u64), packed: &[u8]) {
     let image = image.expect(rt, "an image");
@@ -469,6 +501,15 @@ fn refuses_construction(rt: &impl Abort, shelf: &mut Shelf<Ring>, construction: 
     assert!(rt; matches!(back.words.as_slice(), [9]));
 }
 
+// No message that is lent is delivered.
+fn refuses_lent_message(rt: &impl Abort, shelf: &mut Shelf<Ring>, elem: Elem, refusal: Refusal)
+    requires { IfSome (lookup (is_at (elem_cmp elem)) shelf.old.records) HasCounts }
+    ensures { shelf.new ≡ shelf.old }
+{
+    let reason = shelf.deliver(elem, 1, &[8]).err().expect(rt, "a refusal");
+    assert!(rt; reason == refusal);
+}
+
 // Whatever else the shelf is asked for is refused and comes back.
 fn refuses_more(rt: &(impl AllocGlobal + Abort), shelf: &mut Shelf<Ring>)
     requires lacks { lookup (is_at (elem_cmp OTHER)) shelf.old.records ≡ None }
@@ -476,6 +517,7 @@ fn refuses_more(rt: &(impl AllocGlobal + Abort), shelf: &mut Shelf<Ring>)
 {
     refuses_elements(rt, shelf);
     refuses_message(rt, shelf, message(rt, ME, 1, &[8]), Refusal::Uncommitted);
+    refuses_lent_message(rt, shelf, ME, Refusal::Uncommitted);
     refuses_element(rt, shelf);
     refuses_construction(rt, shelf, message(rt, OTHER, CONSTRUCT, &[9]));
 }
@@ -500,6 +542,7 @@ fn absent_elements_get_no_message(rt: HostRuntime) {
     let mut shelf = shelf_with(&rt, ME, ring(&rt));
     let construction = message(&rt, OTHER, CONSTRUCT, &[8]);
     refuses_message(&rt, &mut shelf, construction, Refusal::Absent);
+    refuses_lent_message(&rt, &mut shelf, OTHER, Refusal::Absent);
     lifts(&rt, &mut shelf, ME, (4, 5), &RING);
 }
 
@@ -510,6 +553,13 @@ fn a_message_meets_no_refusal(rt: HostRuntime) {
     assert!(rt; shelf.place(ME, ring(&rt)).is_ok());
     assert!(rt; shelf.assign(message(&rt, ME, 0, &[6])).is_ok());
     assert!(rt; shelf.perform().is_ok());
+}
+
+#[test]
+fn a_lent_message_meets_no_refusal(rt: HostRuntime) {
+    let mut shelf = Shelf::new(rt.alloc(), 3);
+    assert!(rt; shelf.place(ME, ring(&rt)).is_ok());
+    assert!(rt; shelf.deliver(ME, 0, &[6]).is_ok());
 }
 
 #[test]

@@ -1,12 +1,15 @@
-use Rattle.std.proofs.Common.{◌≡◌, refl, sym, ap, subst, ◌∙◌}
-use Rattle.std.specs.Prelude.{Some}
+use Rattle.std.proofs.Common.{◌≡◌, ℕ, List, refl, sym, ap, subst, ◌∙◌}
+use Rattle.std.specs.Prelude.{Option, Some}
 use Rattle.std.specs.BTreeMap.{is_at}
 use Rattle.std.specs.Map.{set_value}
 use Rattle.charmlet_model.specs.declared.message.Message.{Message}
+use Rattle.charmlet_model.specs.declared.kind.Kind.{Kind}
 use Rattle.charmlet_model.specs.declared.state.Resident.{Resident}
+use Rattle.charmlet_model.specs.declared.state.State.{State}
 use Rattle.charmlet_model.specs.Names.{elem_cmp}
 use Rattle.charmlet_model.specs.Reaction.{kind_of, react}
 use Rattle.charmlet_model.specs.Shelves.{records_of}
+use Rattle.charmlet_chare.specs.declared.output.Output.{Output}
 use Rattle.charmlet_shelf.specs.Due.{reaction_in, record_after}
 use Rattle.charmlet_shelf.specs.Outcome.{Performed}
 use Rattle.charmlet_shelf.specs.Receiving.{Becomes, state_if}
@@ -19,6 +22,12 @@ use Rattle.charmlet_shelf.proofs.Holding.{before_is, before_stays, rising_writte
 use Rattle.charmlet_shelf.proofs.Records.{Rising, at}
 use Rattle.charmlet_shelf.proofs.delivering.react.Goals as goal
 
+-- the message's words are those of its slice
+as_message : (k : Kind) (o : Option State) (out : Output) (s : State) (lent m : Message) → lent ≡ m → (words : List ℕ) → words ≡ lent.words → Becomes (react k lent.to o lent.entry words) out s →
+    Becomes (react k m.to o m.entry m.words) out s
+as_message k o out s lent m is words same made =
+    subst (λ (m : Message). Becomes (react k m.to o m.entry m.words) out s) is (subst (λ ws. Becomes (react k lent.to o lent.entry ws) out s) same made)
+
 pub new-requires-clause-made : goal.new-requires-clause-made
 new-requires-clause-made g c =
     let state = g.C.Chare.state in
@@ -29,7 +38,7 @@ new-requires-clause-made g c =
     let stands : StandsAt entries due.message.to c.in-Some.index = subst (λ (m : Message). StandsAt entries m.to c.in-Some.index) c.message-message.ensures c.in-Some.ensures.some in
     let here : at es due.message.to ≡ Some old = found_here entries due.message.to c.in-Some.index stands c.pair_mut-resident.result.0.now old c.pair_mut-resident.ensures.value in
     let reacts = reacts_as state due old c.is_there-is_there.result (receiver_is state es due old here due.receiver.state c.requires) c.is_there-is_there.ensures.there in
-    let made = subst (λ (m : Message). Becomes (react (kind_of (state old.object)) m.to (state_if c.is_there-is_there.result (state old.object)) m.entry m.words) c.in-Ok.output (state c.receive.new.object)) c.message-message.ensures c.in-Ok.ensures.ok in
+    let made = as_message (kind_of (state old.object)) (state_if c.is_there-is_there.result (state old.object)) c.in-Ok.output (state c.receive.new.object) c.message-message.result.now due.message c.message-message.ensures c.as_slice-words.result.now c.as_slice-words.ensures c.in-Ok.ensures.ok in
     (made.0, sym reacts ∙ made.1, made.2)
 
 pub returns-in-Ok-clause-ok : goal.returns-in-Ok-clause-ok
@@ -46,7 +55,7 @@ returns-in-Ok-clause-ok g c =
     let reacts = reacts_as state due old c.is_there-is_there.result receiver c.is_there-is_there.ensures.there in
     let made : Becomes (reaction_in due) c.in-Ok.output (state c.receive.new.object) =
     subst (λ o. Becomes o c.in-Ok.output (state c.receive.new.object)) reacts
-    (subst (λ (m : Message). Becomes (react (kind_of (state old.object)) m.to (state_if c.is_there-is_there.result (state old.object)) m.entry m.words) c.in-Ok.output (state c.receive.new.object)) c.message-message.ensures c.in-Ok.ensures.ok) in
+    (as_message (kind_of (state old.object)) (state_if c.is_there-is_there.result (state old.object)) c.in-Ok.output (state c.receive.new.object) c.message-message.result.now due.message c.message-message.ensures c.as_slice-words.result.now c.as_slice-words.ensures c.in-Ok.ensures.ok) in
     let written : risen (set_value_at entries c.in-Some.index new) ≡ set_value (is_at (elem_cmp due.message.to)) es new =
     written_at c.args.residents.now due.message.to c.in-Some.index new c.pair_mut-resident.ensures.unique stands in (
       ap (λ (p : Performed). p.due) c.new.ensures,
