@@ -20,7 +20,8 @@ pub(crate) fn append_pending(
 ) -> Result<(), AllocError>
     requires count { count ≡ length pending }
     requires short { All (λ (m : messages.Message). AreFewWords m.words) pending }
-    ensures { OnOk result (out.new.items ≡ out.old.items ++ spell_list spell_message pending.entry) }
+    ensures { OnOk result (out.new.items
+        ≡ out.old.items ++ spell_list spell_message pending.entry) }
 {
     out.reserve(4)?;
     write_u32(out, count);
@@ -38,7 +39,8 @@ fn append_letter(
     letter: &Letter,
 ) -> Result<(), AllocError>
     requires { AreFewWords letter.now.words }
-    ensures { OnOk result (out.new.items ≡ out.old.items ++ spell_message (message_of id letter.now)) }
+    ensures { OnOk result (out.new.items
+        ≡ out.old.items ++ spell_message (message_of id letter.now)) }
 {
     let message = letter.copy(alloc, id)?;
     append_message(out, &message)

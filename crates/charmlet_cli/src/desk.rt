@@ -40,7 +40,8 @@ pub(crate) struct Call<'a> {
 impl Desk {
     /// A desk with these handlers, of which the last one of a name counts. It fails only when out of memory.
     pub(crate) fn new(alloc: Global, lines: &[HandlerLine]) -> Result<Self, AllocError>
-        ensures { IfOk result (λ desk. (name : List ℕ) → named_at desk name ≡ named_by lines.now name) }
+        ensures { IfOk result (λ desk. (name : List ℕ) →
+            named_at desk name ≡ named_by lines.now name) }
     {
         Ok(Desk {
             handlers: handlers_of(alloc, lines)?,
@@ -141,7 +142,8 @@ impl Desk {
 
 /// The handlers of these lines, of which the last one of a name counts. It fails only when out of memory.
 fn handlers_of(alloc: Global, lines: &[HandlerLine]) -> Result<Handlers, AllocError>
-    ensures { IfOk result (λ handlers. (name : List ℕ) → handler_of handlers name ≡ named_by lines.now name) }
+    ensures { IfOk result (λ handlers. (name : List ℕ) →
+        handler_of handlers name ≡ named_by lines.now name) }
 {
     let mut handlers = Handlers::new(alloc);
     for line in lines {

@@ -87,7 +87,8 @@ impl From<io::Error> for Failure {
 /// the status of the stop. The status is the same where `errors` fails.
 pub fn end_program<W: Write>(ran: &Result<(), Failure>, errors: &mut W) -> (u8, io::Result<()>)
     ensures status { result.0 ≡ exit_status ran.now }
-    ensures said { OnOk result.1 (IfErr ran.now (λ failure. Says failure (W.contents errors.old) (W.contents errors.new))) }
+    ensures said { OnOk result.1 (IfErr ran.now
+        (λ failure. Says failure (W.contents errors.old) (W.contents errors.new))) }
     ensures silent { OnOk ran.now (errors.new ≡ errors.old) }
 {
     match ran {

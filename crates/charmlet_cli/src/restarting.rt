@@ -240,7 +240,8 @@ fn restart_with<D: Disk, C: Chare, W: Write>(
     writer: &mut W,
 ) -> Restarted<D, C>
     requires unused { IsUnused prepared.given }
-    requires named { (name : List ℕ) → named_at prepared.desk name ≡ named_by script.now.handlers name }
+    requires named { (name : List ℕ) →
+        named_at prepared.desk name ≡ named_by script.now.handlers name }
     requires enough { (kind : Kind) → blanks_of kind script.now.lines
         ≤ blanks_left prepared.source kind }
     ensures ran { OnOk result.result (IsRestarted D.Disk processors
@@ -307,7 +308,8 @@ fn run_restarted<D: Disk, C: Chare, W: Write>(
     requires processors { (core_of engine.old).processors ≡ processors }
     requires durable { (core_of engine.old).durable ≡ 0 }
     requires named { (name : List ℕ) → named_at desk.old name ≡ named_by script.now.handlers name }
-    requires enough { (kind : Kind) → blanks_of kind script.now.lines ≤ blanks_left source.old kind }
+    requires enough { (kind : Kind) → blanks_of kind script.now.lines
+        ≤ blanks_left source.old kind }
     ensures consistent { IsEngineConsistent engine.new }
     ensures prints { OnOk result (PrintsRestart D.Disk (ledger_in engine.old) script.now
         (ledger_in engine.new) (W.contents writer.old) (W.contents writer.new)) }

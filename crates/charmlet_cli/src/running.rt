@@ -160,7 +160,8 @@ fn prepare<C: Chare>(
 
 /// A stock with these objects. It fails only when out of memory.
 pub(crate) fn stock_of<C: Chare>(alloc: Global, objects: Vec<C>) -> Result<Stock<C>, AllocError>
-    ensures { IfOk result (λ stock. (kind : Kind) → blanks_left stock kind ≡ count_of C.state objects.items kind) }
+    ensures { IfOk result (λ stock. (kind : Kind) →
+        blanks_left stock kind ≡ count_of C.state objects.items kind) }
 {
     let mut stock = Stock::new(alloc);
     if stock.supply(objects).is_err() {
@@ -180,7 +181,8 @@ fn run_in_new_store<D: Disk, C: Chare, W: Write>(
     requires settled { D.honest disk → IsSettled (D.file disk) }
     requires manifest { manifest_of (pairs_of script.now.arrays) ≡ Some prepared.manifest }
     requires fit { IsFit (new_world prepared.manifest) }
-    requires named { (name : List ℕ) → named_at prepared.desk name ≡ named_by script.now.handlers name }
+    requires named { (name : List ℕ) →
+        named_at prepared.desk name ≡ named_by script.now.handlers name }
     requires enough { (kind : Kind) → blanks_of kind script.now.lines
         ≤ blanks_left prepared.source kind }
     ensures ran { OnOk result.result (IsRun D.Disk disk result.disk script.now
@@ -236,9 +238,11 @@ pub(crate) fn run_lines<D: Disk, C: Chare, W: Write>(
     requires consistent { IsEngineConsistent engine.old }
     requires enough { (kind : Kind) → blanks_of kind lines.now ≤ blanks_left source.old kind }
     ensures consistent { IsEngineConsistent engine.new }
-    ensures prints { OnOk result (AreRun D.Disk (named_at desk.old) (ledger_in engine.new) (ledger_in engine.old)
+    ensures prints { OnOk result (AreRun D.Disk (named_at desk.old) (ledger_in engine.new)
+        (ledger_in engine.old)
         lines.now (ledger_in engine.new) (W.contents writer.old) (W.contents writer.new)) }
-    ensures breaks_off { OnErr result (BreakOff D.Disk (named_at desk.old) (ledger_in engine.old) lines.now
+    ensures breaks_off { OnErr result (BreakOff D.Disk (named_at desk.old)
+        (ledger_in engine.old) lines.now
         (ledger_in engine.new) (W.contents writer.old) (W.contents writer.new)) }
     ensures advances { Advances engine.old engine.new }
 {
@@ -263,7 +267,8 @@ fn run_line<D: Disk, C: Chare, W: Write>(
     ensures prints { IsPrinted D.Disk (named_at desk.old) result (ledger_in engine.old) line.now
         (ledger_in engine.new) (W.contents writer.old) (W.contents writer.new) }
     ensures handlers { desk.new.handlers ≡ desk.old.handlers }
-    ensures left { OnOk result ((kind : Kind) → blanks_left source.old kind ≤ blanks_left source.new kind + blanks_in kind line.now) }
+    ensures left { OnOk result ((kind : Kind) →
+        blanks_left source.old kind ≤ blanks_left source.new kind + blanks_in kind line.now) }
     ensures advances { Advances engine.old engine.new }
 {
     match line {
@@ -303,7 +308,8 @@ fn answer_to_call<D: Disk, C: Chare>(
     requires { IsEngineConsistent engine.old }
     ensures consistent { IsEngineConsistent engine.new }
     ensures answered { (to : names.Elem) × (entry : ℕ)
-        × IsTarget (world_of engine.old) call.now.index (named_at desk.old call.now.name.now) to entry
+        × IsTarget (world_of engine.old) call.now.index
+        (named_at desk.old call.now.name.now) to entry
         × IsAnswered D.Disk (steps.Request call.now.client call.now.number to entry
         call.now.words.now) result (ledger_in engine.old) (ledger_in engine.new) }
     ensures handlers { desk.new.handlers ≡ desk.old.handlers }
@@ -316,7 +322,8 @@ fn answer_to_call<D: Disk, C: Chare>(
 fn answer_to<D: Disk, C: Chare>(engine: &mut Engine<D, C>, desk: &mut Desk, step: &Step) -> Answer
     requires { IsEngineConsistent engine.old }
     ensures consistent { IsEngineConsistent engine.new }
-    ensures answered { IsAnswered D.Disk step.now result (ledger_in engine.old) (ledger_in engine.new) }
+    ensures answered { IsAnswered D.Disk step.now result (ledger_in engine.old)
+        (ledger_in engine.new) }
     ensures handlers { desk.new.handlers ≡ desk.old.handlers }
     ensures advances { Advances engine.old engine.new }
 {
@@ -364,9 +371,11 @@ fn supply_line<D: Disk, C: Chare, W: Write>(
     requires consistent { IsEngineConsistent engine.old }
     requires enough { count ≤ blanks_left source.old kind }
     ensures consistent { IsEngineConsistent engine.new }
-    ensures prints { IsPrinted D.Disk no_names result (ledger_in engine.old) (lines.Supply kind count)
+    ensures prints { IsPrinted D.Disk no_names result (ledger_in engine.old)
+        (lines.Supply kind count)
         (ledger_in engine.new) (W.contents writer.old) (W.contents writer.new) }
-    ensures left { OnOk result ((k : Kind) → blanks_left source.old k ≤ blanks_left source.new k + part_of kind count k) }
+    ensures left { OnOk result ((k : Kind) →
+        blanks_left source.old k ≤ blanks_left source.new k + part_of kind count k) }
     ensures advances { Advances engine.old engine.new }
 {
     if engine.draw(source, kind, count as usize).is_err() {

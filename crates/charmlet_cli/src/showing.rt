@@ -51,7 +51,9 @@ fn shown<D: Disk, C: Chare>(
     requires { IsEngineConsistent engine.old }
     ensures same { engine.new ≡ engine.old }
     ensures advances { Advances engine.old engine.new }
-    ensures ok { IfOk result (λ shown. shown_text shown ≡ record_text elem (place_or_home (view_of engine.old).core elem) (record_of (world_of engine.old) elem)) }
+    ensures ok { IfOk result (λ shown. shown_text shown
+        ≡ record_text elem (place_or_home (view_of engine.old).core elem)
+        (record_of (world_of engine.old) elem)) }
     ensures absent { (record_of (world_of engine.old) elem).state ≡ None → IsOk result }
 {
     let look = engine.look(elem)?;
@@ -117,7 +119,8 @@ fn count_line<D: Disk, C: Chare, W: Write>(
     writer: &mut W,
 ) -> io::Result<()>
     requires { IsEngineConsistent engine.now }
-    ensures { Writes result (W.contents writer.old) (W.contents writer.new) (in_lines (counted_texts (counted_of engine.now kind))) }
+    ensures { Writes result (W.contents writer.old) (W.contents writer.new)
+        (in_lines (counted_texts (counted_of engine.now kind))) }
 {
     let census = engine.census(kind);
     if census.supplied == 0 {

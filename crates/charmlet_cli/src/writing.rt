@@ -19,7 +19,9 @@ pub fn write_line<T: fmt::Display, W: Write>(
     writer: &mut W,
     line: &T,
 ) -> io::Result<()>
-    ensures { IfSome (T.output line.now) (λ text. Writes result (W.contents writer.old) (W.contents writer.new) (in_lines (text ∷ []))) }
+    ensures { IfSome (T.output line.now)
+        (λ text. Writes result (W.contents writer.old) (W.contents writer.new)
+        (in_lines (text ∷ []))) }
 {
     let text = format!(in alloc; "{line}\n")?;
     write_bytes(writer, text.as_bytes())
@@ -28,7 +30,8 @@ pub fn write_line<T: fmt::Display, W: Write>(
 /// Writes that memory was refused, for which it takes none. An error is the writer's, and a beginning of the line is
 /// written.
 pub fn write_memory_refused<W: Write>(writer: &mut W) -> io::Result<()>
-    ensures { Writes result (W.contents writer.old) (W.contents writer.new) (in_lines (memory_text ∷ [])) }
+    ensures { Writes result (W.contents writer.old) (W.contents writer.new)
+        (in_lines (memory_text ∷ [])) }
 {
     write_bytes(writer, b"refused 1 Memory\n")
 }
@@ -39,7 +42,8 @@ pub(crate) fn write_answer<W: Write>(
     writer: &mut W,
     answer: &Answer,
 ) -> io::Result<()>
-    ensures { Writes result (W.contents writer.old) (W.contents writer.new) (in_lines (answer_text answer.now ∷ [])) }
+    ensures { Writes result (W.contents writer.old) (W.contents writer.new)
+        (in_lines (answer_text answer.now ∷ [])) }
 {
     match answer {
         Answer::Refused(Refusal::Memory) => write_memory_refused(writer),

@@ -17,7 +17,7 @@ clean_left old c out =
     (λ k lt. out.outside k (omega (arith, lt, out.no_longer)) refl)
 
 pub old_torn : (at n : ℕ) (old : List ℕ) → Torn at n old old
-old_torn at n old = record { front = refl; behind = refl; no_shorter = omega arith; no_longer = omega arith }
+old_torn at n old = record { front = refl; later = refl; no_shorter = omega arith; no_longer = omega arith }
 
 module _ (at : ℕ) (bytes old c : List ℕ) (inside : at ≤ length old) (out : IsOutcome (wrote at bytes (clean old)) c) where
   apart : (k : ℕ) → (k < at) ⊎ (at + length bytes ≤ k) → covers ((at, length bytes) ∷ []) k ≡ false
@@ -29,14 +29,14 @@ module _ (at : ℕ) (bytes old c : List ℕ) (inside : at ≤ length old) (out :
       (λ k lt. let below : k < at = omega (arith, lt, length-take at c) in
       get_or-take at c k 0 below ∙ out.outside k (omega (arith, below, inside)) (apart k (inl below)) ∙ sym (get_or-take at old k 0 below))
 
-  behind : drop (at + length bytes) c ≡ drop (at + length bytes) old
-  behind = same_number_lists (drop (at + length bytes) c) (drop (at + length bytes) old)
+  later : drop (at + length bytes) c ≡ drop (at + length bytes) old
+  later = same_number_lists (drop (at + length bytes) c) (drop (at + length bytes) old)
       (omega (arith, length-drop (at + length bytes) c, length-drop (at + length bytes) old, out.no_shorter, out.no_longer))
       (λ k lt. let below : at + length bytes + k < length old = omega (arith, lt, length-drop (at + length bytes) c, out.no_longer) in
       get_or-drop (at + length bytes) c k 0 ∙ out.outside (at + length bytes + k) below (apart (at + length bytes + k) (inr (omega arith))) ∙ sym (get_or-drop (at + length bytes) old k 0))
 
   pub torn : Torn at (length bytes) old c
-  torn = record { front = front; behind = behind; no_shorter = out.no_shorter; no_longer = out.no_longer }
+  torn = record { front = front; later = later; no_shorter = out.no_shorter; no_longer = out.no_longer }
 
 -- the same of both halves, over a settled disk
 module _ (files files_then : Half → File) (half : Half) (at : ℕ) (bytes : List ℕ) (settled : IsSettled files) where

@@ -7,7 +7,7 @@ use Rattle.charmlet_disk.specs.File.{File, Outcome}
 -- new is old, but for any bytes in a range and past the old end, up to the end of the range
 pub record Torn (at n : ℕ) (old new : List ℕ) : Type 0 where
   pub front : take at new ≡ take at old
-  pub behind : drop (at + n) new ≡ drop (at + n) old
+  pub later : drop (at + n) new ≡ drop (at + n) old
   pub no_shorter : length old ≤ length new
   pub no_longer : length new ≤ max (length old) (at + n)
 

@@ -94,12 +94,14 @@ pub trait Disk: Send + Drop {
         ensures { result ≡ faults self.now };
 
     /// What a read gives is one of the outcomes.
-    ghost reads_are_left: { (disk : Self) → honest disk → (half : Half) → IsOutcome (file disk half) (file disk half).now };
+    ghost reads_are_left: { (disk : Self) → honest disk → (half : Half) →
+        IsOutcome (file disk half) (file disk half).now };
 
     /// This moment is one of those since an earlier one.
     ghost counts_now: { (disk : Self) (t : ℕ) (c : Outcome) → honest disk → t ≤ moment disk
         → MayLeave (file disk) c → since disk t c };
 
     /// Since this moment there is no other.
-    ghost only_now: { (disk : Self) (c : Outcome) → honest disk → since disk (moment disk) c → MayLeave (file disk) c };
+    ghost only_now: { (disk : Self) (c : Outcome) → honest disk → since disk (moment disk) c →
+        MayLeave (file disk) c };
 }

@@ -48,7 +48,8 @@ impl<D: Disk> FuseDisk<D> {
 fn spend(left: &mut u64, refused: &mut u64) -> Result<(), DeviceFault>
     ensures blown { IsErr result ↔ (left.old ≡ 0) }
     ensures spent { left.new ≡ left.old - 1 }
-    ensures counted { refused.new ≡ (if is_ok result then refused.old else min (refused.old + 1) (2 ^ 64 - 1)) }
+    ensures counted { refused.new ≡ (if is_ok result then refused.old
+        else min (refused.old + 1) (2 ^ 64 - 1)) }
 {
     if *left == 0 {
         *refused = refused.saturating_add(1);
@@ -87,12 +88,15 @@ impl<D: Disk> Disk for FuseDisk<D> {
             IfOk result (λ n. n ≡ length (D.file (inside self.old) half).now) }
         ensures same { D.honest (inside self.old) →
             SameFiles (D.file (inside self.old)) (D.file (inside self.new)) }
-        ensures time { D.honest (inside self.old) → Elapses (D.moment (inside self.old)) (D.moment (inside self.new))
-            (D.since (inside self.old)) (D.since (inside self.new)) (MayLeave (D.file (inside self.new))) }
+        ensures time { D.honest (inside self.old) →
+            Elapses (D.moment (inside self.old)) (D.moment (inside self.new))
+            (D.since (inside self.old)) (D.since (inside self.new))
+            (MayLeave (D.file (inside self.new))) }
         ensures honest { (D.honest (inside self.old) → D.honest (inside self.new))
             × (D.honest (inside self.new) → D.honest (inside self.old)) }
         ensures counted { faults_of_both (D.faults (inside self.new)) (refusals self.new)
-            ≡ faults_after (is_ok result) (faults_of_both (D.faults (inside self.old)) (refusals self.old)) }
+            ≡ faults_after (is_ok result) (faults_of_both (D.faults (inside self.old))
+            (refusals self.old)) }
     {
         self.disk.len(half)
     }
@@ -105,31 +109,40 @@ impl<D: Disk> Disk for FuseDisk<D> {
             (into.new ≡ take (length into.old) (drop offset (D.file (inside self.old) half).now)) }
         ensures same { D.honest (inside self.old) →
             SameFiles (D.file (inside self.old)) (D.file (inside self.new)) }
-        ensures time { D.honest (inside self.old) → Elapses (D.moment (inside self.old)) (D.moment (inside self.new))
-            (D.since (inside self.old)) (D.since (inside self.new)) (MayLeave (D.file (inside self.new))) }
+        ensures time { D.honest (inside self.old) →
+            Elapses (D.moment (inside self.old)) (D.moment (inside self.new))
+            (D.since (inside self.old)) (D.since (inside self.new))
+            (MayLeave (D.file (inside self.new))) }
         ensures honest { (D.honest (inside self.old) → D.honest (inside self.new))
             × (D.honest (inside self.new) → D.honest (inside self.old)) }
         ensures counted { faults_of_both (D.faults (inside self.new)) (refusals self.new)
-            ≡ faults_after (is_ok result) (faults_of_both (D.faults (inside self.old)) (refusals self.old)) }
+            ≡ faults_after (is_ok result) (faults_of_both (D.faults (inside self.old))
+            (refusals self.old)) }
     {
         self.disk.read_at(half, offset, into)
     }
 
     fn write_at(&mut self, half: Half, offset: u64, bytes: &[u8]) -> Result<(), DeviceFault>
-        requires { D.honest (inside self.old) → offset ≤ length (D.file (inside self.old) half).now }
+        requires { D.honest (inside self.old) →
+            offset ≤ length (D.file (inside self.old) half).now }
         ensures burns { Burns D.faults self.old self.new (is_ok result) }
         ensures written { D.honest (inside self.old) →
-            OnOk result (D.file (inside self.new) half ≡ wrote offset bytes.now (D.file (inside self.old) half)) }
-        ensures torn { D.honest (inside self.old) → (left : List ℕ) → IsOutcome (D.file (inside self.new) half) left
+            OnOk result (D.file (inside self.new) half
+            ≡ wrote offset bytes.now (D.file (inside self.old) half)) }
+        ensures torn { D.honest (inside self.old) → (left : List ℕ) →
+            IsOutcome (D.file (inside self.new) half) left
             → IsOutcome (wrote offset bytes.now (D.file (inside self.old) half)) left }
         ensures other { D.honest (inside self.old) →
             D.file (inside self.new) (other half) ≡ D.file (inside self.old) (other half) }
-        ensures time { D.honest (inside self.old) → Elapses (D.moment (inside self.old)) (D.moment (inside self.new))
-            (D.since (inside self.old)) (D.since (inside self.new)) (MayLeave (D.file (inside self.new))) }
+        ensures time { D.honest (inside self.old) →
+            Elapses (D.moment (inside self.old)) (D.moment (inside self.new))
+            (D.since (inside self.old)) (D.since (inside self.new))
+            (MayLeave (D.file (inside self.new))) }
         ensures honest { (D.honest (inside self.old) → D.honest (inside self.new))
             × (D.honest (inside self.new) → D.honest (inside self.old)) }
         ensures counted { faults_of_both (D.faults (inside self.new)) (refusals self.new)
-            ≡ faults_after (is_ok result) (faults_of_both (D.faults (inside self.old)) (refusals self.old)) }
+            ≡ faults_after (is_ok result) (faults_of_both (D.faults (inside self.old))
+            (refusals self.old)) }
     {
         spend(&mut self.left, &mut self.refused)?;
         self.disk.write_at(half, offset, bytes)
@@ -138,17 +151,21 @@ impl<D: Disk> Disk for FuseDisk<D> {
     fn sync(&mut self, half: Half) -> Result<(), DeviceFault>
         ensures burns { Burns D.faults self.old self.new (is_ok result) }
         ensures durable { D.honest (inside self.old) →
-            OnOk result (D.file (inside self.new) half ≡ clean (D.file (inside self.old) half).now) }
+            OnOk result (D.file (inside self.new) half
+            ≡ clean (D.file (inside self.old) half).now) }
         ensures failed { D.honest (inside self.old) →
             OnErr result (D.file (inside self.new) half ≡ D.file (inside self.old) half) }
         ensures other { D.honest (inside self.old) →
             D.file (inside self.new) (other half) ≡ D.file (inside self.old) (other half) }
-        ensures time { D.honest (inside self.old) → Elapses (D.moment (inside self.old)) (D.moment (inside self.new))
-            (D.since (inside self.old)) (D.since (inside self.new)) (MayLeave (D.file (inside self.new))) }
+        ensures time { D.honest (inside self.old) →
+            Elapses (D.moment (inside self.old)) (D.moment (inside self.new))
+            (D.since (inside self.old)) (D.since (inside self.new))
+            (MayLeave (D.file (inside self.new))) }
         ensures honest { (D.honest (inside self.old) → D.honest (inside self.new))
             × (D.honest (inside self.new) → D.honest (inside self.old)) }
         ensures counted { faults_of_both (D.faults (inside self.new)) (refusals self.new)
-            ≡ faults_after (is_ok result) (faults_of_both (D.faults (inside self.old)) (refusals self.old)) }
+            ≡ faults_after (is_ok result) (faults_of_both (D.faults (inside self.old))
+            (refusals self.old)) }
     {
         spend(&mut self.left, &mut self.refused)?;
         self.disk.sync(half)

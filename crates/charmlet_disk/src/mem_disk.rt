@@ -162,7 +162,8 @@ impl MemDisk {
     // Writes; or leaves all as it is, where memory is refused.
     fn try_write(&mut self, half: Half, offset: usize, bytes: &[u8]) -> Result<(), AllocError>
         requires { offset ≤ length (files self.old half).now }
-        ensures written { OnOk result (files self.new half ≡ wrote offset bytes.now (files self.old half)) }
+        ensures written { OnOk result (files self.new half
+            ≡ wrote offset bytes.now (files self.old half)) }
         ensures other { files self.new (other half) ≡ files self.old (other half) }
         ensures recorded { OnOk result (Records self.old self.new) }
         ensures refused { OnErr result (Keeps self.old self.new) }
@@ -255,7 +256,8 @@ impl Disk for MemDisk {
         ensures length { result ≡ Ok (length (files self.old half).now) }
         ensures same { self.new ≡ self.old }
         ensures time { Elapses (length (calls_of self.old)) (length (calls_of self.new))
-            (LeftSince (calls_of self.old)) (LeftSince (calls_of self.new)) (MayLeave (files self.new)) }
+            (LeftSince (calls_of self.old)) (LeftSince (calls_of self.new))
+            (MayLeave (files self.new)) }
     {
         Ok(self.bytes(half).len() as u64)
     }
@@ -266,7 +268,8 @@ impl Disk for MemDisk {
         ensures bytes { into.new ≡ take (length into.old) (drop offset (files self.old half).now) }
         ensures same { self.new ≡ self.old }
         ensures time { Elapses (length (calls_of self.old)) (length (calls_of self.new))
-            (LeftSince (calls_of self.old)) (LeftSince (calls_of self.new)) (MayLeave (files self.new)) }
+            (LeftSince (calls_of self.old)) (LeftSince (calls_of self.new))
+            (MayLeave (files self.new)) }
     {
         let offset = offset as usize;
         let end = offset + into.len();
@@ -276,14 +279,16 @@ impl Disk for MemDisk {
 
     fn write_at(&mut self, half: Half, offset: u64, bytes: &[u8]) -> Result<(), DeviceFault>
         requires { offset ≤ length (files self.old half).now }
-        ensures written { OnOk result (files self.new half ≡ wrote offset bytes.now (files self.old half)) }
+        ensures written { OnOk result (files self.new half
+            ≡ wrote offset bytes.now (files self.old half)) }
         ensures recorded { OnOk result (Records self.old self.new) }
         ensures refused { OnErr result (Keeps self.old self.new) }
         ensures torn { (left : List ℕ) → IsOutcome (files self.new half) left
             → IsOutcome (wrote offset bytes.now (files self.old half)) left }
         ensures other { files self.new (other half) ≡ files self.old (other half) }
         ensures time { Elapses (length (calls_of self.old)) (length (calls_of self.new))
-            (LeftSince (calls_of self.old)) (LeftSince (calls_of self.new)) (MayLeave (files self.new)) }
+            (LeftSince (calls_of self.old)) (LeftSince (calls_of self.new))
+            (MayLeave (files self.new)) }
         ensures counted { faults_of self.new ≡ faults_after (is_ok result) (faults_of self.old) }
     {
         let done = self.try_write(half, offset as usize, bytes);
@@ -296,7 +301,8 @@ impl Disk for MemDisk {
         ensures refused { OnErr result (Keeps self.old self.new) }
         ensures other { files self.new (other half) ≡ files self.old (other half) }
         ensures time { Elapses (length (calls_of self.old)) (length (calls_of self.new))
-            (LeftSince (calls_of self.old)) (LeftSince (calls_of self.new)) (MayLeave (files self.new)) }
+            (LeftSince (calls_of self.old)) (LeftSince (calls_of self.new))
+            (MayLeave (files self.new)) }
         ensures counted { faults_of self.new ≡ faults_after (is_ok result) (faults_of self.old) }
     {
         let done = self.try_sync(half);

@@ -21,10 +21,12 @@ pub fn write_through<D: Disk>(
     requires inside { D.honest disk.old → offset ≤ length (D.file disk.old half).now }
     ensures written { D.honest disk.old → OnOk result
         (D.file disk.new half ≡ clean (overwritten offset bytes.now (D.file disk.old half).now)) }
-    ensures other { D.honest disk.old → D.file disk.new (other half) ≡ D.file disk.old (other half) }
+    ensures other { D.honest disk.old →
+        D.file disk.new (other half) ≡ D.file disk.old (other half) }
     ensures any_moment { D.honest disk.old → LeavesOnly D.moment D.since disk.old disk.new
         (TearsHalf (D.file disk.old) half offset (length bytes.now)) }
-    ensures honest { (D.honest disk.old → D.honest disk.new) × (D.honest disk.new → D.honest disk.old) }
+    ensures honest { (D.honest disk.old → D.honest disk.new)
+        × (D.honest disk.new → D.honest disk.old) }
     ensures counted { D.faults disk.new ≡ faults_after (is_ok result) (D.faults disk.old) }
 {
     disk.write_at(half, offset, bytes)?;
@@ -39,7 +41,8 @@ pub fn settle<D: Disk>(disk: &mut D) -> Result<(), DeviceFault>
         (D.file disk.new half).now ≡ (D.file disk.old half).now }
     ensures any_moment { D.honest disk.old →
         LeavesOnly D.moment D.since disk.old disk.new (MayLeave (D.file disk.old)) }
-    ensures honest { (D.honest disk.old → D.honest disk.new) × (D.honest disk.new → D.honest disk.old) }
+    ensures honest { (D.honest disk.old → D.honest disk.new)
+        × (D.honest disk.new → D.honest disk.old) }
     ensures counted { D.faults disk.new ≡ faults_after (is_ok result) (D.faults disk.old) }
 {
     disk.sync(Half::Zero)?;

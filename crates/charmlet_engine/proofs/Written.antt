@@ -1,19 +1,19 @@
 -- Engines whose history was written to the disk.
-use Rattle.std.proofs.Common.{refl, sym, ◌∙◌}
-use Rattle.charmlet_model.specs.Core.{CoreAnswer, Flush, Steps}
+use Rattle.std.proofs.Common.{◌≡◌, refl, sym, ap, subst, ◌∙◌}
+use Rattle.charmlet_model.specs.Core.{Core, CoreAnswer, Flush, Steps}
 use Rattle.charmlet_chare.specs.declared.chare.Chare as chares
 use Rattle.charmlet_disk.specs.declared.disk.Disk as disks
 use Rattle.charmlet_halves.specs.declared.halves.Halves.{Halves}
 use Rattle.charmlet_halves.specs.Halves.{disk_of}
 use Rattle.charmlet_history.specs.declared.history.History.{History}
-use Rattle.charmlet_history.specs.Kept.{IsConsistent, core_in, kept_in}
+use Rattle.charmlet_history.specs.Kept.{IsConsistent, core_in, core_of, kept_in}
 use Rattle.charmlet_journal.specs.Quiet.{Quiet}
 use Rattle.charmlet_journal.specs.Rest.{Agrees, IsKept}
 use Rattle.charmlet_journal.proofs.Quietness.{still_agrees, still_kept}
 use Rattle.charmlet_store.specs.declared.store.Store.{Store}
 use Rattle.charmlet_migrate.specs.Moving.{records_on}
 use Rattle.charmlet_store.specs.Store.{IsStoreConsistent}
-use Rattle.charmlet_store.proofs.Showing.{flush_shows}
+use Rattle.charmlet_store.proofs.Showing.{ShowsCore, flush_shows}
 use Rattle.charmlet_engine.specs.declared.engine.Engine.{Engine}
 use Rattle.charmlet_engine.specs.Engine.{IsEngineConsistent}
 
@@ -40,6 +40,24 @@ module _ {D C : Type 0} {G : disks.Ghosts D} {H : chares.Ghosts C} (old : Engine
         };
         agrees = agrees;
         keeps = kept;
+      }
+
+  -- nor is it another one where what is kept is the same
+  pub same_consistent : kept_in history ≡ kept_in old.store.history → IsEngineConsistent {G = G} (record { store = record old.store { history = history }; halves = old.halves })
+  same_consistent same =
+      let core : core_in history ≡ core_in old.store.history = ap core_of same in
+      let shows = subst (ShowsCore (records_on old.store.shelves.items) (core_in old.store.history).processors) (sym core) (record { processors = refl; shows = consistent.shows.objects }) in
+      record {
+        shows = record {
+          history = subst IsConsistent (sym same) consistent.shows.history;
+          count = consistent.shows.count ∙ sym shows.processors;
+          numbers = consistent.shows.numbers;
+          idle = consistent.shows.idle;
+          objects = shows.shows;
+          census = consistent.shows.census;
+        };
+        agrees = subst (λ (core : Core). Agrees core old.halves) (sym core) consistent.agrees;
+        keeps = λ honest. subst (λ (core : Core). IsKept core old.halves) (sym core) (consistent.keeps honest);
       }
 
 module _ {D C : Type 0} {G : disks.Ghosts D} {H : chares.Ghosts C} (old : Engine D C G H) (consistent : IsEngineConsistent old) (store : Store C H) where

@@ -38,7 +38,8 @@ impl<D: Disk, C: Chare> Engine<D, C> {
             (with_run past (step.now ∷ []) (result ∷ [])) (core_of self.new) }
         ensures advances { Advances self.old self.new }
         ensures now { D.honest (disk_in self.old) → (outcome : Outcome) →
-            MayLeave (D.file (disk_in self.new)) outcome → is_lawful_now (core_of self.new) outcome }
+            MayLeave (D.file (disk_in self.new)) outcome →
+            is_lawful_now (core_of self.new) outcome }
         ensures image { D.honest (disk_in self.old) → is_image result ≡ true → HasImage self.new }
         ensures still { is_still result ≡ true → disk_in self.new ≡ disk_in self.old }
         ensures supplied { supplied_of self.new ≡ supplied_of self.old }
@@ -117,7 +118,8 @@ impl<D: Disk, C: Chare> Engine<D, C> {
             (core_of self.new)) }
         ensures advances { Advances self.old self.new }
         ensures now { D.honest (disk_in self.old) → (outcome : Outcome) →
-            MayLeave (D.file (disk_in self.new)) outcome → is_lawful_now (core_of self.new) outcome }
+            MayLeave (D.file (disk_in self.new)) outcome →
+            is_lawful_now (core_of self.new) outcome }
         ensures image { D.honest (disk_in self.old) → IfOk result (λ answers.
             ends_with_image answers.items ≡ true → HasImage self.new) }
         ensures shows { ShowsPresent self.new.store.shelves.items self.new.store.history }

@@ -1,6 +1,6 @@
 //! What an engine has, and blanks for its stock.
 
-ghost use Rattle.std.specs.Prelude.{◌≡◌, ◌+◌, ◌≤◌, None, length, map, IfErr, IfOk, IsOk, OnErr, OnOk};
+ghost use Rattle.std.specs.Prelude.{◌≡◌, ◌+◌, ◌≤◌, None, length, map, IfErr, IfOk, IfSome, IsOk, OnErr, OnOk};
 ghost use Rattle.charmlet_model.specs.declared.kind.Kind as kinds;
 ghost use Rattle.charmlet_model.specs.Core.{place_of};
 ghost use Rattle.charmlet_model.specs.Shelves.{count_of};
@@ -122,11 +122,25 @@ impl<D: Disk, C: Chare> Engine<D, C> {
         self.store.census(kind)
     }
 
-    /// The events since the engine was created or came back, in order.
-    pub fn events(&self) -> &[Event]
-        ensures { result.now ≡ (core_of self.now).history }
+    /// The events since the engine was created or came back, in order, if they were asked to be noted.
+    pub fn events(&self) -> Option<&[Event]>
+        ensures { IfSome result (λ events. events.now ≡ (core_of self.now).history) }
     {
         self.store.history.events()
+    }
+
+    /// Notes the events from now on, so that they can be looked at, where none has happened and no message is
+    /// assigned. Without it none is kept, since an engine can do without. It makes no call of the disk, and
+    /// takes no memory.
+    pub fn note_events(&mut self)
+        requires { IsEngineConsistent self.old }
+        ensures consistent { IsEngineConsistent self.new }
+        ensures core { core_of self.new ≡ core_of self.old }
+        ensures blanks { (view_of self.new).blanks ≡ (view_of self.old).blanks }
+        ensures supplied { supplied_of self.new ≡ supplied_of self.old }
+        ensures disk { disk_in self.new ≡ disk_in self.old }
+    {
+        self.store.history.note_events();
     }
 
     /// How many events there are, those before the opening world among them.

@@ -32,4 +32,4 @@ byte_torn front rest c gate at is torn =
     let after : drop (at + 1) (front ++ (gate ∷ rest)) ≡ rest =
     ap (λ (l : List ℕ). drop (at + 1) l) split ∙ drop_at (front ++ gate ∷ []) rest (at + 1) (omega (arith, is, length-append front (gate ∷ []))) in
     front_stays front (gate ∷ rest) c at 1 is torn
-    ∙ ap (λ (l : List ℕ). front ++ l) (drop_more c at 0 inside ∙ ap (λ (l : List ℕ). get_or c at 0 ∷ l) (torn.behind ∙ after))
+    ∙ ap (λ (l : List ℕ). front ++ l) (drop_more c at 0 inside ∙ ap (λ (l : List ℕ). get_or c at 0 ∷ l) (torn.later ∙ after))

@@ -105,11 +105,11 @@ short_order false false false place None = refl
 short_order false false false place (Some kind) = refl
 
 -- what comes first is the same
-behind : (away busy : Bool) (a b : List Gate) → first_refusal a ≡ first_refusal b →
+later : (away busy : Bool) (a b : List Gate) → first_refusal a ≡ first_refusal b →
     first_refusal (When away refusals.BadPes ∷ When busy refusals.Uncommitted ∷ a) ≡ first_refusal (When away refusals.BadPes ∷ When busy refusals.Uncommitted ∷ b)
-behind true busy a b h = refl
-behind false true a b h = refl
-behind false false a b h = h
+later true busy a b h = refl
+later false true a b h = refl
+later false false a b h = h
 
 module _ (k : Kept) (consistent : IsConsistent k) where
   abbrev core : Core
@@ -158,7 +158,7 @@ module _ (k : Kept) (consistent : IsConsistent k) where
     -- a test by what is kept
     order_is : (id : MsgId) → k.halted ≡ false → first_refusal (gates core plenty (Assign processor id)) ≡ first_refusal (delivery_gates k processor id)
     order_is id running =
-        ap (λ b. first_refusal (When b refusals.Halted ∷ assign_rest id)) running ∙ behind (not (nat_lt processor k.processors)) (is_some (lookup (is_at (nat_cmp processor)) k.assigned)) (message_gates core plenty processor (pending_message core id))
+        ap (λ b. first_refusal (When b refusals.Halted ∷ assign_rest id)) running ∙ later (not (nat_lt processor k.processors)) (is_some (lookup (is_at (nat_cmp processor)) k.assigned)) (message_gates core plenty processor (pending_message core id))
         (pending_gates k processor (message_among id k.pending))
         (pending_order (pending_message core id) ∙ ap (λ ms. first_refusal (pending_gates k processor (message_among id ms))) (sym consistent.pending))
 

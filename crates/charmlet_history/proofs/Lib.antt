@@ -2,6 +2,7 @@ pub mod Consistency
 pub mod Orders
 pub mod Requests
 pub mod Flushes
+pub mod Asked
 pub mod Nexts
 pub mod Places
 pub mod Counts

@@ -43,12 +43,12 @@ away_passes false None = refl
 away_passes false (Some kind) = refl
 
 -- what comes first is the same
-behind : (away absent own : Bool) (a b : List Gate) → first_refusal a ≡ first_refusal b →
+later : (away absent own : Bool) (a b : List Gate) → first_refusal a ≡ first_refusal b →
     first_refusal (When away refusals.BadPes ∷ When absent refusals.Absent ∷ cond own [] a) ≡ first_refusal (When away refusals.BadPes ∷ When absent refusals.Absent ∷ cond own [] b)
-behind true absent own a b h = refl
-behind false true own a b h = refl
-behind false false true a b h = refl
-behind false false false a b h = h
+later true absent own a b h = refl
+later false true own a b h = refl
+later false false true a b h = refl
+later false false false a b h = h
 
 module _ (k : Kept) (consistent : IsConsistent k) (x : Elem) (processor : ℕ) where
   abbrev core : Core
@@ -68,7 +68,7 @@ module _ (k : Kept) (consistent : IsConsistent k) (x : Elem) (processor : ℕ) w
   pub move_order_is : k.halted ≡ false → first_refusal (gates core plenty (Move x processor)) ≡ first_refusal (move_order k x processor)
   move_order_is running =
       ap (λ b. first_refusal (When b refusals.Halted ∷ When false refusals.Checkpointing ∷ order (is_present core x) (place_or_home core x))) running ∙ (λ i. first_refusal (order (there_is k consistent x i) (place_or_home_is k consistent x i)))
-      ∙ behind (not (nat_lt processor k.processors)) (not (is_some (element_at k.elements x).place)) (place_or_home_in k x == processor) _ (away_order k (place_or_home_in k x) processor)
+      ∙ later (not (nat_lt processor k.processors)) (not (is_some (element_at k.elements x).place)) (place_or_home_in k x == processor) _ (away_order k (place_or_home_in k x) processor)
       (away_passes (is_some (lookup (is_at (nat_cmp (place_or_home_in k x))) k.assigned) || is_some (lookup (is_at (nat_cmp processor)) k.assigned)) (kind_of_array (present core) x.array))
 
   -- ---- a move that can be

@@ -32,20 +32,20 @@ same_id-itself a = both_true (same_origin-itself a.origin) (nat_eq_equiv.refl a.
 
 -- ---- each message is the one that its id names
 
-behind : (m n : Message) (ms : List Message) → same_id m.id n.id ≡ false → message_among n.id ms ≡ Some n → message_among n.id (m ∷ ms) ≡ Some n
-behind m n ms apart found =
+later : (m n : Message) (ms : List Message) → same_id m.id n.id ≡ false → message_among n.id ms ≡ Some n → message_among n.id (m ∷ ms) ≡ Some n
+later m n ms apart found =
     elim (same_id n.id m.id) as (λ b. same_id n.id m.id ≡ b → cond b (Some m) (message_among n.id ms) ≡ Some n) [
       | true ↦ λ same. absurd (let no : false ≡ true = sym apart ∙ ap (same_id m.id) (same_id-is n.id m.id same) ∙ same_id-itself m.id in let never : ⊥ = cc in never)
       | false ↦ λ _. found
     ] refl
 
-all_behind : (m : Message) (ms ns : List Message) → AreApart m.id ns → AllByRecursion (λ n. message_among n.id ms ≡ Some n) ns → AllByRecursion (λ n. message_among n.id (m ∷ ms) ≡ Some n) ns
-all_behind m ms [] apart found = tt
-all_behind m ms (n ∷ ns) apart found = (behind m n ms apart.0 found.0, all_behind m ms ns apart.1 found.1)
+all_later : (m : Message) (ms ns : List Message) → AreApart m.id ns → AllByRecursion (λ n. message_among n.id ms ≡ Some n) ns → AllByRecursion (λ n. message_among n.id (m ∷ ms) ≡ Some n) ns
+all_later m ms [] apart found = tt
+all_later m ms (n ∷ ns) apart found = (later m n ms apart.0 found.0, all_later m ms ns apart.1 found.1)
 
 all_named : (ms : List Message) → AreDistinct ms → AllByRecursion (λ m. message_among m.id ms ≡ Some m) ms
 all_named [] h = tt
-all_named (m ∷ ms) h = (ap (λ b. cond b (Some m) (message_among m.id ms)) (same_id-itself m.id), all_behind m ms ms h.0 (all_named ms h.1))
+all_named (m ∷ ms) h = (ap (λ b. cond b (Some m) (message_among m.id ms)) (same_id-itself m.id), all_later m ms ms h.0 (all_named ms h.1))
 
 -- ---- so the oldest one is found by the kept counts
 

@@ -22,7 +22,6 @@ use Rattle.charmlet_model.specs.Core.{Core, present, durable_world, unwritten, p
 use Rattle.charmlet_model.specs.Told.{told_of}
 use Rattle.charmlet_model.specs.Row.{in_window, follows_last, has_place, with_request}
 use Rattle.charmlet_model.specs.Sound.{IsSound}
-use Rattle.std.specs.Vec.{vec_len, vec_capacity}
 use Rattle.charmlet_record.specs.Backlog.{Batched, IsBacklog}
 use Rattle.charmlet_record.specs.Backlog as backlogs
 use Rattle.charmlet_chare.specs.declared.output.Output.{Output}
@@ -68,7 +67,7 @@ kept_in h = record {
   pending = h.present.pending;
   clients = h.present.clients;
   events = h.events.items;
-  durable = h.durable;
+  durable = h.events.durable;
   backlog = roomless h.backlog;
   assigned = h.assigned.entries;
   promised = h.present.promised;
@@ -206,7 +205,7 @@ IsOutcome core processor output = (r : Reaction) × (assigned_reaction core proc
 
 -- room for the event of a delivery and its bytes
 abbrev pub HasSpace : History → Type 0
-HasSpace h = (vec_len h.events < vec_capacity h.events) × backlogs.HasRoomFor h.backlog 1
+HasSpace h = (0 < h.events.room) × backlogs.HasRoomFor h.backlog 1
 
 -- and for its receiver
 pub record HasRoomFor (h : History) (id : MsgId) : Type 0 where

@@ -3,6 +3,7 @@
 
 mod assigned;
 mod delivery;
+mod events;
 mod flush;
 mod history;
 mod look;

@@ -17,8 +17,11 @@ impl History {
     /// `Uncommitted`, the first that applies; `Uncommitted` only for a move to another processor.
     pub fn test_move(&self, elem: Elem, processor: u16) -> Result<Option<Kind>, Refusal>
         requires { IsConsistent (kept_in self.now) }
-        ensures ok { IfOk result (λ kind. (kind ≡ blank_of_move (core_in self.now) elem processor) × (first_refusal (gates (core_in self.now) plenty (core.Move elem processor)) ≡ None)) }
-        ensures err { IfErr result (λ refusal. first_refusal (gates (core_in self.now) plenty (core.Move elem processor)) ≡ Some refusal) }
+        ensures ok { IfOk result (λ kind. (kind ≡ blank_of_move (core_in self.now) elem processor)
+            × (first_refusal (gates (core_in self.now) plenty (core.Move elem processor)) ≡ None)) }
+        ensures err { IfErr result (λ refusal.
+            first_refusal (gates (core_in self.now) plenty (core.Move elem processor))
+            ≡ Some refusal) }
     {
         if self.halted {
             return Err(Refusal::Halted);
@@ -41,7 +44,8 @@ impl History {
     /// The element stands on the processor from now on. It takes no memory.
     pub fn relocate(&mut self, elem: Elem, processor: u16)
         requires consistent { IsConsistent (kept_in self.old) }
-        requires can { first_refusal (gates (core_in self.old) plenty (core.Move elem processor)) ≡ None }
+        requires can { first_refusal (gates (core_in self.old) plenty (core.Move elem processor))
+            ≡ None }
         ensures consistent { IsConsistent (kept_in self.new) }
         ensures moved { core_in self.new ≡ next_core (core_in self.old) (core.Move elem processor) }
         ensures room { KeepsRoom self.old self.new }
@@ -54,7 +58,8 @@ impl History {
 
     /// Whether one of two processors has an assigned message.
     fn is_one_busy(&self, processor: u16, other: u16) -> bool
-        ensures { result ≡ (is_some (lookup (is_at (nat_cmp processor)) (kept_in self.now).assigned) || is_some (lookup (is_at (nat_cmp other)) (kept_in self.now).assigned)) }
+        ensures { result ≡ (is_some (lookup (is_at (nat_cmp processor)) (kept_in self.now).assigned)
+            || is_some (lookup (is_at (nat_cmp other)) (kept_in self.now).assigned)) }
     {
         self.assigned.contains(processor) || self.assigned.contains(other)
     }

@@ -4,7 +4,7 @@ use Rattle.std.specs.Prelude.{is_ok}
 use Rattle.std.proofs.lemmas.Bool.{ltb-false, ltb-true, lt-ltb, le-ltb, leb-true, leb-false, le-leb, lt-leb, eq-eqb, ne_eqb}
 use Rattle.byteorder.specs.Endian.{little_number}
 use Rattle.charmlet_pup.specs.declared.fault.PupFault.TheVariants.{Short}
-use Rattle.charmlet_pup.specs.Fields.{Reading, count_at, reads_u64, reads_then, reads_behind, takes_more, nothing_trails}
+use Rattle.charmlet_pup.specs.Fields.{Reading, count_at, reads_u64, reads_then, reads_later, takes_more, nothing_trails}
 use Rattle.charmlet_model.specs.declared.kind.Kind.TheVariants.{Sum, Tape}
 use Rattle.charmlet_model.specs.Packed.{reads_packed}
 use Rattle.charmlet_record.specs.Reading.{read_number}
@@ -21,7 +21,7 @@ then_fixed second size is xs = by (leb 8 (length xs)) refl
     more long true h = let whole : leb (8 + size) (length xs) ≡ true = le-leb _ _ (omega (arith, leb-true _ _ h, length-drop 8 xs)) in rw whole refl
     more long false h = let short : leb (8 + size) (length xs) ≡ false = lt-leb _ _ (omega (arith, leb-false _ _ h, length-drop 8 xs)) in rw short refl
 
-    by : (b : Bool) → leb 8 (length xs) ≡ b → reads_behind (cond b (Ok 8) (Err Short)) second xs ≡ fixed (8 + size) xs
+    by : (b : Bool) → leb 8 (length xs) ≡ b → reads_later (cond b (Ok 8) (Err Short)) second xs ≡ fixed (8 + size) xs
     by true h = ap (takes_more 8) (is (drop 8 xs)) ∙ more (leb-true _ _ h) (leb size (length (drop 8 xs))) refl
     by false h = let short : leb (8 + size) (length xs) ≡ false = lt-leb _ _ (omega (arith, leb-false _ _ h)) in rw short refl
 

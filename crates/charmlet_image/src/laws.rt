@@ -32,7 +32,8 @@ pub fn halves_are_lawful()
 pub fn faults_are_within()
     ensures images { (mark : Mark) → Within (read_image mark) }
     ensures headers { Within read_header }
-    ensures halves { (h : Header) (bytes : List ℕ) → InReach (length bytes + 4) (read_saved h bytes) }
+    ensures halves { (h : Header) (bytes : List ℕ) →
+        InReach (length bytes + 4) (read_saved h bytes) }
 {}
 
 /// Of two open halves whose generations are consecutive the later one is taken.

@@ -72,7 +72,8 @@ impl Pup for Ring {
         er.u64(&mut self.seen)
     }
 
-    ghost reads_back = { λ r _. ReadsBack-then _ _ _ _ (ReadsBack-u64 r.next) (ReadsBack-u64 r.seen) };
+    ghost reads_back = { λ r _. ReadsBack-then _ _ _ _ (ReadsBack-u64 r.next)
+        (ReadsBack-u64 r.seen) };
 }
 
 #[tactic(auto, using(crate::proofs::States::states))]

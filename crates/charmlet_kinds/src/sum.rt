@@ -47,9 +47,11 @@ impl Sum {
     fn take_value(&mut self, me: Elem, value: u64, out: &mut Outbox) -> Result<(), AllocError>
         requires { out.old ≡ empty_output }
         ensures state { OnOk result (state_of self.new
-            ≡ state_after (give me self.old.want self.old.got self.old.total self.old.up (value ∷ [])) (state_of self.old)) }
+            ≡ state_after (give me self.old.want self.old.got self.old.total self.old.up
+            (value ∷ [])) (state_of self.old)) }
         ensures output { OnOk result
-            (out.new ≡ output_of (give me self.old.want self.old.got self.old.total self.old.up (value ∷ []))) }
+            (out.new ≡ output_of (give me self.old.want self.old.got self.old.total self.old.up
+            (value ∷ []))) }
         ensures err { OnErr result (state_of self.new ≡ state_of self.old) }
     {
         let got = self.got.saturating_add(1);
@@ -74,7 +76,8 @@ impl Sum {
 
 #[tactic(auto, using(crate::proofs::Fields::fields))]
 impl Pup for Sum {
-    ghost bytes = { λ s. u64_bytes s.want ++ (u64_bytes s.got ++ (u64_bytes s.total ++ u64_bytes s.up)) };
+    ghost bytes = { λ s. u64_bytes s.want
+        ++ (u64_bytes s.got ++ (u64_bytes s.total ++ u64_bytes s.up)) };
 
     ghost reads = { reads_then reads_u64 (reads_then reads_u64 (reads_then reads_u64 reads_u64)) };
 
@@ -87,7 +90,9 @@ impl Pup for Sum {
         er.u64(&mut self.up)
     }
 
-    ghost reads_back = { λ s _. ReadsBack-then _ _ _ _ (ReadsBack-u64 s.want) (ReadsBack-then _ _ _ _ (ReadsBack-u64 s.got) (ReadsBack-then _ _ _ _ (ReadsBack-u64 s.total) (ReadsBack-u64 s.up))) };
+    ghost reads_back = { λ s _. ReadsBack-then _ _ _ _ (ReadsBack-u64 s.want)
+        (ReadsBack-then _ _ _ _ (ReadsBack-u64 s.got)
+        (ReadsBack-then _ _ _ _ (ReadsBack-u64 s.total) (ReadsBack-u64 s.up))) };
 }
 
 #[tactic(auto, using(crate::proofs::States::states))]

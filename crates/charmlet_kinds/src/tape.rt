@@ -45,7 +45,8 @@ impl Tape {
     /// Puts an item after the others. Where the tape is full the oldest one goes, and no memory is
     /// needed.
     fn push(&mut self, item: u64) -> Result<(), AllocError>
-        ensures ok { OnOk result (state_of self.new ≡ states.Tape (pushed self.old.items.items item)) }
+        ensures ok { OnOk result (state_of self.new
+            ≡ states.Tape (pushed self.old.items.items item)) }
         ensures err { OnErr result (state_of self.new ≡ state_of self.old) }
         ensures room { OnErr result (vec_len self.old.items < 64) }
     {

@@ -39,7 +39,8 @@ impl Tree {
     fn construct(&mut self, me: Elem, depth: u64, out: &mut Outbox) -> Result<(), AllocError>
         requires { out.old ≡ empty_output }
         ensures state { OnOk result (state_of self.new ≡ states.Tree depth) }
-        ensures output { OnOk result (out.new ≡ output_of (constructed kinds.Tree me (depth ∷ []))) }
+        ensures output { OnOk result (out.new
+            ≡ output_of (constructed kinds.Tree me (depth ∷ []))) }
         ensures err { OnErr result (state_of self.new ≡ state_of self.old) }
     {
         if let Some(left) = depth.checked_sub(1) {

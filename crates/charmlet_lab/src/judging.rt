@@ -75,7 +75,8 @@ fn has_first<D: Disk, C: Chare>(
 /// The world after these events. It fails only when out of memory.
 fn world_after(alloc: Global, script: &Script, events: &[Event]) -> Result<PlainWorld, AllocError>
     requires { IsLegal (new_world (arrays_of script.now)) 0 events.now }
-    ensures is { IfOk result (λ plain. plain ≡ world (new_world (arrays_of script.now)) events.now) }
+    ensures is { IfOk result (λ plain. plain
+        ≡ world (new_world (arrays_of script.now)) events.now) }
     ensures fit { IfOk result (λ plain. IsFit plain) }
 {
     let mut plain = PlainWorld::new(alloc, script.manifest(alloc)?);

@@ -67,8 +67,12 @@ pub fn lab_round<D: Disk, C: Chare>(
     let fuse = FuseDisk::new(disk, calls);
     match Engine::create(alloc, fuse, manifest, script.processors()) {
         Ok(mut engine) => {
+            engine.note_events();
             run_lines(&mut engine, &handlers, &mut source, script.lines())?;
-            let events = copy_of(alloc, engine.events())?;
+            let Some(noted) = engine.events() else {
+                return Err(Refusal::Memory);
+            };
+            let events = copy_of(alloc, noted)?;
             let durable = Some(engine.durable());
             let is_stopped = engine.is_halted();
             Ok(Round {

@@ -16,9 +16,11 @@ use std::alloc::Global;
 /// is named twice stands there once. `BadPes` for a number of processors that isn't 1 to 64, and else
 /// `Memory`.
 pub fn restart_map(alloc: Global, elems: &[Elem], processors: u16) -> Result<Locations, Refusal>
-    ensures ok { IfOk result (λ locations. (is_processor_count processors ≡ true) × AreAtHome processors elems.now locations) }
+    ensures ok { IfOk result (λ locations. (is_processor_count processors ≡ true)
+        × AreAtHome processors elems.now locations) }
     ensures rising { IfOk result (λ locations. IsStrictlySortedBy elem_cmp (keys_of locations)) }
-    ensures err { IfErr result (λ refusal. refusal ≡ (if is_processor_count processors then refusals.Memory else refusals.BadPes)) }
+    ensures err { IfErr result (λ refusal. refusal
+        ≡ (if is_processor_count processors then refusals.Memory else refusals.BadPes)) }
 {
     if !is_processor_count(processors) {
         return Err(Refusal::BadPes);

@@ -88,9 +88,9 @@ module _ (core : Core) (x : Elem) (processor : ℕ) where
       passes_front h = none_in_front front (rest plenty wanted) h
 
       -- from the blank on the order is that of the rest
-      behind : (here : Bool) → here ≡ false → first_refusal (order here plenty) ≡ None → (o : Option Refusal) → wanted ≡ Some kind → first_refusal (rest blanks (Some kind)) ≡ o → first_refusal (order here blanks) ≡ o
-      behind true is h o of then = absurd (let never : ⊥ = cc in never)
-      behind false is h o of then = none_of_both front (rest blanks wanted) (passes_front h) ∙ ap (λ k. first_refusal (rest blanks k)) of ∙ then
+      later : (here : Bool) → here ≡ false → first_refusal (order here plenty) ≡ None → (o : Option Refusal) → wanted ≡ Some kind → first_refusal (rest blanks (Some kind)) ≡ o → first_refusal (order here blanks) ≡ o
+      later true is h o of then = absurd (let never : ⊥ = cc in never)
+      later false is h o of then = none_of_both front (rest blanks wanted) (passes_front h) ∙ ap (λ k. first_refusal (rest blanks k)) of ∙ then
 
       may_lack : (here : Bool) → here ≡ false → first_refusal (order here plenty) ≡ None → wanted ≡ Some kind → 0 < blanks kind → may_lack_memory (order here blanks) ≡ true
       may_lack true is h of has = absurd (let never : ⊥ = cc in never)
@@ -98,7 +98,7 @@ module _ (core : Core) (x : Elem) (processor : ℕ) where
 
       module _ (elsewhere : stays ≡ false) (of : wanted ≡ Some kind) where
         pub lacks_blank_for : blanks kind ≡ 0 → Goes store step (Refuses (refusals.NoBlank kind)) store
-        lacks_blank_for none = is_refused core blanks step refl (refusals.NoBlank kind) (behind stays elsewhere can (Some (refusals.NoBlank kind)) of (rest_lacks blanks kind none))
+        lacks_blank_for none = is_refused core blanks step refl (refusals.NoBlank kind) (later stays elsewhere can (Some (refusals.NoBlank kind)) of (rest_lacks blanks kind none))
 
         pub lacks_memory_for : 0 < blanks kind → Goes store step (Refuses refusals.Memory) store
         lacks_memory_for has = lacks_memory core blanks step refl (may_lack stays elsewhere can of has)
@@ -107,4 +107,4 @@ module _ (core : Core) (x : Elem) (processor : ℕ) where
         goes_away has =
             subst (λ (b : Blanks). Goes store step Done (record { core = next_core core step; blanks = b }))
             (ap (λ b. cond b blanks (with_taken wanted blanks)) elsewhere ∙ ap (λ k. with_taken k blanks) of)
-            (is_done core blanks step refl (behind stays elsewhere can None of (rest_passes blanks kind has)))
+            (is_done core blanks step refl (later stays elsewhere can None of (rest_passes blanks kind has)))

@@ -28,10 +28,14 @@ pub fn place_copy<C: Chare>(
 ) -> Result<(), (Refusal, C)>
     requires source { source < length shelves.old }
     requires destination { destination < length shelves.old }
-    requires here { IsHereAs (kind_of (C.state blank)) (lookup (is_at (elem_cmp elem)) (shelf_at shelves.old source).records) }
-    requires absent { lookup (is_at (elem_cmp elem)) (shelf_at shelves.old destination).records ≡ None }
+    requires here { IsHereAs (kind_of (C.state blank))
+        (lookup (is_at (elem_cmp elem)) (shelf_at shelves.old source).records) }
+    requires absent { lookup (is_at (elem_cmp elem)) (shelf_at shelves.old destination).records
+        ≡ None }
     ensures ok { OnOk result (PlacesCopy elem source destination shelves.old shelves.new) }
-    ensures err { IfErr result (λ back. (back.0 ≡ copy_refusal (shelf_at shelves.old source) (shelf_at shelves.old destination)) × (kind_of (C.state back.1) ≡ kind_of (C.state blank))) }
+    ensures err { IfErr result (λ back.
+        (back.0 ≡ copy_refusal (shelf_at shelves.old source) (shelf_at shelves.old destination))
+        × (kind_of (C.state back.1) ≡ kind_of (C.state blank))) }
     ensures same { OnErr result (shelves.new ≡ shelves.old) }
 {
     let source = source as usize;
@@ -53,8 +57,10 @@ pub fn place_copy<C: Chare>(
 /// comes back, in whatever state. The shelf is as before.
 fn become_copy<C: Chare>(shelf: &mut Shelf<C>, elem: Elem, mut blank: C) -> Result<Resident<C>, C>
     requires idle { is_idle shelf.old.phase ≡ true }
-    requires here { IsHereAs (kind_of (C.state blank)) (lookup (is_at (elem_cmp elem)) shelf.old.records) }
-    ensures ok { IfOk result (λ copy. lookup (is_at (elem_cmp elem)) shelf.old.records ≡ Some (record_in C.state copy)) }
+    requires here { IsHereAs (kind_of (C.state blank))
+        (lookup (is_at (elem_cmp elem)) shelf.old.records) }
+    ensures ok { IfOk result (λ copy. lookup (is_at (elem_cmp elem)) shelf.old.records
+        ≡ Some (record_in C.state copy)) }
     ensures kind { IfOk result (λ copy. kind_of (C.state copy.object) ≡ kind_of (C.state blank)) }
     ensures err { IfErr result (λ back. kind_of (C.state back) ≡ kind_of (C.state blank)) }
     ensures same { shelf.new ≡ shelf.old }

@@ -35,7 +35,8 @@ pub fn move_to<C: Chare>(
     requires idle { All IsIdle shelves.old }
     requires shows { ShowsPresent shelves.old history.old }
     ensures consistent { IsConsistent (kept_in history.new) }
-    ensures goes { Goes (store_with history.old stock.old) (core.Move elem processor) (move_answer result) (store_with history.new stock.new) }
+    ensures goes { Goes (store_with history.old stock.old) (core.Move elem processor)
+        (move_answer result) (store_with history.new stock.new) }
     ensures count { length shelves.new ≡ (core_in history.new).processors }
     ensures numbers { numbers_of shelves.new ≡ numbers_of shelves.old }
     ensures idle { All IsIdle shelves.new }
@@ -43,8 +44,10 @@ pub fn move_to<C: Chare>(
     ensures census { IsCountedAmong shelves.old stock.old → IsCountedAmong shelves.new stock.new }
     ensures supplied { supplied_to stock.new ≡ supplied_to stock.old }
     ensures keeping { keeping_of stock.new ≡ keeping_of stock.old }
-    ensures stays { place_of (core_in history.old) elem ≡ Some processor → (shelves.new ≡ shelves.old) × (census_of stock.new ≡ census_of stock.old) }
-    ensures err { OnErr result ((shelves.new ≡ shelves.old) × (census_of stock.new ≡ census_of stock.old)) }
+    ensures stays { place_of (core_in history.old) elem ≡ Some processor →
+        (shelves.new ≡ shelves.old) × (census_of stock.new ≡ census_of stock.old) }
+    ensures err { OnErr result ((shelves.new ≡ shelves.old)
+        × (census_of stock.new ≡ census_of stock.old)) }
 {
     let Some(kind) = history.test_move(elem, processor)? else {
         return Ok(());
@@ -66,10 +69,12 @@ fn move_away<C: Chare>(
     requires count { length shelves.old ≡ (core_in history.old).processors }
     requires idle { All IsIdle shelves.old }
     requires shows { ShowsPresent shelves.old history.old }
-    requires can { first_refusal (gates (core_in history.old) plenty (core.Move elem processor)) ≡ None }
+    requires can { first_refusal (gates (core_in history.old) plenty (core.Move elem processor))
+        ≡ None }
     requires wanted { blank_of_move (core_in history.old) elem processor ≡ Some kind }
     ensures consistent { IsConsistent (kept_in history.new) }
-    ensures goes { Goes (store_with history.old stock.old) (core.Move elem processor) (move_answer result) (store_with history.new stock.new) }
+    ensures goes { Goes (store_with history.old stock.old) (core.Move elem processor)
+        (move_answer result) (store_with history.new stock.new) }
     ensures count { length shelves.new ≡ (core_in history.new).processors }
     ensures numbers { numbers_of shelves.new ≡ numbers_of shelves.old }
     ensures idle { All IsIdle shelves.new }
@@ -77,7 +82,8 @@ fn move_away<C: Chare>(
     ensures census { IsCountedAmong shelves.old stock.old → IsCountedAmong shelves.new stock.new }
     ensures supplied { supplied_to stock.new ≡ supplied_to stock.old }
     ensures keeping { keeping_of stock.new ≡ keeping_of stock.old }
-    ensures err { OnErr result ((shelves.new ≡ shelves.old) × (census_of stock.new ≡ census_of stock.old)) }
+    ensures err { OnErr result ((shelves.new ≡ shelves.old)
+        × (census_of stock.new ≡ census_of stock.old)) }
 {
     let Some(place) = history.where_is(elem) else {
         unreachable!()

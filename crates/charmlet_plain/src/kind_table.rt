@@ -22,7 +22,8 @@ pub fn react(
     entry: u16,
     words: &[u64],
 ) -> Result<Option<Reaction>, AllocError>
-    ensures { IfOk result (λ reaction. reaction ≡ react kind me (option_copied state.entry) entry words.now) }
+    ensures { IfOk result (λ reaction. reaction
+        ≡ react kind me (option_copied state.entry) entry words.now) }
 {
     match state {
         Some(state) if entry == CONSTRUCT => Ok(Some(stays(alloc, copy(alloc, state)?))),
@@ -85,7 +86,8 @@ fn children(alloc: Global, me: Elem, depth: u64) -> Result<Sends, AllocError>
 /// 64-bit number.
 fn push_child(sends: &mut Vec<Outgoing>, me: Elem, depth: u64, step: u64) -> Result<(), AllocError>
     requires { 1 ≤ depth }
-    ensures { OnOk result (sends.new.items ≡ sends.old.items ++ child me depth (2 * me.index + step)) }
+    ensures { OnOk result (sends.new.items
+        ≡ sends.old.items ++ child me depth (2 * me.index + step)) }
 {
     let Some(twice) = me.index.checked_mul(2) else {
         return Ok(());
@@ -248,7 +250,8 @@ fn partial_sum(
     entry: u16,
     words: &[u64],
 ) -> Result<Reaction, AllocError>
-    ensures { IfOk result (λ reaction. reaction ≡ partial_sum me want got total up entry words.now) }
+    ensures { IfOk result (λ reaction. reaction
+        ≡ partial_sum me want got total up entry words.now) }
 {
     match entry {
         0 => give(alloc, me, want, got, total, up, words),

@@ -1,1 +1,6 @@
-mod cli;
+mod beginnings;
+mod destruction;
+mod ending;
+mod flushing;
+mod probe;
+mod runs;

@@ -26,7 +26,12 @@ impl Model for ClientPass {
 
     ghost Value = { Pass };
 
-    ghost view = { λ p. record { client = p.client; lent_at = p.lent_at; last = p.last; row = p.row } };
+    ghost view = { λ p. record {
+      client = p.client;
+      lent_at = p.lent_at;
+      last = p.last;
+      row = p.row;
+    } };
 
     ghost invariant = { λ p. IsWindowed p.row × (p.lent_at ≤ p.last) };
 }

@@ -92,7 +92,8 @@ impl Draft {
     }
 
     pub(crate) fn push_array(&mut self, line: ArrayLine) -> Result<(), AllocFailed<ArrayLine>>
-        ensures ok { OnOk result (self.new ≡ record self.old { arrays = self.old.arrays ++ line ∷ [] }) }
+        ensures ok { OnOk result (self.new
+            ≡ record self.old { arrays = self.old.arrays ++ line ∷ [] }) }
         ensures err { OnErr result (self.new ≡ self.old) }
     {
         self.arrays.push(line)
@@ -107,7 +108,8 @@ impl Draft {
     }
 
     pub(crate) fn push_line(&mut self, line: Line) -> Result<(), AllocFailed<Line>>
-        ensures ok { OnOk result (self.new ≡ record self.old { lines = self.old.lines ++ line ∷ [] }) }
+        ensures ok { OnOk result (self.new
+            ≡ record self.old { lines = self.old.lines ++ line ∷ [] }) }
         ensures err { OnErr result (self.new ≡ self.old) }
     {
         self.lines.push(line)

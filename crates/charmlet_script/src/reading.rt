@@ -130,7 +130,8 @@ fn is_array_line(alloc: Global, line: &[u8]) -> Result<bool, AllocError>
 }
 
 fn has_array_line(alloc: Global, lines: &[&[u8]]) -> Result<bool, AllocError>
-    ensures { IfOk result (λ found. found ≡ list_any is_array_line (map (λ line. line.now) lines.now)) }
+    ensures { IfOk result (λ found. found
+        ≡ list_any is_array_line (map (λ line. line.now) lines.now)) }
 {
     for line in lines {
         if is_array_line(alloc, line)? {
@@ -142,7 +143,8 @@ fn has_array_line(alloc: Global, lines: &[&[u8]]) -> Result<bool, AllocError>
 
 /// Reads lines up to the first malformed one.
 fn add_lines(alloc: Global, purpose: Purpose, lines: &[&[u8]]) -> Result<Draft, ReadError>
-    ensures reads { Answers result (with_lines purpose no_lines 1 (map (λ line. line.now) lines.now)) }
+    ensures reads { Answers result (with_lines purpose no_lines 1
+        (map (λ line. line.now) lines.now)) }
     ensures few { IfOk result (λ script. length script.lines ≤ length lines.now) }
     ensures failure { IfErr result TellsFailure }
 {
@@ -184,7 +186,8 @@ fn read_restart_lines(alloc: Global, lines: &[&[u8]]) -> Result<RestartScript, R
 
 /// The reader's bytes, up to one past the greatest length of a script.
 fn read_start<R: Read>(alloc: Global, reader: &mut R) -> Result<Vec<u8>, io::Error>
-    ensures reads { IfSome (R.remaining reader.old) (λ bytes. IfOk result (λ text. text.items ≡ take (MAX_LENGTH + 1) bytes)) }
+    ensures reads { IfSome (R.remaining reader.old)
+        (λ bytes. IfOk result (λ text. text.items ≡ take (MAX_LENGTH + 1) bytes)) }
     ensures retried { IfErr result (λ error. error_kind error ≢ Interrupted) }
 {
     let mut text = Vec::new(alloc);
@@ -208,7 +211,8 @@ fn cut(text: &mut Vec<u8>) -> Result<(), AllocError>
 
 /// The reader's text. What goes past the greatest length counts as one byte that no line may hold.
 fn read_text<R: Read>(alloc: Global, reader: &mut R) -> Result<Vec<u8>, io::Error>
-    ensures reads { IfSome (R.remaining reader.old) (λ bytes. IfOk result (λ text. text.items ≡ within MAX_LENGTH bytes)) }
+    ensures reads { IfSome (R.remaining reader.old)
+        (λ bytes. IfOk result (λ text. text.items ≡ within MAX_LENGTH bytes)) }
     ensures length { IfOk result (λ text. length text.items ≤ MAX_LENGTH + 1) }
     ensures retried { IfErr result (λ error. error_kind error ≢ Interrupted) }
 {
@@ -242,7 +246,8 @@ pub fn read_restart_script<R: Read>(
     alloc: Global,
     reader: &mut R,
 ) -> Result<RestartScript, ReadError>
-    ensures reads { IfSome (R.remaining reader.old) (λ bytes. Answers result (restart_script_of bytes)) }
+    ensures reads { IfSome (R.remaining reader.old)
+        (λ bytes. Answers result (restart_script_of bytes)) }
     ensures failure { IfErr result TellsFailure }
 {
     let text = read_text(alloc, reader)?;

@@ -19,7 +19,10 @@ impl Model for RestartScript {
 
     ghost Value = { RestartContents };
 
-    ghost view = { λ script. record { handlers = script.handlers.items; lines = script.lines.items } };
+    ghost view = { λ script. record {
+      handlers = script.handlers.items;
+      lines = script.lines.items;
+    } };
 
     ghost invariant = { λ script. length script.lines.items ≤ most_lines };
 }

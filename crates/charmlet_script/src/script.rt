@@ -178,7 +178,8 @@ impl Script {
 
     /// The manifest of the arrays, with which a new world is fit. It fails only when out of memory.
     pub fn manifest(&self, alloc: Global) -> Result<Manifest, AllocError>
-        ensures manifest { IfOk result (λ manifest. manifest_of (pairs_of self.now.arrays) ≡ Some manifest) }
+        ensures manifest { IfOk result (λ manifest. manifest_of (pairs_of self.now.arrays)
+            ≡ Some manifest) }
         ensures fit { IfOk result (λ manifest. IsFit (new_world manifest)) }
     {
         let pairs = pairs_of(alloc, &self.arrays)?;

@@ -1,2 +1,4 @@
 mod command;
+mod malformed;
+mod printing;
 mod script;

@@ -30,9 +30,14 @@ pub(crate) fn delivery_at<C: Chare>(
     index: &mut usize,
     message: Message,
 ) -> Result<Delivery, Message>
-    requires { IfSome (lookup (is_at (elem_cmp message.to)) (records_of C.state (risen residents.now.entries))) HasCounts }
-    ensures ok { IfOk result (λ due. IsDueAt (records_of C.state (risen residents.now.entries)) message due × Holds C.state (risen residents.now.entries) due due.receiver.state) }
-    ensures err { IfErr result (λ back. (lookup (is_at (elem_cmp message.to)) (records_of C.state (risen residents.now.entries)) ≡ None) × (back ≡ message)) }
+    requires { IfSome (lookup (is_at (elem_cmp message.to))
+        (records_of C.state (risen residents.now.entries))) HasCounts }
+    ensures ok { IfOk result (λ due. IsDueAt
+        (records_of C.state (risen residents.now.entries)) message due
+        × Holds C.state (risen residents.now.entries) due due.receiver.state) }
+    ensures err { IfErr result (λ back.
+        (lookup (is_at (elem_cmp message.to)) (records_of C.state (risen residents.now.entries))
+        ≡ None) × (back ≡ message)) }
 {
     let Some(found) = index_from(residents, *index, message.to) else {
         return Err(message);
@@ -50,10 +55,17 @@ pub(crate) fn react<C: Chare>(
     delivery: Delivery,
 ) -> Result<Outcome, Delivery>
     requires { Holds C.state (risen residents.old.entries) delivery delivery.receiver.state }
-    ensures ok { IfOk result (λ outcome. (outcome.due ≡ delivery) × (phases.Done outcome ≡ done_by delivery (reaction_in delivery)) × Holds C.state (risen residents.new.entries) delivery (record_after delivery).state) }
-    ensures done { OnOk result (before_due (records_of C.state (risen residents.new.entries)) delivery ≡ without_newcomer (records_of C.state (risen residents.old.entries)) delivery) }
-    ensures err { IfErr result (λ back. (back ≡ delivery) × Holds C.state (risen residents.new.entries) delivery delivery.receiver.state) }
-    ensures same { OnErr result (without_newcomer (records_of C.state (risen residents.new.entries)) delivery ≡ without_newcomer (records_of C.state (risen residents.old.entries)) delivery) }
+    ensures ok { IfOk result (λ outcome. (outcome.due ≡ delivery)
+        × (phases.Done outcome ≡ done_by delivery (reaction_in delivery))
+        × Holds C.state (risen residents.new.entries) delivery (record_after delivery).state) }
+    ensures done { OnOk result (before_due
+        (records_of C.state (risen residents.new.entries)) delivery
+        ≡ without_newcomer (records_of C.state (risen residents.old.entries)) delivery) }
+    ensures err { IfErr result (λ back. (back ≡ delivery)
+        × Holds C.state (risen residents.new.entries) delivery delivery.receiver.state) }
+    ensures same { OnErr result (without_newcomer
+        (records_of C.state (risen residents.new.entries)) delivery
+        ≡ without_newcomer (records_of C.state (risen residents.old.entries)) delivery) }
 {
     let is_there = delivery.is_there();
     let message = delivery.message();
@@ -76,11 +88,18 @@ pub(crate) fn bring_forward<C: Chare>(
     index: usize,
     outcome: &Outcome,
 ) -> Option<C>
-    requires { Holds C.state (risen residents.old.entries) outcome.now.due (record_after outcome.now.due).state }
-    ensures records { records_of C.state (risen residents.new.entries) ≡ with_record (before_due (records_of C.state (risen residents.old.entries)) outcome.now.due) outcome.now.due.message.to (record_after outcome.now.due) }
+    requires { Holds C.state (risen residents.old.entries) outcome.now.due
+        (record_after outcome.now.due).state }
+    ensures records { records_of C.state (risen residents.new.entries)
+        ≡ with_record (before_due (records_of C.state (risen residents.old.entries))
+        outcome.now.due) outcome.now.due.message.to (record_after outcome.now.due) }
     ensures destroyed { is_some result ≡ is_none (record_after outcome.now.due).state }
     ensures kind { IfSome result (λ object. kind_of (C.state object) ≡ outcome.now.due.kind) }
-    ensures count { (kind : Kind) → there_in (before_due (records_of C.state (risen residents.old.entries)) outcome.now.due) kind + (if comes_as kind outcome.now.due then 1 else 0) ≡ there_in (records_of C.state (risen residents.new.entries)) kind + came_out C.state result kind }
+    ensures count { (kind : Kind) → there_in
+        (before_due (records_of C.state (risen residents.old.entries)) outcome.now.due) kind +
+        (if comes_as kind outcome.now.due then 1 else 0)
+        ≡ there_in (records_of C.state (risen residents.new.entries)) kind + came_out C.state result
+        kind }
 {
     let to = outcome.delivery().message().to;
     if outcome.is_destroyed() {
@@ -100,11 +119,17 @@ pub(crate) fn take_newcomer<C: Chare>(
     residents: &mut IndexMap<Elem, Resident<C>>,
     delivery: &Delivery,
 ) -> Option<C>
-    requires { Holds C.state (risen residents.old.entries) delivery.now delivery.now.receiver.state }
-    ensures records { records_of C.state (risen residents.new.entries) ≡ without_newcomer (records_of C.state (risen residents.old.entries)) delivery.now }
+    requires { Holds C.state (risen residents.old.entries) delivery.now
+        delivery.now.receiver.state }
+    ensures records { records_of C.state (risen residents.new.entries)
+        ≡ without_newcomer (records_of C.state (risen residents.old.entries)) delivery.now }
     ensures newcomer { is_some result ≡ is_none delivery.now.receiver.state }
     ensures kind { IfSome result (λ object. kind_of (C.state object) ≡ delivery.now.kind) }
-    ensures count { (kind : Kind) → there_in (without_newcomer (records_of C.state (risen residents.old.entries)) delivery.now) kind + (if comes_as kind delivery.now then 1 else 0) ≡ there_in (records_of C.state (risen residents.new.entries)) kind + came_out C.state result kind }
+    ensures count { (kind : Kind) → there_in
+        (without_newcomer (records_of C.state (risen residents.old.entries)) delivery.now) kind +
+        (if comes_as kind delivery.now then 1 else 0)
+        ≡ there_in (records_of C.state (risen residents.new.entries)) kind + came_out C.state result
+        kind }
 {
     if delivery.is_there() {
         return None;

@@ -29,13 +29,21 @@ impl Model for Delivery {
     ghost view = { λ d. record {
       message = d.message;
       kind = d.kind;
-      receiver = record { state = option_map (λ seen. seen.state) d.before; sent = d.sent; received = d.received };
+      receiver = record {
+        state = option_map (λ seen. seen.state) d.before;
+        sent = d.sent;
+        received = d.received;
+      };
     } };
 
     ghost invariant = { λ d. IsDue (record {
       message = d.message;
       kind = d.kind;
-      receiver = record { state = option_map (λ seen. seen.state) d.before; sent = d.sent; received = d.received };
+      receiver = record {
+        state = option_map (λ seen. seen.state) d.before;
+        sent = d.sent;
+        received = d.received;
+      };
     }) };
 }
 
@@ -48,7 +56,11 @@ impl Delivery {
     /// The delivery of a message to an element that is there. It takes no memory.
     pub(crate) fn to_resident<C: Chare>(resident: &Resident<C>, message: Message) -> Self
         requires { HasCounts (record_in C.state resident.now) }
-        ensures { result ≡ record { message = message; kind = kind_of (C.state resident.now.object); receiver = record_in C.state resident.now } }
+        ensures { result ≡ record {
+          message = message;
+          kind = kind_of (C.state resident.now.object);
+          receiver = record_in C.state resident.now;
+        } }
     {
         Delivery {
             message,

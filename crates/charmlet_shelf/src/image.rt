@@ -31,8 +31,11 @@ pub(crate) fn images_of<C: Chare>(
     alloc: Global,
     residents: &mut IndexMap<Elem, Resident<C>>,
 ) -> Result<Vec<Image>, AllocError>
-    ensures ok { IfOk result (λ images. AreImages (records_of C.state (risen residents.old.entries)) (keys_of (risen residents.old.entries)) images.items) }
-    ensures same { records_of C.state (risen residents.new.entries) ≡ records_of C.state (risen residents.old.entries) }
+    ensures ok { IfOk result (λ images.
+        AreImages (records_of C.state (risen residents.old.entries))
+        (keys_of (risen residents.old.entries)) images.items) }
+    ensures same { records_of C.state (risen residents.new.entries)
+        ≡ records_of C.state (risen residents.old.entries) }
 {
     let elems = elems_of(alloc, residents)?;
     let mut images = Vec::new(alloc);
@@ -80,8 +83,11 @@ pub(crate) fn image_at<C: Chare>(
     elem: Elem,
 ) -> Result<Image, AllocError>
     requires { is_some (lookup (is_at (elem_cmp elem)) (risen residents.old.entries)) ≡ true }
-    ensures ok { IfOk result (λ image. IfSome (lookup (is_at (elem_cmp elem)) (records_of C.state (risen residents.old.entries))) (IsImage image elem)) }
-    ensures same { records_of C.state (risen residents.new.entries) ≡ records_of C.state (risen residents.old.entries) }
+    ensures ok { IfOk result (λ image.
+        IfSome (lookup (is_at (elem_cmp elem)) (records_of C.state (risen residents.old.entries)))
+        (IsImage image elem)) }
+    ensures same { records_of C.state (risen residents.new.entries)
+        ≡ records_of C.state (risen residents.old.entries) }
 {
     let Some(index) = index_of(residents, elem) else {
         unreachable!()

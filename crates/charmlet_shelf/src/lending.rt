@@ -37,11 +37,15 @@ pub(crate) fn deliver_at<C: Chare>(
     words: &[u64],
 ) -> Result<Delivered<C>, AllocError>
     requires stands { StandsAt residents.old.entries to index }
-    requires counts { IfSome (lookup (is_at (elem_cmp to)) (records_of C.state (risen residents.old.entries))) HasCounts }
+    requires counts { IfSome (lookup (is_at (elem_cmp to))
+        (records_of C.state (risen residents.old.entries))) HasCounts }
     ensures ok { (id : MsgId) → IfOk result (λ done. (due : Due)
-        × IsDueAt (records_of C.state (risen residents.old.entries)) (record { id = id; to = to; entry = entry; words = words.now }) due
-        × IsCarriedOut C.state (records_of C.state (risen residents.old.entries)) due done.output done.destroyed (records_of C.state (risen residents.new.entries))) }
-    ensures err { OnErr result (records_of C.state (risen residents.new.entries) ≡ records_of C.state (risen residents.old.entries)) }
+        × IsDueAt (records_of C.state (risen residents.old.entries))
+        (record { id = id; to = to; entry = entry; words = words.now }) due
+        × IsCarriedOut C.state (records_of C.state (risen residents.old.entries)) due done.output
+        done.destroyed (records_of C.state (risen residents.new.entries))) }
+    ensures err { OnErr result (records_of C.state (risen residents.new.entries)
+        ≡ records_of C.state (risen residents.old.entries)) }
 {
     let (_elem, resident) = residents.pair_mut(index);
     let Ok(output) = advance(alloc, resident, to, entry, words) else {
@@ -67,7 +71,8 @@ fn advance<C: Chare>(
     words: &[u64],
 ) -> Result<Output, AllocError>
     requires { HasCounts (record_in C.state resident.old) }
-    ensures ok { IfOk result (λ output. Advances C.state resident.old to entry words.now output resident.new) }
+    ensures ok { IfOk result (λ output.
+        Advances C.state resident.old to entry words.now output resident.new) }
     ensures err { OnErr result (record_in C.state resident.new ≡ record_in C.state resident.old) }
 {
     let output = receive(alloc, &mut resident.object, true, to, entry, words)?;

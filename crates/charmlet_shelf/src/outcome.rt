@@ -60,7 +60,10 @@ impl Outcome {
 
     /// How many messages the receiver has sent and received after it.
     pub fn counts(&self) -> (u64, u64)
-        ensures { result ≡ ((record_after self.now.due).sent, (record_after self.now.due).received) }
+        ensures { result ≡ (
+          (record_after self.now.due).sent,
+          (record_after self.now.due).received,
+        ) }
     {
         self.delivery.counts_after(self.sends)
     }

@@ -16,7 +16,8 @@ pub(crate) fn index_of<C: Chare>(
     elem: Elem,
 ) -> Option<usize>
     ensures some { IfSome result (StandsAt residents.now.entries elem) }
-    ensures none { result ≡ None → lookup (is_at (elem_cmp elem)) (risen residents.now.entries) ≡ None }
+    ensures none { result ≡ None → lookup (is_at (elem_cmp elem)) (risen residents.now.entries)
+        ≡ None }
 {
     residents.get_index_of(&elem)
 }
@@ -28,7 +29,8 @@ pub(crate) fn index_from<C: Chare>(
     elem: Elem,
 ) -> Option<usize>
     ensures some { IfSome result (StandsAt residents.now.entries elem) }
-    ensures none { result ≡ None → lookup (is_at (elem_cmp elem)) (risen residents.now.entries) ≡ None }
+    ensures none { result ≡ None → lookup (is_at (elem_cmp elem)) (risen residents.now.entries)
+        ≡ None }
 {
     if stands_at(residents, index, elem) {
         return Some(index);
@@ -55,7 +57,8 @@ pub(crate) fn put<C: Chare>(
     elem: Elem,
     resident: Resident<C>,
 ) -> Result<(), Resident<C>>
-    ensures ok { OnOk result (risen residents.new.entries ≡ insert_entry elem_cmp (risen residents.old.entries) elem resident) }
+    ensures ok { OnOk result (risen residents.new.entries
+        ≡ insert_entry elem_cmp (risen residents.old.entries) elem resident) }
     ensures err { IfErr result (λ back. back ≡ resident) }
     ensures same { OnErr result (residents.new.entries ≡ residents.old.entries) }
 {
@@ -71,7 +74,8 @@ pub(crate) fn take<C: Chare>(
     elem: Elem,
 ) -> Option<Resident<C>>
     ensures value { result ≡ lookup (is_at (elem_cmp elem)) (risen residents.old.entries) }
-    ensures entries { risen residents.new.entries ≡ remove_entry (is_at (elem_cmp elem)) (risen residents.old.entries) }
+    ensures entries { risen residents.new.entries
+        ≡ remove_entry (is_at (elem_cmp elem)) (risen residents.old.entries) }
     ensures unchanged { IfNone result (residents.new.entries ≡ residents.old.entries) }
 {
     residents.swap_remove(&elem)

@@ -101,8 +101,14 @@ impl<C: Chare> Shelf<C> {
     /// the object comes back, and the shelf is as before.
     pub fn place(&mut self, elem: Elem, resident: Resident<C>) -> Result<(), (Refusal, Resident<C>)>
         requires { lookup (is_at (elem_cmp elem)) self.old.records ≡ None }
-        ensures ok { OnOk result ((is_idle self.old.phase ≡ true) × (self.new ≡ record self.old { records = insert_entry elem_cmp self.old.records elem (record_in C.state resident) })) }
-        ensures err { IfErr result (λ back. (back.0 ≡ (if is_idle self.old.phase then refusals.Memory else refusals.Uncommitted)) × (back.1 ≡ resident) × (self.new ≡ self.old)) }
+        ensures ok { OnOk result ((is_idle self.old.phase ≡ true)
+            × (self.new ≡ record self.old {
+              records = insert_entry elem_cmp self.old.records elem
+                  (record_in C.state resident);
+            })) }
+        ensures err { IfErr result (λ back.
+            (back.0 ≡ (if is_idle self.old.phase then refusals.Memory else refusals.Uncommitted))
+            × (back.1 ≡ resident) × (self.new ≡ self.old)) }
     {
         if !self.is_idle() {
             return Err((Refusal::Uncommitted, resident));
@@ -116,7 +122,12 @@ impl<C: Chare> Shelf<C> {
     /// Takes an element away, with its object and counts. `Uncommitted` where a delivery is under way, else
     /// `Absent` where the element isn't here; then the shelf is as before. It takes no memory.
     pub fn lift(&mut self, elem: Elem) -> Result<Resident<C>, Refusal>
-        ensures ok { IfOk result (λ resident. (is_idle self.old.phase ≡ true) × (lookup (is_at (elem_cmp elem)) self.old.records ≡ Some (record_in C.state resident)) × (self.new ≡ record self.old { records = remove_entry (is_at (elem_cmp elem)) self.old.records })) }
+        ensures ok { IfOk result (λ resident. (is_idle self.old.phase ≡ true)
+            × (lookup (is_at (elem_cmp elem)) self.old.records ≡ Some (record_in C.state resident))
+            × (self.new ≡ record self.old {
+              records = remove_entry
+                  (is_at (elem_cmp elem)) self.old.records;
+            })) }
         ensures err { IfErr result (λ refusal. Some refusal ≡ refusal_at self.old elem) }
         ensures same { OnErr result (self.new ≡ self.old) }
     {
@@ -133,7 +144,9 @@ impl<C: Chare> Shelf<C> {
     /// takes no memory.
     pub fn lift_any(&mut self) -> Option<(Elem, Resident<C>)>
         requires { is_idle self.old.phase ≡ true }
-        ensures some { IfSome result (λ taken. (lookup (is_at (elem_cmp taken.0)) self.old.records ≡ Some (record_in C.state taken.1)) × (self.new.records ≡ remove_entry (is_at (elem_cmp taken.0)) self.old.records)) }
+        ensures some { IfSome result (λ taken.
+            (lookup (is_at (elem_cmp taken.0)) self.old.records ≡ Some (record_in C.state taken.1))
+            × (self.new.records ≡ remove_entry (is_at (elem_cmp taken.0)) self.old.records)) }
         ensures none { result ≡ None → (self.old.records ≡ []) × (self.new.records ≡ []) }
         ensures others { self.new ≡ record self.old { records = self.new.records } }
     {
@@ -145,8 +158,10 @@ impl<C: Chare> Shelf<C> {
     /// takes no memory: the message moves, and of the receiver's state nothing is made.
     pub fn assign(&mut self, message: Message) -> Result<(), (Refusal, Message)>
         requires { IfSome (lookup (is_at (elem_cmp message.to)) self.old.records) HasCounts }
-        ensures ok { OnOk result ((is_idle self.old.phase ≡ true) × Assigns self.old message self.new) }
-        ensures err { IfErr result (λ back. (Some back.0 ≡ refusal_at self.old message.to) × (back.1 ≡ message)) }
+        ensures ok { OnOk result ((is_idle self.old.phase ≡ true)
+            × Assigns self.old message self.new) }
+        ensures err { IfErr result (λ back. (Some back.0 ≡ refusal_at self.old message.to)
+            × (back.1 ≡ message)) }
         ensures same { OnErr result (self.new ≡ self.old) }
     {
         if !self.is_idle() {
@@ -173,8 +188,15 @@ impl<C: Chare> Shelf<C> {
         requires absent { lookup (is_at (elem_cmp message.to)) self.old.records ≡ None }
         requires constructs { message.entry ≡ CONSTRUCT }
         requires counts { HasCounts (record_in C.state newcomer) }
-        ensures ok { OnOk result ((is_idle self.old.phase ≡ true) × (self.new ≡ record self.old { phase = phases.Assigned (newcomer_due message (kind_of (C.state newcomer.object)) newcomer.sent newcomer.received) })) }
-        ensures err { IfErr result (λ back. (back.0 ≡ (if is_idle self.old.phase then refusals.Memory else refusals.Uncommitted)) × (back.1 ≡ message) × (back.2 ≡ newcomer)) }
+        ensures ok { OnOk result ((is_idle self.old.phase ≡ true)
+            × (self.new ≡ record self.old {
+              phase = phases.Assigned
+                  (newcomer_due message (kind_of (C.state newcomer.object)) newcomer.sent
+                  newcomer.received);
+            })) }
+        ensures err { IfErr result (λ back.
+            (back.0 ≡ (if is_idle self.old.phase then refusals.Memory else refusals.Uncommitted))
+            × (back.1 ≡ message) × (back.2 ≡ newcomer)) }
         ensures same { OnErr result (self.new ≡ self.old) }
     {
         if !self.is_idle() {
@@ -219,11 +241,19 @@ impl<C: Chare> Shelf<C> {
     /// `Memory`; then the shelf is as before.
     pub fn deliver(&mut self, to: Elem, entry: u16, words: &[u64]) -> Result<Delivered<C>, Refusal>
         requires { IfSome (lookup (is_at (elem_cmp to)) self.old.records) HasCounts }
-        ensures ok { (id : MsgId) → IfOk result (λ done. (due : Due) × IsDueAt self.old.records (record { id = id; to = to; entry = entry; words = words.now }) due
-            × IsCarriedOut C.state self.old.records due done.output done.destroyed self.new.records) }
+        ensures ok { (id : MsgId) → IfOk result (λ done. (due : Due)
+            × IsDueAt self.old.records (record {
+              id = id;
+              to = to;
+              entry = entry;
+              words = words.now;
+            }) due
+            × IsCarriedOut C.state self.old.records due done.output done.destroyed
+            self.new.records) }
         ensures idle { OnOk result (is_idle self.old.phase ≡ true) }
         ensures others { self.new ≡ record self.old { records = self.new.records } }
-        ensures err { IfErr result (λ refusal. refusal ≡ unwrap_or (refusal_at self.old to) refusals.Memory) }
+        ensures err { IfErr result (λ refusal. refusal
+            ≡ unwrap_or (refusal_at self.old to) refusals.Memory) }
         ensures same { OnErr result (self.new ≡ self.old) }
     {
         if !self.is_idle() {
@@ -266,8 +296,10 @@ impl<C: Chare> Shelf<C> {
     pub fn settle(&mut self) -> Option<C>
         ensures shelf { self.new ≡ settled self.old }
         ensures destroyed { is_some result ≡ is_destroyed self.old.phase }
-        ensures kind { IfSome result (λ object. Some (kind_of (C.state object)) ≡ receiver_kind self.old.phase) }
-        ensures count { (kind : Kind) → objects_on self.old kind ≡ objects_on self.new kind + came_out C.state result kind }
+        ensures kind { IfSome result (λ object. Some (kind_of (C.state object))
+            ≡ receiver_kind self.old.phase) }
+        ensures count { (kind : Kind) → objects_on self.old kind
+            ≡ objects_on self.new kind + came_out C.state result kind }
     {
         match mem::replace(&mut self.phase, Phase::Idle) {
             Phase::Done(outcome) => bring_forward(&mut self.residents, self.last, &outcome),
@@ -283,8 +315,10 @@ impl<C: Chare> Shelf<C> {
     pub fn release(&mut self) -> Option<C>
         ensures shelf { self.new ≡ record self.old { phase = released self.old.phase } }
         ensures newcomer { is_some result ≡ has_newcomer self.old.phase }
-        ensures kind { IfSome result (λ object. Some (kind_of (C.state object)) ≡ receiver_kind self.old.phase) }
-        ensures count { (kind : Kind) → objects_on self.old kind ≡ objects_on self.new kind + came_out C.state result kind }
+        ensures kind { IfSome result (λ object. Some (kind_of (C.state object))
+            ≡ receiver_kind self.old.phase) }
+        ensures count { (kind : Kind) → objects_on self.old kind
+            ≡ objects_on self.new kind + came_out C.state result kind }
     {
         match mem::replace(&mut self.phase, Phase::Idle) {
             Phase::Assigned(delivery) => take_newcomer(&mut self.residents, &delivery),
@@ -298,9 +332,12 @@ impl<C: Chare> Shelf<C> {
     /// The image of an element, or none where it isn't here. `Uncommitted` where a delivery is under way, else
     /// `Memory`, but not where the element isn't here. The shelf is as before.
     pub fn image(&mut self, elem: Elem) -> Result<Option<Image>, Refusal>
-        ensures ok { IfOk result (λ image. (is_idle self.old.phase ≡ true) × IsImageIf (lookup (is_at (elem_cmp elem)) self.old.records) elem image) }
-        ensures err { IfErr result (λ refusal. refusal ≡ (if is_idle self.old.phase then refusals.Memory else refusals.Uncommitted)) }
-        ensures absent { is_idle self.old.phase ≡ true → lookup (is_at (elem_cmp elem)) self.old.records ≡ None → IsOk result }
+        ensures ok { IfOk result (λ image. (is_idle self.old.phase ≡ true)
+            × IsImageIf (lookup (is_at (elem_cmp elem)) self.old.records) elem image) }
+        ensures err { IfErr result (λ refusal. refusal
+            ≡ (if is_idle self.old.phase then refusals.Memory else refusals.Uncommitted)) }
+        ensures absent { is_idle self.old.phase ≡ true →
+            lookup (is_at (elem_cmp elem)) self.old.records ≡ None → IsOk result }
         ensures same { self.new ≡ self.old }
     {
         if !self.is_idle() {
@@ -318,8 +355,10 @@ impl<C: Chare> Shelf<C> {
     /// The image of each element, in rising order. `Uncommitted` where a delivery is under way, else
     /// `Memory`. The shelf is as before.
     pub fn images(&mut self) -> Result<Vec<Image>, Refusal>
-        ensures ok { IfOk result (λ images. (is_idle self.old.phase ≡ true) × AreImages self.old.records (keys_of self.old.records) images.items) }
-        ensures err { IfErr result (λ refusal. refusal ≡ (if is_idle self.old.phase then refusals.Memory else refusals.Uncommitted)) }
+        ensures ok { IfOk result (λ images. (is_idle self.old.phase ≡ true)
+            × AreImages self.old.records (keys_of self.old.records) images.items) }
+        ensures err { IfErr result (λ refusal. refusal
+            ≡ (if is_idle self.old.phase then refusals.Memory else refusals.Uncommitted)) }
         ensures same { self.new ≡ self.old }
     {
         if !self.is_idle() {

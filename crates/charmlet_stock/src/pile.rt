@@ -109,12 +109,14 @@ impl<C: Chare> Pile<C> {
 
     /// Takes a blank out, if there is one.
     pub(crate) fn take(&mut self) -> Option<C>
-        ensures some { IsSome result → (tally_of self.new ≡ with_out (tally_of self.old) 1) × (0 < (tally_of self.old).in_stock) }
+        ensures some { IsSome result → (tally_of self.new ≡ with_out (tally_of self.old) 1)
+            × (0 < (tally_of self.old).in_stock) }
         ensures kind { self.new.kind ≡ self.old.kind }
         ensures keeps { self.new.keeps ≡ self.old.keeps }
         ensures out { IsSome result → IsOut (tally_of self.new) }
         ensures object { IfSome result (λ object. kind_of (C.state object) ≡ self.old.kind) }
-        ensures none { result ≡ None → ((tally_of self.old).in_stock ≡ 0) × (tally_of self.new ≡ tally_of self.old) }
+        ensures none { result ≡ None → ((tally_of self.old).in_stock ≡ 0)
+            × (tally_of self.new ≡ tally_of self.old) }
     {
         if self.objects.len() == self.kept() {
             return None;

@@ -68,8 +68,11 @@ impl<C: Chare> Stock<C> {
     /// Takes blank objects into the stock. Where memory is refused, or more than 2^64-1 objects of a kind
     /// would have been supplied, it hands all of them back and the stock is as before.
     pub fn supply(&mut self, blanks: Vec<C>) -> Result<(), Vec<C>>
-        ensures ok { OnOk result ((kind : Kind) → tally_in self.new kind ≡ supplied_more (tally_in self.old kind) (count_of C.state blanks.items kind)) }
-        ensures err { IfErr result (λ back. (back.items ≡ blanks.items) × (census_of self.new ≡ census_of self.old)) }
+        ensures ok { OnOk result ((kind : Kind) →
+            tally_in self.new kind ≡ supplied_more (tally_in self.old kind)
+            (count_of C.state blanks.items kind)) }
+        ensures err { IfErr result (λ back. (back.items ≡ blanks.items)
+            × (census_of self.new ≡ census_of self.old)) }
         ensures keeping { keeping_of self.new ≡ keeping_of self.old }
     {
         if self.reserve(blanks.as_slice()).is_err() {
@@ -90,9 +93,12 @@ impl<C: Chare> Stock<C> {
         count: usize,
     ) -> Result<(), AllocError>
         requires { count ≤ (tally_in source.old kind).in_stock }
-        ensures drawn { OnOk result (census_of self.new ≡ with_at (census_of self.old) kind (supplied_more (tally_in self.old kind) count)) }
-        ensures left { OnOk result (census_of source.new ≡ with_at (census_of source.old) kind (with_out (tally_in source.old kind) count)) }
-        ensures err { OnErr result ((census_of self.new ≡ census_of self.old) × (census_of source.new ≡ census_of source.old)) }
+        ensures drawn { OnOk result (census_of self.new
+            ≡ with_at (census_of self.old) kind (supplied_more (tally_in self.old kind) count)) }
+        ensures left { OnOk result (census_of source.new
+            ≡ with_at (census_of source.old) kind (with_out (tally_in source.old kind) count)) }
+        ensures err { OnErr result ((census_of self.new ≡ census_of self.old)
+            × (census_of source.new ≡ census_of source.old)) }
         ensures keeping { keeping_of self.new ≡ keeping_of self.old }
         ensures source_keeping { keeping_of source.new ≡ keeping_of source.old }
     {
@@ -111,8 +117,11 @@ impl<C: Chare> Stock<C> {
     pub fn take(&mut self, kind: Kind) -> Option<C>
         ensures kind { IfSome result (λ object. kind_of (C.state object) ≡ kind) }
         ensures out { IsSome result → IsOut (tally_in self.new kind) }
-        ensures some { IsSome result → (census_of self.new ≡ with_at (census_of self.old) kind (with_out (tally_in self.old kind) 1)) × (0 < (tally_in self.old kind).in_stock) }
-        ensures none { result ≡ None → ((tally_in self.old kind).in_stock ≡ 0) × (census_of self.new ≡ census_of self.old) }
+        ensures some { IsSome result → (census_of self.new
+            ≡ with_at (census_of self.old) kind (with_out (tally_in self.old kind) 1))
+            × (0 < (tally_in self.old kind).in_stock) }
+        ensures none { result ≡ None → ((tally_in self.old kind).in_stock ≡ 0)
+            × (census_of self.new ≡ census_of self.old) }
         ensures keeping { keeping_of self.new ≡ keeping_of self.old }
     {
         match kind {
@@ -128,7 +137,9 @@ impl<C: Chare> Stock<C> {
     /// Puts an object back that is out. Its room was kept, so it takes no memory.
     pub fn give_back(&mut self, object: C)
         requires { IsOut (tally_in self.old (kind_of (C.state object))) }
-        ensures census { census_of self.new ≡ with_at (census_of self.old) (kind_of (C.state object)) (with_one_back (tally_in self.old (kind_of (C.state object)))) }
+        ensures census { census_of self.new
+            ≡ with_at (census_of self.old) (kind_of (C.state object))
+            (with_one_back (tally_in self.old (kind_of (C.state object)))) }
         ensures keeping { keeping_of self.new ≡ keeping_of self.old }
     {
         match kind_of(&object) {
@@ -145,7 +156,9 @@ impl<C: Chare> Stock<C> {
     /// then. Its room was kept, so it takes no memory.
     pub fn retire(&mut self, object: C)
         requires { IsOut (tally_in self.old (kind_of (C.state object))) }
-        ensures census { census_of self.new ≡ with_at (census_of self.old) (kind_of (C.state object)) (with_one_retired (tally_in self.old (kind_of (C.state object)))) }
+        ensures census { census_of self.new
+            ≡ with_at (census_of self.old) (kind_of (C.state object))
+            (with_one_retired (tally_in self.old (kind_of (C.state object)))) }
         ensures keeping { keeping_of self.new ≡ keeping_of self.old }
     {
         match kind_of(&object) {
@@ -235,9 +248,14 @@ impl<C: Chare> Stock<C> {
     /// Takes in an object that is supplied, in the room that was made.
     fn add(&mut self, object: C)
         requires { HasRoomFor (at self.old.piles (kind_of (C.state object))) 1 }
-        ensures room { (n : ℕ) → HasRoomFor (at self.old.piles (kind_of (C.state object))) (n + 1) → HasRoomFor (at self.new.piles (kind_of (C.state object))) n }
-        ensures others { (other : Kind) → (kind_number (kind_of (C.state object)) == kind_number other) ≡ false → at self.new.piles other ≡ at self.old.piles other }
-        ensures added { census_of self.new ≡ with_at (census_of self.old) (kind_of (C.state object)) (supplied_more (tally_in self.old (kind_of (C.state object))) 1) }
+        ensures room { (n : ℕ) → HasRoomFor (at self.old.piles (kind_of (C.state object))) (n + 1) →
+            HasRoomFor (at self.new.piles (kind_of (C.state object))) n }
+        ensures others { (other : Kind) →
+            (kind_number (kind_of (C.state object)) == kind_number other) ≡ false →
+            at self.new.piles other ≡ at self.old.piles other }
+        ensures added { census_of self.new
+            ≡ with_at (census_of self.old) (kind_of (C.state object))
+            (supplied_more (tally_in self.old (kind_of (C.state object))) 1) }
         ensures keeping { keeping_of self.new ≡ keeping_of self.old }
     {
         match kind_of(&object) {

@@ -54,7 +54,8 @@ impl<C: Chare> Store<C> {
     pub fn look(&mut self, elem: Elem) -> Result<Look, AllocError>
         requires { IsStoreConsistent self.old }
         ensures same { self.new ≡ self.old }
-        ensures ok { IfOk result (IsLook (place_of (core_in self.old.history) elem) (record_of (world_in self.old) elem)) }
+        ensures ok { IfOk result (IsLook (place_of (core_in self.old.history) elem)
+            (record_of (world_in self.old) elem)) }
         ensures absent { (record_of (world_in self.old) elem).state ≡ None → IsOk result }
     {
         let counts = self.history.element(elem);
@@ -70,7 +71,8 @@ impl<C: Chare> Store<C> {
     fn standing_of(&mut self, elem: Elem) -> Result<Option<Standing>, AllocError>
         requires { IsStoreConsistent self.old }
         ensures same { self.new ≡ self.old }
-        ensures ok { IfOk result (StandsWith (place_of (core_in self.old.history) elem) (record_of (world_in self.old) elem).state) }
+        ensures ok { IfOk result (StandsWith (place_of (core_in self.old.history) elem)
+            (record_of (world_in self.old) elem).state) }
         ensures absent { (record_of (world_in self.old) elem).state ≡ None → IsOk result }
     {
         let Some(processor) = self.history.where_is(elem) else {

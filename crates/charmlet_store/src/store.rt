@@ -64,9 +64,15 @@ impl<C: Chare> Store<C> {
         requires { IsStoreConsistent self.old }
         ensures consistent { IsStoreConsistent self.new }
         ensures core { (store_in self.new).core ≡ (store_in self.old).core }
-        ensures ok { OnOk result ((kind : kinds.Kind) → (store_in self.new).blanks kind ≡ (store_in self.old).blanks kind + count_of C.state blanks.items kind) }
-        ensures supplied { OnOk result ((kind : kinds.Kind) → supplied_in self.new kind ≡ supplied_in self.old kind + count_of C.state blanks.items kind) }
-        ensures err { IfErr result (λ objects. (objects.items ≡ blanks.items) × ((store_in self.new).blanks ≡ (store_in self.old).blanks) × (supplied_in self.new ≡ supplied_in self.old)) }
+        ensures ok { OnOk result ((kind : kinds.Kind) →
+            (store_in self.new).blanks kind
+            ≡ (store_in self.old).blanks kind + count_of C.state blanks.items kind) }
+        ensures supplied { OnOk result ((kind : kinds.Kind) →
+            supplied_in self.new kind ≡ supplied_in self.old kind + count_of C.state blanks.items
+            kind) }
+        ensures err { IfErr result (λ objects. (objects.items ≡ blanks.items)
+            × ((store_in self.new).blanks ≡ (store_in self.old).blanks)
+            × (supplied_in self.new ≡ supplied_in self.old)) }
         ensures keeping { keeping_of self.new.stock ≡ keeping_of self.old.stock }
     {
         self.stock.supply(blanks)
@@ -84,11 +90,17 @@ impl<C: Chare> Store<C> {
         requires enough { count ≤ blanks_in source.old kind }
         ensures consistent { IsStoreConsistent self.new }
         ensures core { (store_in self.new).core ≡ (store_in self.old).core }
-        ensures drawn { OnOk result ((k : kinds.Kind) → (store_in self.new).blanks k ≡ (store_in self.old).blanks k + part_of kind count k) }
-        ensures left { OnOk result ((k : kinds.Kind) → blanks_in source.old k ≡ blanks_in source.new k + part_of kind count k) }
-        ensures source { OnOk result (census_of source.new ≡ with_at (census_of source.old) kind (with_out (tally_in source.old kind) count)) }
-        ensures supplied { OnOk result ((k : kinds.Kind) → supplied_in self.new k ≡ supplied_in self.old k + part_of kind count k) }
-        ensures err { OnErr result ((store_in self.new ≡ store_in self.old) × (supplied_in self.new ≡ supplied_in self.old) × (census_of source.new ≡ census_of source.old)) }
+        ensures drawn { OnOk result ((k : kinds.Kind) →
+            (store_in self.new).blanks k ≡ (store_in self.old).blanks k + part_of kind count k) }
+        ensures left { OnOk result ((k : kinds.Kind) →
+            blanks_in source.old k ≡ blanks_in source.new k + part_of kind count k) }
+        ensures source { OnOk result (census_of source.new
+            ≡ with_at (census_of source.old) kind (with_out (tally_in source.old kind) count)) }
+        ensures supplied { OnOk result ((k : kinds.Kind) →
+            supplied_in self.new k ≡ supplied_in self.old k + part_of kind count k) }
+        ensures err { OnErr result ((store_in self.new ≡ store_in self.old)
+            × (supplied_in self.new ≡ supplied_in self.old)
+            × (census_of source.new ≡ census_of source.old)) }
         ensures keeping { keeping_of self.new.stock ≡ keeping_of self.old.stock }
         ensures source_keeping { keeping_of source.new ≡ keeping_of source.old }
     {
@@ -148,7 +160,8 @@ impl<C: Chare> Store<C> {
     pub fn relocate(&mut self, elem: Elem, processor: u16) -> Result<(), Refusal>
         requires { IsStoreConsistent self.old }
         ensures consistent { IsStoreConsistent self.new }
-        ensures goes { Goes (store_in self.old) (core.Move elem processor) (move_answer result) (store_in self.new) }
+        ensures goes { Goes (store_in self.old) (core.Move elem processor) (move_answer result)
+            (store_in self.new) }
         ensures supplied { supplied_in self.new ≡ supplied_in self.old }
         ensures keeping { keeping_of self.new.stock ≡ keeping_of self.old.stock }
     {

@@ -1,5 +1,3 @@
 mod dismantle;
 mod migrate;
-mod packing;
-mod shelf;
 mod stock;

@@ -28,7 +28,10 @@ pub struct Client {
 impl Model for Client {
     ghost Value = { Rows };
 
-    ghost view = { λ c. record { present = c.present; durable = durable_row c.present c.durable_last c.dropped c.durable.items } };
+    ghost view = { λ c. record {
+      present = c.present;
+      durable = durable_row c.present c.durable_last c.dropped c.durable.items;
+    } };
 
     ghost invariant = { λ c. IsWithin c.present.window c.dropped c.durable.items };
 }
@@ -159,7 +162,8 @@ fn drop_first(window: &mut Window, dropped: &mut Window, durable: &mut ArrayVec<
     requires full { length window.old ≡ 8 }
     requires within { IsWithin window.old dropped.old durable.old.items }
     ensures window { window.new ≡ drop 1 window.old }
-    ensures durable { dropped.new ++ shown durable.new.items window.new ≡ dropped.old ++ shown durable.old.items window.old }
+    ensures durable { dropped.new ++ shown durable.new.items window.new
+        ≡ dropped.old ++ shown durable.old.items window.old }
     ensures within { IsWithin window.new dropped.new durable.new.items }
 {
     let item = window.remove_first();

@@ -16,7 +16,9 @@ pub(crate) fn note_request(
     client: u32,
     number: u64,
 ) -> Result<(), AllocError>
-    ensures ok { OnOk result (clients.new.entries ≡ with_row clients.old.entries client (with_request (client_at clients.old.entries client).present number)) }
+    ensures ok { OnOk result (clients.new.entries
+        ≡ with_row clients.old.entries client
+        (with_request (client_at clients.old.entries client).present number)) }
     ensures err { OnErr result (clients.new.entries ≡ clients.old.entries) }
 {
     if let Some(row) = clients.get_mut(&client) {

@@ -77,7 +77,8 @@ impl Elements {
 
     /// Keeps this of an element, whatever was kept of it. It fails only for lack of memory.
     fn put(&mut self, elem: Elem, element: Element) -> Result<(), AllocError>
-        ensures { OnOk result (risen self.new.entries ≡ insert_entry elem_cmp (risen self.old.entries) elem element) }
+        ensures { OnOk result (risen self.new.entries
+            ≡ insert_entry elem_cmp (risen self.old.entries) elem element) }
     {
         let slot = self.slot_for(elem)?;
         self.set(slot, element);
@@ -86,7 +87,8 @@ impl Elements {
 
     /// Where an element is kept, if it is.
     pub fn slot_of(&self, elem: Elem) -> Option<Slot>
-        ensures found { IfSome result (λ slot. slice_get self.now.entries slot ≡ Some (elem, element_in self.now.entries elem)) }
+        ensures found { IfSome result (λ slot. slice_get self.now.entries slot
+            ≡ Some (elem, element_in self.now.entries elem)) }
         ensures which { is_some result ≡ is_some (lookup (same_elem elem) self.now.entries) }
     {
         match index_of(&self.rows, self.expected, elem) {
@@ -108,7 +110,8 @@ impl Elements {
     /// its counts are 0.
     pub fn element(&self, elem: Elem) -> Element
         ensures element { result ≡ element_in self.now.entries elem }
-        ensures risen { lookup (is_at (elem_cmp elem)) (risen self.now.entries) ≡ lookup (same_elem elem) self.now.entries }
+        ensures risen { lookup (is_at (elem_cmp elem)) (risen self.now.entries)
+            ≡ lookup (same_elem elem) self.now.entries }
         ensures rising { IsStrictlySortedBy elem_cmp (keys_of (risen self.now.entries)) }
     {
         match self.slot_of(elem) {
@@ -146,8 +149,12 @@ impl Elements {
         requires { slot < length self.old.entries }
         ensures entries { self.new.entries ≡ set_value_at self.old.entries slot element }
         ensures keys { keys_of self.new.entries ≡ keys_of self.old.entries }
-        ensures elements { (x y : AnElem) (e : AnElement) → slice_get self.old.entries slot ≡ Some (x, e) → element_in self.new.entries y ≡ (if same_elem x y then element else element_in self.old.entries y) }
-        ensures risen { (x : AnElem) (e : AnElement) → slice_get self.old.entries slot ≡ Some (x, e) → risen self.new.entries ≡ insert_entry elem_cmp (risen self.old.entries) x element }
+        ensures elements { (x y : AnElem) (e : AnElement) →
+            slice_get self.old.entries slot ≡ Some (x, e) →
+            element_in self.new.entries y ≡
+            (if same_elem x y then element else element_in self.old.entries y) }
+        ensures risen { (x : AnElem) (e : AnElement) → slice_get self.old.entries slot ≡ Some (x, e)
+            → risen self.new.entries ≡ insert_entry elem_cmp (risen self.old.entries) x element }
         ensures room { self.new.room ≡ self.old.room }
     {
         let (_elem, row) = self.rows.pair_mut(slot.index);
@@ -156,9 +163,12 @@ impl Elements {
 
     /// Where an element is kept, from now on if it wasn't. Where memory is refused, nothing changes.
     pub fn slot_for(&mut self, elem: Elem) -> Result<Slot, AllocError>
-        ensures found { IfOk result (λ slot. slice_get self.new.entries slot ≡ Some (elem, element_in self.old.entries elem)) }
+        ensures found { IfOk result (λ slot. slice_get self.new.entries slot
+            ≡ Some (elem, element_in self.old.entries elem)) }
         ensures entries { OnOk result (self.new.entries ≡ with_row self.old.entries elem) }
-        ensures risen { OnOk result (risen self.new.entries ≡ insert_entry elem_cmp (risen self.old.entries) elem (element_in self.old.entries elem)) }
+        ensures risen { OnOk result (risen self.new.entries
+            ≡ insert_entry elem_cmp (risen self.old.entries) elem
+            (element_in self.old.entries elem)) }
         ensures err { OnErr result (self.new.entries ≡ self.old.entries) }
         ensures succeeds { 0 < self.old.room → IsOk result }
         ensures there { is_some (lookup (same_elem elem) self.old.entries) ≡ true → IsOk result }
@@ -174,7 +184,8 @@ impl Elements {
 
 /// The index of the element's row, if it has one. It is looked for where it is expected first.
 fn index_of(rows: &IndexMap<Elem, Element>, expected: usize, elem: Elem) -> Option<usize>
-    ensures found { IfSome result (λ i. slice_get rows.now.entries i ≡ Some (elem, element_in rows.now.entries elem)) }
+    ensures found { IfSome result (λ i. slice_get rows.now.entries i
+        ≡ Some (elem, element_in rows.now.entries elem)) }
     ensures which { is_some result ≡ is_some (lookup (same_elem elem) rows.now.entries) }
 {
     // The length is what says that the elements are distinct.
@@ -230,7 +241,8 @@ fn put_place(
     elem: Elem,
     element: &Element,
 ) -> Result<(), AllocError>
-    ensures some { OnOk result (IfSome element.now.place (λ place. tree.new.entries ≡ insert_entry elem_cmp tree.old.entries elem place)) }
+    ensures some { OnOk result (IfSome element.now.place
+        (λ place. tree.new.entries ≡ insert_entry elem_cmp tree.old.entries elem place)) }
     ensures none { element.now.place ≡ None → tree.new.entries ≡ tree.old.entries }
     ensures nothing { element.now.place ≡ None → IsOk result }
 {

@@ -74,7 +74,14 @@ impl PresentWorld {
     /// A world with these arrays and so many processors, in which nothing has happened. It takes no memory.
     pub fn new(alloc: Global, manifest: Manifest, processors: u16) -> Self
         requires { is_processor_count processors ≡ true }
-        ensures empty { result ≡ record { manifest = manifest; processors = processors; rows = []; pending = []; clients = []; promised = 0 } }
+        ensures empty { result ≡ record {
+          manifest = manifest;
+          processors = processors;
+          rows = [];
+          pending = [];
+          clients = [];
+          promised = 0;
+        } }
         ensures world { Shows (seen result) (new_world manifest) }
     {
         PresentWorld {
@@ -99,7 +106,14 @@ impl PresentWorld {
     ) -> Result<Self, AllocError>
         requires processors { is_processor_count processors ≡ true }
         requires distinct { AreDistinct pending.items }
-        ensures seen { IfOk result (λ world. seen world ≡ record { manifest = manifest; processors = processors; elements = elements.entries; pending = pending.items; clients = clients.entries }) }
+        ensures seen { IfOk result (λ world. seen world
+            ≡ record {
+              manifest = manifest;
+              processors = processors;
+              elements = elements.entries;
+              pending = pending.items;
+              clients = clients.entries;
+            }) }
         ensures promised { IfOk result (λ world. world.promised ≡ 0) }
     {
         Ok(PresentWorld {
@@ -135,7 +149,8 @@ impl PresentWorld {
 
     /// What is kept of the pending message of this id.
     pub fn find(&self, id: MsgId) -> Option<&Letter>
-        ensures { option_map (λ letter. message_of id letter.now) result ≡ message_among id self.now.pending }
+        ensures { option_map (λ letter. message_of id letter.now) result
+            ≡ message_among id self.now.pending }
     {
         self.pending.find(id)
     }
@@ -226,8 +241,10 @@ impl PresentWorld {
     /// What a client is told by its durable row. It fails only when out of memory, and takes none where the
     /// answer has no words.
     pub fn told(&self, alloc: Global, client: u32, number: u64) -> Result<Told, AllocError>
-        ensures told { IfOk result (λ told. told ≡ told_of (client_at self.now.clients client).durable number) }
-        ensures words { OnErr result (has_words (told_of (client_at self.now.clients client).durable number) ≡ true) }
+        ensures told { IfOk result (λ told. told
+            ≡ told_of (client_at self.now.clients client).durable number) }
+        ensures words { OnErr result (has_words
+            (told_of (client_at self.now.clients client).durable number) ≡ true) }
     {
         match self.clients.get(&client) {
             Some(client) => client.told(alloc, number),
@@ -278,9 +295,12 @@ impl PresentWorld {
         entry: u16,
         words: Words,
     ) -> Result<(), AllocError>
-        requires apart { message_among (record { origin = origins.Client client; number = number }) self.old.pending ≡ None }
-        ensures ok { OnOk result (seen self.new ≡ accepted (seen self.old) client number to entry words) }
-        ensures world { OnOk result ((w : AWorld) → Shows (seen self.old) w → Shows (seen self.new) (after w (Accept client number to entry words))) }
+        requires apart { message_among (record { origin = origins.Client client; number = number })
+            self.old.pending ≡ None }
+        ensures ok { OnOk result (seen self.new
+            ≡ accepted (seen self.old) client number to entry words) }
+        ensures world { OnOk result ((w : AWorld) → Shows (seen self.old) w →
+            Shows (seen self.new) (after w (Accept client number to entry words))) }
         ensures rows { self.new.rows ≡ self.old.rows }
         ensures promised { self.new.promised ≡ self.old.promised }
         ensures err { OnErr result (self.new ≡ self.old) }
@@ -302,9 +322,11 @@ impl PresentWorld {
     /// Where an element is kept, from now on if it wasn't. Where memory is refused, nothing changes.
     pub fn slot_for(&mut self, elem: Elem) -> Result<Slot, AllocError>
         ensures slot { IfOk result (λ slot. IsSlot self.new.rows slot elem) }
-        ensures seen { OnOk result (seen self.new ≡ record (seen self.old) { elements = with_entry (seen self.old).elements elem }) }
+        ensures seen { OnOk result (seen self.new
+            ≡ record (seen self.old) { elements = with_entry (seen self.old).elements elem }) }
         ensures promised { self.new.promised ≡ self.old.promised }
-        ensures there { is_some (lookup (is_at (elem_cmp elem)) (seen self.old).elements) ≡ true → IsOk result }
+        ensures there { is_some (lookup (is_at (elem_cmp elem)) (seen self.old).elements) ≡ true →
+            IsOk result }
         ensures err { OnErr result (self.new ≡ self.old) }
     {
         self.elements.slot_for(elem)
@@ -316,12 +338,18 @@ impl PresentWorld {
     pub fn assign(&mut self, id: MsgId) -> Result<Slot, AllocError>
         requires pending { IsSome (message_among id self.old.pending) }
         requires few { self.old.promised < 64 }
-        ensures slot { IfOk result (λ slot. IfSome (message_among id self.old.pending) (λ m. IsSlot self.new.rows slot m.to)) }
-        ensures seen { OnOk result (IfSome (message_among id self.old.pending) (λ m. seen self.new ≡ record (seen self.old) { elements = with_entry (seen self.old).elements m.to })) }
+        ensures slot { IfOk result (λ slot.
+            IfSome (message_among id self.old.pending) (λ m. IsSlot self.new.rows slot m.to)) }
+        ensures seen { OnOk result (IfSome (message_among id self.old.pending)
+            (λ m. seen self.new ≡ record (seen self.old) {
+              elements = with_entry
+                  (seen self.old).elements m.to;
+            })) }
         ensures pending { self.new.pending ≡ self.old.pending }
         ensures clients { self.new.clients ≡ self.old.clients }
         ensures promised { OnOk result (self.new.promised ≡ self.old.promised + 1) }
-        ensures slots { (i : ℕ) (x : AnElem) (e : AnElement) → slice_get self.old.rows i ≡ Some (x, e) → slice_get self.new.rows i ≡ Some (x, e) }
+        ensures slots { (i : ℕ) (x : AnElem) (e : AnElement) →
+            slice_get self.old.rows i ≡ Some (x, e) → slice_get self.new.rows i ≡ Some (x, e) }
         ensures world { (w : AWorld) → Shows (seen self.old) w → Shows (seen self.new) w }
         ensures err { OnErr result (self.new ≡ self.old) }
     {
@@ -350,8 +378,10 @@ impl PresentWorld {
         requires promised { 0 < self.old.promised }
         requires pending { IsSome (message_among id self.old.pending) }
         requires suits { IfSome (message_among id self.old.pending) (Suits self.old slot output) }
-        ensures delivered { IfSome (message_among id self.old.pending) (λ m. seen self.new ≡ delivered_in (seen self.old) m output) }
-        ensures world { (w : AWorld) → Shows (seen self.old) w → IsOutcome w id output → Shows (seen self.new) (after w (Deliver id)) }
+        ensures delivered { IfSome (message_among id self.old.pending)
+            (λ m. seen self.new ≡ delivered_in (seen self.old) m output) }
+        ensures world { (w : AWorld) → Shows (seen self.old) w → IsOutcome w id output →
+            Shows (seen self.new) (after w (Deliver id)) }
         ensures slots { keys_of self.new.rows ≡ keys_of self.old.rows }
         ensures promised { self.new.promised + 1 ≡ self.old.promised }
     {
@@ -433,7 +463,8 @@ fn place_in(processors: u16, elem: Elem, place: Option<u16>) -> u16
 /// Where an element of which this was kept stands after a delivery that destroyed it or not.
 fn place_after(processors: u16, elem: Elem, element: &Element, is_destroyed: bool) -> Option<u16>
     requires { is_processor_count processors ≡ true }
-    ensures { result ≡ (if is_destroyed then None else Some (unwrap_or element.now.place (home elem processors))) }
+    ensures { result ≡ (if is_destroyed then None
+        else Some (unwrap_or element.now.place (home elem processors))) }
 {
     if is_destroyed {
         return None;

@@ -13,7 +13,8 @@ pub(crate) fn push_sends(pending: &mut Pending, from: Elem, sent: u64, sends: Ve
     requires counts { sent + length sends.items ≤ greatest }
     requires room { length sends.items ≤ pending.old.room }
     requires distinct { AreDistinct (pending.old.messages ++ numbered from sent sends.items) }
-    ensures messages { pending.new.messages ≡ pending.old.messages ++ numbered from sent sends.items }
+    ensures messages { pending.new.messages
+        ≡ pending.old.messages ++ numbered from sent sends.items }
     ensures room { pending.old.room ≤ pending.new.room + length sends.items }
 {
     let mut number = sent;

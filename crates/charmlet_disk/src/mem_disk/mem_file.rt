@@ -72,7 +72,8 @@ fn append(bytes: &mut Vec<u8>, others: &[u8])
 fn pad(bytes: &mut Vec<u8>, count: usize)
     requires longer { length bytes.old.items ≤ count }
     requires room { count ≤ vec_capacity bytes.old }
-    ensures padded { bytes.new.items ≡ bytes.old.items ++ replicate (count - length bytes.old.items) 0 }
+    ensures padded { bytes.new.items ≡ bytes.old.items
+        ++ replicate (count - length bytes.old.items) 0 }
     ensures capacity { vec_capacity bytes.old ≤ vec_capacity bytes.new }
 {
     let _ = bytes.resize(count, 0);

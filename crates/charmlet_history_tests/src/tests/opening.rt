@@ -128,7 +128,9 @@ fn short_window(alloc: Global) -> Result<Window, AllocError>
 
 // Eight items, of which the first has no reply.
 fn full_window(alloc: Global) -> Result<Window, AllocError>
-    ensures { IfOk result (λ window. window ≡ None ∷ Some (3 ∷ []) ∷ Some [] ∷ Some [] ∷ Some [] ∷ Some [] ∷ Some [] ∷ Some (9 ∷ []) ∷ []) }
+    ensures { IfOk result (λ window. window
+        ≡ None ∷ Some (3 ∷ []) ∷ Some [] ∷ Some [] ∷ Some [] ∷ Some [] ∷ Some [] ∷ Some (9 ∷ [])
+        ∷ []) }
 {
     let early = Words::from_slice(alloc, &[3])?;
     let late = Words::from_slice(alloc, &[9])?;

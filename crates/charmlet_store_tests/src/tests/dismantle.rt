@@ -7,10 +7,10 @@ ghost use Rattle.charmlet_store.specs.Store.{IsStoreConsistent};
 use charmlet_chare::Chare;
 use charmlet_history::{History, Request};
 use charmlet_kinds::Counter;
-use charmlet_model::{CONSTRUCT, Elem, Kind, Manifest};
+use charmlet_model::{CONSTRUCT, Elem, Kind, Manifest, Resident};
+use charmlet_stock::Stock;
 use charmlet_store::{Store, empty_shelves};
 use std::process::Abort;
-use std::test::Fail;
 
 const FIRST: Elem = Elem { array: 2, index: 0 };
 
@@ -19,7 +19,8 @@ const SECOND: Elem = Elem { array: 2, index: 1 };
 // The history of a new store of two processors whose array 2 is of counters.
 fn history_of(rt: &(impl AllocGlobal + Abort)) -> History
     ensures consistent { IsConsistent (kept_in result) }
-    ensures opens { (manifest : List (ℕ × kinds.Kind)) × (core_in result ≡ opened 2 (new_world manifest) 0 1 0) }
+    ensures opens { (manifest : List (ℕ × kinds.Kind))
+        × (core_in result ≡ opened 2 (new_world manifest) 0 1 0) }
 {
     let manifest = Manifest::of(rt.alloc(), &[(2, Kind::Counter.number())])
         .expect(rt, "memory")
@@ -46,30 +47,47 @@ fn construct<C: Chare>(rt: &impl Abort, store: &mut Store<C>, client: u32, elem:
     assert!(rt; store.deliver(processor, id).is_ok());
 }
 
-#[test]
-fn stores_come_apart(rt: HostRuntime) -> Result<(), Fail> {
-    let alloc = rt.alloc();
-    let shelves = empty_shelves(alloc, 2)?;
-    let mut store = Store::new(alloc, history_of(&rt), shelves);
-    let mut blanks = Vec::new(alloc);
+// Three blank counters.
+fn three_counters(rt: &(impl AllocGlobal + Abort)) -> Vec<Counter> {
+    let mut blanks = Vec::new(rt.alloc());
     for _ in 0..3 {
-        blanks.push(Counter::blank())?;
+        assert!(rt; blanks.push(Counter::blank()).is_ok());
     }
-    let supplied = store.supply(blanks);
-    assert!(rt; supplied.is_ok());
+    blanks
+}
+
+// A new store of two processors, which has three blank counters.
+fn new_store(rt: &(impl AllocGlobal + Abort)) -> Store<Counter>
+    ensures { IsStoreConsistent result }
+{
+    let shelves = empty_shelves(rt.alloc(), 2).expect(rt, "shelves");
+    let mut store = Store::new(rt.alloc(), history_of(rt), shelves);
+    assert!(rt; store.supply(three_counters(rt)).is_ok());
+    store
+}
+
+// The elements of these residents, each of which has received one message and sent none.
+fn elems_of(rt: &(impl AllocGlobal + Abort), residents: &[(Elem, Resident<Counter>)]) -> Vec<Elem> {
+    let mut elems = Vec::new(rt.alloc());
+    for (elem, resident) in residents {
+        assert!(rt; (resident.sent, resident.received) == (0, 1));
+        assert!(rt; elems.push(*elem).is_ok());
+    }
+    elems
+}
+
+// How many blank counters are in the stock.
+fn counters_in(stock: &Stock<Counter>) -> u64 {
+    stock.census().counters.in_stock
+}
+
+#[test]
+fn stores_come_apart(rt: HostRuntime) {
+    let mut store = new_store(&rt);
     construct(&rt, &mut store, 7, SECOND);
     construct(&rt, &mut store, 8, FIRST);
-    let Ok(parts) = store.dismantle() else {
-        panic!(rt; "memory is there");
-    };
-    assert_eq!(rt; parts.residents.len(), 2);
-    let mut elems = Vec::new(alloc);
-    for (elem, resident) in &parts.residents {
-        assert!(rt; (resident.sent, resident.received) == (0, 1));
-        elems.push(*elem)?;
-    }
+    let parts = store.dismantle().ok().expect(&rt, "memory is there");
+    let elems = elems_of(&rt, parts.residents.as_slice());
     assert!(rt; elems.as_slice() == [FIRST, SECOND].as_slice());
-    let census = parts.stock.census();
-    assert_eq!(rt; census.get(Kind::Counter).in_stock, 1);
-    Ok(())
+    assert_eq!(rt; counters_in(&parts.stock), 1);
 }

@@ -38,7 +38,11 @@ const TREE: [u8; 8] = [5, 0, 0, 0, 0, 0, 0, 0];
 // The shelf of processor 2, with an element that has sent 4 messages and received 5. Where memory is refused
 // it is placed at the second try.
 fn source_with<C: Chare>(rt: &(impl AllocGlobal + Abort), object: C) -> Shelf<C>
-    ensures { result ≡ record { number = 2; records = (ME, record_in C.state (record { object = object; sent = 4; received = 5 })) ∷ []; phase = phases.Idle } }
+    ensures { result ≡ record {
+      number = 2;
+      records = (ME, record_in C.state (record { object = object; sent = 4; received = 5 })) ∷ [];
+      phase = phases.Idle;
+    } }
 {
     let mut shelf = Shelf::new(rt.alloc(), 2);
     let resident = Resident {
@@ -124,7 +128,8 @@ fn refused_memory_leaves_the_shelves(rt: HostRuntime) {
 
 // The same with a token assigned to the element.
 fn busy_source_with(rt: &(impl AllocGlobal + Abort), ring: Ring) -> Shelf<Ring>
-    ensures { result.records ≡ (ME, record { state = Some (state_of ring); sent = 4; received = 5 }) ∷ [] }
+    ensures { result.records ≡ (ME, record { state = Some (state_of ring); sent = 4; received = 5 })
+        ∷ [] }
 {
     let mut shelf = source_with(rt, ring);
     let message = Message {
@@ -155,7 +160,14 @@ fn nothing_is_copied_during_a_delivery(rt: HostRuntime) {
 
 // The shelf of processor 1, with another element.
 fn other_source_with(rt: &(impl AllocGlobal + Abort), object: Ring) -> Shelf<Ring>
-    ensures { result.records ≡ (OTHER, record { state = Some (state_of object); sent = 4; received = 5 }) ∷ [] }
+    ensures { result.records ≡ (
+      OTHER,
+      record {
+        state = Some (state_of object);
+        sent = 4;
+        received = 5;
+      },
+    ) ∷ [] }
 {
     let mut shelf = Shelf::new(rt.alloc(), 1);
     let resident = Resident {
@@ -280,7 +292,8 @@ fn blanks_become_copies(rt: HostRuntime) {
 // A history of three processors in which nothing has happened.
 fn history_of(rt: &(impl AllocGlobal + Abort)) -> History
     ensures consistent { IsConsistent (kept_in result) }
-    ensures opens { (manifest : List (ℕ × kinds.Kind)) × (core_in result ≡ opened 3 (new_world manifest) 0 1 0) }
+    ensures opens { (manifest : List (ℕ × kinds.Kind))
+        × (core_in result ≡ opened 3 (new_world manifest) 0 1 0) }
 {
     let manifest = Manifest::of(rt.alloc(), &[(2, 2)])
         .expect(rt, "memory")

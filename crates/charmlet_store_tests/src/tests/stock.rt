@@ -100,52 +100,79 @@ fn tally(supplied: u64, in_stock: u64, retired: u64) -> Tally {
     }
 }
 
-// What the census says of counters while blanks come and go.
-fn comes_and_goes<C: Chare>(rt: &impl Abort, alloc: Global, blanks: Vec<C>) -> Result<(), Fail> {
-    let count = blanks.len() as u64;
+// The stock has so many counters that were supplied, are there still, and are retired.
+fn counts<C: Chare>(rt: &impl Abort, stock: &Stock<C>, supplied: u64, in_stock: u64, retired: u64) {
+    let census = stock.census();
+    assert_eq!(rt;
+        *census.get(Kind::Counter),
+        tally(supplied, in_stock, retired)
+    );
+}
+
+// So many probes were dropped.
+fn has_dropped(rt: &impl Abort, drops: &Arc<AtomicU64>, count: u64) {
+    assert_eq!(rt; drops.load(Ordering::SeqCst), count);
+}
+
+// What the census says of counters while three blanks come and go.
+fn comes_and_goes<C: Chare>(rt: &impl Abort, alloc: Global, blanks: Vec<C>) {
     let mut stock = Stock::new(alloc);
     assert!(rt; !borrows(&mut stock, Kind::Counter));
     assert!(rt; stock.supply(blanks).is_ok());
-    assert_eq!(rt; *stock.census().get(Kind::Counter), tally(count, count, 0));
+    counts(rt, &stock, 3, 3, 0);
     assert!(rt; borrows(&mut stock, Kind::Counter));
     assert!(rt; !borrows(&mut stock, Kind::Tape));
-    assert_eq!(rt; *stock.census().get(Kind::Counter), tally(count, count, 0));
+    counts(rt, &stock, 3, 3, 0);
     let taken = stock.take(Kind::Counter);
     assert!(rt; taken.is_some());
-    assert_eq!(rt;
-        *stock.census().get(Kind::Counter),
-        tally(count, count.saturating_sub(1), 0)
-    );
-    assert_eq!(rt; *stock.census().get(Kind::Ring), tally(0, 0, 0));
-    Ok(())
+    counts(rt, &stock, 3, 2, 0);
+    let census = stock.census();
+    assert_eq!(rt; *census.get(Kind::Ring), tally(0, 0, 0));
 }
 
 #[test]
-fn blanks_come_and_go(rt: HostRuntime) -> Result<(), Fail> {
+fn blanks_come_and_go(rt: HostRuntime) {
     let alloc = rt.alloc();
     let mut blanks: Vec<Box<dyn Chare + Send>> = Vec::new(alloc);
     for _ in 0..3 {
-        blanks.push(Box::new(alloc, Counter::blank())?)?;
+        let counter = Box::new(alloc, Counter::blank()).expect(&rt, "a box");
+        assert!(rt; blanks.push(counter).is_ok());
     }
-    comes_and_goes(&rt, alloc, blanks)
+    comes_and_goes(&rt, alloc, blanks);
+}
+
+// A count of drops, at 0.
+fn no_drops(rt: &(impl AllocGlobal + Abort)) -> Arc<AtomicU64> {
+    Arc::new(rt.alloc(), AtomicU64::new(0)).expect(rt, "a count")
+}
+
+// Supplies so many probes.
+fn supplies(
+    rt: &(impl AllocGlobal + Abort),
+    stock: &mut Stock<Probe>,
+    drops: &Arc<AtomicU64>,
+    count: usize,
+)
+    ensures { keeping_of stock.new ≡ keeping_of stock.old }
+{
+    let blanks = probes(rt.alloc(), drops, count).expect(rt, "probes");
+    assert!(rt; stock.supply(blanks).is_ok());
 }
 
 #[test]
-fn retired_objects_are_dropped_at_once(rt: HostRuntime) -> Result<(), Fail> {
-    let alloc = rt.alloc();
-    let drops = Arc::new(alloc, AtomicU64::new(0))?;
-    let mut stock = Stock::new(alloc);
-    assert!(rt; stock.supply(probes(alloc, &drops, 2)?).is_ok());
+fn retired_objects_are_dropped_at_once(rt: HostRuntime) {
+    let drops = no_drops(&rt);
+    let mut stock = Stock::new(rt.alloc());
+    supplies(&rt, &mut stock, &drops, 2);
     assert!(rt; borrows(&mut stock, Kind::Counter));
-    assert_eq!(rt; drops.load(Ordering::SeqCst), 0);
+    has_dropped(&rt, &drops, 0);
     assert!(rt; retires(&mut stock, Kind::Counter));
-    assert_eq!(rt; drops.load(Ordering::SeqCst), 1);
-    assert_eq!(rt; stock.census().counters, tally(2, 1, 1));
+    has_dropped(&rt, &drops, 1);
+    counts(&rt, &stock, 2, 1, 1);
     assert!(rt; retires(&mut stock, Kind::Counter));
     assert!(rt; !retires(&mut stock, Kind::Counter));
-    assert_eq!(rt; drops.load(Ordering::SeqCst), 2);
-    assert_eq!(rt; stock.census().counters, tally(2, 0, 2));
-    Ok(())
+    has_dropped(&rt, &drops, 2);
+    counts(&rt, &stock, 2, 0, 2);
 }
 
 // An empty stock that keeps retired objects.
@@ -158,41 +185,37 @@ fn keeping<C: Chare>(alloc: Global) -> Stock<C>
 }
 
 #[test]
-fn kept_objects_are_taken_back(rt: HostRuntime) -> Result<(), Fail> {
-    let alloc = rt.alloc();
-    let drops = Arc::new(alloc, AtomicU64::new(0))?;
-    let mut stock = keeping(alloc);
-    assert!(rt; stock.supply(probes(alloc, &drops, 3)?).is_ok());
+fn kept_objects_are_taken_back(rt: HostRuntime) {
+    let drops = no_drops(&rt);
+    let mut stock = keeping(rt.alloc());
+    supplies(&rt, &mut stock, &drops, 3);
     assert!(rt; retires(&mut stock, Kind::Counter));
-    assert_eq!(rt; stock.census().counters, tally(3, 2, 1));
+    counts(&rt, &stock, 3, 2, 1);
     assert!(rt; retires(&mut stock, Kind::Counter));
     assert!(rt; retires(&mut stock, Kind::Counter));
     assert!(rt; !retires(&mut stock, Kind::Counter));
-    assert_eq!(rt; stock.census().counters, tally(3, 0, 3));
+    counts(&rt, &stock, 3, 0, 3);
     stock.take_back();
-    assert_eq!(rt; stock.census().counters, tally(3, 3, 0));
-    assert_eq!(rt; drops.load(Ordering::SeqCst), 0);
+    counts(&rt, &stock, 3, 3, 0);
+    has_dropped(&rt, &drops, 0);
     assert!(rt; retires(&mut stock, Kind::Counter));
-    assert_eq!(rt; drops.load(Ordering::SeqCst), 0);
-    Ok(())
+    has_dropped(&rt, &drops, 0);
 }
 
 #[test]
-fn kept_objects_are_dropped_together(rt: HostRuntime) -> Result<(), Fail> {
-    let alloc = rt.alloc();
-    let drops = Arc::new(alloc, AtomicU64::new(0))?;
-    let mut stock = keeping(alloc);
-    assert!(rt; stock.supply(probes(alloc, &drops, 4)?).is_ok());
+fn kept_objects_are_dropped_together(rt: HostRuntime) {
+    let drops = no_drops(&rt);
+    let mut stock = keeping(rt.alloc());
+    supplies(&rt, &mut stock, &drops, 4);
     assert!(rt; retires(&mut stock, Kind::Counter));
     assert!(rt; retires(&mut stock, Kind::Counter));
-    assert_eq!(rt; drops.load(Ordering::SeqCst), 0);
+    has_dropped(&rt, &drops, 0);
     stock.drop_retired();
-    assert_eq!(rt; drops.load(Ordering::SeqCst), 2);
-    assert_eq!(rt; stock.census().counters, tally(4, 2, 2));
+    has_dropped(&rt, &drops, 2);
+    counts(&rt, &stock, 4, 2, 2);
     assert!(rt; retires(&mut stock, Kind::Counter));
-    assert_eq!(rt; drops.load(Ordering::SeqCst), 3);
-    assert_eq!(rt; stock.census().counters, tally(4, 1, 3));
-    Ok(())
+    has_dropped(&rt, &drops, 3);
+    counts(&rt, &stock, 4, 1, 3);
 }
 
 // Draws so many blanks, where there are that many. Whether it did.
@@ -204,44 +227,47 @@ fn draws<C: Chare>(stock: &mut Stock<C>, source: &mut Stock<C>, count: u64) -> b
 }
 
 #[test]
-fn blanks_are_drawn_from_another_stock(rt: HostRuntime) -> Result<(), Fail> {
-    let alloc = rt.alloc();
-    let drops = Arc::new(alloc, AtomicU64::new(0))?;
-    let mut source = Stock::new(alloc);
-    assert!(rt; source.supply(probes(alloc, &drops, 5)?).is_ok());
-    let mut stock = Stock::new(alloc);
+fn blanks_are_drawn_from_another_stock(rt: HostRuntime) {
+    let drops = no_drops(&rt);
+    let mut source = Stock::new(rt.alloc());
+    supplies(&rt, &mut source, &drops, 5);
+    let mut stock = Stock::new(rt.alloc());
     assert!(rt; draws(&mut stock, &mut source, 3));
     assert!(rt; !draws(&mut stock, &mut source, 3));
     assert!(rt; draws(&mut stock, &mut source, 0));
-    assert_eq!(rt; stock.census().counters, tally(3, 3, 0));
-    assert_eq!(rt; source.census().counters, tally(5, 2, 0));
-    assert_eq!(rt; drops.load(Ordering::SeqCst), 0);
-    Ok(())
+    counts(&rt, &stock, 3, 3, 0);
+    counts(&rt, &source, 5, 2, 0);
+    has_dropped(&rt, &drops, 0);
 }
 
-// Supplies blanks, draws one and puts it back. Where memory is refused nothing is lost, and it is tried
-// once more.
-fn survives<C: Chare>(
-    rt: &impl Abort,
-    source: &mut Stock<C>,
-    stock: &mut Stock<C>,
-    blanks: Vec<C>,
-) -> Result<(), Fail> {
-    let before = source.census();
-    if let Err(back) = source.supply(blanks) {
+// Supplies three blanks. Where memory is refused nothing is lost, and it is tried once more.
+fn supplies_again<C: Chare>(rt: &impl Abort, stock: &mut Stock<C>, blanks: Vec<C>) {
+    let before = stock.census();
+    if let Err(back) = stock.supply(blanks) {
         assert_eq!(rt; back.len(), 3);
-        assert!(rt; source.census() == before);
-        assert!(rt; source.supply(back).is_ok());
+        assert!(rt; stock.census() == before);
+        assert!(rt; stock.supply(back).is_ok());
     }
+}
+
+// Draws two of three blanks. Where memory is refused nothing is lost, and it is tried once more.
+fn draws_again<C: Chare>(rt: &impl Abort, stock: &mut Stock<C>, source: &mut Stock<C>) {
     if !draws(stock, source, 2) {
-        assert_eq!(rt; stock.census().counters, tally(0, 0, 0));
-        assert_eq!(rt; source.census().counters, tally(3, 3, 0));
+        counts(rt, stock, 0, 0, 0);
+        counts(rt, source, 3, 3, 0);
         assert!(rt; draws(stock, source, 2));
     }
-    assert_eq!(rt; stock.census().counters, tally(2, 2, 0));
-    assert_eq!(rt; source.census().counters, tally(3, 1, 0));
-    assert!(rt; borrows(source, Kind::Counter) && borrows(stock, Kind::Counter));
-    Ok(())
+}
+
+// Supplies blanks, draws two of them and puts one back in each stock.
+fn survives<C: Chare>(rt: &impl Abort, alloc: Global, blanks: Vec<C>) {
+    let mut source = Stock::new(alloc);
+    supplies_again(rt, &mut source, blanks);
+    let mut stock = Stock::new(alloc);
+    draws_again(rt, &mut stock, &mut source);
+    counts(rt, &stock, 2, 2, 0);
+    counts(rt, &source, 3, 1, 0);
+    assert!(rt; borrows(&mut source, Kind::Counter) && borrows(&mut stock, Kind::Counter));
 }
 
 #[test]
@@ -256,18 +282,15 @@ fn refused_memory_loses_no_blank(rt: HostRuntime) -> Result<(), Fail> {
         Err(_) => probes(alloc, &drops, 3)?,
     };
     let dropped = drops.load(Ordering::SeqCst);
-    survives(&rt, &mut Stock::new(alloc), &mut Stock::new(alloc), blanks)?;
+    survives(&rt, alloc, blanks);
     assert_eq!(rt; drops.load(Ordering::SeqCst).saturating_sub(dropped), 3);
     Ok(())
 }
 
 #[test]
-fn drawing_meets_no_refusal(rt: HostRuntime) -> Result<(), Fail> {
-    let alloc = rt.alloc();
-    let mut source = Stock::new(alloc);
-    let drops = Arc::new(alloc, AtomicU64::new(0))?;
-    let blanks = probes(alloc, &drops, 3)?;
-    assert!(rt; source.supply(blanks).is_ok());
-    assert!(rt; draws(&mut Stock::new(alloc), &mut source, 2));
-    Ok(())
+fn drawing_meets_no_refusal(rt: HostRuntime) {
+    let drops = no_drops(&rt);
+    let mut source = Stock::new(rt.alloc());
+    supplies(&rt, &mut source, &drops, 3);
+    assert!(rt; draws(&mut Stock::new(rt.alloc()), &mut source, 2));
 }

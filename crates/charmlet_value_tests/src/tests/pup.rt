@@ -23,13 +23,23 @@ struct Sample {
 }
 
 impl Pup for Sample {
-    ghost bytes = { λ s. u8_bytes s.narrow ++ (u16_bytes s.short ++ (u32_bytes s.wide ++ (u64_bytes s.long ++ (flag_bytes s.is_open ++ (words_bytes s.words.items ++ byte_list s.name.items))))) };
+    ghost bytes = { λ s. u8_bytes s.narrow
+        ++ (u16_bytes s.short ++ (u32_bytes s.wide
+        ++ (u64_bytes s.long ++ (flag_bytes s.is_open
+        ++ (words_bytes s.words.items ++ byte_list s.name.items))))) };
 
-    ghost reads = { reads_then reads_u8 (reads_then reads_u16 (reads_then reads_u32 (reads_then reads_u64 (reads_then reads_flag (reads_then (reads_words 64) (reads_byte_list 16)))))) };
+    ghost reads = { reads_then reads_u8
+        (reads_then reads_u16 (reads_then reads_u32
+        (reads_then reads_u64 (reads_then reads_flag
+        (reads_then (reads_words 64) (reads_byte_list 16)))))) };
 
     ghost keeps_limits = { λ s. (length s.words.items ≤ 64) × (length s.name.items ≤ 16) };
 
-    ghost has_room = { λ s. RoomThen reads_u8 AnyRoom (RoomThen reads_u16 AnyRoom (RoomThen reads_u32 AnyRoom (RoomThen reads_u64 AnyRoom (RoomThen reads_flag AnyRoom (RoomThen (reads_words 64) (RoomForWords (vec_capacity s.words)) (RoomForBytes (vec_capacity s.name))))))) };
+    ghost has_room = { λ s. RoomThen reads_u8 AnyRoom
+        (RoomThen reads_u16 AnyRoom (RoomThen reads_u32 AnyRoom
+        (RoomThen reads_u64 AnyRoom (RoomThen reads_flag AnyRoom
+        (RoomThen (reads_words 64) (RoomForWords (vec_capacity s.words))
+        (RoomForBytes (vec_capacity s.name))))))) };
 
     fn pup(&mut self, er: &mut Er<'_>) -> Result<(), PupFault> {
         er.u8(&mut self.narrow)?;
@@ -41,7 +51,13 @@ impl Pup for Sample {
         er.bytes(&mut self.name, 16)
     }
 
-    ghost reads_back = { λ s within. ReadsBack-then _ _ _ _ (ReadsBack-u8 s.narrow) (ReadsBack-then _ _ _ _ (ReadsBack-u16 s.short) (ReadsBack-then _ _ _ _ (ReadsBack-u32 s.wide) (ReadsBack-then _ _ _ _ (ReadsBack-u64 s.long) (ReadsBack-then _ _ _ _ (ReadsBack-flag s.is_open) (ReadsBack-then _ _ _ _ (ReadsBack-words 64 s.words.items within.0 (lit< tt)) (ReadsBack-byte_list 16 s.name.items within.1 (lit< tt))))))) };
+    ghost reads_back = { λ s within. ReadsBack-then _ _ _ _ (ReadsBack-u8 s.narrow)
+        (ReadsBack-then _ _ _ _ (ReadsBack-u16 s.short)
+        (ReadsBack-then _ _ _ _ (ReadsBack-u32 s.wide)
+        (ReadsBack-then _ _ _ _ (ReadsBack-u64 s.long)
+        (ReadsBack-then _ _ _ _ (ReadsBack-flag s.is_open)
+        (ReadsBack-then _ _ _ _ (ReadsBack-words 64 s.words.items within.0 (lit< tt))
+        (ReadsBack-byte_list 16 s.name.items within.1 (lit< tt))))))) };
 }
 
 // At most 64 numbers.
@@ -77,13 +93,15 @@ struct Parcel {
 }
 
 impl Pup for Parcel {
-    ghost bytes = { λ p. u32_bytes p.number ++ (flag_bytes p.is_sealed ++ byte_list p.label.items) };
+    ghost bytes = { λ p. u32_bytes p.number
+        ++ (flag_bytes p.is_sealed ++ byte_list p.label.items) };
 
     ghost reads = { reads_then reads_u32 (reads_then reads_flag (reads_byte_list 16)) };
 
     ghost keeps_limits = { λ p. length p.label.items ≤ 16 };
 
-    ghost has_room = { λ p. RoomThen reads_u32 AnyRoom (RoomThen reads_flag AnyRoom (RoomForBytes (vec_capacity p.label))) };
+    ghost has_room = { λ p. RoomThen reads_u32 AnyRoom
+        (RoomThen reads_flag AnyRoom (RoomForBytes (vec_capacity p.label))) };
 
     fn pup(&mut self, er: &mut Er<'_>) -> Result<(), PupFault> {
         er.u32(&mut self.number)?;
@@ -91,7 +109,9 @@ impl Pup for Parcel {
         er.bytes(&mut self.label, 16)
     }
 
-    ghost reads_back = { λ p short. ReadsBack-then _ _ _ _ (ReadsBack-u32 p.number) (ReadsBack-then _ _ _ _ (ReadsBack-flag p.is_sealed) (ReadsBack-byte_list 16 p.label.items short (lit< tt))) };
+    ghost reads_back = { λ p short. ReadsBack-then _ _ _ _ (ReadsBack-u32 p.number)
+        (ReadsBack-then _ _ _ _ (ReadsBack-flag p.is_sealed)
+        (ReadsBack-byte_list 16 p.label.items short (lit< tt))) };
 }
 
 // At most 4 bytes.

@@ -22,26 +22,28 @@ pub returns-in-Ok-create-clause-ok : goal.returns-in-Ok-create-clause-ok
 returns-in-Ok-create-clause-ok g c =
     let kinds = c.in_ok-manifest.manifest in
     let arrays = same_arrays c.args.script.now kinds c.in_ok-manifest.ensures.manifest in
-    let first = core_in c.in-Ok-create.engine.store.history in
+    let first = core_in c.note_events.new.self.store.history in
+    let opens = c.note_events.ensures.core ∙ c.in-Ok-create.ensures.opens in
+    let disk = c.note_events.ensures.disk in
     let last = core_in c.run_lines.new.engine.store.history in
     let on = c.run_lines.ensures.advances.onward in
     let sound = c.run_lines.ensures.consistent.shows.history.sound in
     let events = c.in_ok-events-in-Ok-create.events.items in
-    let are : events ≡ last.history = c.in_ok-events-in-Ok-create.ensures ∙ c.events.ensures in
+    let are : events ≡ last.history = c.in_ok-events-in-Ok-create.ensures ∙ rw c.in-Some.is at c.events.ensures in
     let durable = c.durable.result in
     let fuse : c.new-fuse.result.disk ≡ c.args.disk = c.new-fuse.ensures.disk in
     let inner : c.inner.result ≡ c.run_lines.new.engine.halves.disk.disk = c.inner.ensures ∙ ap (λ fuse. fuse.disk) c.into_disk.ensures in
-    let forth = λ (h : g.D.Disk.honest c.args.disk). c.run_lines.ensures.advances.honest.0 (c.in-Ok-create.ensures.honest.0 (subst g.D.Disk.honest (sym fuse) h)) in
+    let forth = λ (h : g.D.Disk.honest c.args.disk). c.run_lines.ensures.advances.honest.0 (subst (λ fuse. g.D.Disk.honest fuse.disk) (sym disk) (c.in-Ok-create.ensures.honest.0 (subst g.D.Disk.honest (sym fuse) h))) in
     subst (λ (k : Kinds). IsRound g.D.Disk k c.args.disk (record { disk = c.inner.result; events = c.in_ok-events-in-Ok-create.events; durable = Some durable; is_stopped = c.is_halted-is_stopped.result })) (sym arrays) (record {
-      legal = legal_events kinds c.processors.result first last c.in-Ok-create.ensures.opens on events are durable c.durable.ensures sound;
-      within = durable_within kinds c.processors.result first last c.in-Ok-create.ensures.opens on events are durable c.durable.ensures sound;
+      legal = legal_events kinds c.processors.result first last opens on events are durable c.durable.ensures sound;
+      within = durable_within kinds c.processors.result first last opens on events are durable c.durable.ensures sound;
       made = λ _. refl;
       honest = (
         (λ h. subst g.D.Disk.honest (sym inner) (forth h)),
-        (λ h. subst g.D.Disk.honest fuse (c.in-Ok-create.ensures.honest.1 (c.run_lines.ensures.advances.honest.1 (subst g.D.Disk.honest inner h)))),
+        (λ h. subst g.D.Disk.honest fuse (c.in-Ok-create.ensures.honest.1 (subst (λ fuse. g.D.Disk.honest fuse.disk) disk (c.run_lines.ensures.advances.honest.1 (subst g.D.Disk.honest inner h))))),
       );
       now = λ honest _ _ o left.
-          lawful_events kinds c.processors.result first last c.in-Ok-create.ensures.opens on events are durable c.durable.ensures o
+          lawful_events kinds c.processors.result first last opens on events are durable c.durable.ensures o
           (lawful_now last c.run_lines.new.engine.halves (c.run_lines.ensures.consistent.keeps (forth honest)) o (subst (λ d. MayLeave (g.D.Disk.file d) o) inner left));
     })
 

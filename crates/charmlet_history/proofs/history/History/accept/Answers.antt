@@ -1,5 +1,4 @@
-use Rattle.std.specs.Vec.{vec_len, vec_capacity}
-use Rattle.std.proofs.Common.{◌≡◌, ◌≤◌, ◌+◌, ◌++◌, ◌∷◌, [], sym, subst, arith}
+use Rattle.std.proofs.Common.{◌++◌, ◌∷◌, [], sym, subst, arith}
 use Rattle.std.specs.Prelude.{IfSome}
 use Rattle.std.specs.Ordering.{nat_cmp}
 use Rattle.std.specs.BTreeMap.{is_at}
@@ -19,9 +18,7 @@ returns-clause-room c = λ consistent processor room.
     let new = record h { present = c.accept.new.self; events = c.push-2.new.self; backlog = c.push.new.self } in
     let r = c.args.request.now in
     let m : Message = request r.client r.number r.to r.entry c.in_ok-words.words in
-    let events_len : vec_len c.push-2.new.self ≡ vec_len c.reserve.new.self + 1 = c.in_ok-push.ensures.len in
-    let events_room : vec_capacity c.reserve.new.self ≤ vec_capacity c.push-2.new.self = c.in_ok-push.ensures.capacity in
-    let space : HasSpace new = (omega (arith, c.in_ok-reserve.ensures.ok), c.push.ensures.room 1 c.in_ok-reserve-2.ensures.room) in
+    let space : HasSpace new = (omega (arith, c.in_ok-reserve.ensures.ok, c.push-2.ensures.room), c.push.ensures.room 1 c.in_ok-reserve-2.ensures.room) in
     let stay = receiver_stays k consistent processor (m ∷ []) (λ id. HasSpace new)
     (IfSome-map (HasRoomFor h) (λ id. HasSpace new × IfSome (message_among id k.pending) (HasEntry k.elements)) (lookup (is_at (nat_cmp processor)) k.assigned)
     (λ id room. (space, room.receiver)) room) in
@@ -34,6 +31,6 @@ returns-in_err-reserve-2-clause-room c = λ consistent processor room.
     let new = record h { events = c.reserve.new.self; backlog = c.reserve-2.new.self } in
     IfSome-map (HasRoomFor h) (HasRoomFor new) (lookup (is_at (nat_cmp processor)) h.assigned.entries)
     (λ id r. record {
-      space = (omega (arith, r.space.0, c.reserve.ensures.len, c.reserve.ensures.capacity), c.reserve-2.ensures.stays 1 r.space.1);
+      space = (omega (arith, r.space.0, c.reserve.ensures.room), c.reserve-2.ensures.stays 1 r.space.1);
       receiver = r.receiver;
     }) room

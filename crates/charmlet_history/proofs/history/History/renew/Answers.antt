@@ -19,8 +19,9 @@ returns-clause-consistent c =
     let counted : c.len.result ≡ length (kept_in c.make_durable.new.self).events = search rules in
     let count : c.len.result ≡ length k.events = counted ∙ ap (λ (j : Kept). length j.events) made in
     let none : c.clear.new.self.items ≡ [] = c.clear.ensures.items in
-    let next : Kept → World → ℕ → List Event → Kept = λ j w n es. record j { opening = w; before = j.before + n; events = es; durable = 0 } in
-    subst IsConsistent (sym (λ i. next (made i) (world i) (count i) (none i))) (renewed_consistent k backlog c.requires c.make_durable.ensures.empty)
+    let settled : c.clear.new.self.durable ≡ 0 = c.clear.ensures.durable in
+    let next : Kept → World → ℕ → List Event → ℕ → Kept = λ j w n es m. record j { opening = w; before = j.before + n; events = es; durable = m } in
+    subst IsConsistent (sym (λ i. next (made i) (world i) (count i) (none i) (settled i))) (renewed_consistent k backlog c.requires c.make_durable.ensures.empty)
 
 pub returns-clause-renewed : goal.returns-clause-renewed
 returns-clause-renewed c =
@@ -32,5 +33,6 @@ returns-clause-renewed c =
     let counted : c.len.result ≡ length (kept_in c.make_durable.new.self).events = search rules in
     let count : c.len.result ≡ length k.events = counted ∙ ap (λ (j : Kept). length j.events) made in
     let none : c.clear.new.self.items ≡ [] = c.clear.ensures.items in
-    let next : Kept → World → ℕ → List Event → Kept = λ j w n es. record j { opening = w; before = j.before + n; events = es; durable = 0 } in
-    λ i. core_of (next (made i) (world i) (count i) (none i))
+    let settled : c.clear.new.self.durable ≡ 0 = c.clear.ensures.durable in
+    let next : Kept → World → ℕ → List Event → ℕ → Kept = λ j w n es m. record j { opening = w; before = j.before + n; events = es; durable = m } in
+    λ i. core_of (next (made i) (world i) (count i) (none i) (settled i))

@@ -1,0 +1,3 @@
+mod faults;
+mod lives;
+mod past;

@@ -1,0 +1,5 @@
+mod close;
+mod full;
+mod looks;
+mod rows;
+mod steps;

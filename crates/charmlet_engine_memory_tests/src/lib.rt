@@ -1,0 +1,5 @@
+//! Tests of engines on refused memory.
+#![tactic(auto)]
+
+#[cfg(test)]
+mod tests;

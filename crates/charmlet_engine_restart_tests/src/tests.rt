@@ -1,0 +1,5 @@
+mod faults;
+mod homes;
+mod old;
+mod refused;
+mod stores;

@@ -1,0 +1,1 @@
+-- Loop invariants alone.

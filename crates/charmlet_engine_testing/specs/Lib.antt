@@ -1,0 +1,1 @@
+-- The helpers cite no definition of their own.

@@ -1,9 +1,0 @@
-mod close;
-mod engines;
-mod faults;
-mod full;
-mod lives;
-mod looks;
-mod memory;
-mod restarts;
-mod rows;

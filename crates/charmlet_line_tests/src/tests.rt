@@ -1,0 +1,4 @@
+mod engines;
+mod roomy;
+mod steps;
+mod transcripts;

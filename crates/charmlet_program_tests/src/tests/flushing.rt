@@ -1,0 +1,99 @@
+//! When what is printed reaches its reader.
+
+use super::probe::{Notes, new_notes, probes};
+use super::runs::{run_anew, script_of};
+use charmlet_cli::RunError;
+use std::io;
+use std::io::{BufWriter, ErrorKind, Write};
+use std::process::Abort;
+use std::sync::Arc;
+
+// An output that notes, at each flush, how many bytes it took and how many entries were run. Past so many
+// flushes it fails.
+#[derive(Drop)]
+struct Flushed {
+    taken: Vec<u8>,
+    at: Vec<(usize, u64)>,
+    most: usize,
+    notes: Arc<Notes>,
+}
+
+impl Write for Flushed {
+    fn write(&mut self, bytes: &[u8]) -> io::Result<usize> {
+        self.taken.extend_from_slice(bytes)?;
+        Ok(bytes.len())
+    }
+
+    fn flush(&mut self) -> io::Result<()> {
+        if self.at.len() >= self.most {
+            return Err(io::Error::from(ErrorKind::BrokenPipe));
+        }
+        let entries = self.notes.entries();
+        self.at.push((self.taken.len(), entries))?;
+        Ok(())
+    }
+}
+
+// Two of the lines run an entry: `deliver` and `drain`.
+const ENTERED: &str = "\
+array 0 1
+supply 1 1
+req 7 1 0 0 65535 5
+deliver 0 c7.1
+req 8 1 0 0 0 3
+drain 9
+flush
+census
+pending
+state 0 0
+";
+
+// The last byte of each line that they print, and how many entries were run by then.
+const REACHED: [(usize, u64); 9] = [
+    (13, 0),
+    (26, 0),
+    (41, 1),
+    (54, 1),
+    (71, 2),
+    (81, 2),
+    (129, 2),
+    (139, 2),
+    (189, 2),
+];
+
+// An output that takes so many flushes.
+fn output_with(rt: &(impl AllocGlobal + Abort), notes: &Arc<Notes>, most: usize) -> Flushed {
+    let notes = notes.clone().expect(rt, "they are shared");
+    Flushed {
+        taken: Vec::new(rt.alloc()),
+        at: Vec::new(rt.alloc()),
+        most,
+        notes,
+    }
+}
+
+#[test]
+fn each_line_is_flushed_before_the_next_one_runs(rt: HostRuntime) {
+    let notes = new_notes(&rt);
+    let blanks = probes(&rt, &notes, 1);
+    let output = output_with(&rt, &notes, 100);
+    let mut writer = BufWriter::new(rt.alloc(), output).expect(&rt, "a buffer");
+    let ran = run_anew(rt.alloc(), &script_of(&rt, ENTERED), blanks, &mut writer);
+    assert!(rt; ran.is_ok());
+    let output = writer.get_ref();
+    assert_eq!(rt; output.at.as_slice(), REACHED.as_slice());
+}
+
+#[test]
+fn failed_flush_ends_the_run(rt: HostRuntime) {
+    let notes = new_notes(&rt);
+    let blanks = probes(&rt, &notes, 1);
+    let mut output = output_with(&rt, &notes, 1);
+    let ran = run_anew(rt.alloc(), &script_of(&rt, ENTERED), blanks, &mut output);
+    assert!(rt; matches!(&ran, Err(RunError::Output(_))));
+    assert_eq!(rt;
+        output.taken.as_slice(),
+        b"supplied 1 1\ntold unknown\n".as_slice()
+    );
+    assert_eq!(rt; notes.entries(), 0);
+}

@@ -1,0 +1,4 @@
+mod disks;
+mod halting;
+mod restarts;
+mod stores;

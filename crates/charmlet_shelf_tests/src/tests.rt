@@ -1,0 +1,2 @@
+mod packing;
+mod shelf;
