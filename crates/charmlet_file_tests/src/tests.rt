@@ -2,7 +2,13 @@ mod calls;
 mod folders;
 mod halves;
 
+use charmlet_disk::{DeviceFault, Disk, FileDisk};
+use charmlet_model::Half;
+use std::process::Abort;
 use std::{fs, io};
+
+// No test reads more bytes at once.
+const MAX_READ: usize = 8;
 
 // An empty folder of this name, whatever an earlier run left there.
 fn make_folder(rt: &HostRuntime, folder: &str) -> io::Result<()> {
@@ -20,4 +26,86 @@ fn count_names(rt: &HostRuntime, folder: &str) -> io::Result<u64> {
         names = names.saturating_add(1);
     }
     Ok(names)
+}
+
+// The same, or none where the folder can't be read.
+fn names_in(rt: &HostRuntime, folder: &str) -> Option<u64> {
+    count_names(rt, folder).ok()
+}
+
+// Whether something has this path.
+fn exists(rt: &HostRuntime, path: &str) -> bool {
+    fs::metadata(rt, path).is_ok()
+}
+
+// So many calls were faults.
+fn has_failures(rt: &impl Abort, disk: &FileDisk, failures: u64) {
+    assert_eq!(rt; disk.failures(), failures);
+}
+
+// A half is of this length.
+fn has_len(rt: &impl Abort, disk: &mut FileDisk, half: Half, len: u64) {
+    assert_eq!(rt; disk.len(half), Ok(len), "{half}");
+}
+
+// The bytes are written.
+fn writes(rt: &impl Abort, disk: &mut FileDisk, half: Half, offset: u64, bytes: &[u8]) {
+    let written = disk.write_at(half, offset, bytes);
+    assert_eq!(rt; written, Ok(()), "{half} at {offset}: {bytes:?}");
+}
+
+// The bytes can't be written there, and that counts.
+fn fails_to_write(rt: &impl Abort, disk: &mut FileDisk, half: Half, offset: u64, bytes: &[u8]) {
+    let before = disk.failures();
+    let written = disk.write_at(half, offset, bytes);
+    assert_eq!(rt; written, Err(DeviceFault), "{half} at {offset}: {bytes:?}");
+    has_failures(rt, disk, before.saturating_add(1));
+}
+
+// These bytes are read.
+fn reads(rt: &impl Abort, disk: &mut FileDisk, half: Half, offset: u64, bytes: &[u8]) {
+    let mut into = [9; MAX_READ];
+    let count = bytes.len().min(MAX_READ);
+    let read = disk.read_at(half, offset, &mut into[..count]);
+    assert_eq!(rt; read, Ok(()), "{half} at {offset}");
+    assert_eq!(rt; &into[..count], bytes, "{half} at {offset}");
+}
+
+// So many bytes can't be read there, and that counts.
+fn fails_to_read(rt: &impl Abort, disk: &mut FileDisk, half: Half, offset: u64, count: usize) {
+    let before = disk.failures();
+    let mut into = [9; MAX_READ];
+    let count = count.min(MAX_READ);
+    let read = disk.read_at(half, offset, &mut into[..count]);
+    assert_eq!(rt; read, Err(DeviceFault), "{half} at {offset}");
+    has_failures(rt, disk, before.saturating_add(1));
+}
+
+// A half is synced.
+fn syncs(rt: &impl Abort, disk: &mut FileDisk, half: Half) {
+    assert_eq!(rt; disk.sync(half), Ok(()), "{half}");
+}
+
+// A half can't be synced, and that counts.
+fn fails_to_sync(rt: &impl Abort, disk: &mut FileDisk, half: Half) {
+    let before = disk.failures();
+    assert_eq!(rt; disk.sync(half), Err(DeviceFault), "{half}");
+    has_failures(rt, disk, before.saturating_add(1));
+}
+
+// Each call of this half but its sync is a fault, and counts.
+fn half_has_faults(rt: &impl Abort, disk: &mut FileDisk, half: Half) {
+    let before = disk.failures();
+    assert_eq!(rt; disk.len(half), Err(DeviceFault), "{half}");
+    has_failures(rt, disk, before.saturating_add(1));
+    fails_to_read(rt, disk, half, 0, 0);
+    fails_to_write(rt, disk, half, 0, b"a");
+}
+
+// Each call of the disk is a fault, and counts.
+fn has_faults(rt: &impl Abort, disk: &mut FileDisk) {
+    for half in [Half::Zero, Half::One] {
+        half_has_faults(rt, disk, half);
+        fails_to_sync(rt, disk, half);
+    }
 }

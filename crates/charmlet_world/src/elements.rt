@@ -62,13 +62,20 @@ impl Elements {
         }
     }
 
+    /// No elements, and room for so many. It fails only for lack of memory.
+    fn with_room(alloc: Global, count: usize) -> Result<Self, AllocError>
+        ensures { IfOk result (λ elements. elements.entries ≡ []) }
+    {
+        let mut rows = IndexMap::new(alloc);
+        rows.reserve(count)?;
+        Ok(Elements { rows, expected: 0 })
+    }
+
     /// What this tree has, and nothing else. It fails only for lack of memory.
     pub fn of_tree(alloc: Global, tree: BTreeMap<Elem, Element>) -> Result<Self, AllocError>
         ensures { IfOk result (λ elements. risen elements.entries ≡ tree.entries) }
     {
-        // The length is what says that the keys rise.
-        let _len = tree.len();
-        let mut elements = Elements::new(alloc);
+        let mut elements = Elements::with_room(alloc, tree.len())?;
         for (elem, element) in tree {
             elements.put(elem, element)?;
         }

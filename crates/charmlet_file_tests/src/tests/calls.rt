@@ -1,11 +1,11 @@
 // The same calls of a disk of files and of one in memory give the same answers, and leave the same bytes.
 ghost use Rattle.std.specs.Prelude.{◌≤◌};
 
-use super::make_folder;
+use super::{has_failures, make_folder};
 use charmlet_disk::{DeviceFault, Disk, FileDisk, MemDisk};
 use charmlet_model::Half;
 use std::fs;
-use std::test::Fail;
+use std::process::Abort;
 
 // No half grows longer, so that it has up to three pages of a file system.
 const MAX_LEN: usize = 9000;
@@ -122,70 +122,118 @@ fn contents<D: Disk>(disk: &mut D, half: Half, into: &mut [u8]) -> Result<u64, D
     Ok(len)
 }
 
-#[test]
-fn files_answer_as_memory_does(rt: HostRuntime) -> Result<(), Fail> {
-    let folder = "file_disk_calls";
-    let mut numbers = Numbers(2718);
-    let (mut of_files, mut of_memory) = ([0; MAX_LEN], [0; MAX_LEN]);
-    for sequence in 0..200 {
-        make_folder(&rt, folder)?;
-        let mut files = FileDisk::new(rt, folder)?;
-        let mut memory = MemDisk::new(rt.alloc());
-        for number in 0..24 {
-            let call = numbers.call();
-            let answer = make(&mut files, call, &mut of_files);
-            assert!(rt; answer.is_ok(), "{sequence}, {number}: {call:?}");
-            assert_eq!(rt;
-                answer,
-                make(&mut memory, call, &mut of_memory),
-                "{sequence}, {number}: {call:?}"
-            );
-            assert!(rt; of_files == of_memory, "{sequence}, {number}: {call:?}");
-            assert_eq!(rt; files.failures(), memory.failures());
-            if numbers.next() % 8 == 0 {
-                drop(files);
-                files = FileDisk::new(rt, folder)?;
-            }
+// What reads of both disks filled.
+#[derive(Drop)]
+struct Buffers {
+    of_files: [u8; MAX_LEN],
+    of_memory: [u8; MAX_LEN],
+}
+
+// The call has the same answer on both disks, and reads the same bytes.
+fn make_both(
+    rt: &impl Abort,
+    files: &mut FileDisk,
+    memory: &mut MemDisk,
+    call: Call,
+    buffers: &mut Buffers,
+) {
+    let answer = make(files, call, &mut buffers.of_files);
+    assert!(rt; answer.is_ok(), "{call:?}");
+    assert_eq!(rt;
+        answer,
+        make(memory, call, &mut buffers.of_memory),
+        "{call:?}"
+    );
+    assert!(rt; buffers.of_files == buffers.of_memory, "{call:?}");
+    assert_eq!(rt; files.failures(), memory.failures(), "{call:?}");
+}
+
+// A half has the same bytes on both disks.
+fn compare(
+    rt: &impl Abort,
+    files: &mut FileDisk,
+    memory: &mut MemDisk,
+    half: Half,
+    buffers: &mut Buffers,
+) {
+    let len = contents(files, half, &mut buffers.of_files);
+    assert!(rt; len.is_ok(), "{half}");
+    assert_eq!(rt;
+        len,
+        contents(memory, half, &mut buffers.of_memory),
+        "{half}"
+    );
+    assert!(rt; buffers.of_files == buffers.of_memory, "{half}");
+}
+
+// The disk is dropped, and its folder opened anew.
+fn reopened(host: HostRuntime, rt: &impl Abort, folder: &str, files: FileDisk) -> FileDisk {
+    drop(files);
+    FileDisk::new(host, folder).expect(rt, "memory")
+}
+
+// Some calls on new disks, after which both halves are compared.
+fn run_sequence(
+    host: HostRuntime,
+    rt: &impl Abort,
+    folder: &str,
+    numbers: &mut Numbers,
+    buffers: &mut Buffers,
+) {
+    let mut files = FileDisk::new(host, folder).expect(rt, "memory");
+    let mut memory = MemDisk::new(host.alloc());
+    for _ in 0..24 {
+        make_both(rt, &mut files, &mut memory, numbers.call(), buffers);
+        if numbers.next() % 8 == 0 {
+            files = reopened(host, rt, folder, files);
         }
-        for half in [Half::Zero, Half::One] {
-            let len = contents(&mut files, half, &mut of_files);
-            assert!(rt; len.is_ok(), "{sequence}: {half}");
-            assert_eq!(rt;
-                len,
-                contents(&mut memory, half, &mut of_memory),
-                "{sequence}: {half}"
-            );
-            assert!(rt; of_files == of_memory, "{sequence}: {half}");
-        }
-        drop(files);
-        fs::remove_dir_all(&rt, folder)?;
     }
-    Ok(())
+    for half in [Half::Zero, Half::One] {
+        compare(rt, &mut files, &mut memory, half, buffers);
+    }
+}
+
+#[test]
+fn files_answer_as_memory_does(rt: HostRuntime) {
+    let mut numbers = Numbers(2718);
+    let mut buffers = Buffers {
+        of_files: [0; MAX_LEN],
+        of_memory: [0; MAX_LEN],
+    };
+    let folder = "file_disk_calls";
+    for _ in 0..200 {
+        make_folder(&rt, folder).expect(&rt, "an empty folder");
+        run_sequence(rt, &rt, folder, &mut numbers, &mut buffers);
+        fs::remove_dir_all(&rt, folder).expect(&rt, "a folder");
+    }
+}
+
+// Makes a call, one time in four a write past the end, and says whether it is a fault.
+fn is_fault(disk: &mut FileDisk, numbers: &mut Numbers, buffer: &mut [u8]) -> bool {
+    let call = numbers.call();
+    if numbers.next() % 4 == 0 {
+        disk.write_at(numbers.half(), 1 << 40, buffer).is_err()
+    } else {
+        make(disk, call, buffer).is_err()
+    }
 }
 
 // This holds also where any call of the system is refused that reads, writes or syncs a half.
 #[test]
-fn each_fault_counts_once(rt: HostRuntime) -> Result<(), Fail> {
+fn each_fault_counts_once(rt: HostRuntime) {
     let folder = "file_disk_count";
-    make_folder(&rt, folder)?;
-    let mut disk = FileDisk::new(rt, folder)?;
+    make_folder(&rt, folder).expect(&rt, "an empty folder");
+    let mut disk = FileDisk::new(rt, folder).expect(&rt, "memory");
     let mut numbers = Numbers(1828);
     let mut buffer = [0; MAX_LEN];
     let mut faults = 0u64;
     for _ in 0..100 {
-        let call = numbers.call();
-        let answer = if numbers.next() % 4 == 0 {
-            disk.write_at(numbers.half(), 1 << 40, &buffer).map(|()| 0)
-        } else {
-            make(&mut disk, call, &mut buffer)
-        };
-        if answer.is_err() {
+        if is_fault(&mut disk, &mut numbers, &mut buffer) {
             faults = faults.saturating_add(1);
         }
-        assert_eq!(rt; disk.failures(), faults, "{call:?}");
+        has_failures(&rt, &disk, faults);
     }
     assert!(rt; faults > 0);
     drop(disk);
-    fs::remove_dir_all(&rt, folder)?;
-    Ok(())
+    fs::remove_dir_all(&rt, folder).expect(&rt, "a folder");
 }

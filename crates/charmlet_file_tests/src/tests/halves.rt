@@ -1,137 +1,127 @@
 // The files of a disk of files, and what is a fault at them.
-use super::{count_names, make_folder};
-use charmlet_disk::{DeviceFault, Disk, FileDisk};
+
+use super::{
+    fails_to_read, fails_to_sync, fails_to_write, half_has_faults, has_failures, has_len,
+    make_folder, names_in, reads, syncs, writes,
+};
+use charmlet_disk::FileDisk;
 use charmlet_model::Half;
 use std::fs::{self, OpenOptions};
 use std::io;
 use std::os::unix::fs::symlink;
 use std::process::Abort;
-use std::test::Fail;
-
-// Each call of this half is a fault, and counts.
-fn has_faults(rt: &impl Abort, disk: &mut FileDisk, half: Half) {
-    let before = disk.failures();
-    assert_eq!(rt; disk.len(half), Err(DeviceFault));
-    assert_eq!(rt; disk.read_at(half, 0, &mut []), Err(DeviceFault));
-    assert_eq!(rt; disk.write_at(half, 0, b"a"), Err(DeviceFault));
-    assert_eq!(rt; disk.failures(), before.saturating_add(3));
-}
 
 #[test]
-fn folder_is_no_half(rt: HostRuntime) -> Result<(), Fail> {
+fn folder_is_no_half(rt: HostRuntime) {
     let folder = "file_disk_folder_as_half";
-    make_folder(&rt, folder)?;
-    fs::create_dir(&rt, "file_disk_folder_as_half/half0")?;
-    let mut disk = FileDisk::new(rt, folder)?;
-    has_faults(&rt, &mut disk, Half::Zero);
-    assert_eq!(rt; disk.sync(Half::Zero), Err(DeviceFault));
-    assert_eq!(rt; disk.write_at(Half::One, 0, b"abc"), Ok(()));
-    assert_eq!(rt; disk.sync(Half::One), Ok(()));
-    assert_eq!(rt; disk.failures(), 4);
+    make_folder(&rt, folder).expect(&rt, "an empty folder");
+    fs::create_dir(&rt, "file_disk_folder_as_half/half0").expect(&rt, "a folder");
+    let mut disk = FileDisk::new(rt, folder).expect(&rt, "memory");
+    half_has_faults(&rt, &mut disk, Half::Zero);
+    fails_to_sync(&rt, &mut disk, Half::Zero);
+    writes(&rt, &mut disk, Half::One, 0, b"abc");
+    syncs(&rt, &mut disk, Half::One);
+    has_failures(&rt, &disk, 4);
     drop(disk);
-    fs::remove_dir_all(&rt, folder)?;
-    Ok(())
+    fs::remove_dir_all(&rt, folder).expect(&rt, "a folder");
+}
+
+// A folder whose first half is a link to a file, and whose second half is another name of it.
+fn make_links(rt: &HostRuntime, folder: &str) -> io::Result<()> {
+    make_folder(rt, folder)?;
+    fs::write(rt, "file_disk_links/other", b"abc".as_slice())?;
+    symlink(rt, "other", "file_disk_links/half0")?;
+    fs::hard_link(rt, "file_disk_links/other", "file_disk_links/half1")
 }
 
 #[test]
-fn link_or_second_name_is_no_half(rt: HostRuntime) -> Result<(), Fail> {
+fn link_or_second_name_is_no_half(rt: HostRuntime) {
     let folder = "file_disk_links";
-    make_folder(&rt, folder)?;
-    fs::write(&rt, "file_disk_links/other", b"abc".as_slice())?;
-    symlink(&rt, "other", "file_disk_links/half0")?;
-    fs::hard_link(&rt, "file_disk_links/other", "file_disk_links/half1")?;
-    let mut disk = FileDisk::new(rt, folder)?;
-    has_faults(&rt, &mut disk, Half::Zero);
-    has_faults(&rt, &mut disk, Half::One);
-    fs::remove_file(&rt, "file_disk_links/other")?;
+    make_links(&rt, folder).expect(&rt, "a folder with links");
+    let mut disk = FileDisk::new(rt, folder).expect(&rt, "memory");
+    half_has_faults(&rt, &mut disk, Half::Zero);
+    half_has_faults(&rt, &mut disk, Half::One);
+    fs::remove_file(&rt, "file_disk_links/other").expect(&rt, "a file");
     // Now the link leads nowhere, and the other half has one name.
-    has_faults(&rt, &mut disk, Half::Zero);
-    assert_eq!(rt; count_names(&rt, folder)?, 2);
-    assert_eq!(rt; disk.len(Half::One), Ok(3));
+    half_has_faults(&rt, &mut disk, Half::Zero);
+    assert_eq!(rt; names_in(&rt, folder), Some(2));
+    has_len(&rt, &mut disk, Half::One, 3);
     drop(disk);
-    fs::remove_dir_all(&rt, folder)?;
-    Ok(())
+    fs::remove_dir_all(&rt, folder).expect(&rt, "a folder");
+}
+
+// Nothing can be read or written past the end of a half.
+fn ends_before(rt: &impl Abort, disk: &mut FileDisk, offset: u64) {
+    fails_to_read(rt, disk, Half::Zero, offset, 0);
+    fails_to_write(rt, disk, Half::Zero, offset, b"z");
+    fails_to_write(rt, disk, Half::Zero, offset, b"");
 }
 
 #[test]
-fn calls_past_the_end_are_faults(rt: HostRuntime) -> Result<(), Fail> {
+fn calls_past_the_end_are_faults(rt: HostRuntime) {
     let folder = "file_disk_past_the_end";
-    make_folder(&rt, folder)?;
-    let mut disk = FileDisk::new(rt, folder)?;
-    assert_eq!(rt; disk.write_at(Half::Zero, 0, b"abcde"), Ok(()));
-    let mut bytes = [0; 2];
+    make_folder(&rt, folder).expect(&rt, "an empty folder");
+    let mut disk = FileDisk::new(rt, folder).expect(&rt, "memory");
+    writes(&rt, &mut disk, Half::Zero, 0, b"abcde");
     for offset in [4, 5, 6, 1 << 63, u64::MAX] {
-        let before = disk.failures();
-        let read = disk.read_at(Half::Zero, offset, &mut bytes);
-        assert_eq!(rt; read, Err(DeviceFault), "at {offset}");
-        assert_eq!(rt; disk.failures(), before.saturating_add(1), "at {offset}");
+        fails_to_read(&rt, &mut disk, Half::Zero, offset, 2);
     }
     for offset in [6, 1 << 63, u64::MAX] {
-        let before = disk.failures();
-        let read = disk.read_at(Half::Zero, offset, &mut []);
-        assert_eq!(rt; read, Err(DeviceFault), "at {offset}");
-        assert_eq!(rt; disk.failures(), before.saturating_add(1), "at {offset}");
-        let written = disk.write_at(Half::Zero, offset, b"z");
-        assert_eq!(rt; written, Err(DeviceFault), "at {offset}");
-        assert_eq!(rt; disk.failures(), before.saturating_add(2), "at {offset}");
-        let written = disk.write_at(Half::Zero, offset, b"");
-        assert_eq!(rt; written, Err(DeviceFault), "at {offset}");
-        assert_eq!(rt; disk.failures(), before.saturating_add(3), "at {offset}");
+        ends_before(&rt, &mut disk, offset);
     }
-    assert_eq!(rt; disk.failures(), 14);
-    assert_eq!(rt; disk.read_at(Half::Zero, 5, &mut []), Ok(()));
-    assert_eq!(rt; disk.read_at(Half::Zero, 3, &mut bytes), Ok(()));
-    assert_eq!(rt; bytes, *b"de");
-    assert_eq!(rt; disk.len(Half::Zero), Ok(5));
-    assert_eq!(rt; disk.failures(), 14);
+    has_failures(&rt, &disk, 14);
+    reads(&rt, &mut disk, Half::Zero, 5, &[]);
+    reads(&rt, &mut disk, Half::Zero, 3, b"de");
+    has_len(&rt, &mut disk, Half::Zero, 5);
+    has_failures(&rt, &disk, 14);
     drop(disk);
-    fs::remove_dir_all(&rt, folder)?;
-    Ok(())
+    fs::remove_dir_all(&rt, folder).expect(&rt, "a folder");
+}
+
+// A file is of this length from now on.
+fn cut(rt: &HostRuntime, path: &str, len: u64) -> io::Result<()> {
+    OpenOptions::new().write(true).open(rt, path)?.set_len(len)
 }
 
 #[test]
-fn half_cut_short_is_not_read_past_its_new_end(rt: HostRuntime) -> Result<(), Fail> {
+fn half_cut_short_is_not_read_past_its_new_end(rt: HostRuntime) {
     let (folder, half) = ("file_disk_cut", "file_disk_cut/half0");
-    make_folder(&rt, folder)?;
-    let mut disk = FileDisk::new(rt, folder)?;
-    assert_eq!(rt; disk.write_at(Half::Zero, 0, b"abcde"), Ok(()));
-    assert_eq!(rt; disk.sync(Half::Zero), Ok(()));
-    OpenOptions::new().write(true).open(&rt, half)?.set_len(2)?;
-    let mut bytes = [0; 3];
-    assert_eq!(rt; disk.read_at(Half::Zero, 0, &mut bytes), Err(DeviceFault));
-    assert_eq!(rt; disk.write_at(Half::Zero, 3, b"z"), Err(DeviceFault));
-    assert_eq!(rt; disk.failures(), 2);
-    assert_eq!(rt; disk.len(Half::Zero), Ok(2));
-    assert_eq!(rt; disk.read_at(Half::Zero, 0, &mut bytes[..2]), Ok(()));
-    assert_eq!(rt; bytes, *b"ab\0");
+    make_folder(&rt, folder).expect(&rt, "an empty folder");
+    let mut disk = FileDisk::new(rt, folder).expect(&rt, "memory");
+    writes(&rt, &mut disk, Half::Zero, 0, b"abcde");
+    syncs(&rt, &mut disk, Half::Zero);
+    cut(&rt, half, 2).expect(&rt, "a file");
+    fails_to_read(&rt, &mut disk, Half::Zero, 0, 3);
+    fails_to_write(&rt, &mut disk, Half::Zero, 3, b"z");
+    has_failures(&rt, &disk, 2);
+    has_len(&rt, &mut disk, Half::Zero, 2);
+    reads(&rt, &mut disk, Half::Zero, 0, b"ab");
     drop(disk);
-    fs::remove_dir_all(&rt, folder)?;
-    Ok(())
+    fs::remove_dir_all(&rt, folder).expect(&rt, "a folder");
 }
 
 #[test]
-fn half_that_lost_its_name_is_a_fault(rt: HostRuntime) -> Result<(), Fail> {
+fn half_that_lost_its_name_is_a_fault(rt: HostRuntime) {
     let (folder, half) = ("file_disk_removed", "file_disk_removed/half0");
-    make_folder(&rt, folder)?;
-    let mut disk = FileDisk::new(rt, folder)?;
-    assert_eq!(rt; disk.write_at(Half::Zero, 0, b"abc"), Ok(()));
-    assert_eq!(rt; disk.len(Half::One), Ok(0));
-    fs::remove_file(&rt, half)?;
-    has_faults(&rt, &mut disk, Half::Zero);
-    assert_eq!(rt; disk.len(Half::One), Ok(0));
-    assert_eq!(rt; disk.sync(Half::Zero), Err(DeviceFault));
+    make_folder(&rt, folder).expect(&rt, "an empty folder");
+    let mut disk = FileDisk::new(rt, folder).expect(&rt, "memory");
+    writes(&rt, &mut disk, Half::Zero, 0, b"abc");
+    has_len(&rt, &mut disk, Half::One, 0);
+    fs::remove_file(&rt, half).expect(&rt, "a file");
+    half_has_faults(&rt, &mut disk, Half::Zero);
+    has_len(&rt, &mut disk, Half::One, 0);
+    fails_to_sync(&rt, &mut disk, Half::Zero);
     // What a sync that failed was to make durable is lost, and no later call says otherwise.
-    has_faults(&rt, &mut disk, Half::One);
-    assert_eq!(rt; disk.sync(Half::One), Err(DeviceFault));
-    assert_eq!(rt; disk.failures(), 8);
-    assert_eq!(rt; count_names(&rt, folder)?, 0);
+    half_has_faults(&rt, &mut disk, Half::One);
+    fails_to_sync(&rt, &mut disk, Half::One);
+    has_failures(&rt, &disk, 8);
+    assert_eq!(rt; names_in(&rt, folder), Some(0));
     drop(disk);
-    let mut again = FileDisk::new(rt, folder)?;
-    assert_eq!(rt; again.len(Half::Zero), Ok(0));
-    assert_eq!(rt; again.sync(Half::Zero), Ok(()));
+    let mut again = FileDisk::new(rt, folder).expect(&rt, "memory");
+    has_len(&rt, &mut again, Half::Zero, 0);
+    syncs(&rt, &mut again, Half::Zero);
     drop(again);
-    fs::remove_dir(&rt, folder)?;
-    Ok(())
+    fs::remove_dir_all(&rt, folder).expect(&rt, "a folder");
 }
 
 // Makes the file as long as the system lets it be, with no byte written, and answers with its length. None
@@ -146,25 +136,26 @@ fn grow(rt: &HostRuntime, path: &str) -> io::Result<Option<u64>> {
     Ok(None)
 }
 
+// A half of this length, whose first byte is an a, is the greatest that there is.
+fn is_greatest(rt: &impl Abort, disk: &mut FileDisk, len: u64) {
+    has_len(rt, disk, Half::One, len);
+    fails_to_write(rt, disk, Half::One, len, b"z");
+    has_failures(rt, disk, 1);
+    has_len(rt, disk, Half::One, len);
+    reads(rt, disk, Half::One, 0, b"a\0");
+    fails_to_read(rt, disk, Half::One, len, 2);
+    writes(rt, disk, Half::One, 1, b"b");
+    has_failures(rt, disk, 2);
+}
+
 #[test]
-fn write_past_the_greatest_length_is_a_fault(rt: HostRuntime) -> Result<(), Fail> {
+fn write_past_the_greatest_length_is_a_fault(rt: HostRuntime) {
     let (folder, half) = ("file_disk_greatest", "file_disk_greatest/half1");
-    make_folder(&rt, folder)?;
-    fs::write(&rt, half, b"a".as_slice())?;
-    if let Some(len) = grow(&rt, half)? {
-        let mut disk = FileDisk::new(rt, folder)?;
-        assert_eq!(rt; disk.len(Half::One), Ok(len));
-        assert_eq!(rt; disk.write_at(Half::One, len, b"z"), Err(DeviceFault));
-        assert_eq!(rt; disk.failures(), 1);
-        assert_eq!(rt; disk.len(Half::One), Ok(len));
-        let mut bytes = [9; 2];
-        assert_eq!(rt; disk.read_at(Half::One, 0, &mut bytes), Ok(()));
-        assert_eq!(rt; bytes, *b"a\0");
-        assert_eq!(rt; disk.read_at(Half::One, len, &mut bytes), Err(DeviceFault));
-        assert_eq!(rt; disk.write_at(Half::One, 1, b"b"), Ok(()));
-        assert_eq!(rt; disk.failures(), 2);
-        drop(disk);
+    make_folder(&rt, folder).expect(&rt, "an empty folder");
+    fs::write(&rt, half, b"a".as_slice()).expect(&rt, "a file");
+    if let Some(len) = grow(&rt, half).expect(&rt, "a file") {
+        let mut disk = FileDisk::new(rt, folder).expect(&rt, "memory");
+        is_greatest(&rt, &mut disk, len);
     }
-    fs::remove_dir_all(&rt, folder)?;
-    Ok(())
+    fs::remove_dir_all(&rt, folder).expect(&rt, "a folder");
 }

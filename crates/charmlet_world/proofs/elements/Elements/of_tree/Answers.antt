@@ -10,4 +10,4 @@ pub returns : goal.returns
 returns c =
     let rows = risen c.loop-elem.elements.entries in
     let none : c.loop-elem.elem-iterator ≡ [] = c.in-None.ensures.steps.0 in
-    sym (ap (with_made elem_cmp as_it_is rows) none) ∙ c.loop-elem.invariant ∙ made_again elem_cmp elem_total c.args.tree.entries c.len-len.ensures.ordered
+    sym (ap (with_made elem_cmp as_it_is rows) none) ∙ c.loop-elem.invariant ∙ made_again elem_cmp elem_total c.args.tree.entries c.len.ensures.ordered
