@@ -17,29 +17,67 @@ use charmlet_disk::{CrashChoice, Disk, FileDisk, MemDisk};
 use charmlet_kinds::{Account, Counter, Ring, Sum, Tape, Tree};
 use charmlet_lab::{LabLine, Round, lab_outcome, lab_round};
 use charmlet_model::{Answer, Event, Kind, Refusal};
-use charmlet_recover::manifest;
-use charmlet_script::{Script, read_restart_script, read_script};
-use std::alloc::Global;
+use charmlet_recover::{Wanted, manifest};
+use charmlet_script::{RestartScript, Script, read_restart_script, read_script};
+use std::alloc::{AllocError, Global};
 use std::io::{BufWriter, IsTerminal, Write};
 use std::process::ExitCode;
 use std::rt::Runtime;
 use std::time::Instant;
 use std::{env, io};
 
-/// A new blank object of a kind, boxed. It is a macro, since the checker has each function make the boxes of a `dyn` type
-/// that it needs, and none hand them out.
+/// An object, boxed, or none where memory is refused.
+macro_rules! boxed {
+    ($alloc:expr, $object:expr) => {
+        match Box::new($alloc, $object) {
+            Ok(object) => Some(object),
+            Err(_) => None,
+        }
+    };
+}
+
+/// A new blank object of a kind, boxed, or none where memory is refused. It is a macro, since the checker has each function make
+/// the boxes of a `dyn` type that it needs, and none hand them out; and it has no way out, since each would drop all that its
+/// function owns.
 macro_rules! blank {
     ($alloc:expr, $kind:expr) => {{
-        let blank: Box<dyn Chare + Send> = match $kind {
-            Kind::Counter => Box::new($alloc, Counter::blank())?,
-            Kind::Ring => Box::new($alloc, Ring::blank())?,
-            Kind::Account => Box::new($alloc, Account::blank())?,
-            Kind::Sum => Box::new($alloc, Sum::blank())?,
-            Kind::Tree => Box::new($alloc, Tree::blank())?,
-            Kind::Tape => Box::new($alloc, Tape::blank($alloc))?,
+        let blank: Option<Box<dyn Chare + Send>> = match $kind {
+            Kind::Counter => boxed!($alloc, Counter::blank()),
+            Kind::Ring => boxed!($alloc, Ring::blank()),
+            Kind::Account => boxed!($alloc, Account::blank()),
+            Kind::Sum => boxed!($alloc, Sum::blank()),
+            Kind::Tree => boxed!($alloc, Tree::blank()),
+            Kind::Tape => boxed!($alloc, Tape::blank($alloc)),
         };
-        blank
+        blank.ok_or(AllocError)
     }};
+}
+
+/// The script in a file.
+fn script_in<R: Runtime + AllocGlobal>(rt: &R, path: &str) -> Result<Script, Stop> {
+    let mut file = open_script(rt, path)?;
+    Ok(read_script(rt.alloc(), &mut file)?)
+}
+
+/// The script of a restart in a file.
+fn restart_script_in<R: Runtime + AllocGlobal>(rt: &R, path: &str) -> Result<RestartScript, Stop> {
+    let mut file = open_script(rt, path)?;
+    Ok(read_restart_script(rt.alloc(), &mut file)?)
+}
+
+/// Runs a script over a store on this disk with these blanks, with its lines on standard output.
+fn run_with<R: Runtime + AllocGlobal, D: Disk, C: Chare>(
+    rt: &R,
+    disk: D,
+    script: &Script,
+    blanks: Vec<C>,
+) -> Result<(), Stop>
+    requires { D.honest disk → IsSettled (D.file disk) }
+{
+    let mut writer = BufWriter::new(rt.alloc(), io::writer(rt))?;
+    run_script(rt.alloc(), disk, script, blanks, &mut writer).result?;
+    writer.flush()?;
+    Ok(())
 }
 
 /// Runs a script over a store on this disk, with its lines on standard output.
@@ -50,54 +88,52 @@ fn run_on<R: Runtime + AllocGlobal, D: Disk>(rt: &R, disk: D, script: &Script) -
     let mut blanks = Vec::new(alloc);
     for kind in &Kind::ALL {
         for _ in 0..script.blanks(*kind) {
-            blanks.push(blank!(alloc, kind))?;
+            blanks.push(blank!(alloc, kind)?)?;
         }
     }
-    let mut writer = BufWriter::new(alloc, io::writer(rt))?;
-    run_script(alloc, disk, script, blanks, &mut writer).result?;
-    writer.flush()?;
-    Ok(())
+    run_with(rt, disk, script, blanks)
 }
 
 /// Reads a script, and then runs it over a store in the two files of a folder, or in memory without one.
 fn run(rt: HostRuntime, path: &str, dir: Option<&str>) -> Result<(), Stop> {
-    let alloc = rt.alloc();
-    let mut file = open_script(&rt, path)?;
-    let script = read_script(alloc, &mut file)?;
+    let script = script_in(&rt, path)?;
     match dir {
         Some(dir) => run_on(&rt, FileDisk::new(rt, dir)?, &script),
-        None => run_on(&rt, MemDisk::new(alloc), &script),
+        None => run_on(&rt, MemDisk::new(rt.alloc()), &script),
     }
+}
+
+/// Runs a script over the store on this disk, which comes back on so many processors, with so many blanks; and writes its lines.
+fn restart_on<D: Disk, W: Write>(
+    alloc: Global,
+    disk: D,
+    processors: u16,
+    script: &RestartScript,
+    wanted: &Wanted,
+    writer: &mut W,
+) -> Result<(), Stop> {
+    let mut blanks = Vec::new(alloc);
+    let mut supplies = Vec::new(alloc);
+    for kind in &Kind::ALL {
+        for _ in 0..wanted.of(*kind) {
+            blanks.push(blank!(alloc, kind)?)?;
+        }
+        for _ in 0..script.blanks(*kind) {
+            supplies.push(blank!(alloc, kind)?)?;
+        }
+    }
+    restart_script(alloc, disk, processors, script, blanks, supplies, writer).result?;
+    Ok(())
 }
 
 /// Reads a script, and then runs it over the store in the two files of a folder, which comes back on so many processors.
 fn restart(rt: HostRuntime, dir: &str, path: &str, processors: u16) -> Result<(), Stop> {
     let alloc = rt.alloc();
-    let mut file = open_script(&rt, path)?;
-    let script = read_restart_script(alloc, &mut file)?;
+    let script = restart_script_in(&rt, path)?;
     let mut writer = BufWriter::new(alloc, io::writer(&rt))?;
     let mut disk = FileDisk::new(rt, dir)?;
     let wanted = find_blanks(alloc, &mut disk, processors, &mut writer)?;
-    let mut blanks = Vec::new(alloc);
-    let mut supplies = Vec::new(alloc);
-    for kind in &Kind::ALL {
-        for _ in 0..wanted.of(*kind) {
-            blanks.push(blank!(alloc, kind))?;
-        }
-        for _ in 0..script.blanks(*kind) {
-            supplies.push(blank!(alloc, kind))?;
-        }
-    }
-    restart_script(
-        alloc,
-        disk,
-        processors,
-        &script,
-        blanks,
-        supplies,
-        &mut writer,
-    )
-    .result?;
+    restart_on(alloc, disk, processors, &script, &wanted, &mut writer)?;
     writer.flush()?;
     Ok(())
 }
@@ -127,7 +163,7 @@ fn is_bad(
     if let Ok(found) = manifest(alloc, &mut disk) {
         for kind in &Kind::ALL {
             for _ in 0..found.wanted.of(*kind) {
-                blanks.push(blank!(alloc, kind))?;
+                blanks.push(blank!(alloc, kind)?)?;
             }
         }
     }
@@ -179,6 +215,33 @@ impl Progress {
     }
 }
 
+/// Runs a script on a disk in memory that fails after so many calls, and tries a crash after the run: whether that was bad, or
+/// none where the disk didn't fail.
+fn try_crash(
+    alloc: Global,
+    script: &Script,
+    calls: u64,
+    choice: CrashChoice,
+) -> Result<Option<bool>, Refusal> {
+    let mut blanks = Vec::new(alloc);
+    for kind in &Kind::ALL {
+        for _ in 0..script.blanks(*kind) {
+            blanks.push(blank!(alloc, kind)?)?;
+        }
+    }
+    let Round {
+        disk,
+        events,
+        durable,
+        is_stopped,
+    } = lab_round(alloc, script, calls, blanks, MemDisk::new(alloc))?;
+    if !is_stopped {
+        return Ok(None);
+    }
+    let is_bad = is_bad(alloc, script, disk.crash(choice), &events, durable)?;
+    Ok(Some(is_bad))
+}
+
 /// Runs a script on disks in memory of which each fails one call later than the one before, until one doesn't fail, and
 /// tries six crashes after each run.
 fn try_crashes(
@@ -193,23 +256,11 @@ fn try_crashes(
     };
     for calls in 0..u64::MAX {
         for choice in &CrashChoice::ALL {
-            let mut blanks = Vec::new(alloc);
-            for kind in &Kind::ALL {
-                for _ in 0..script.blanks(*kind) {
-                    blanks.push(blank!(alloc, kind))?;
-                }
-            }
-            let Round {
-                disk,
-                events,
-                durable,
-                is_stopped,
-            } = lab_round(alloc, script, calls, blanks, MemDisk::new(alloc))?;
-            if !is_stopped {
+            let Some(is_bad) = try_crash(alloc, script, calls, *choice)? else {
                 return Ok(line);
-            }
+            };
             line.outcomes = line.outcomes.saturating_add(1);
-            if is_bad(alloc, script, disk.crash(*choice), &events, durable)? {
+            if is_bad {
                 line.bad = line.bad.saturating_add(1);
             }
         }
@@ -219,30 +270,36 @@ fn try_crashes(
     Ok(line)
 }
 
-/// Tries the crashes of a script, and writes what was found on standard output.
-fn lab(rt: HostRuntime, path: &str) -> Result<(), Stop> {
+/// Writes what the laboratory found on standard output.
+fn tell_found(rt: HostRuntime, found: Result<LabLine, Refusal>) -> Result<(), Stop> {
     let alloc = rt.alloc();
-    let mut file = open_script(&rt, path)?;
-    let script = read_script(alloc, &mut file)?;
     let mut writer = BufWriter::new(alloc, io::writer(&rt))?;
-    let mut progress = Progress::new(rt);
-    let found = try_crashes(alloc, &script, &mut progress);
-    progress.clear();
-    let line = match found {
-        Ok(line) => line,
+    let end = match found {
+        Ok(line) => {
+            write_line(alloc, &mut writer, &line)?;
+            if line.bad > 0 {
+                Err(Stop::NotSurvived)
+            } else {
+                Ok(())
+            }
+        }
         Err(Refusal::BadPes) => {
             write_line(alloc, &mut writer, &Answer::Refused(Refusal::BadPes))?;
-            writer.flush()?;
-            return Err(Stop::NotCreated);
+            Err(Stop::NotCreated)
         }
-        Err(_) => return Err(Stop::CannotGoOn),
+        Err(_) => Err(Stop::CannotGoOn),
     };
-    write_line(alloc, &mut writer, &line)?;
     writer.flush()?;
-    if line.bad > 0 {
-        return Err(Stop::NotSurvived);
-    }
-    Ok(())
+    end
+}
+
+/// Tries the crashes of a script, and writes what was found on standard output.
+fn lab(rt: HostRuntime, path: &str) -> Result<(), Stop> {
+    let script = script_in(&rt, path)?;
+    let mut progress = Progress::new(rt);
+    let found = try_crashes(rt.alloc(), &script, &mut progress);
+    progress.clear();
+    tell_found(rt, found)
 }
 
 /// The words of the command line, the first of which is the program's name.

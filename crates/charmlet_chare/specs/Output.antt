@@ -11,7 +11,8 @@ empty_output = record { sends = []; reply = []; is_destroyed = false }
 
 -- one more message is sent
 abbrev pub with_send : Output → Elem → ℕ → List ℕ → Output
-with_send out to entry words = record out { sends = out.sends ++ record { to = to; entry = entry; words = words } ∷ [] }
+with_send out to entry words =
+    record out { sends = out.sends ++ record { to = to; entry = entry; words = words } ∷ [] }
 
 -- these words are the reply
 abbrev pub with_reply : Output → List ℕ → Output

@@ -18,7 +18,8 @@ use Rattle.charmlet_image.specs.FitImages.{image_of}
 use Rattle.charmlet_image.specs.Images.{spell_half, spell_image}
 use Rattle.charmlet_recovery.specs.Stores.{saved_of}
 
--- The history is consistent; there is a shelf for each processor, with no delivery under way; and the shelves show the present world.
+-- The history is consistent; there is a shelf for each processor, with no delivery under way; and
+-- the shelves show the present world.
 pub record IsShown (history : History) (shelves : List View) : Type 0 where
   pub consistent : IsConsistent (kept_in history)
   pub count : length shelves ≡ (core_in history).processors
@@ -29,16 +30,18 @@ pub record IsShown (history : History) (shelves : List View) : Type 0 where
 abbrev pub event_count : Core → ℕ
 event_count core = core.before + length core.history
 
--- After an open gate the bytes are a half with an image of the present world, of the next generation, whose log has no batch yet and ends with
--- a closed gate.
+-- After an open gate the bytes are a half with an image of the present world, of the next
+-- generation, whose log has no batch yet and ends with a closed gate.
 abbrev pub IsImageOf : Core → List ℕ → Type 0
-IsImageOf core bytes = 1 ∷ bytes ≡ spell_half (saved_of (present core) (event_count core) (core.generation + 1) []) ++ 0 ∷ []
+IsImageOf core bytes = 1 ∷ bytes
+    ≡ spell_half (saved_of (present core) (event_count core) (core.generation + 1) []) ++ 0 ∷ []
 
 -- the bytes of that image alone, without gates and header
 abbrev pub spell_present : Core → List ℕ
 spell_present core = spell_image Second (image_of (present core))
 
--- the next generation is at most 2^40, and the file of the image has at most 2^31 bytes, both gates and the header among them
+-- the next generation is at most 2^40, and the file of the image has at most 2^31 bytes, both gates
+-- and the header among them
 pub record IsWithinLimits (core : Core) : Type 0 where
   pub generation : core.generation < 2 ^ 40
   pub size : end_of_image core < 2 ^ 31
@@ -49,7 +52,8 @@ PassesLimit core = (2 ^ 40 ≤ core.generation) ⊎ (2 ^ 31 ≤ end_of_image cor
 
 -- memory is lacking, or a limit would be passed
 abbrev pub IsRefusal : Core → Refusal → Type 0
-IsRefusal core refusal = (refusal ≡ refusals.Memory) ⊎ ((refusal ≡ refusals.ImageFull) × PassesLimit core)
+IsRefusal core refusal = (refusal ≡ refusals.Memory)
+    ⊎ ((refusal ≡ refusals.ImageFull) × PassesLimit core)
 
 -- the replies of a client's window have at most 512 words
 abbrev pub AreShort : ClientRow → Type 0

@@ -15,7 +15,8 @@ use Rattle.charmlet_cli.specs.Shown.{all_kinds}
 -- half H generation G base B log L
 abbrev pub half_line_text : HalfLine → Text
 half_line_text line =
-    codes "half " ++ half_text line.half ++ codes " generation " ++ decimal line.generation ++ codes " base " ++ decimal line.base ++ codes " log " ++ decimal line.log
+    codes "half " ++ half_text line.half ++ codes " generation " ++ decimal line.generation
+    ++ codes " base " ++ decimal line.base ++ codes " log " ++ decimal line.log
 
 -- array A kind K
 abbrev pub array_line_text : ArrayLine → Text
@@ -35,7 +36,8 @@ array_texts e = array_line_text (record { array = e.0; kind = e.1 }) ∷ []
 
 -- the line of a kind of which so many blanks are wanted, if any are
 abbrev pub count_texts : Kind → ℕ → List Text
-count_texts kind count = if nat_lt 0 count then wanted_line_text (record { kind = kind; count = count }) ∷ [] else []
+count_texts kind count = if nat_lt 0 count
+    then wanted_line_text (record { kind = kind; count = count }) ∷ [] else []
 
 -- the line of a kind, if blanks of it are wanted
 abbrev pub wanted_texts : Wanted → Kind → List Text
@@ -43,4 +45,5 @@ wanted_texts wanted kind = count_texts kind (blanks_in wanted kind)
 
 -- the half, then each array and each kind of which blanks are wanted, in rising order
 abbrev pub found_texts : Found → List Text
-found_texts f = half_line_text (half_line f) ∷ [] ++ (flat_map array_texts f.manifest ++ flat_map (wanted_texts f.wanted) all_kinds)
+found_texts f = half_line_text (half_line f) ∷ []
+    ++ (flat_map array_texts f.manifest ++ flat_map (wanted_texts f.wanted) all_kinds)

@@ -58,8 +58,13 @@ pub record Ledger (D : Type 0) : Type 0 where
   pub disk : D
 
 -- of an engine that runs
-abbrev pub ledger_in : {D C : Type 0} {G : disks.Ghosts D} {H : chares.Ghosts C} → Engine D C G H → Ledger D
-ledger_in engine = record { store = view_of engine; supplied = supplied_of engine; disk = disk_in engine }
+abbrev pub ledger_in : {D C : Type 0} {G : disks.Ghosts D} {H : chares.Ghosts C} →
+    Engine D C G H → Ledger D
+ledger_in engine = record {
+  store = view_of engine;
+  supplied = supplied_of engine;
+  disk = disk_in engine;
+}
 
 -- the script's arrays, each with its kind
 abbrev pub kinds_of : Contents → Kinds
@@ -86,7 +91,8 @@ abbrev pub named_by : List HandlerLine → Names
 named_by [] name = None
 named_by (line ∷ lines) name =
     if is_some (named_by lines name) then named_by lines name
-    else if bytes_eq line.name name then Some (record { array = line.array; entry = line.entry }) else None
+    else if bytes_eq line.name name then Some (record { array = line.array; entry = line.entry })
+    else None
 
 -- the handlers of a desk
 abbrev pub named_at : Desk → Names
@@ -109,9 +115,11 @@ pub record IsSupplied {D : Type 0} (kind : Kind) (count : ℕ) (old new : Ledger
 
 -- a supply line adds its blanks, or is refused memory and changes nothing
 abbrev pub Supplies : {D : Type 0} → Ledger D → Kind → ℕ → Text → Ledger D → Type 0
-Supplies old kind count text new = ((text ≡ supplied_text (record { kind = kind; count = count })) × IsSupplied kind count old new) ⊎ ((text ≡ memory_text) × (new ≡ old))
+Supplies old kind count text new = ((text ≡ supplied_text (record { kind = kind; count = count }))
+    × IsSupplied kind count old new) ⊎ ((text ≡ memory_text) × (new ≡ old))
 
--- a state line shows the element's processor and record; memory may be refused where the element is there
+-- a state line shows the element's processor and record; memory may be refused where the element is
+-- there
 abbrev pub ShowsState : StoreView → Elem → Text → Type 0
 ShowsState store elem text =
     (text ≡ record_text elem (place_or_home store.core elem) (record_of (present store.core) elem))
@@ -119,27 +127,35 @@ ShowsState store elem text =
 
 -- a pending line shows the ids of the pending messages, or memory is refused
 abbrev pub ShowsPending : StoreView → Text → Type 0
-ShowsPending store text = (text ≡ pending_text (map (λ m. m.id) (present store.core).pending)) ⊎ (text ≡ memory_text)
+ShowsPending store text = (text ≡ pending_text (map (λ m. m.id) (present store.core).pending))
+    ⊎ (text ≡ memory_text)
 
 -- a census shows, kind by kind, where the objects are that were supplied so far
 abbrev pub ShowsCensus : {D : Type 0} → Ledger D → List Text → Type 0
 ShowsCensus old texts =
-    (retired : Kind → ℕ) × ((kind : Kind) → IsWhole (counted_in old.store old.supplied retired kind))
-    × (texts ≡ flat_map (λ kind. counted_texts (counted_in old.store old.supplied retired kind)) all_kinds)
+    (retired : Kind → ℕ)
+    × ((kind : Kind) → IsWhole (counted_in old.store old.supplied retired kind))
+    × (texts ≡ flat_map (λ kind. counted_texts (counted_in old.store old.supplied retired kind))
+    all_kinds)
 
 module _ {D : Type 0} (G : disks.Ghosts D) where
-  -- The store goes on: its history grows; on an honest disk each crash from the one to the other leaves the world after some of it, with all that was
-  -- durable at the first among it; and the disk is as honest as before.
+  -- The store goes on: its history grows; on an honest disk each crash from the one to the other
+  -- leaves the world after some of it, with all that was durable at the first among it; and the
+  -- disk is as honest as before.
   pub record Continues (old new : Ledger D) : Type 0 where
     pub onward : Onward old.store.core new.store.core
-    pub any_moment : G.honest old.disk → LeavesOnly G.moment G.since old.disk new.disk (is_lawful_since old.store.core new.store.core)
+    pub any_moment : G.honest old.disk →
+        LeavesOnly G.moment G.since old.disk new.disk
+        (is_lawful_since old.store.core new.store.core)
     pub honest : (G.honest old.disk → G.honest new.disk) × (G.honest new.disk → G.honest old.disk)
 
-  -- A step is answered: what clients are told is true of the durable events, the device fails once if and only if the answer says so, and after an
-  -- answer to what writes nothing the disk is as it was.
+  -- A step is answered: what clients are told is true of the durable events, the device fails once
+  -- if and only if the answer says so, and after an answer to what writes nothing the disk is as it
+  -- was.
   pub record IsAnswered (step : Step) (answer : Answer) (old new : Ledger D) : Type 0 where
     pub does : Does old.store step answer new.store
-    pub told : IsToldTrue new.store.core.opening (take new.store.core.durable new.store.core.history) step answer
+    pub told : IsToldTrue new.store.core.opening
+        (take new.store.core.durable new.store.core.history) step answer
     pub supplied : new.supplied ≡ old.supplied
     pub counted : G.faults new.disk ≡ faults_after (is_no_fault answer) (G.faults old.disk)
     pub still : is_still answer ≡ true → new.disk ≡ old.disk
@@ -147,37 +163,52 @@ module _ {D : Type 0} (G : disks.Ghosts D) where
 module _ {D : Type 0} (G : disks.Ghosts D) (named : Names) where
   -- from one store a line prints these texts and leads to another store
   abbrev pub Follows : Ledger D → Line → List Text → Ledger D → Type 0
-  Follows old (Supply kind count) texts new = (text : Text) × Supplies old kind count text new × (texts ≡ text ∷ [])
+  Follows old (Supply kind count) texts new = (text : Text) × Supplies old kind count text new
+      × (texts ≡ text ∷ [])
   Follows old (Drain count) texts new =
-      (k : ℕ) × (refusal : Option Refusal) × DrainsUpTo old.store count k refusal new.store × (new.supplied ≡ old.supplied) × (new.disk ≡ old.disk)
+      (k : ℕ) × (refusal : Option Refusal) × DrainsUpTo old.store count k refusal new.store
+      × (new.supplied ≡ old.supplied) × (new.disk ≡ old.disk)
       × (texts ≡ drain_texts k new.store refusal)
-  Follows old (State elem) texts new = (text : Text) × ShowsState old.store elem text × (texts ≡ text ∷ []) × (new ≡ old)
-  Follows old Pending texts new = (text : Text) × ShowsPending old.store text × (texts ≡ text ∷ []) × (new ≡ old)
+  Follows old (State elem) texts new = (text : Text) × ShowsState old.store elem text
+      × (texts ≡ text ∷ []) × (new ≡ old)
+  Follows old Pending texts new = (text : Text) × ShowsPending old.store text × (texts ≡ text ∷ [])
+      × (new ≡ old)
   Follows old Census texts new = ShowsCensus old texts × (new ≡ old)
-  Follows old (lines.Step step) texts new = (answer : Answer) × IsAnswered G step answer old new × (texts ≡ answer_text answer ∷ [])
+  Follows old (lines.Step step) texts new = (answer : Answer) × IsAnswered G step answer old new
+      × (texts ≡ answer_text answer ∷ [])
   Follows old (lines.Call client number name index words) texts new =
       (to : Elem) × (entry : ℕ) × IsTarget (present old.store.core) index (named name) to entry
-      × (answer : Answer) × IsAnswered G (steps.Request client number to entry words) answer old new × (texts ≡ answer_text answer ∷ [])
+      × (answer : Answer) × IsAnswered G (steps.Request client number to entry words) answer old new
+      × (texts ≡ answer_text answer ∷ [])
 
-  -- a line is run, and its texts are written after what was written before, or where that fails a beginning of them
-  abbrev pub IsPrinted : {T E : Type 0} → Result T E → Ledger D → Line → Ledger D → (before after : Option Text) → Type 0
-  IsPrinted result old line new before after = (texts : List Text) × Follows old line texts new × Writes result before after (in_lines texts)
+  -- a line is run, and its texts are written after what was written before, or where that fails a
+  -- beginning of them
+  abbrev pub IsPrinted : {T E : Type 0} → Result T E → Ledger D → Line → Ledger D →
+      (before after : Option Text) → Type 0
+  IsPrinted result old line new before after = (texts : List Text) × Follows old line texts new
+      × Writes result before after (in_lines texts)
 
-  -- Lines one after another print their texts, in a run that ends in `end`: each crash in a line has what was durable before it, and each
-  -- crash from the line's end to the end of the run has what was durable after the line.
+  -- Lines one after another print their texts, in a run that ends in `end`: each crash in a line
+  -- has what was durable before it, and each crash from the line's end to the end of the run has
+  -- what was durable after the line.
   abbrev pub Prints : (end first : Ledger D) → List Line → List Text → (last : Ledger D) → Type 0
   Prints end first [] texts last = (texts ≡ []) × (last ≡ first)
   Prints end first (line ∷ lines) texts last =
-      (next : Ledger D) × (printed : List Text) × (rest : List Text) × Follows first line printed next × Continues G first next × Continues G next end
+      (next : Ledger D) × (printed : List Text) × (rest : List Text)
+      × Follows first line printed next × Continues G first next × Continues G next end
       × Prints end next lines rest last × (texts ≡ printed ++ rest)
 
   -- lines are run one after another, in a run that ends in `end`, and their texts written
-  abbrev pub AreRun : (end first : Ledger D) → List Line → (last : Ledger D) → (before after : Option Text) → Type 0
-  AreRun end first lines last before after = (texts : List Text) × Prints end first lines texts last × Appends before after (in_lines texts)
+  abbrev pub AreRun : (end first : Ledger D) → List Line → (last : Ledger D) →
+      (before after : Option Text) → Type 0
+  AreRun end first lines last before after = (texts : List Text) × Prints end first lines texts last
+      × Appends before after (in_lines texts)
 
-  -- some lines are run and their texts written, and the next line is run and a beginning of its texts written
+  -- some lines are run and their texts written, and the next line is run and a beginning of its
+  -- texts written
   abbrev pub BreakOff : Ledger D → List Line → Ledger D → (before after : Option Text) → Type 0
   BreakOff first lines last before after =
       (whole : List Line) × (line : Line) × (rest : List Line) × (lines ≡ whole ++ line ∷ rest)
       × (mid : Ledger D) × (between : Option Text) × AreRun last first whole mid before between
-      × (texts : List Text) × Follows mid line texts last × Continues G mid last × AppendsBeginning between after (in_lines texts)
+      × (texts : List Text) × Follows mid line texts last × Continues G mid last
+      × AppendsBeginning between after (in_lines texts)

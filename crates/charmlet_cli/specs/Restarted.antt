@@ -45,11 +45,18 @@ use Rattle.charmlet_cli.specs.Writing.{AppendsBeginning}
 
 -- restarted generation G events E on N
 abbrev pub restarted_line_text : RestartedLine → Text
-restarted_line_text line = codes "restarted generation " ++ decimal line.generation ++ codes " events " ++ decimal line.events ++ codes " on " ++ decimal line.processors
+restarted_line_text line = codes "restarted generation " ++ decimal line.generation
+    ++ codes " events " ++ decimal line.events ++ codes " on " ++ decimal line.processors
 
--- the first line after a restart: the generation of the half that was taken, and how many events came back
+-- the first line after a restart: the generation of the half that was taken, and how many events
+-- came back
 abbrev pub restarted_text : Core → Text
-restarted_text core = in_lines (restarted_line_text (record { generation = core.generation; events = core.before; processors = core.processors }) ∷ [])
+restarted_text core = in_lines
+    (restarted_line_text (record {
+      generation = core.generation;
+      events = core.before;
+      processors = core.processors;
+    }) ∷ [])
 
 -- the only line where no store comes back
 abbrev pub refusal_text : Refusal → Text
@@ -57,11 +64,15 @@ refusal_text refusal = in_lines (answer_text (Refused refusal) ∷ [])
 
 -- ---- blanks
 
--- what was found tells how many blanks are wanted, and nothing is written; or its refusal's line is written, or a beginning of it
-abbrev pub TellsWanted : Result findings.Found Refusal → Result Wanted FindError → (before after : Option Text) → Type 0
+-- what was found tells how many blanks are wanted, and nothing is written; or its refusal's line is
+-- written, or a beginning of it
+abbrev pub TellsWanted : Result findings.Found Refusal → Result Wanted FindError →
+    (before after : Option Text) → Type 0
 TellsWanted (Ok f) (Ok wanted) before after = (wanted ≡ f.wanted) × (after ≡ before)
-TellsWanted (Err refusal) (Err (finds.Refused why)) before after = (why ≡ refusal) × Appends before after (refusal_text refusal)
-TellsWanted (Err refusal) (Err (finds.Output error)) before after = AppendsBeginning before after (refusal_text refusal)
+TellsWanted (Err refusal) (Err (finds.Refused why)) before after = (why ≡ refusal)
+    × Appends before after (refusal_text refusal)
+TellsWanted (Err refusal) (Err (finds.Output error)) before after =
+    AppendsBeginning before after (refusal_text refusal)
 TellsWanted (Ok f) (Err error) before after = ⊥
 TellsWanted (Err refusal) (Ok wanted) before after = ⊥
 
@@ -76,17 +87,23 @@ module _ {D : Type 0} (G : disks.Ghosts D) where
   abbrev pub is_left_by : D → Outcome → Type 0
   is_left_by first = MayLeave (G.file first)
 
-  -- A store came back from the first disk. Nothing has happened since, and each element that is there stands on its home. Of an honest disk it has the
-  -- world, the count of events and the generation to which the files recover, and of each kind the stock has what the half didn't want of the blanks.
-  -- After a crash in any life of the store all that clients were told is true. Nothing is written, and the disk is settled.
+  -- A store came back from the first disk. Nothing has happened since, and each element that is
+  -- there stands on its home. Of an honest disk it has the world, the count of events and the
+  -- generation to which the files recover, and of each kind the stock has what the half didn't want
+  -- of the blanks. After a crash in any life of the store all that clients were told is true.
+  -- Nothing is written, and the disk is settled.
   pub record IsBack (processors : ℕ) (given : Blanks) (first : D) (back : Ledger D) : Type 0 where
-    pub opens : back.store.core ≡ opened processors back.store.core.opening back.store.core.before back.store.core.generation back.store.core.log_end
-    pub found : G.honest first → recovered (bytes_on (G.file first)) ≡ Found back.store.core.opening back.store.core.before back.store.core.generation
+    pub opens : back.store.core ≡ opened processors back.store.core.opening back.store.core.before
+        back.store.core.generation back.store.core.log_end
+    pub found : G.honest first → recovered (bytes_on (G.file first))
+        ≡ Found back.store.core.opening back.store.core.before back.store.core.generation
     pub left : G.honest first →
-        (half : Half) × (s : Saved) × (taken (G.file first Zero).now (G.file first One).now ≡ Takes half s)
+        (half : Half) × (s : Saved) × (taken (G.file first Zero).now (G.file first One).now
+        ≡ Takes half s)
         × ((kind : Kind) → back.store.blanks kind + wanted_of s kind ≡ given kind)
     pub supplied : (kind : Kind) → back.supplied kind ≡ given kind
-    pub remembers : G.honest first → (past : Past) (old new : Core) → Remembers past old → Onward old new → IsSound new →
+    pub remembers : G.honest first → (past : Past) (old new : Core) → Remembers past old →
+        Onward old new → IsSound new →
         is_lawful_since old new (bytes_on (G.file first)) → ComesBack past old new back.store.core
     pub counted : G.faults back.disk ≡ G.faults first
     pub honest : (G.honest first → G.honest back.disk) × (G.honest back.disk → G.honest first)
@@ -94,31 +111,46 @@ module _ {D : Type 0} (G : disks.Ghosts D) where
     pub any_moment : G.honest first → LeavesOnly G.moment G.since first back.disk (is_left_by first)
 
   -- the first line is written, and each line of the script is run in its order and prints its texts
-  abbrev pub PrintsRestart : (back : Ledger D) → RestartContents → (last : Ledger D) → (before after : Option Text) → Type 0
+  abbrev pub PrintsRestart : (back : Ledger D) → RestartContents → (last : Ledger D) →
+      (before after : Option Text) → Type 0
   PrintsRestart back script last before after =
-      (between : Option Text) × Appends before between (restarted_text back.store.core) × AreRun G (named_by script.handlers) last back script.lines last between after
+      (between : Option Text) × Appends before between (restarted_text back.store.core)
+      × AreRun G (named_by script.handlers) last back script.lines last between after
 
-  -- a beginning of the first line is written, and nothing is run; or it is written, some lines are run, and a beginning of their texts is printed
-  abbrev pub BreaksOffRestart : (back : Ledger D) → RestartContents → (last : Ledger D) → (before after : Option Text) → Type 0
+  -- a beginning of the first line is written, and nothing is run; or it is written, some lines are
+  -- run, and a beginning of their texts is printed
+  abbrev pub BreaksOffRestart : (back : Ledger D) → RestartContents → (last : Ledger D) →
+      (before after : Option Text) → Type 0
   BreaksOffRestart back script last before after =
       ((last ≡ back) × AppendsBeginning before after (restarted_text back.store.core))
-      ⊎ ((between : Option Text) × Appends before between (restarted_text back.store.core) × BreakOff G (named_by script.handlers) back script.lines last between after)
+      ⊎ ((between : Option Text) × Appends before between (restarted_text back.store.core)
+      × BreakOff G (named_by script.handlers) back script.lines last between after)
 
-  -- a store comes back, the first line says so, each line of the script is run and prints its texts, and the last store stands on the disk
-  abbrev pub IsRestarted : (processors : ℕ) → Blanks → (first end : D) → RestartContents → (before after : Option Text) → Type 0
+  -- a store comes back, the first line says so, each line of the script is run and prints its
+  -- texts, and the last store stands on the disk
+  abbrev pub IsRestarted : (processors : ℕ) → Blanks → (first end : D) → RestartContents →
+      (before after : Option Text) → Type 0
   IsRestarted processors given first end script before after =
-      IsTrue (is_processor_count processors) × (back : Ledger D) × IsBack processors given first back
-      × (last : Ledger D) × PrintsRestart back script last before after × Stands G (is_left_by first) first end last
+      IsTrue (is_processor_count processors) × (back : Ledger D)
+      × IsBack processors given first back
+      × (last : Ledger D) × PrintsRestart back script last before after
+      × Stands G (is_left_by first) first end last
 
-  -- a store comes back, a beginning of what is to be printed is printed, and the store after the lines that were run stands on the disk
-  abbrev pub IsRestartCutOff : (processors : ℕ) → Blanks → (first end : D) → RestartContents → (before after : Option Text) → Type 0
+  -- a store comes back, a beginning of what is to be printed is printed, and the store after the
+  -- lines that were run stands on the disk
+  abbrev pub IsRestartCutOff : (processors : ℕ) → Blanks → (first end : D) → RestartContents →
+      (before after : Option Text) → Type 0
   IsRestartCutOff processors given first end script before after =
-      IsTrue (is_processor_count processors) × (back : Ledger D) × IsBack processors given first back
-      × (last : Ledger D) × BreaksOffRestart back script last before after × Stands G (is_left_by first) first end last
+      IsTrue (is_processor_count processors) × (back : Ledger D)
+      × IsBack processors given first back
+      × (last : Ledger D) × BreaksOffRestart back script last before after
+      × Stands G (is_left_by first) first end last
 
-  -- No store came back from the first disk, for a cause that is found in its files or its blanks, the number of processors, lack of memory, or a failure
-  -- of the device. After a crash of an earlier run the files alone are never the cause. Nothing is written.
-  pub record WasNotRestarted (processors : ℕ) (given : Blanks) (first end : D) (refusal : Refusal) : Type 0 where
+  -- No store came back from the first disk, for a cause that is found in its files or its blanks,
+  -- the number of processors, lack of memory, or a failure of the device. After a crash of an
+  -- earlier run the files alone are never the cause. Nothing is written.
+  pub record WasNotRestarted (processors : ℕ) (given : Blanks) (first end : D)
+      (refusal : Refusal) : Type 0 where
     pub kind : is_restart_refusal refusal ≡ true
     pub bad : (refusal ≡ BadPes) ↔ (is_processor_count processors ≡ false)
     pub cause : G.honest first → is_processor_count processors ≡ true →
@@ -130,32 +162,47 @@ module _ {D : Type 0} (G : disks.Ghosts D) where
     pub counted : G.faults end ≡ faults_after (not_device refusal) (G.faults first)
 
   -- a line couldn't be written: that of a refusal, or one after the store came back
-  abbrev pub EndsRestartWrite : (processors : ℕ) → Blanks → (first end : D) → RestartContents → (before after : Option Text) → Type 0
+  abbrev pub EndsRestartWrite : (processors : ℕ) → Blanks → (first end : D) → RestartContents →
+      (before after : Option Text) → Type 0
   EndsRestartWrite processors given first end script before after =
-      ((refusal : Refusal) × WasNotRestarted processors given first end refusal × AppendsBeginning before after (refusal_text refusal))
+      ((refusal : Refusal) × WasNotRestarted processors given first end refusal
+      × AppendsBeginning before after (refusal_text refusal))
       ⊎ IsRestartCutOff processors given first end script before after
 
-  -- A restart that had enough objects for its script ends early where no store comes back, or where the output fails or memory for a line's text is refused.
-  abbrev pub EndsRestart : {C : Type 0} → (processors : ℕ) → Blanks → (first end : D) → RestartContents → (before after : Option Text) → RestartError C → Type 0
+  -- A restart that had enough objects for its script ends early where no store comes back, or where
+  -- the output fails or memory for a line's text is refused.
+  abbrev pub EndsRestart : {C : Type 0} → (processors : ℕ) → Blanks → (first end : D) →
+      RestartContents → (before after : Option Text) → RestartError C → Type 0
   EndsRestart processors given first end script before after (TooFewBlanks back others) = ⊥
   EndsRestart processors given first end script before after Memory = ⊥
   EndsRestart processors given first end script before after (NotRestarted refusal) =
-      WasNotRestarted processors given first end refusal × Appends before after (refusal_text refusal)
-  EndsRestart processors given first end script before after (Output error) = EndsRestartWrite processors given first end script before after
+      WasNotRestarted processors given first end refusal
+      × Appends before after (refusal_text refusal)
+  EndsRestart processors given first end script before after (Output error) =
+      EndsRestartWrite processors given first end script before after
 
-  -- Where the objects for the script's lines are too few, and only there, all come back. Then the disk and the output stay as they were, and so they do where memory is
-  -- refused before the store is to come back. A refused restart writes its line.
-  abbrev pub RestartLeaves : {C W : Type 0} → (C → State) → (W → Option Text) → (processors : ℕ) → (first end : D) → (blanks supplies : List C) → RestartContents →
+  -- Where the objects for the script's lines are too few, and only there, all come back. Then the
+  -- disk and the output stay as they were, and so they do where memory is refused before the store
+  -- is to come back. A refused restart writes its line.
+  abbrev pub RestartLeaves : {C W : Type 0} → (C → State) → (W → Option Text) → (processors : ℕ) →
+      (first end : D) → (blanks supplies : List C) → RestartContents →
       (before after : W) → RestartError C → Type 0
-  RestartLeaves state contents processors first end blanks supplies script before after (TooFewBlanks back others) =
-      (end ≡ first) × (back.items ≡ blanks) × (others.items ≡ supplies) × (after ≡ before) × ¬ AreEnough state supplies script.lines
+  RestartLeaves state contents processors first end blanks supplies script before after
+      (TooFewBlanks back others) =
+      (end ≡ first) × (back.items ≡ blanks) × (others.items ≡ supplies) × (after ≡ before)
+      × ¬ AreEnough state supplies script.lines
   RestartLeaves state contents processors first end blanks supplies script before after Memory =
       (end ≡ first) × AreEnough state supplies script.lines × (after ≡ before)
-  RestartLeaves state contents processors first end blanks supplies script before after (NotRestarted refusal) =
-      AreEnough state supplies script.lines × WasNotRestarted processors (given_of state blanks) first end refusal
+  RestartLeaves state contents processors first end blanks supplies script before after
+      (NotRestarted refusal) =
+      AreEnough state supplies script.lines
+      × WasNotRestarted processors (given_of state blanks) first end refusal
       × Appends (contents before) (contents after) (refusal_text refusal)
-  RestartLeaves state contents processors first end blanks supplies script before after (Output error) =
-      AreEnough state supplies script.lines × EndsRestartWrite processors (given_of state blanks) first end script (contents before) (contents after)
+  RestartLeaves state contents processors first end blanks supplies script before after
+      (Output error) =
+      AreEnough state supplies script.lines
+      × EndsRestartWrite processors (given_of state blanks) first end script (contents before)
+      (contents after)
 
 -- ---- how the program ends
 

@@ -16,31 +16,40 @@ module _ {D : Type 0} (G : disks.Ghosts D) where
   -- a line couldn't be written: the refusal of the store's creation, or one of a run
   abbrev pub EndsWrite : (first end : D) → Contents → (before after : Option Text) → Type 0
   EndsWrite first end script before after =
-      ((refusal : Refusal) × IsNotSaid script refusal before after × IsHandedBack G first end script refusal)
+      ((refusal : Refusal) × IsNotSaid script refusal before after
+      × IsHandedBack G first end script refusal)
       ⊎ IsCutOff G first end script before after
 
-  -- A run that had enough objects ends early where its store isn't created, or where the output fails or memory for a
-  -- line's text is refused.
-  abbrev pub EndsRun : {C : Type 0} → (first end : D) → Contents → (before after : Option Text) → RunError C → Type 0
+  -- A run that had enough objects ends early where its store isn't created, or where the output
+  -- fails or memory for a line's text is refused.
+  abbrev pub EndsRun : {C : Type 0} → (first end : D) → Contents → (before after : Option Text) →
+      RunError C → Type 0
   EndsRun first end script before after (TooFewBlanks back) = ⊥
-  EndsRun first end script before after (NotCreated refusal) = IsNotCreated script refusal before after × IsHandedBack G first end script refusal
+  EndsRun first end script before after (NotCreated refusal) =
+      IsNotCreated script refusal before after × IsHandedBack G first end script refusal
   EndsRun first end script before after Memory = ⊥
   EndsRun first end script before after (Output error) = EndsWrite first end script before after
 
-  -- Where the objects are too few, and only there, all come back. Then the disk and the output stay as they were, and so they do
-  -- where memory is refused before the store is to be created.
-  abbrev pub Leaves : {C W : Type 0} → (C → State) → (W → Option Text) → (first end : D) → List C → Contents → (before after : W) → RunError C → Type 0
+  -- Where the objects are too few, and only there, all come back. Then the disk and the output stay
+  -- as they were, and so they do where memory is refused before the store is to be created.
+  abbrev pub Leaves : {C W : Type 0} → (C → State) → (W → Option Text) → (first end : D) → List C →
+      Contents → (before after : W) → RunError C → Type 0
   Leaves state contents first end objects script before after (TooFewBlanks back) =
-      (end ≡ first) × (back.items ≡ objects) × (after ≡ before) × ¬ AreEnough state objects script.lines
-  Leaves state contents first end objects script before after Memory = (end ≡ first) × AreEnough state objects script.lines × (after ≡ before)
+      (end ≡ first) × (back.items ≡ objects) × (after ≡ before)
+      × ¬ AreEnough state objects script.lines
+  Leaves state contents first end objects script before after Memory = (end ≡ first)
+      × AreEnough state objects script.lines × (after ≡ before)
   Leaves state contents first end objects script before after (NotCreated refusal) =
-      AreEnough state objects script.lines × IsNotCreated script refusal (contents before) (contents after) × IsHandedBack G first end script refusal
+      AreEnough state objects script.lines × IsNotCreated script refusal (contents before)
+      (contents after) × IsHandedBack G first end script refusal
   Leaves state contents first end objects script before after (Output error) =
-      AreEnough state objects script.lines × EndsWrite first end script (contents before) (contents after)
+      AreEnough state objects script.lines × EndsWrite first end script (contents before)
+      (contents after)
 
 -- there are too few objects, and all come back; or memory is refused where there are enough
 abbrev pub Lacks : {C : Type 0} → (C → State) → List C → Contents → RunError C → Type 0
-Lacks state objects script (TooFewBlanks back) = (back.items ≡ objects) × ¬ AreEnough state objects script.lines
+Lacks state objects script (TooFewBlanks back) = (back.items ≡ objects)
+    × ¬ AreEnough state objects script.lines
 Lacks state objects script Memory = AreEnough state objects script.lines
 Lacks state objects script (NotCreated refusal) = ⊥
 Lacks state objects script (Output error) = ⊥

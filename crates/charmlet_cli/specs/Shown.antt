@@ -18,10 +18,12 @@ use Rattle.charmlet_engine.specs.declared.engine.Engine.{Engine}
 use Rattle.charmlet_store.specs.Census.{census_in}
 use Rattle.charmlet_store.specs.There.{there_of}
 
--- an element on this processor, if it is there, with this state and these counts; the digits are those of its packed state
+-- an element on this processor, if it is there, with this state and these counts; the digits are
+-- those of its packed state
 abbrev pub state_text : Elem → (processor : ℕ) → Option State → (sent received : ℕ) → Text
 state_text elem processor None sent received = absent_text elem sent received
-state_text elem processor (Some state) sent received = standing_text elem processor sent received (encode_lower (pupped state))
+state_text elem processor (Some state) sent received =
+    standing_text elem processor sent received (encode_lower (pupped state))
 
 -- an element on this processor, if it is there, with this record
 abbrev pub record_text : Elem → (processor : ℕ) → Record → Text
@@ -31,7 +33,8 @@ record_text elem processor r = state_text elem processor r.state r.sent r.receiv
 abbrev pub all_kinds : List Kind
 all_kinds = kinds.Counter ∷ kinds.Ring ∷ kinds.Account ∷ kinds.Sum ∷ kinds.Tree ∷ kinds.Tape ∷ []
 
--- the numbers of a kind: those on shelves are the elements that are there, and those in the stock its blanks
+-- the numbers of a kind: those on shelves are the elements that are there, and those in the stock
+-- its blanks
 abbrev pub counted_in : StoreView → (supplied retired : Kind → ℕ) → Kind → Counted
 counted_in store supplied retired kind = record {
   kind = kind;
@@ -42,7 +45,8 @@ counted_in store supplied retired kind = record {
 }
 
 -- the numbers of a kind that an engine counts
-abbrev pub counted_of : {D C : Type 0} {G : disks.Ghosts D} {H : chares.Ghosts C} → Engine D C G H → Kind → Counted
+abbrev pub counted_of : {D C : Type 0} {G : disks.Ghosts D} {H : chares.Ghosts C} → Engine D C G H →
+    Kind → Counted
 counted_of engine kind = record {
   kind = kind;
   supplied = (census_in engine.store kind).supplied;

@@ -7,7 +7,8 @@ use Rattle.charmlet_script.specs.declared.error.ReadError.TheVariants.{Memory, F
 use Rattle.charmlet_cli.specs.declared.stop.Stop.{Stop}
 use Rattle.charmlet_cli.specs.declared.stop.Stop.TheVariants.{CannotGoOn, NotCreated, NotRestarted, NotShown, NotSurvived, UnreadableScript, MalformedLine}
 
--- 1 where it can't go on, has no store, shows none, or found bad outcomes, and 2 for a script that can't be run
+-- 1 where it can't go on, has no store, shows none, or found bad outcomes, and 2 for a script that
+-- can't be run
 abbrev pub status_of : Stop → ℕ
 status_of CannotGoOn = 1
 status_of NotCreated = 1

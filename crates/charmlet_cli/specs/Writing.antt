@@ -5,7 +5,8 @@ use Rattle.charmlet_model.specs.Texts.{Text}
 
 -- known bytes grow by a beginning of these
 abbrev pub AppendsBeginning : (before after : Option Text) → Text → Type 0
-AppendsBeginning before after text = (written : Text) × (rest : Text) × (text ≡ written ++ rest) × Appends before after written
+AppendsBeginning before after text = (written : Text) × (rest : Text) × (text ≡ written ++ rest)
+    × Appends before after written
 
 -- the text is written, or where that fails a beginning of it
 abbrev pub Writes : {T E : Type 0} → Result T E → (before after : Option Text) → Text → Type 0

@@ -33,15 +33,21 @@ needed_word rule = record rule { required = true; action = Some Set }
 
 -- the word that names the script's file
 abbrev pub script_word : Rule
-script_word = record (new_rule (codes "script")) { value_names = 1; required = true; action = Some Set }
+script_word = record (new_rule (codes "script"))
+    { value_names = 1; required = true; action = Some Set }
 
 -- the word that names the folder of a store that is there
 abbrev pub folder_word : Rule
-folder_word = record (new_rule (codes "folder")) { value_names = 1; required = true; action = Some Set }
+folder_word = record (new_rule (codes "folder"))
+    { value_names = 1; required = true; action = Some Set }
 
 -- `--dir DIR`, which names the store's folder
 abbrev pub dir_option : Rule
-dir_option = record (new_rule (codes "dir")) { long = Some (codes "dir"); value_names = 1; action = Some Set }
+dir_option = record (new_rule (codes "dir")) {
+  long = Some (codes "dir");
+  value_names = 1;
+  action = Some Set;
+}
 
 -- `--pes N`, a 16-bit number, which is 1 where the line doesn't have it
 abbrev pub pes_option : Rule
@@ -63,7 +69,8 @@ show_line = with_rule (new_app (codes "show")) folder_word
 
 -- `restart DIR SCRIPT [--pes N]`
 abbrev pub restart_line : App
-restart_line = with_rule (with_rule (with_rule (new_app (codes "restart")) pes_option) folder_word) script_word
+restart_line = with_rule (with_rule (with_rule (new_app (codes "restart")) pes_option) folder_word)
+    script_word
 
 -- `lab SCRIPT`
 abbrev pub lab_line : App
@@ -72,11 +79,14 @@ lab_line = with_rule (new_app (codes "lab")) script_word
 -- `charmlet`, which needs a subcommand
 abbrev pub charmlet_line : App
 charmlet_line =
-    with_subcommand (with_subcommand (with_subcommand (with_subcommand (on_top (λ top. record top { subcommand_required = true }) (new_app (codes "charmlet")))
+    with_subcommand (with_subcommand
+    (with_subcommand (with_subcommand
+    (on_top (λ top. record top { subcommand_required = true }) (new_app (codes "charmlet")))
     run_line.top) show_line.top) restart_line.top) lab_line.top
 
--- what is asked for: a run of a script, maybe with a folder for its store; a showing of the store in a folder; a restart of the
--- store in a folder, on so many processors, with a script; or a trial of a script's crashes
+-- what is asked for: a run of a script, maybe with a folder for its store; a showing of the store
+-- in a folder; a restart of the store in a folder, on so many processors, with a script; or a trial
+-- of a script's crashes
 pub data Asked : Type 0 where
   Runs : (script : Text) (dir : Option Text) → Asked
   Shows : (dir : Text) → Asked
@@ -86,7 +96,8 @@ pub data Asked : Type 0 where
 -- the run that a subcommand's values name
 abbrev pub run_of : List Row → Option Asked
 run_of rows =
-    option_map (λ script. Runs script (first_of (codes "dir") rows)) (first_of (codes "script") rows)
+    option_map (λ script. Runs script (first_of (codes "dir") rows))
+    (first_of (codes "script") rows)
 
 -- the showing that a subcommand's values name
 abbrev pub show_of : List Row → Option Asked
@@ -94,7 +105,8 @@ show_of rows = option_map Shows (first_of (codes "folder") rows)
 
 -- the 16-bit number that a word spells in decimal digits, before which a plus may stand
 abbrev pub u16_in : Text → Option ℕ
-u16_in word = if is_unsigned_in 0 65535 word then Some (digits_value 10 (without_leading_plus word)) else None
+u16_in word = if is_unsigned_in 0 65535 word then Some (digits_value 10 (without_leading_plus word))
+    else None
 
 -- the restart that a subcommand's values name; clap takes a minus off a zero
 abbrev pub restart_of : List Row → Option Asked
@@ -124,7 +136,8 @@ unless_faulty (fault ∷ faults) answer = None
 
 -- what the words ask for
 unfoldable pub asked : List Text → Option Asked
-asked words = unless_faulty (fault_of charmlet_line words) (option_and_then asked_by (subcommand_of charmlet_line words))
+asked words = unless_faulty (fault_of charmlet_line words)
+    (option_and_then asked_by (subcommand_of charmlet_line words))
 
 -- what a command asks for
 abbrev pub asked_in : Command → Asked

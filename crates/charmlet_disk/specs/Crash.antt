@@ -11,7 +11,8 @@ by_place n byte_at = map byte_at (range_with_len 0 n)
 
 -- one byte wherever the file was written since its last sync
 abbrev pub filled : ℕ → File → List ℕ
-filled byte file = by_place (length file.now) (λ k. if covers file.ranges k then byte else slice_index file.now k)
+filled byte file = by_place (length file.now)
+    (λ k. if covers file.ranges k then byte else slice_index file.now k)
 
 -- the first half of each range, rounded down
 abbrev pub first_halves : List (ℕ × ℕ) → List (ℕ × ℕ)
@@ -27,10 +28,12 @@ abbrev pub last_end : List (ℕ × ℕ) → ℕ
 last_end [] = 0
 last_end (range ∷ ranges) = max (range_end range) (last_end ranges)
 
--- what is in a first half is new, and the rest old; what is past the old end and in no first half is cut off, or 0 before one
+-- what is in a first half is new, and the rest old; what is past the old end and in no first half
+-- is cut off, or 0 before one
 abbrev pub half_written : File → List ℕ
 half_written file = by_place (max (length file.sure) (last_end (first_halves file.ranges)))
-    (λ k. if covers (first_halves file.ranges) k then slice_index file.now k else slice_index file.sure k)
+    (λ k. if covers (first_halves file.ranges) k then slice_index file.now k
+    else slice_index file.sure k)
 
 -- what a crash leaves by its choice
 abbrev pub left_by : CrashChoice → File → List ℕ

@@ -7,8 +7,10 @@ use Rattle.charmlet_disk.specs.File.{File, Outcome, clean}
 abbrev pub SameFiles : (Half → File) → (Half → File) → Type 0
 SameFiles old new = (half : Half) → new half ≡ old half
 
--- time goes on: a crash since t might have left what it might have left before, or what it may leave now
-pub record Elapses (before now : ℕ) (past since : ℕ → Outcome → Type 0) (may_leave : Outcome → Type 0) : Type 0 where
+-- time goes on: a crash since t might have left what it might have left before, or what it may
+-- leave now
+pub record Elapses (before now : ℕ) (past since : ℕ → Outcome → Type 0)
+    (may_leave : Outcome → Type 0) : Type 0 where
   pub later : before ≤ now
   pub nothing_else : (t : ℕ) (c : Outcome) → t ≤ before → since t c → past t c ⊎ may_leave c
   pub keeps : (t : ℕ) (c : Outcome) → t ≤ before → past t c → since t c
@@ -23,7 +25,8 @@ abbrev pub IsSettled : (Half → File) → Type 0
 IsSettled files = (half : Half) → files half ≡ clean (files half).now
 
 -- a crash at any moment since old leaves only what has P
-pub record LeavesOnly {D : Type 0} (moment : D → ℕ) (since : D → ℕ → Outcome → Type 0) (old new : D) (P : Outcome → Type 0) : Type 0 where
+pub record LeavesOnly {D : Type 0} (moment : D → ℕ) (since : D → ℕ → Outcome → Type 0) (old new : D)
+    (P : Outcome → Type 0) : Type 0 where
   pub later : moment old ≤ moment new
   pub each : (c : Outcome) → since new (moment old) c → P c
   -- for a run that began earlier

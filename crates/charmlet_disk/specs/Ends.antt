@@ -16,18 +16,24 @@ range_end-some at zero some = absurd (omega (arith, some))
 range_end-some at (suc n) some = refl
 
 -- one range more
-last_end-push : (ranges : List (ℕ × ℕ)) (range : ℕ × ℕ) → last_end (ranges ++ range ∷ []) ≡ max (last_end ranges) (range_end range)
+last_end-push : (ranges : List (ℕ × ℕ)) (range : ℕ × ℕ) → last_end (ranges ++ range ∷ [])
+    ≡ max (last_end ranges) (range_end range)
 last_end-push [] range = omega arith
 last_end-push (r ∷ ranges) range = omega (arith, last_end-push ranges range)
 
-pub last_end-more : (ranges : List (ℕ × ℕ)) (i : ℕ) (d : ℕ × ℕ) → i < length ranges → last_end (take (i + 1) ranges) ≡ max (last_end (take i ranges)) (range_end (get_or ranges i d))
-last_end-more ranges i d lt = ap (λ (rs : List (ℕ × ℕ)). last_end rs) (take_more ranges i d lt) ∙ last_end-push (take i ranges) (get_or ranges i d)
+pub last_end-more : (ranges : List (ℕ × ℕ)) (i : ℕ) (d : ℕ × ℕ) → i < length ranges →
+    last_end (take (i + 1) ranges) ≡ max (last_end (take i ranges)) (range_end (get_or ranges i d))
+last_end-more ranges i d lt = ap (λ (rs : List (ℕ × ℕ)). last_end rs)
+    (take_more ranges i d lt) ∙ last_end-push (take i ranges) (get_or ranges i d)
 
-pub last_end-wrote : (ranges : List (ℕ × ℕ)) (range : ℕ × ℕ) (end : ℕ) → last_end ranges ≤ end → range.0 + range.1 ≤ end → last_end (ranges ++ range ∷ []) ≤ end
-last_end-wrote ranges range end within also = omega (arith, last_end-push ranges range, within, also, range_end-within range)
+pub last_end-wrote : (ranges : List (ℕ × ℕ)) (range : ℕ × ℕ) (end : ℕ) → last_end ranges ≤ end →
+    range.0 + range.1 ≤ end → last_end (ranges ++ range ∷ []) ≤ end
+last_end-wrote ranges range end within also =
+    omega (arith, last_end-push ranges range, within, also, range_end-within range)
 
 -- each range ends by then
-pub range_end-le : (ranges : List (ℕ × ℕ)) (i : ℕ) (d : ℕ × ℕ) → i < length ranges → range_end (get_or ranges i d) ≤ last_end ranges
+pub range_end-le : (ranges : List (ℕ × ℕ)) (i : ℕ) (d : ℕ × ℕ) → i < length ranges →
+    range_end (get_or ranges i d) ≤ last_end ranges
 range_end-le [] i d lt = absurd (omega (arith, lt))
 range_end-le (r ∷ ranges) zero d lt = omega arith
 range_end-le (r ∷ ranges) (suc i) d lt = omega (arith, range_end-le ranges i d (omega (arith, lt)))

@@ -40,7 +40,8 @@ covers ranges k = list_any (is_within k) ranges
 pub record IsOutcome (file : File) (bytes : List ℕ) : Type 0 where
   pub no_shorter : length file.sure ≤ length bytes
   pub no_longer : length bytes ≤ file.greatest
-  pub outside : (k : ℕ) → k < length file.sure → covers file.ranges k ≡ false → slice_index bytes k ≡ slice_index file.sure k
+  pub outside : (k : ℕ) → k < length file.sure → covers file.ranges k ≡ false → slice_index bytes k
+      ≡ slice_index file.sure k
 
 -- the bytes of both halves after a crash
 abbrev pub Outcome : Type 0

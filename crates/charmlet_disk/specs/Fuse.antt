@@ -22,7 +22,8 @@ faults_of_both disk own = min (disk + own) (2 ^ 64 - 1)
 -- a call passes while calls are left, and is then one less; after them it fails, and the disk stays
 pub record Burns {D : Type 0} (faults : D → ℕ) (old new : FuseDisk D) (ok : Bool) : Type 0 where
   pub left : calls_left new ≡ calls_left old - 1
-  pub passed : 0 < calls_left old → (refusals new ≡ refusals old) × (faults (inside new) ≡ faults_after ok (faults (inside old)))
+  pub passed : 0 < calls_left old → (refusals new ≡ refusals old)
+      × (faults (inside new) ≡ faults_after ok (faults (inside old)))
   pub blown : calls_left old ≡ 0 → (ok ≡ false) × (inside new ≡ inside old)
 
 -- a call passes, and as many others do after it as before

@@ -6,4 +6,5 @@ use Rattle.charmlet_disk.specs.Disk.{IsSettled}
 
 -- a crash of a settled disk leaves of each half what a read gives, and nothing else
 abbrev pub SettledDisksLeaveWhatIsRead : Type 0
-SettledDisksLeaveWhatIsRead = (files : Half → File) (outcome : Outcome) → IsSettled files → MayLeave files outcome → (half : Half) → outcome half ≡ (files half).now
+SettledDisksLeaveWhatIsRead = (files : Half → File) (outcome : Outcome) → IsSettled files →
+    MayLeave files outcome → (half : Half) → outcome half ≡ (files half).now

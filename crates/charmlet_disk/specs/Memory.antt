@@ -11,7 +11,12 @@ use Rattle.charmlet_disk.specs.Crash.{left_by}
 
 -- the file as a disk shows it
 abbrev pub file_of : MemFile → File
-file_of file = record { now = file.bytes.items; sure = file.sure.items; ranges = file.ranges.items; greatest = length file.bytes.items }
+file_of file = record {
+  now = file.bytes.items;
+  sure = file.sure.items;
+  ranges = file.ranges.items;
+  greatest = length file.bytes.items;
+}
 
 -- what a call makes of a half
 abbrev pub after_call : Half → Call → File → File
@@ -43,7 +48,8 @@ files_after calls half = replayed half calls (clean [])
 
 -- what a crash after some number of the calls might have left
 abbrev pub LeftSince : List Call → ℕ → Outcome → Type 0
-LeftSince calls t outcome = (k : ℕ) × (t ≤ k) × (k ≤ length calls) × MayLeave (files_after (take k calls)) outcome
+LeftSince calls t outcome = (k : ℕ) × (t ≤ k) × (k ≤ length calls)
+    × MayLeave (files_after (take k calls)) outcome
 
 -- one for each half
 abbrev pub by_halves : {X : Type 0} → X → X → Half → X

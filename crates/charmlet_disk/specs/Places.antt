@@ -1,4 +1,5 @@
--- Places within ranges. Lemmas under the laws of a disk stand with the definitions, since an impl cites no others.
+-- Places within ranges. Lemmas under the laws of a disk stand with the definitions, since an impl
+-- cites no others.
 use Rattle.std.proofs.Common.{◌≡◌, ◌⊎◌, inl, inr, ⊎_elim, ℕ, suc, ◌+◌, ◌<◌, ◌≤◌, Bool, true, false, ◌&&◌, ◌||◌, List, [], ◌∷◌, ◌++◌, length, take, get_or, ◌∙◌, ap, arith}
 use Rattle.std.proofs.lemmas.Bool.Decides.{leb_tells}
 use Rattle.std.proofs.lemmas.List.{take_more}
@@ -17,12 +18,20 @@ not_second : (a b : Bool) → a ≡ true → b ≡ false → (a && b) ≡ false
 not_second a b first second = ap (λ (t : Bool). t && b) first ∙ second
 
 -- a place is within a range, or beside it
-pub tells_place : (k at n : ℕ) → ((is_within k (at, n) ≡ true) × ((at ≤ k) × (k < at + n))) ⊎ ((is_within k (at, n) ≡ false) × ((k < at) ⊎ (at + n ≤ k)))
+pub tells_place : (k at n : ℕ) → ((is_within k (at, n) ≡ true) × ((at ≤ k) × (k < at + n)))
+    ⊎ ((is_within k (at, n) ≡ false) × ((k < at) ⊎ (at + n ≤ k)))
 tells_place k at n =
     ⊎_elim
     (λ from. ⊎_elim
-    (λ below. inl (both (leb at k) (leb (suc k) (at + n)) from.0 below.0, (from.1, omega (arith, below.1))))
-    (λ above. inr (not_second (leb at k) (leb (suc k) (at + n)) from.0 above.0, inr (omega (arith, above.1))))
+    (λ below. inl (
+      both (leb at k) (leb (suc k) (at + n)) from.0 below.0,
+      (from.1, omega (arith, below.1)),
+    ))
+    (λ above. inr (
+      not_second (leb at k) (leb (suc k) (at + n)) from.0 above.0,
+      inr
+          (omega (arith, above.1)),
+    ))
     (leb_tells (suc k) (at + n)))
     (λ before. inr (not_first (leb at k) (leb (suc k) (at + n)) before.0, inl before.1))
     (leb_tells at k)
@@ -31,7 +40,8 @@ tells_place k at n =
 pub not_within : (k at n : ℕ) → (k < at) ⊎ (at + n ≤ k) → is_within k (at, n) ≡ false
 not_within k at n beside =
     ⊎_elim
-    (λ inside. absurd (⊎_elim (λ below. omega (arith, below, inside.1.0)) (λ above. omega (arith, above, inside.1.1)) beside))
+    (λ inside. absurd (⊎_elim (λ below. omega (arith, below, inside.1.0))
+    (λ above. omega (arith, above, inside.1.1)) beside))
     (λ is. is.0)
     (tells_place k at n)
 
@@ -40,8 +50,12 @@ pub covers_one : (range : ℕ × ℕ) (k : ℕ) → covers (range ∷ []) k ≡ 
 covers_one range k = or-false (is_within k range)
 
 -- one range more
-pub covers_push : (ranges : List (ℕ × ℕ)) (range : ℕ × ℕ) (k : ℕ) → covers (ranges ++ range ∷ []) k ≡ (covers ranges k || is_within k range)
-covers_push ranges range k = list_any-append (is_within k) ranges (range ∷ []) ∙ ap (λ (t : Bool). covers ranges k || t) (covers_one range k)
+pub covers_push : (ranges : List (ℕ × ℕ)) (range : ℕ × ℕ) (k : ℕ) → covers (ranges ++ range ∷ []) k
+    ≡ (covers ranges k || is_within k range)
+covers_push ranges range k = list_any-append (is_within k) ranges (range ∷ []) ∙ ap
+    (λ (t : Bool). covers ranges k || t) (covers_one range k)
 
-pub covers_more : (ranges : List (ℕ × ℕ)) (i : ℕ) (d : ℕ × ℕ) (k : ℕ) → i < length ranges → covers (take (i + 1) ranges) k ≡ (covers (take i ranges) k || is_within k (get_or ranges i d))
-covers_more ranges i d k lt = ap (λ (rs : List (ℕ × ℕ)). covers rs k) (take_more ranges i d lt) ∙ covers_push (take i ranges) (get_or ranges i d) k
+pub covers_more : (ranges : List (ℕ × ℕ)) (i : ℕ) (d : ℕ × ℕ) (k : ℕ) → i < length ranges →
+    covers (take (i + 1) ranges) k ≡ (covers (take i ranges) k || is_within k (get_or ranges i d))
+covers_more ranges i d k lt = ap (λ (rs : List (ℕ × ℕ)). covers rs k)
+    (take_more ranges i d lt) ∙ covers_push (take i ranges) (get_or ranges i d) k

@@ -3,7 +3,8 @@ use Rattle.std.specs.Prelude.{◌≡◌, ◌≤◌, []}
 use Rattle.charmlet_disk.specs.File.{File, IsOutcome, clean}
 use Rattle.charmlet_disk.specs.Crash.{last_end}
 
--- what a read gives may be left, the ranges end within the greatest length, and without any nothing was written
+-- what a read gives may be left, the ranges end within the greatest length, and without any nothing
+-- was written
 pub record IsSound (file : File) : Type 0 where
   pub left : IsOutcome file file.now
   pub inside : last_end file.ranges ≤ file.greatest

@@ -12,6 +12,7 @@ pub record Torn (at n : ℕ) (old new : List ℕ) : Type 0 where
   pub no_longer : length new ≤ max (length old) (at + n)
 
 -- one half is torn in a range, and the other is as it was
-pub record TearsHalf (files : Half → File) (half : Half) (at n : ℕ) (outcome : Outcome) : Type 0 where
+pub record TearsHalf (files : Half → File) (half : Half) (at n : ℕ)
+    (outcome : Outcome) : Type 0 where
   pub torn : Torn at n (files half).now (outcome half)
   pub kept : outcome (other half) ≡ (files (other half)).now

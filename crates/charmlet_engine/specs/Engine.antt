@@ -47,16 +47,20 @@ module _ {D C : Type 0} {G : disks.Ghosts D} {H : chares.Ghosts C} where
   abbrev pub disk_in : Engine D C G H → D
   disk_in engine = disk_of engine.halves
 
-  -- Its shelves show the present world; its halves go on where the store does; and on an honest disk each crash keeps what is durable.
+  -- Its shelves show the present world; its halves go on where the store does; and on an honest
+  -- disk each crash keeps what is durable.
   pub record IsEngineConsistent (engine : Engine D C G H) : Type 0 where
     pub shows : IsStoreConsistent engine.store
     pub agrees : Agrees (core_of engine) engine.halves
     pub keeps : G.honest (disk_in engine) → IsKept (core_of engine) engine.halves
 
-  -- The half that is taken says an image of the present world, with a count of all events, and a log that has no batch yet.
+  -- The half that is taken says an image of the present world, with a count of all events, and a
+  -- log that has no batch yet.
   abbrev pub HasImage : Engine D C G H → Type 0
   HasImage engine =
-      text_of engine.halves ≡ spell_half (saved_of (world_of engine) ((core_of engine).before + length (core_of engine).history) (core_of engine).generation [])
+      text_of engine.halves ≡ spell_half
+      (saved_of (world_of engine) ((core_of engine).before + length (core_of engine).history)
+      (core_of engine).generation [])
 
   -- the disk after a creation, which the engine owns or which was handed back
   abbrev pub disk_after : Result (Engine D C G H) (Refused D) → D
@@ -64,7 +68,8 @@ module _ {D C : Type 0} {G : disks.Ghosts D} {H : chares.Ghosts C} where
   disk_after (Err refused) = refused.disk
 
   -- that the engine was created, or why not
-  abbrev pub engine_or_refusal : Result (Engine D C G H) (Refused D) → Result (Engine D C G H) Refusal
+  abbrev pub engine_or_refusal : Result (Engine D C G H) (Refused D) →
+      Result (Engine D C G H) Refusal
   engine_or_refusal (Ok engine) = Ok engine
   engine_or_refusal (Err refused) = Err refused.refusal
 
@@ -73,6 +78,7 @@ module _ {D C : Type 0} {G : disks.Ghosts D} {H : chares.Ghosts C} where
   recovered_in engine = record { store = engine.store; halves = engine.halves }
 
   -- that a restart brought it back, or what it handed back
-  abbrev pub recovered_or_not : Result (Engine D C G H) (NotRestarted D C H) → Result (Recovered D C G H) (NotRestarted D C H)
+  abbrev pub recovered_or_not : Result (Engine D C G H) (NotRestarted D C H) →
+      Result (Recovered D C G H) (NotRestarted D C H)
   recovered_or_not (Ok engine) = Ok (recovered_in engine)
   recovered_or_not (Err refused) = Err refused

@@ -13,7 +13,8 @@ use Rattle.charmlet_recovery.specs.Recovered.{Found, Nothing, recovered}
 use Rattle.charmlet_disk.specs.Disk.{faults_after}
 use Rattle.charmlet_disk.specs.File.{Outcome}
 
--- the second core is a later one of the same store: its history goes on, and no fewer events are durable
+-- the second core is a later one of the same store: its history goes on, and no fewer events are
+-- durable
 pub record Onward (old new : Core) : Type 0 where
   pub more : List Event
   pub grows : new.history ≡ old.history ++ more
@@ -21,7 +22,8 @@ pub record Onward (old new : Core) : Type 0 where
   pub before : new.before ≡ old.before
   pub no_fewer : old.durable ≤ new.durable
 
--- the files recover to the world after some of the history of the second core, with all that was durable at the first among it
+-- the files recover to the world after some of the history of the second core, with all that was
+-- durable at the first among it
 abbrev pub is_lawful_since : Core → Core → Outcome → Type 0
 is_lawful_since old new = IsLawful new.opening new.before new.history old.durable
 
@@ -29,9 +31,11 @@ is_lawful_since old new = IsLawful new.opening new.before new.history old.durabl
 abbrev pub is_lawful_now : Core → Outcome → Type 0
 is_lawful_now core = is_lawful_since core core
 
--- the files recover to nothing, or to the world with these arrays in which nothing has happened, at no events and generation 1
+-- the files recover to nothing, or to the world with these arrays in which nothing has happened, at
+-- no events and generation 1
 abbrev pub IsNothingOrNew : Kinds → Outcome → Type 0
-IsNothingOrNew kinds outcome = (recovered outcome ≡ Nothing) ⊎ (recovered outcome ≡ Found (new_world kinds) 0 1)
+IsNothingOrNew kinds outcome = (recovered outcome ≡ Nothing)
+    ⊎ (recovered outcome ≡ Found (new_world kinds) 0 1)
 
 -- the refusal doesn't say that the device failed
 abbrev pub not_device : Refusal → Bool
@@ -64,4 +68,5 @@ ends_with_image (answer ∷ next ∷ answers) = ends_with_image (next ∷ answer
 -- how often the disk has failed after these answers: once more for each that says so
 abbrev pub faults_through : List Answer → ℕ → ℕ
 faults_through [] faults = faults
-faults_through (answer ∷ answers) faults = faults_through answers (faults_after (is_no_fault answer) faults)
+faults_through (answer ∷ answers) faults =
+    faults_through answers (faults_after (is_no_fault answer) faults)

@@ -13,15 +13,19 @@ use Rattle.charmlet_engine.specs.Engine.{core_of, disk_in, supplied_of, view_of}
 use Rattle.charmlet_engine.specs.Lives.{Past, Remembers, with_run}
 use Rattle.charmlet_engine.specs.Outcomes.{is_lawful_now, is_no_fault}
 
--- An engine takes a step that writes nothing, which is answered so: the store does it; what is told is true of what is durable, and stays so over all lives to come; each crash
--- from then on is lawful; disk and supplies are as they were; and the
--- device isn't said to have failed.
-pub record Takes {D C : Type 0} {G : disks.Ghosts D} {H : chares.Ghosts C} (old new : Engine D C G H) (step : Step) (answer : Answer) : Type 0 where
+-- An engine takes a step that writes nothing, which is answered so: the store does it; what is told
+-- is true of what is durable, and stays so over all lives to come; each crash from then on is
+-- lawful; disk and supplies are as they were; and the device isn't said to have failed.
+pub record Takes {D C : Type 0} {G : disks.Ghosts D} {H : chares.Ghosts C}
+    (old new : Engine D C G H) (step : Step) (answer : Answer) : Type 0 where
   pub does : Does (view_of old) step answer (view_of new)
-  pub told : IsToldTrue (core_of new).opening (take (core_of new).durable (core_of new).history) step answer
-  pub remembers : (past : Past) → Remembers past (core_of old) → Remembers (with_run past (step ∷ []) (answer ∷ [])) (core_of new)
+  pub told : IsToldTrue (core_of new).opening
+      (take (core_of new).durable (core_of new).history) step answer
+  pub remembers : (past : Past) → Remembers past (core_of old) →
+      Remembers (with_run past (step ∷ []) (answer ∷ [])) (core_of new)
   pub advances : Advances old new
-  pub now : G.honest (disk_in old) → (outcome : Outcome) → MayLeave (G.file (disk_in new)) outcome → is_lawful_now (core_of new) outcome
+  pub now : G.honest (disk_in old) → (outcome : Outcome) → MayLeave (G.file (disk_in new)) outcome →
+      is_lawful_now (core_of new) outcome
   pub disk : disk_in new ≡ disk_in old
   pub supplied : supplied_of new ≡ supplied_of old
   pub no_fault : is_no_fault answer ≡ true

@@ -10,11 +10,13 @@ Answers None result = IfErr result (λ refusal. refusal ≡ Device)
 
 -- halves that are halted write nothing, and no log ends past 2^31 bytes
 abbrev pub batch_refusal : Bool → ℕ → ℕ → Option Refusal
-batch_refusal halted log_end size = if halted then Some Halted else (if nat_le (2 ^ 31) (log_end + size) then Some LogFull else None)
+batch_refusal halted log_end size = if halted then Some Halted
+    else (if nat_le (2 ^ 31) (log_end + size) then Some LogFull else None)
 
 -- no image ends past 2^31 bytes, and no generation is above 2^40
 abbrev pub image_refusal : Bool → ℕ → ℕ → Option Refusal
-image_refusal halted generation size = if halted then Some Halted else (if nat_le (2 ^ 31) size || nat_le (2 ^ 40) generation then Some ImageFull else None)
+image_refusal halted generation size = if halted then Some Halted
+    else (if nat_le (2 ^ 31) size || nat_le (2 ^ 40) generation then Some ImageFull else None)
 
 -- a gate is opened unless the halves are halted
 abbrev pub gate_refusal : Bool → Option Refusal

@@ -27,14 +27,16 @@ Refuses t _ = ⊥
 
 -- a half is taken, whatever it says, or nothing is
 abbrev pub Chooses : List ℕ → List ℕ → Result Half Refusal → Type 0
-Chooses first second (Ok half) = taken first second ≡ taken_half half (found (bytes_of first second half))
+Chooses first second (Ok half) = taken first second
+    ≡ taken_half half (found (bytes_of first second half))
 Chooses first second (Err refusal) = Refuses (taken first second) refusal
 
 -- of two headers the one of the later generation, if there is one before it
 abbrev pub ComesLater : Header → Header → Result Half Refusal → Type 0
 ComesLater first second result =
     result ≡ (if second.generation == first.generation + 1 then Ok One
-    else (if first.generation == second.generation + 1 then Ok Zero else Err (refusals.Damaged One 5)))
+    else (if first.generation == second.generation + 1 then Ok Zero
+    else Err (refusals.Damaged One 5)))
 
 -- what a half has by its bytes is what they say
 pub record Says (bytes : List ℕ) (contents : Contents) (s : Saved) : Type 0 where
@@ -58,7 +60,8 @@ ContentsAre half bytes (Err refusal) = Refuses (taken_half half (found bytes)) r
 -- a call finds what two halves say, unless memory is refused or the device fails
 abbrev pub Finds : List ℕ → List ℕ → Result Surveyed Refusal → Type 0
 Finds first second (Ok v) =
-    (v.bytes.items ≡ bytes_of first second v.half) × FirstGate v.spare_closed (bytes_of first second (other v.half))
+    (v.bytes.items ≡ bytes_of first second v.half)
+    × FirstGate v.spare_closed (bytes_of first second (other v.half))
     × ((s : Saved) → Says v.bytes.items v.contents s → taken first second ≡ Takes v.half s)
 Finds first second (Err refusals.Memory) = Unit {0}
 Finds first second (Err refusals.Device) = Unit {0}

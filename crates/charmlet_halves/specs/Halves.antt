@@ -54,17 +54,22 @@ image_to halves at = take (at - 1) (drop 1 (spare_of halves))
 -- the taken half says what it said, or that and this batch, and the other half is as it was
 abbrev pub HasOldOrBatch : {D : Type 0} {G : Ghosts D} → Halves D G → List ℕ → Outcome → Type 0
 HasOldOrBatch halves batch outcome =
-    (Spells (outcome halves.taken) (text_of halves) ⊎ Spells (outcome halves.taken) (text_of halves ++ (1 ∷ batch))) × (outcome (other halves.taken) ≡ spare_of halves)
+    (Spells (outcome halves.taken) (text_of halves)
+    ⊎ Spells (outcome halves.taken) (text_of halves ++ (1 ∷ batch)))
+    × (outcome (other halves.taken) ≡ spare_of halves)
 
 -- the taken half is as it was, and the other one is closed or as it was
 abbrev pub KeepsTaken : {D : Type 0} {G : Ghosts D} → Halves D G → Outcome → Type 0
 KeepsTaken halves outcome =
-    (outcome halves.taken ≡ taken_of halves) × (IsClosed (outcome (other halves.taken)) ⊎ (outcome (other halves.taken) ≡ spare_of halves))
+    (outcome halves.taken ≡ taken_of halves)
+    × (IsClosed (outcome (other halves.taken)) ⊎ (outcome (other halves.taken) ≡ spare_of halves))
 
 -- the half that was taken is as it was, and the other one is closed or says this image alone
 abbrev pub HasOldOrImage : {D : Type 0} {G : Ghosts D} → Halves D G → List ℕ → Outcome → Type 0
 HasOldOrImage halves image outcome =
-    (outcome halves.taken ≡ taken_of halves) × (IsClosed (outcome (other halves.taken)) ⊎ Spells (outcome (other halves.taken)) (1 ∷ image))
+    (outcome halves.taken ≡ taken_of halves)
+    × (IsClosed (outcome (other halves.taken))
+    ⊎ Spells (outcome (other halves.taken)) (1 ∷ image))
 
 -- what is taken stays, and nothing is halted
 pub record SameTaken {D : Type 0} {G : Ghosts D} (old new : Halves D G) : Type 0 where

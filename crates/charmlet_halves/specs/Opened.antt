@@ -14,7 +14,8 @@ disk_after (Ok opened) = opened.halves.disk
 disk_after (Err refused) = refused.disk
 
 -- what was found, or why nothing was
-abbrev pub survey_of : {D : Type 0} {G : Ghosts D} → Result (Opened D G) (Refused D) → Result Surveyed Refusal
+abbrev pub survey_of : {D : Type 0} {G : Ghosts D} → Result (Opened D G) (Refused D) →
+    Result Surveyed Refusal
 survey_of (Ok opened) = Ok opened.survey
 survey_of (Err refused) = Err refused.refusal
 

@@ -13,13 +13,16 @@ pub record IsWaiting (bytes : List ℕ) (at : ℕ) : Type 0 where
   pub first : slice_index bytes 0 ≢ 1
   pub closed : slice_index bytes at ≢ 1
 
--- Both halves are on the disk. The taken one is open, and the closed gate after its last batch is at `log_end`. Of the other
--- one its first gate is known, and where an image stands that was prepared.
-pub record IsReady (files : Half → File) (taken : Half) (log_end : ℕ) (spare_closed : Bool) (prepared : Option ℕ) : Type 0 where
+-- Both halves are on the disk. The taken one is open, and the closed gate after its last batch is
+-- at `log_end`. Of the other one its first gate is known, and where an image stands that was
+-- prepared.
+pub record IsReady (files : Half → File) (taken : Half) (log_end : ℕ) (spare_closed : Bool)
+    (prepared : Option ℕ) : Type 0 where
   pub settled : IsSettled files
   pub opened : slice_index (files taken).now 0 ≡ 1
   pub some : 0 < log_end
   pub inside : log_end < length (files taken).now
   pub closed : slice_index (files taken).now log_end ≢ 1
   pub spare : FirstGate spare_closed (files (other taken)).now
-  pub image : (at : ℕ) → prepared ≡ Some at → (spare_closed ≡ true) × IsWaiting (files (other taken)).now at
+  pub image : (at : ℕ) → prepared ≡ Some at → (spare_closed ≡ true)
+      × IsWaiting (files (other taken)).now at

@@ -8,8 +8,10 @@ use Rattle.charmlet_image.specs.Spelled.{Spells, IsClosed}
 
 -- the half is closed or as it was, and the other one is as it was
 abbrev pub ClosedOrSame : (Half → File) → Half → Outcome → Type 0
-ClosedOrSame files half outcome = (outcome (other half) ≡ (files (other half)).now) × (IsClosed (outcome half) ⊎ (outcome half ≡ (files half).now))
+ClosedOrSame files half outcome = (outcome (other half) ≡ (files (other half)).now)
+    × (IsClosed (outcome half) ⊎ (outcome half ≡ (files half).now))
 
 -- half 1 is as it was, and half 0 is closed or says this text
 abbrev pub NothingOrNew : (Half → File) → List ℕ → Outcome → Type 0
-NothingOrNew files text outcome = (outcome One ≡ (files One).now) × (IsClosed (outcome Zero) ⊎ Spells (outcome Zero) text)
+NothingOrNew files text outcome = (outcome One ≡ (files One).now)
+    × (IsClosed (outcome Zero) ⊎ Spells (outcome Zero) text)

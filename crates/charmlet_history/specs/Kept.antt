@@ -75,7 +75,13 @@ kept_in h = record {
 
 -- what of it is the present world
 abbrev pub seen_of : Kept → Seen
-seen_of k = record { manifest = k.opening.manifest; processors = k.processors; elements = k.elements; pending = k.pending; clients = k.clients }
+seen_of k = record {
+  manifest = k.opening.manifest;
+  processors = k.processors;
+  elements = k.elements;
+  pending = k.pending;
+  clients = k.clients;
+}
 
 -- the core of a store that keeps this
 abbrev pub core_of : Kept → Core
@@ -100,15 +106,18 @@ core_in h = core_of (kept_in h)
 abbrev pub present_in : History → World
 present_in h = present (core_in h)
 
--- What is kept is the present world, the places of its elements, the durable rows of its clients, and the bytes of the events that
--- aren't durable. There is room for what each assigned delivery sends.
+-- What is kept is the present world, the places of its elements, the durable rows of its clients,
+-- and the bytes of the events that aren't durable. There is room for what each assigned delivery
+-- sends.
 pub record IsConsistent (k : Kept) : Type 0 where
   pub sound : IsSound (core_of k)
   pub rising : IsStrictlySortedBy elem_cmp (keys_of k.elements)
-  pub counts : (x : Elem) → IsCountedBy (record_of (present (core_of k)) x) (element_at k.elements x)
+  pub counts : (x : Elem) → IsCountedBy (record_of (present (core_of k)) x)
+      (element_at k.elements x)
   pub pending : k.pending ≡ (present (core_of k)).pending
   pub clients : present_rows k.clients ≡ (present (core_of k)).clients
-  pub durable_rows : (c : ℕ) → (client_at k.clients c).durable ≡ client_of (durable_world (core_of k)) c
+  pub durable_rows : (c : ℕ) → (client_at k.clients c).durable
+      ≡ client_of (durable_world (core_of k)) c
   pub backlog : IsBacklog k.backlog (unwritten (core_of k))
   pub promised : k.promised ≡ length k.assigned
 
@@ -132,7 +141,8 @@ counts_or_refused (Err refusal) = Refuses refusal
 -- of a request out of its turn
 abbrev pub turn_gates : ClientRow → ℕ → List Gate
 turn_gates row number =
-    When (not (follows_last row number)) (refusals.OutOfTurn (capped row.last 1)) ∷ When (not (has_place row)) refusals.Waiting ∷ []
+    When (not (follows_last row number)) (refusals.OutOfTurn (capped row.last 1))
+    ∷ When (not (has_place row)) refusals.Waiting ∷ []
 
 -- events and assigned deliveries would pass 2^40
 abbrev pub is_full : Kept → Bool
@@ -143,7 +153,8 @@ abbrev pub limit_gates : Kept → ℕ → ℕ → List ℕ → List Gate
 limit_gates k client array words =
     When (is_none (lookup (is_at (nat_cmp array)) k.opening.manifest)) refusals.NoArray
     ∷ When (nat_lt 512 (length words)) refusals.TooLong
-    ∷ When (not (is_some (lookup (is_at (nat_cmp client)) k.clients) || nat_lt (length k.clients) 1024)) refusals.ClientsFull
+    ∷ When (not (is_some (lookup (is_at (nat_cmp client)) k.clients)
+    || nat_lt (length k.clients) 1024)) refusals.ClientsFull
     ∷ When (is_full k) refusals.HistoryFull ∷ []
 
 -- the rows that were found of a client, or those of one that never asked
@@ -185,7 +196,8 @@ due_on core id = option_map (λ m. (place_or_home core m.to, id)) (pending_messa
 
 -- the oldest message that can be delivered, with its processor
 abbrev pub next_in : Core → Option (ℕ × MsgId)
-next_in core = option_and_then (due_on core) (oldest_deliverable (present core) (present core).pending)
+next_in core = option_and_then (due_on core)
+    (oldest_deliverable (present core) (present core).pending)
 
 -- a stock that lacks nothing
 abbrev pub plenty : Blanks
@@ -193,15 +205,18 @@ plenty kind = 1
 
 -- the processor's assigned message
 abbrev pub assigned_message : Core → ℕ → Option Message
-assigned_message core processor = option_and_then (pending_message core) (assigned_to core processor)
+assigned_message core processor = option_and_then (pending_message core)
+    (assigned_to core processor)
 
 -- the reaction of its receiver
 abbrev pub assigned_reaction : Core → ℕ → Option Reaction
-assigned_reaction core processor = option_and_then (reaction_of (present core)) (assigned_message core processor)
+assigned_reaction core processor = option_and_then (reaction_of (present core))
+    (assigned_message core processor)
 
 -- what an object sent and replied is what the table says of the processor's assigned message
 abbrev pub IsOutcome : Core → ℕ → Output → Type 0
-IsOutcome core processor output = (r : Reaction) × (assigned_reaction core processor ≡ Some r) × (output ≡ output_of r)
+IsOutcome core processor output = (r : Reaction) × (assigned_reaction core processor ≡ Some r)
+    × (output ≡ output_of r)
 
 -- room for the event of a delivery and its bytes
 abbrev pub HasSpace : History → Type 0
@@ -210,7 +225,8 @@ HasSpace h = (0 < h.events.room) × backlogs.HasRoomFor h.backlog 1
 -- and for its receiver
 pub record HasRoomFor (h : History) (id : MsgId) : Type 0 where
   pub space : HasSpace h
-  pub receiver : IfSome (message_among id h.present.pending) (λ m. is_some (lookup (is_at (elem_cmp m.to)) (risen h.present.rows)) ≡ true)
+  pub receiver : IfSome (message_among id h.present.pending)
+      (λ m. is_some (lookup (is_at (elem_cmp m.to)) (risen h.present.rows)) ≡ true)
 
 -- for what is assigned to the processor
 abbrev pub HasRoom : History → ℕ → Type 0
@@ -224,4 +240,5 @@ KeepsRoom old new = (processor : ℕ) → HasRoom old processor → HasRoom new 
 
 -- the kind of the blank that a move to another processor takes
 abbrev pub blank_of_move : Core → Elem → ℕ → Option Kind
-blank_of_move core x processor = if place_or_home core x == processor then None else kind_of_array (present core) x.array
+blank_of_move core x processor = if place_or_home core x == processor then None
+    else kind_of_array (present core) x.array

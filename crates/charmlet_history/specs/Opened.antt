@@ -16,7 +16,12 @@ use Rattle.charmlet_world.specs.Seen.{Held, seen}
 
 -- an element that is there stands on its home
 abbrev pub opened_element : ℕ → Elem → Record → Element
-opened_element processors x r = record { place = if is_some r.state then Some (home x processors) else None; sent = r.sent; received = r.received }
+opened_element processors x r =
+    record {
+      place = if is_some r.state then Some (home x processors) else None;
+      sent = r.sent;
+      received = r.received;
+    }
 
 abbrev pub with_elements : ℕ → List (Elem × Element) → List (Elem × Record) → List (Elem × Element)
 with_elements processors = with_made elem_cmp (opened_element processors)
@@ -48,12 +53,25 @@ pub record FirstWorld : Type 0 where
   pub processors : ℕ
   pub held : Held
 
--- what is kept is that of the world: the elements on their homes, with their counts, the pending messages, and the clients' rows
+-- what is kept is that of the world: the elements on their homes, with their counts, the pending
+-- messages, and the clients' rows
 pub record IsOpening (o : FirstWorld) : Type 0 where
   pub processors : is_processor_count o.processors ≡ true
-  pub seen : seen o.held ≡ record { manifest = o.world.manifest; processors = o.processors; elements = opened_elements o.processors o.world.records; pending = o.world.pending; clients = opened_clients o.world.clients }
+  pub seen : seen o.held ≡ record {
+    manifest = o.world.manifest;
+    processors = o.processors;
+    elements = opened_elements o.processors o.world.records;
+    pending = o.world.pending;
+    clients =
+        opened_clients o.world.clients;
+  }
   pub promised : o.held.promised ≡ 0
 
 -- a store whose present world has become its opening one
 abbrev pub renewed : Core → Core
-renewed core = record core { opening = present core; before = core.before + length core.history; history = []; durable = 0 }
+renewed core = record core {
+  opening = present core;
+  before = core.before + length core.history;
+  history = [];
+  durable = 0;
+}

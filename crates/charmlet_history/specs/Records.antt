@@ -13,4 +13,5 @@ record_with state e = record { state = state; sent = e.sent; received = e.receiv
 -- the records of the elements that have one, each with its state
 abbrev pub records_from : (Elem → Option State) → List (Elem × Element) → List (Elem × Record)
 records_from state [] = []
-records_from state (e ∷ es) = if has_record e.1 then (e.0, record_with (state e.0) e.1) ∷ records_from state es else records_from state es
+records_from state (e ∷ es) = if has_record e.1 then (e.0, record_with (state e.0) e.1)
+    ∷ records_from state es else records_from state es

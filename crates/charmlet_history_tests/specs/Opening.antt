@@ -26,17 +26,36 @@ records =
     ∷ (counter_at 5, record { state = Some (Counter 7); sent = 2; received = 1 }) ∷ []
 
 abbrev pub message : Origin → ℕ → ℕ → ℕ → List ℕ → Message
-message origin number index entry words = record { id = record { origin = origin; number = number }; to = counter_at index; entry = entry; words = words }
+message origin number index entry words = record {
+  id = record { origin = origin; number = number };
+  to = counter_at index;
+  entry = entry;
+  words = words;
+}
 
 -- two requests, and between them a message that waits for its receiver
 abbrev pub pending : List Message
-pending = message (Client 7) 2 0 2 (3 ∷ []) ∷ message (Element (counter_at 5)) 2 1 0 [] ∷ message (Client 8) 2 5 2 [] ∷ []
+pending = message (Client 7) 2 0 2 (3 ∷ []) ∷ message (Element (counter_at 5)) 2 1 0 []
+    ∷ message (Client 8) 2 5 2 [] ∷ []
 
--- a client with two requests, of which the first has its reply, and one whose window is full, and whose first request has none
+-- a client with two requests, of which the first has its reply, and one whose window is full, and
+-- whose first request has none
 abbrev pub clients : List (ℕ × ClientRow)
 clients =
     (7, record { last = 2; window = Some (5 ∷ []) ∷ None ∷ [] })
-    ∷ (8, record { last = 9; window = None ∷ Some (3 ∷ []) ∷ Some [] ∷ Some [] ∷ Some [] ∷ Some [] ∷ Some [] ∷ Some (9 ∷ []) ∷ [] }) ∷ []
+    ∷ (
+      8,
+      record {
+        last = 9;
+        window = None ∷ Some (3 ∷ []) ∷ Some [] ∷ Some [] ∷ Some [] ∷ Some []
+            ∷ Some [] ∷ Some (9 ∷ []) ∷ [];
+      },
+    ) ∷ []
 
 abbrev pub opening_world : World
-opening_world = record { manifest = array_kinds; records = records; pending = pending; clients = clients }
+opening_world = record {
+  manifest = array_kinds;
+  records = records;
+  pending = pending;
+  clients = clients;
+}

@@ -1,4 +1,5 @@
--- How lists are read whose items depend on those before them, as where they have to rise or to be distinct.
+-- How lists are read whose items depend on those before them, as where they have to rise or to be
+-- distinct.
 use Rattle.std.specs.Prelude.{ℕ, zero, suc, Bool, List, [], ◌∷◌, ◌++◌}
 use Rattle.charmlet_model.specs.declared.names.MsgId.{MsgId}
 use Rattle.charmlet_model.specs.declared.message.Message.{Message}

@@ -18,8 +18,10 @@ use Rattle.charmlet_image.specs.Halves.{Found, Closed, Open, Damaged, found, Not
 -- a new store with one array of counters
 abbrev pub new_store : List ℕ
 new_store =
-    1 ∷ 67 ∷ 75 ∷ 80 ∷ 50 ∷ 1 ∷ 0 ∷ 0 ∷ 0 ∷ 0 ∷ 0 ∷ 0 ∷ 0 ∷ 0 ∷ 0 ∷ 0 ∷ 0 ∷ 0 ∷ 0 ∷ 0 ∷ 0 ∷ 24 ∷ 0 ∷ 0 ∷ 0
-    ∷ 1 ∷ 0 ∷ 0 ∷ 0 ∷ 0 ∷ 0 ∷ 1 ∷ 0 ∷ 0 ∷ 0 ∷ 0 ∷ 0 ∷ 0 ∷ 0 ∷ 0 ∷ 0 ∷ 0 ∷ 0 ∷ 0 ∷ 0 ∷ 0 ∷ 0 ∷ 0 ∷ 0 ∷ 0 ∷ []
+    1 ∷ 67 ∷ 75 ∷ 80 ∷ 50 ∷ 1 ∷ 0 ∷ 0 ∷ 0 ∷ 0 ∷ 0 ∷ 0 ∷ 0 ∷ 0 ∷ 0 ∷ 0 ∷ 0 ∷ 0 ∷ 0 ∷ 0 ∷ 0
+    ∷ 24 ∷ 0 ∷ 0 ∷ 0
+    ∷ 1 ∷ 0 ∷ 0 ∷ 0 ∷ 0 ∷ 0 ∷ 1 ∷ 0 ∷ 0 ∷ 0 ∷ 0 ∷ 0 ∷ 0 ∷ 0 ∷ 0 ∷ 0 ∷ 0 ∷ 0 ∷ 0 ∷ 0 ∷ 0 ∷ 0
+    ∷ 0 ∷ 0 ∷ 0 ∷ []
 
 -- where a half is damaged
 abbrev pub damage : Found → Option ℕ
@@ -29,11 +31,21 @@ damage (Damaged offset) = Some offset
 
 -- the image of a new store
 abbrev pub new_image : Image
-new_image = record { manifest = (0, Counter) ∷ []; clients = []; pending = []; records = []; caught_up = [] }
+new_image = record {
+  manifest = (0, Counter) ∷ [];
+  clients = [];
+  pending = [];
+  records = [];
+  caught_up = [];
+}
 
 -- what the bytes of a new store say
 abbrev pub new : Saved
-new = record { header = record { mark = Second; generation = 1; events = 0; size = 24 }; image = new_image; batches = [] }
+new = record {
+  header = record { mark = Second; generation = 1; events = 0; size = 24 };
+  image = new_image;
+  batches = [];
+}
 
 -- a new store, and cuts of it
 pub record NewStores : Type 0 where
@@ -54,10 +66,12 @@ pub record NewStores : Type 0 where
 -- the store after its first flush: a request that constructs, and its delivery
 abbrev pub flushed_store : List ℕ
 flushed_store =
-    1 ∷ 67 ∷ 75 ∷ 80 ∷ 50 ∷ 1 ∷ 0 ∷ 0 ∷ 0 ∷ 0 ∷ 0 ∷ 0 ∷ 0 ∷ 0 ∷ 0 ∷ 0 ∷ 0 ∷ 0 ∷ 0 ∷ 0 ∷ 0 ∷ 24 ∷ 0 ∷ 0
+    1 ∷ 67 ∷ 75 ∷ 80 ∷ 50 ∷ 1 ∷ 0 ∷ 0 ∷ 0 ∷ 0 ∷ 0 ∷ 0 ∷ 0 ∷ 0 ∷ 0 ∷ 0 ∷ 0 ∷ 0 ∷ 0 ∷ 0
+    ∷ 0 ∷ 24 ∷ 0 ∷ 0
     ∷ 0 ∷ 1 ∷ 0 ∷ 0 ∷ 0 ∷ 0 ∷ 0 ∷ 1 ∷ 0 ∷ 0 ∷ 0 ∷ 0 ∷ 0 ∷ 0 ∷ 0 ∷ 0 ∷ 0 ∷ 0 ∷ 0 ∷ 0 ∷ 0 ∷ 0 ∷ 0 ∷ 0
     ∷ 0 ∷ 1 ∷ 64 ∷ 0 ∷ 0 ∷ 0 ∷ 2 ∷ 0 ∷ 0 ∷ 0 ∷ 1 ∷ 7 ∷ 0 ∷ 0 ∷ 0 ∷ 1 ∷ 0 ∷ 0 ∷ 0 ∷ 0 ∷ 0 ∷ 0 ∷ 0 ∷ 0
-    ∷ 0 ∷ 0 ∷ 0 ∷ 0 ∷ 0 ∷ 0 ∷ 0 ∷ 0 ∷ 0 ∷ 255 ∷ 255 ∷ 1 ∷ 0 ∷ 0 ∷ 0 ∷ 5 ∷ 0 ∷ 0 ∷ 0 ∷ 0 ∷ 0 ∷ 0 ∷ 0 ∷ 2
+    ∷ 0 ∷ 0 ∷ 0 ∷ 0 ∷ 0 ∷ 0 ∷ 0 ∷ 0 ∷ 0 ∷ 255 ∷ 255 ∷ 1 ∷ 0 ∷ 0 ∷ 0 ∷ 5 ∷ 0 ∷ 0 ∷ 0 ∷ 0
+    ∷ 0 ∷ 0 ∷ 0 ∷ 2
     ∷ 0 ∷ 7 ∷ 0 ∷ 0 ∷ 0 ∷ 1 ∷ 0 ∷ 0 ∷ 0 ∷ 0 ∷ 0 ∷ 0 ∷ 0 ∷ 1 ∷ 0 ∷ 0 ∷ 0 ∷ 0 ∷ 0 ∷ 0 ∷ 0 ∷ 1 ∷ 0 ∷ 0
     ∷ 0 ∷ 0 ∷ 0 ∷ []
 
@@ -67,11 +81,16 @@ counter_0 = record { array = 0; index = 0 }
 
 -- the request that constructs (0, 0) with 5, and its delivery
 abbrev pub first_events : List Logged
-first_events = Accept 7 1 counter_0 65535 (5 ∷ []) ∷ Deliver (record { origin = Client 7; number = 1 }) 1 Constructed [] ∷ []
+first_events = Accept 7 1 counter_0 65535 (5 ∷ [])
+    ∷ Deliver (record { origin = Client 7; number = 1 }) 1 Constructed [] ∷ []
 
 -- what the bytes say after the first flush
 abbrev pub flushed : Saved
-flushed = record { header = record { mark = Second; generation = 1; events = 0; size = 24 }; image = new_image; batches = first_events ∷ [] }
+flushed = record {
+  header = record { mark = Second; generation = 1; events = 0; size = 24 };
+  image = new_image;
+  batches = first_events ∷ [];
+}
 
 -- the store with another byte at the offset
 abbrev pub altered : List ℕ → ℕ → ℕ → List ℕ
@@ -82,7 +101,15 @@ pub record FlushedStores : Type 0 where
   pub size : length flushed_store ≡ 123
   pub read : found flushed_store ≡ Open flushed
   pub spelled : flushed_store ≡ spell_half flushed ++ 0 ∷ []
-  pub first_mark : found (altered flushed_store 4 49) ≡ Open (record flushed { header = record { mark = First; generation = 1; events = 0; size = 24 } })
+  pub first_mark : found (altered flushed_store 4 49)
+      ≡ Open (record flushed {
+        header = record {
+          mark = First;
+          generation = 1;
+          events = 0;
+          size = 24;
+        };
+      })
   pub cut_49 : found (take 49 flushed_store) ≡ Damaged 49
   pub cut_50 : found (take 50 flushed_store) ≡ Damaged 50
   pub cut_58 : found (take 58 flushed_store) ≡ Damaged 50
@@ -92,9 +119,11 @@ pub record FlushedStores : Type 0 where
 -- the half that has the image which is made then
 abbrev pub image_store : List ℕ
 image_store =
-    1 ∷ 67 ∷ 75 ∷ 80 ∷ 50 ∷ 2 ∷ 0 ∷ 0 ∷ 0 ∷ 0 ∷ 0 ∷ 0 ∷ 0 ∷ 2 ∷ 0 ∷ 0 ∷ 0 ∷ 0 ∷ 0 ∷ 0 ∷ 0 ∷ 81 ∷ 0 ∷ 0
+    1 ∷ 67 ∷ 75 ∷ 80 ∷ 50 ∷ 2 ∷ 0 ∷ 0 ∷ 0 ∷ 0 ∷ 0 ∷ 0 ∷ 0 ∷ 2 ∷ 0 ∷ 0 ∷ 0 ∷ 0 ∷ 0 ∷ 0
+    ∷ 0 ∷ 81 ∷ 0 ∷ 0
     ∷ 0 ∷ 1 ∷ 0 ∷ 0 ∷ 0 ∷ 0 ∷ 0 ∷ 1 ∷ 0 ∷ 1 ∷ 0 ∷ 0 ∷ 0 ∷ 7 ∷ 0 ∷ 0 ∷ 0 ∷ 1 ∷ 0 ∷ 0 ∷ 0 ∷ 0 ∷ 0 ∷ 0
-    ∷ 0 ∷ 1 ∷ 1 ∷ 0 ∷ 0 ∷ 0 ∷ 0 ∷ 0 ∷ 0 ∷ 0 ∷ 0 ∷ 1 ∷ 0 ∷ 0 ∷ 0 ∷ 0 ∷ 0 ∷ 0 ∷ 0 ∷ 0 ∷ 0 ∷ 0 ∷ 0 ∷ 0 ∷ 0
+    ∷ 0 ∷ 1 ∷ 1 ∷ 0 ∷ 0 ∷ 0 ∷ 0 ∷ 0 ∷ 0 ∷ 0 ∷ 0 ∷ 1 ∷ 0 ∷ 0 ∷ 0 ∷ 0 ∷ 0 ∷ 0 ∷ 0 ∷ 0 ∷ 0
+    ∷ 0 ∷ 0 ∷ 0 ∷ 0
     ∷ 0 ∷ 0 ∷ 0 ∷ 0 ∷ 0 ∷ 0 ∷ 0 ∷ 0 ∷ 1 ∷ 0 ∷ 0 ∷ 0 ∷ 0 ∷ 0 ∷ 0 ∷ 0 ∷ 1 ∷ 8 ∷ 0 ∷ 0 ∷ 0 ∷ 5 ∷ 0 ∷ 0
     ∷ 0 ∷ 0 ∷ 0 ∷ 0 ∷ 0 ∷ 0 ∷ 0 ∷ 0 ∷ 0 ∷ 0 ∷ []
 
@@ -110,7 +139,11 @@ first_image = record {
 
 -- what its bytes say
 abbrev pub imaged : Saved
-imaged = record { header = record { mark = Second; generation = 2; events = 2; size = 81 }; image = first_image; batches = [] }
+imaged = record {
+  header = record { mark = Second; generation = 2; events = 2; size = 81 };
+  image = first_image;
+  batches = [];
+}
 
 -- the image, and another number of items in its client's window
 pub record CheckpointedStores : Type 0 where
@@ -126,7 +159,15 @@ pub record AlteredStores : Type 0 where
   pub gate : found (altered flushed_store 0 0) ≡ Closed
   pub generation : found (altered flushed_store 5 0) ≡ Damaged 5
   pub generation_high : found (altered flushed_store 12 1) ≡ Damaged 5
-  pub events_1 : found (altered flushed_store 13 1) ≡ Open (record flushed { header = record { mark = Second; generation = 1; events = 1; size = 24 } })
+  pub events_1 : found (altered flushed_store 13 1)
+      ≡ Open (record flushed {
+        header = record {
+          mark = Second;
+          generation = 1;
+          events = 1;
+          size = 24;
+        };
+      })
   pub size_23 : found (altered flushed_store 21 23) ≡ Damaged 45
   pub size_25 : found (altered flushed_store 21 25) ≡ Damaged 49
   pub size_98 : found (altered flushed_store 21 98) ≡ Damaged 49
@@ -139,14 +180,23 @@ pub record AlteredStores : Type 0 where
   pub count_1 : found (altered flushed_store 54 1) ≡ Damaged 95
   pub count_3 : found (altered flushed_store 54 3) ≡ Damaged 122
   pub tag : found (altered flushed_store 58 3) ≡ Damaged 58
-  pub word_6 : found (altered flushed_store 87 6) ≡ Open (record flushed { batches = (Accept 7 1 counter_0 65535 (6 ∷ []) ∷ Deliver (record { origin = Client 7; number = 1 }) 1 Constructed [] ∷ []) ∷ [] })
+  pub word_6 : found (altered flushed_store 87 6)
+      ≡ Open (record flushed {
+        batches = (Accept 7 1 counter_0 65535 (6 ∷ [])
+            ∷ Deliver (record { origin = Client 7; number = 1 }) 1 Constructed [] ∷ []) ∷ [];
+      })
   pub effect : found (altered flushed_store 117 3) ≡ Damaged 117
-  pub stayed : found (altered flushed_store 117 0) ≡ Open (record flushed { batches = (Accept 7 1 counter_0 65535 (5 ∷ []) ∷ Deliver (record { origin = Client 7; number = 1 }) 1 Stayed [] ∷ []) ∷ [] })
+  pub stayed : found (altered flushed_store 117 0)
+      ≡ Open (record flushed {
+        batches = (Accept 7 1 counter_0 65535 (5 ∷ [])
+            ∷ Deliver (record { origin = Client 7; number = 1 }) 1 Stayed [] ∷ []) ∷ [];
+      })
 
 -- an image whose two elements were taken at their own moments, with the deliveries made meanwhile
 abbrev pub caught_store : List ℕ
 caught_store =
-    1 ∷ 67 ∷ 75 ∷ 80 ∷ 49 ∷ 2 ∷ 0 ∷ 0 ∷ 0 ∷ 0 ∷ 0 ∷ 0 ∷ 0 ∷ 8 ∷ 0 ∷ 0 ∷ 0 ∷ 0 ∷ 0 ∷ 0 ∷ 0 ∷ 244 ∷ 0 ∷ 0
+    1 ∷ 67 ∷ 75 ∷ 80 ∷ 49 ∷ 2 ∷ 0 ∷ 0 ∷ 0 ∷ 0 ∷ 0 ∷ 0 ∷ 0 ∷ 8 ∷ 0 ∷ 0 ∷ 0 ∷ 0 ∷ 0 ∷ 0 ∷ 0
+    ∷ 244 ∷ 0 ∷ 0
     ∷ 0 ∷ 1 ∷ 0 ∷ 0 ∷ 0 ∷ 0 ∷ 0 ∷ 1 ∷ 0 ∷ 2 ∷ 0 ∷ 0 ∷ 0 ∷ 7 ∷ 0 ∷ 0 ∷ 0 ∷ 2 ∷ 0 ∷ 0 ∷ 0 ∷ 0 ∷ 0 ∷ 0
     ∷ 0 ∷ 1 ∷ 1 ∷ 0 ∷ 0 ∷ 0 ∷ 8 ∷ 0 ∷ 0 ∷ 0 ∷ 0 ∷ 0 ∷ 0 ∷ 0 ∷ 8 ∷ 0 ∷ 0 ∷ 0 ∷ 2 ∷ 0 ∷ 0 ∷ 0 ∷ 0 ∷ 0
     ∷ 0 ∷ 0 ∷ 1 ∷ 1 ∷ 0 ∷ 0 ∷ 0 ∷ 6 ∷ 0 ∷ 0 ∷ 0 ∷ 0 ∷ 0 ∷ 0 ∷ 0 ∷ 0 ∷ 0 ∷ 0 ∷ 0 ∷ 2 ∷ 0 ∷ 0 ∷ 0 ∷ 0
@@ -166,7 +216,12 @@ counter_1 = record { array = 0; index = 1 }
 -- a delivery that was made after its element's moment
 abbrev pub caught : CaughtUp
 caught = record {
-  message = record { id = record { origin = Client 7; number = 2 }; to = counter_0; entry = 0; words = 3 ∷ [] };
+  message = record {
+    id = record { origin = Client 7; number = 2 };
+    to = counter_0;
+    entry = 0;
+    words = 3 ∷ [];
+  };
   received = 2;
   effect = Stayed;
 }
@@ -174,7 +229,12 @@ caught = record {
 -- a delivery that was made before its element's moment
 abbrev pub skipped : CaughtUp
 skipped = record {
-  message = record { id = record { origin = Client 8; number = 2 }; to = counter_1; entry = 0; words = 1 ∷ [] };
+  message = record {
+    id = record { origin = Client 8; number = 2 };
+    to = counter_1;
+    entry = 0;
+    words = 1 ∷ [];
+  };
   received = 2;
   effect = Stayed;
 }
@@ -183,7 +243,8 @@ skipped = record {
 abbrev pub caught_image : Image
 caught_image = record {
   manifest = (0, Counter) ∷ [];
-  clients = (7, record { last = 2; window = Some (8 ∷ []) ∷ [] }) ∷ (8, record { last = 2; window = Some (6 ∷ []) ∷ [] }) ∷ [];
+  clients = (7, record { last = 2; window = Some (8 ∷ []) ∷ [] })
+      ∷ (8, record { last = 2; window = Some (6 ∷ []) ∷ [] }) ∷ [];
   pending = [];
   records =
       (counter_0, record { state = Some (states.Counter 5); sent = 0; received = 1 })
@@ -193,7 +254,11 @@ caught_image = record {
 
 -- what the half with it says
 abbrev pub caught_up_store : Saved
-caught_up_store = record { header = record { mark = First; generation = 2; events = 8; size = 244 }; image = caught_image; batches = [] }
+caught_up_store = record {
+  header = record { mark = First; generation = 2; events = 8; size = 244 };
+  image = caught_image;
+  batches = [];
+}
 
 -- the half with it, with single bytes changed, and cuts of it
 pub record CaughtStores : Type 0 where
@@ -211,7 +276,8 @@ pub record CaughtStores : Type 0 where
 -- a half with a window of three items, pending messages, and an element that is gone
 abbrev pub waiting_store : List ℕ
 waiting_store =
-    1 ∷ 67 ∷ 75 ∷ 80 ∷ 50 ∷ 2 ∷ 0 ∷ 0 ∷ 0 ∷ 0 ∷ 0 ∷ 0 ∷ 0 ∷ 8 ∷ 0 ∷ 0 ∷ 0 ∷ 0 ∷ 0 ∷ 0 ∷ 0 ∷ 192 ∷ 0 ∷ 0
+    1 ∷ 67 ∷ 75 ∷ 80 ∷ 50 ∷ 2 ∷ 0 ∷ 0 ∷ 0 ∷ 0 ∷ 0 ∷ 0 ∷ 0 ∷ 8 ∷ 0 ∷ 0 ∷ 0 ∷ 0 ∷ 0 ∷ 0 ∷ 0
+    ∷ 192 ∷ 0 ∷ 0
     ∷ 0 ∷ 1 ∷ 0 ∷ 0 ∷ 0 ∷ 0 ∷ 0 ∷ 1 ∷ 0 ∷ 1 ∷ 0 ∷ 0 ∷ 0 ∷ 7 ∷ 0 ∷ 0 ∷ 0 ∷ 3 ∷ 0 ∷ 0 ∷ 0 ∷ 0 ∷ 0 ∷ 0
     ∷ 0 ∷ 3 ∷ 1 ∷ 1 ∷ 0 ∷ 0 ∷ 0 ∷ 8 ∷ 0 ∷ 0 ∷ 0 ∷ 0 ∷ 0 ∷ 0 ∷ 0 ∷ 0 ∷ 0 ∷ 2 ∷ 0 ∷ 0 ∷ 0 ∷ 0 ∷ 7 ∷ 0
     ∷ 0 ∷ 0 ∷ 2 ∷ 0 ∷ 0 ∷ 0 ∷ 0 ∷ 0 ∷ 0 ∷ 0 ∷ 0 ∷ 0 ∷ 0 ∷ 0 ∷ 0 ∷ 0 ∷ 0 ∷ 0 ∷ 0 ∷ 0 ∷ 0 ∷ 0 ∷ 1 ∷ 0
@@ -224,7 +290,12 @@ waiting_store =
 
 -- a client's request that waits in the image
 abbrev pub waiting : ℕ → ℕ → Message
-waiting number word = record { id = record { origin = Client 7; number = number }; to = counter_0; entry = 0; words = word ∷ [] }
+waiting number word = record {
+  id = record { origin = Client 7; number = number };
+  to = counter_0;
+  entry = 0;
+  words = word ∷ [];
+}
 
 -- the image with two of them
 abbrev pub waiting_image : Image
@@ -240,7 +311,11 @@ waiting_image = record {
 
 -- what the half with it says
 abbrev pub waits : Saved
-waits = record { header = record { mark = Second; generation = 2; events = 8; size = 192 }; image = waiting_image; batches = [] }
+waits = record {
+  header = record { mark = Second; generation = 2; events = 8; size = 192 };
+  image = waiting_image;
+  batches = [];
+}
 
 -- the half with it, with single bytes changed, and a cut of it
 pub record WaitingStores : Type 0 where
@@ -265,7 +340,8 @@ pub record TwoHalves : Type 0 where
   pub apart : taken new_store (altered image_store 5 3) ≡ DamagedAt One 5
   pub items : taken flushed_store (altered image_store 49 9) ≡ DamagedAt One 49
   pub other_unread : taken (altered flushed_store 54 0) image_store ≡ Takes One imaged
-  pub first_header : taken (altered flushed_store 12 1) (altered image_store 12 1) ≡ DamagedAt Zero 5
+  pub first_header : taken (altered flushed_store 12 1) (altered image_store 12 1)
+      ≡ DamagedAt Zero 5
   pub second_header : taken flushed_store (altered image_store 12 1) ≡ DamagedAt One 5
 
 -- where records of these stores stand
@@ -287,4 +363,6 @@ times (suc n) o = o ∷ times n o
 
 -- every cut of the flushed store
 abbrev pub EveryCut : Type 0
-EveryCut = cuts [] flushed_store ≡ times 2 None ++ times 3 (Some 1) ++ times 8 (Some 5) ++ times 8 (Some 13) ++ times 28 (Some 21) ++ times 1 (Some 49) ++ times 72 (Some 50) ++ times 1 (Some 122)
+EveryCut = cuts [] flushed_store ≡ times 2 None ++ times 3 (Some 1) ++ times 8 (Some 5)
+    ++ times 8 (Some 13) ++ times 28 (Some 21) ++ times 1 (Some 49) ++ times 72 (Some 50)
+    ++ times 1 (Some 122)

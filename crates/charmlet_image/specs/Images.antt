@@ -19,8 +19,8 @@ use Rattle.charmlet_image.specs.declared.header.Mark.{Mark}
 use Rattle.charmlet_image.specs.declared.header.Mark.TheVariants.{First, Second}
 use Rattle.charmlet_image.specs.declared.header.Header.{Header}
 
--- What an image says: clients and pending messages as they were at its end, each element's record at some moment, and the
--- deliveries that were made meanwhile.
+-- What an image says: clients and pending messages as they were at its end, each element's record
+-- at some moment, and the deliveries that were made meanwhile.
 pub record Image : Type 0 where
   pub manifest : Kinds
   pub clients : List (ℕ × ClientRow)
@@ -61,14 +61,16 @@ spell_option spell o = number_bytes 1 (option_flag o) ++ spell_held spell o
 unfoldable pub spell_item : Item → List ℕ
 spell_item item = spell_option words_bytes item
 
--- a client's window: by the first mark its item alone, and by the second one also how many there are
+-- a client's window: by the first mark its item alone, and by the second one also how many there
+-- are
 unfoldable pub spell_window : Mark → List Item → List ℕ
 spell_window First window = flat_map spell_item window
 spell_window Second window = number_bytes 1 (length window) ++ flat_map spell_item window
 
 -- a client, and what is kept of it
 unfoldable pub spell_client : Mark → ℕ × ClientRow → List ℕ
-spell_client mark e = number_bytes 4 e.0 ++ (number_bytes 8 e.1.last ++ spell_window mark e.1.window)
+spell_client mark e = number_bytes 4 e.0
+    ++ (number_bytes 8 e.1.last ++ spell_window mark e.1.window)
 
 -- how many bytes an object takes packed, and these bytes
 unfoldable pub spell_state : State → List ℕ
@@ -76,18 +78,24 @@ spell_state s = byte_list (pupped s)
 
 -- an element, and what is kept of it
 unfoldable pub spell_entry : Elem × Record → List ℕ
-spell_entry e = spell_elem e.0 ++ (number_bytes 8 e.1.sent ++ (number_bytes 8 e.1.received ++ spell_option spell_state e.1.state))
+spell_entry e = spell_elem e.0
+    ++ (number_bytes 8 e.1.sent ++ (number_bytes 8 e.1.received
+    ++ spell_option spell_state e.1.state))
 
 -- an image: its five lists in order
 unfoldable pub spell_image : Mark → Image → List ℕ
 spell_image mark i =
-    spell_list spell_array i.manifest ++ (spell_list (spell_client mark) i.clients ++ (spell_list spell_message i.pending
+    spell_list spell_array i.manifest
+    ++ (spell_list (spell_client mark) i.clients ++ (spell_list spell_message i.pending
     ++ (spell_list spell_entry i.records ++ spell_list spell_caught_up i.caught_up)))
 
 -- a header
 unfoldable pub spell_header : Header → List ℕ
-spell_header h = number_bytes 4 (mark_number h.mark) ++ (number_bytes 8 h.generation ++ (number_bytes 8 h.events ++ number_bytes 4 h.size))
+spell_header h = number_bytes 4 (mark_number h.mark)
+    ++ (number_bytes 8 h.generation ++ (number_bytes 8 h.events ++ number_bytes 4 h.size))
 
--- a half up to its closed gate: an open gate, the header, the image, and the batches, each after its open gate
+-- a half up to its closed gate: an open gate, the header, the image, and the batches, each after
+-- its open gate
 unfoldable pub spell_half : Saved → List ℕ
-spell_half s = 1 ∷ (spell_header s.header ++ (spell_image s.header.mark s.image ++ spell_log s.batches))
+spell_half s = 1 ∷ (spell_header s.header
+    ++ (spell_image s.header.mark s.image ++ spell_log s.batches))

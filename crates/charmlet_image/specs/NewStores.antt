@@ -14,7 +14,9 @@ use Rattle.charmlet_image.specs.Halves.{Open, found}
 
 -- an entry by its packed bytes
 unfoldable pub spell_packed_entry : Entry → List ℕ
-spell_packed_entry e = spell_elem e.element ++ (number_bytes 8 e.sent ++ (number_bytes 8 e.received ++ spell_option byte_list (option_map (λ packed. packed.now) e.packed)))
+spell_packed_entry e = spell_elem e.element
+    ++ (number_bytes 8 e.sent ++ (number_bytes 8 e.received
+    ++ spell_option byte_list (option_map (λ packed. packed.now) e.packed)))
 
 -- the image of a world in which nothing has happened
 abbrev pub new_image : Kinds → Image
@@ -22,13 +24,19 @@ new_image kinds = image_of (new_world kinds)
 
 -- the header of a new store
 abbrev pub new_header : Kinds → Header
-new_header kinds = record { mark = Second; generation = 1; events = 0; size = length (spell_image Second (new_image kinds)) }
+new_header kinds = record {
+  mark = Second;
+  generation = 1;
+  events = 0;
+  size = length (spell_image Second (new_image kinds));
+}
 
 -- what a new store says
 abbrev pub new_saved : Kinds → Saved
 new_saved kinds = record { header = new_header kinds; image = new_image kinds; batches = [] }
 
--- what stands after the gate of a new store: a header, an image, and the closed gate of an empty log
+-- what stands after the gate of a new store: a header, an image, and the closed gate of an empty
+-- log
 abbrev pub new_half : Kinds → List ℕ
 new_half kinds = spell_header (new_header kinds) ++ (spell_image Second (new_image kinds) ++ 0 ∷ [])
 
@@ -38,4 +46,5 @@ empty_lists = number_bytes 4 0 ++ (number_bytes 4 0 ++ (number_bytes 4 0 ++ numb
 
 -- a new store opens once its gate does
 abbrev pub NewStoresOpen : Type 0
-NewStoresOpen = (kinds : Kinds) → IsManifest kinds → found (1 ∷ new_half kinds) ≡ Open (new_saved kinds)
+NewStoresOpen = (kinds : Kinds) → IsManifest kinds → found (1 ∷ new_half kinds)
+    ≡ Open (new_saved kinds)

@@ -76,7 +76,8 @@ read_option least read = read_within least 1 1 >>= read_flagged read
 unfoldable pub read_item : Reads Item
 read_item = read_option 0 read_words
 
--- a client's window: by the first mark one item, and by the second one up to eight of them, and no more than there were requests
+-- a client's window: by the first mark one item, and by the second one up to eight of them, and no
+-- more than there were requests
 unfoldable pub read_window : Mark → ℕ → Reads (List Item)
 read_window First last = read_times read_item 1
 read_window Second last = read_within 1 (min 8 last) 1 >>= read_times read_item
@@ -105,7 +106,8 @@ stated left following (Err fault) = Err left
 
 -- an object of this kind that takes so many bytes
 unfoldable pub read_packed : Kind → ℕ → Reads State
-read_packed kind size bytes = if nat_lt (length bytes) size then Err (length bytes) else stated (length bytes) (drop size bytes) (read_state kind (take size bytes))
+read_packed kind size bytes = if nat_lt (length bytes) size then Err (length bytes)
+    else stated (length bytes) (drop size bytes) (read_state kind (take size bytes))
 
 -- such an object after the number of its bytes
 unfoldable pub read_object : Kind → Reads State
@@ -140,7 +142,13 @@ read_image mark = do
   pending ← read_list_after 0 greatest_count (read_pending manifest)
   records ← read_list_after 0 greatest_count (read_entry manifest)
   caught_up ← read_list 0 greatest_count (read_caught_up manifest)
-  yield (record { manifest = manifest; clients = clients; pending = pending; records = records; caught_up = caught_up })
+  yield (record {
+    manifest = manifest;
+    clients = clients;
+    pending = pending;
+    records = records;
+    caught_up = caught_up;
+  })
 
 -- the letters are CKP1 or CKP2
 abbrev pub is_mark : ℕ → Bool

@@ -21,8 +21,10 @@ pub record ClosedIsShut (bytes : List ℕ) : Type 0 where
 
 -- a half that is spelled so is found
 abbrev pub SpelledIsFound : Type 0
-SpelledIsFound = (bytes : List ℕ) (s : Saved) → IsSaved s → Spells bytes (spell_half s) → found bytes ≡ Open s
+SpelledIsFound = (bytes : List ℕ) (s : Saved) → IsSaved s → Spells bytes (spell_half s) →
+    found bytes ≡ Open s
 
 -- and a half of bytes that is found was spelled so
 abbrev pub FoundIsSpelled : Type 0
-FoundIsSpelled = (bytes : List ℕ) (s : Saved) → IsBytes bytes → found bytes ≡ Open s → IsSaved s × Spells bytes (spell_half s)
+FoundIsSpelled = (bytes : List ℕ) (s : Saved) → IsBytes bytes → found bytes ≡ Open s → IsSaved s
+    × Spells bytes (spell_half s)

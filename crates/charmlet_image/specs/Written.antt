@@ -28,19 +28,22 @@ use Rattle.charmlet_image.specs.Reading.{kind_in, least_flag}
 abbrev pub IsItem : Item → Type 0
 IsItem item = IfSome item (AreWords 512)
 
--- by the first mark one item, and by the second one up to eight of them, and no more than there were requests
+-- by the first mark one item, and by the second one up to eight of them, and no more than there
+-- were requests
 abbrev pub IsWindow : Mark → ℕ → List Item → Type 0
 IsWindow First last window = (length window ≡ 1) × AllByRecursion IsItem window
 IsWindow Second last window = InRange 1 (min 8 last) (length window) × AllByRecursion IsItem window
 
 -- a client that made a request
 abbrev pub IsClient : Mark → ℕ × ClientRow → Type 0
-IsClient mark e = (e.0 < 2 ^ 32) × IsWord e.1.last × (1 ≤ e.1.last) × IsWindow mark e.1.last e.1.window
+IsClient mark e = (e.0 < 2 ^ 32) × IsWord e.1.last × (1 ≤ e.1.last)
+    × IsWindow mark e.1.last e.1.window
 
 -- a record of an element, with a state of its array's kind, or none where it has received a message
 abbrev pub IsEntry : Kinds → Elem × Record → Type 0
 IsEntry kinds e =
-    IsElem kinds e.0 × IsWord e.1.sent × IsWord e.1.received × (least_flag e.1.received ≤ option_flag e.1.state)
+    IsElem kinds e.0 × IsWord e.1.sent × IsWord e.1.received
+    × (least_flag e.1.received ≤ option_flag e.1.state)
     × IfSome e.1.state (λ s. IsState s × (kind_of s ≡ kind_in kinds e.0.array))
 
 -- 1 to 64 arrays, rising

@@ -19,14 +19,19 @@ created_disk (Ok created) = disk_of created.halves
 created_disk (Err refused) = refused.disk
 
 -- that the store was created, or why not
-abbrev pub created_so : {D : Type 0} {G : Ghosts D} → Result (Created D G) (Refused D) → Result (Created D G) Refusal
+abbrev pub created_so : {D : Type 0} {G : Ghosts D} → Result (Created D G) (Refused D) →
+    Result (Created D G) Refusal
 created_so (Ok created) = Ok created
 created_so (Err refused) = Err refused.refusal
 
--- a new store with these arrays: after a gate, a header of 24 bytes, and the image, its log begins and ends
+-- a new store with these arrays: after a gate, a header of 24 bytes, and the image, its log begins
+-- and ends
 abbrev pub new_core : ℕ → Kinds → Core
-new_core processors kinds = opened processors (new_world kinds) 0 1 (25 + image_size (new_world kinds))
+new_core processors kinds = opened processors (new_world kinds) 0 1
+    (25 + image_size (new_world kinds))
 
--- the files recover to nothing, or store the world in which nothing has happened, at no events and generation 1
+-- the files recover to nothing, or store the world in which nothing has happened, at no events and
+-- generation 1
 abbrev pub NothingOrNewWorld : Kinds → Outcome → Type 0
-NothingOrNewWorld kinds outcome = (recovered outcome ≡ Nothing) ⊎ Stores outcome (new_world kinds) 0 1
+NothingOrNewWorld kinds outcome = (recovered outcome ≡ Nothing)
+    ⊎ Stores outcome (new_world kinds) 0 1

@@ -18,24 +18,28 @@ use Rattle.charmlet_halves.specs.declared.halves.Halves.{Halves}
 use Rattle.charmlet_halves.specs.Bytes.{before_gate}
 use Rattle.charmlet_halves.specs.Halves.{disk_of, end_of, generation_of, is_halted, spare_of, text_of}
 
--- The taken half says an image and a log that stand for this world, which came after so many events, at this generation; and the spare half is
--- superseded by it.
-pub record Rests {D : Type 0} {G : Ghosts D} (halves : Halves D G) (w : World) (count generation : ℕ) : Type 0 where
+-- The taken half says an image and a log that stand for this world, which came after so many
+-- events, at this generation; and the spare half is superseded by it.
+pub record Rests {D : Type 0} {G : Ghosts D} (halves : Halves D G) (w : World)
+    (count generation : ℕ) : Type 0 where
   pub saved : Saved
   pub text : text_of halves ≡ spell_half saved
   pub stands : StandsFor saved (spare_of halves) w count generation
 
 -- the taken half says the world after the durable events
 abbrev pub IsAtRest : {D : Type 0} {G : Ghosts D} → Core → Halves D G → Type 0
-IsAtRest core halves = Rests halves (durable_world core) (core.before + core.durable) core.generation
+IsAtRest core halves = Rests halves (durable_world core)
+    (core.before + core.durable) core.generation
 
 -- an outcome stores the world after some of the history, the durable events among them
 abbrev pub keeps_durable : Core → Outcome → Type 0
 keeps_durable core = Keeps core.opening core.before core.history core.durable
 
--- Each outcome of a crash now keeps the durable events, and unless the store is halted the halves are at rest.
+-- Each outcome of a crash now keeps the durable events, and unless the store is halted the halves
+-- are at rest.
 pub record IsKept {D : Type 0} {G : Ghosts D} (core : Core) (halves : Halves D G) : Type 0 where
-  pub now : (outcome : Outcome) → MayLeave (G.file (disk_of halves)) outcome → keeps_durable core outcome
+  pub now : (outcome : Outcome) → MayLeave (G.file (disk_of halves)) outcome →
+      keeps_durable core outcome
   pub rest : core.halted ≡ false → IsAtRest core halves
 
 -- the halves go on, and their log and their generation are the store's
@@ -55,7 +59,8 @@ pub record Grew {D : Type 0} {G : Ghosts D} (old new : Halves D G) (size : ℕ) 
   pub generation : generation_of new ≡ generation_of old
 
 -- These events may come next to the world that the halves say, and the backlog has their bytes.
-pub record IsNext {D : Type 0} {G : Ghosts D} (halves : Halves D G) (b : Batched) (w : World) (count generation : ℕ) (history : List Event) : Type 0 where
+pub record IsNext {D : Type 0} {G : Ghosts D} (halves : Halves D G) (b : Batched) (w : World)
+    (count generation : ℕ) (history : List Event) : Type 0 where
   pub rests : Rests halves w count generation
   pub legal : IsLegal w count history
   pub backlog : IsBacklog b (logged_all w history)
@@ -68,16 +73,22 @@ pub record Turned {D : Type 0} {G : Ghosts D} (old new : Halves D G) (log_end : 
 
 -- an image of the present world, at the next generation, with no log
 abbrev pub sealed_saved : Core → Saved
-sealed_saved core = saved_of (present core) (core.before + length core.history) (core.generation + 1) []
+sealed_saved core = saved_of (present core) (core.before + length core.history)
+    (core.generation + 1) []
 
--- what is written of it after the gate of the spare half: a header, the image, and the closed gate of an empty log
+-- what is written of it after the gate of the spare half: a header, the image, and the closed gate
+-- of an empty log
 abbrev pub sealed_bytes : Core → List ℕ
-sealed_bytes core = spell_header (sealed_saved core).header ++ (spell_image Second (image_of (present core)) ++ 0 ∷ [])
+sealed_bytes core = spell_header (sealed_saved core).header
+    ++ (spell_image Second (image_of (present core)) ++ 0 ∷ [])
 
--- The bytes are those of an image, at the next generation, of the world that the halves say with these events, which may come next.
-pub record IsNextImage {D : Type 0} {G : Ghosts D} (halves : Halves D G) (bytes : List ℕ) (w : World) (count generation : ℕ) (history : List Event) : Type 0 where
+-- The bytes are those of an image, at the next generation, of the world that the halves say with
+-- these events, which may come next.
+pub record IsNextImage {D : Type 0} {G : Ghosts D} (halves : Halves D G) (bytes : List ℕ)
+    (w : World) (count generation : ℕ) (history : List Event) : Type 0 where
   pub rests : Rests halves w count generation
   pub legal : IsLegal w count history
-  pub text : 1 ∷ before_gate bytes ≡ spell_half (saved_of (world w history) (count + length history) (generation + 1) [])
+  pub text : 1 ∷ before_gate bytes
+      ≡ spell_half (saved_of (world w history) (count + length history) (generation + 1) [])
   pub low : generation < 2 ^ 40
   pub short : image_size (world w history) < 2 ^ 32

@@ -1,21 +1,35 @@
 -- Restarts that aren't bad.
-use Rattle.std.proofs.Common.{◌≡◌, ℕ, ◌+◌, arith, List, [], Option, Some, None, Result, Ok, Err, length, take, sym, ap, subst, ◌∙◌}
+use Rattle.std.proofs.Common.{◌≡◌, inl, inr, ℕ, ◌+◌, arith, true, false, List, [], Option, Some, None, Result, Ok, Err, length, take, refl, sym, ap, subst, ◌∙◌}
 use Rattle.std.specs.Prelude.{IfOk, unwrap_or}
 use Rattle.charmlet_model.specs.declared.event.Event.{Event}
-use Rattle.charmlet_model.specs.Core.{Core}
+use Rattle.charmlet_model.specs.declared.half.Half.{Half}
+use Rattle.charmlet_model.specs.declared.kind.Kind.{Kind}
+use Rattle.charmlet_model.specs.declared.refusal.Refusal.{Refusal}
+use Rattle.charmlet_model.specs.declared.refusal.Refusal.TheVariants as refusals
+use Rattle.charmlet_model.specs.Core.{Blanks, Core}
 use Rattle.charmlet_model.specs.Sound.{new_world, opened}
 use Rattle.charmlet_model.specs.World.{World, world}
 use Rattle.charmlet_record.specs.Reading.{Kinds}
 use Rattle.charmlet_recovery.specs.Outcomes.{IsLawful}
-use Rattle.charmlet_recovery.specs.Recovered.{Found, recovered}
+use Rattle.charmlet_image.specs.Halves.{Taken, NothingHere, Takes, DamagedAt}
+use Rattle.charmlet_image.specs.Images.{Saved}
+use Rattle.charmlet_recovery.specs.Blanks.{least_short}
+use Rattle.charmlet_recovery.specs.Meanings.{Meaning, Faulty, Whole}
+use Rattle.charmlet_recovery.specs.Recovered.{Found, Nothing, meaning_of, recovered, recovered_from}
+use Rattle.charmlet_recovery.specs.Restarts.{fault_refusal, restart_refusal, short_refusal, taken_refusal, wanted_of}
+use Rattle.charmlet_recovery.proofs.Restarting.{restarts_are_taken}
+use Rattle.charmlet_recovery.proofs.Stored.{recovered_is_taken}
+use Rattle.charmlet_locate.specs.Locations.{is_processor_count}
+use Rattle.charmlet_stock.specs.declared.stock.Stock.{Stock}
 use Rattle.charmlet_chare.specs.declared.chare.Chare as chares
 use Rattle.charmlet_disk.specs.declared.disk.Disk as disks
 use Rattle.charmlet_disk.specs.File.{Outcome}
 use Rattle.charmlet_recover.specs.declared.restarting.NotRestarted.{NotRestarted}
-use Rattle.charmlet_recover.specs.Restart.{IsOpenedOn}
+use Rattle.charmlet_recover.specs.declared.restarting.Recovered as stores
+use Rattle.charmlet_recover.specs.Restart.{AnswersBy, IsHandedBack, IsOpenedOn, restarted_or_refused}
 use Rattle.charmlet_engine.specs.declared.engine.Engine.{Engine}
-use Rattle.charmlet_engine.specs.Engine.{core_of, recovered_in}
-use Rattle.charmlet_lab.specs.Judged.{HasFirst, IsGood, count_of}
+use Rattle.charmlet_engine.specs.Engine.{core_of, recovered_in, recovered_or_not}
+use Rattle.charmlet_lab.specs.Judged.{HasFirst, IsGood, IsNothingOrLawful, count_of}
 
 -- a store in which nothing has happened since it opened, and which has the first events of a run, was recovered from lawful files
 opened_is_lawful : (kinds : Kinds) (events : List Event) (n processors : ℕ) (core : Core) (outcome : Outcome) →
@@ -35,6 +49,22 @@ opened_is_lawful kinds events n processors core outcome opens found has =
       is = found ∙ ap (λ (w : World). Found w core.before core.generation) same ∙ ap (λ (k : ℕ). Found (world (new_world kinds) (take core.before events)) k core.generation) plus;
     }
 
+-- ---- where nothing is here
+
+other_than_nothing : (lack : Option (Kind × ℕ)) (half : Half) (s : Saved) (m : Meaning) → short_refusal lack (fault_refusal half s m) ≡ Some refusals.NothingHere → ⊥
+other_than_nothing (Some lack) half s m e = cc
+other_than_nothing None half s (Faulty place) e = cc
+other_than_nothing None half s (Whole w count) e = cc
+
+nothing_taken : (given : Blanks) (t : Taken) → taken_refusal given t ≡ Some refusals.NothingHere → recovered_from t ≡ Nothing
+nothing_taken given NothingHere e = refl
+nothing_taken given (DamagedAt half offset) e = absurd cc
+nothing_taken given (Takes half s) e = absurd (other_than_nothing (least_short given (wanted_of s)) half s (meaning_of s) e)
+
+-- files from which a restart is refused as those of no store recover to nothing
+nothing_is_here : (given : Blanks) (outcome : Outcome) → restart_refusal given outcome ≡ Some refusals.NothingHere → recovered outcome ≡ Nothing
+nothing_is_here given outcome e = recovered_is_taken outcome ∙ nothing_taken given _ (sym (restarts_are_taken given outcome) ∙ e)
+
 module _ {D C : Type 0} {G : disks.Ghosts D} {H : chares.Ghosts C} where
   -- so a restart that isn't bad, of a store that was said to be made, was from lawful files
   pub good_is_lawful : (kinds : Kinds) (events : List Event) (durable : Option ℕ) (n processors : ℕ) (outcome : Outcome) (r : Result (Engine D C G H) (NotRestarted D C H)) → durable ≡ Some n →
@@ -45,3 +75,21 @@ module _ {D C : Type 0} {G : disks.Ghosts D} {H : chares.Ghosts C} where
       opened_is_lawful kinds events n processors (core_of engine) outcome opens found (subst (λ (d : Option ℕ). HasFirst kinds events (unwrap_or d 0) (core_of engine)) is good)
   good_is_lawful kinds events durable n processors outcome (Err refused) is opens found good =
       absurd (let never : ⊥ = let both = sym is ∙ good.1 in cc in never)
+
+  -- where none was said to be made, it was from such files too, or from those of no store
+  pub good_is_nothing_or_lawful : (kinds : Kinds) (events : List Event) (durable : Option ℕ) (processors : ℕ) (given : Blanks) (outcome : Outcome) (disk : D) (blanks : Stock C H)
+      (r : Result (Engine D C G H) (NotRestarted D C H)) → durable ≡ None → IfOk r (λ engine. IsOpenedOn processors (recovered_in engine)) →
+      IfOk r (λ engine. recovered outcome ≡ Found (core_of engine).opening (core_of engine).before (core_of engine).generation) →
+      (is_processor_count processors ≡ false → IsHandedBack {G = G} disk blanks (recovered_or_not r)) →
+      (is_processor_count processors ≡ true → AnswersBy (restart_refusal given outcome) (restarted_or_refused (recovered_or_not r))) →
+      IsGood kinds events durable r → IsNothingOrLawful kinds events outcome
+  good_is_nothing_or_lawful kinds events durable processors given outcome disk blanks (Ok engine) is opens found bad answer good =
+      inr (opened_is_lawful kinds events 0 processors (core_of engine) outcome opens found (subst (λ (d : Option ℕ). HasFirst kinds events (unwrap_or d 0) (core_of engine)) is good))
+  good_is_nothing_or_lawful kinds events durable processors given outcome disk blanks (Err refused) is opens found bad answer good =
+      let why : restart_refusal given outcome ≡ Some refusals.NothingHere =
+      elim (is_processor_count processors) as (λ b. (b ≡ false → refused.refusal ≡ refusals.BadPes)
+      → (b ≡ true → AnswersBy {X = stores.Recovered D C G H} (restart_refusal given outcome) (Err refused.refusal)) → restart_refusal given outcome ≡ Some refusals.NothingHere) [
+        | true ↦ λ bad answer. subst (λ (refusal : Refusal). AnswersBy {X = stores.Recovered D C G H} (restart_refusal given outcome) (Err refusal)) good.0 (answer refl)
+        | false ↦ λ bad answer. absurd (let both : refusals.BadPes ≡ refusals.NothingHere = sym (bad refl) ∙ good.0 in let never : ⊥ = cc in never)
+      ] (λ no. (bad no).0) answer in
+      inl (nothing_is_here given outcome why)

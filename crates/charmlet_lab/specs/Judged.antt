@@ -1,13 +1,16 @@
 -- Whether what came back is a world of a run.
-use Rattle.std.specs.Prelude.{◌≡◌, ◌+◌, ◌≤◌, ℕ, List, length, take, Option, None, Result, Ok, Err, unwrap_or}
+use Rattle.std.specs.Prelude.{◌≡◌, ◌⊎◌, ◌+◌, ◌≤◌, ℕ, List, length, take, Option, None, Result, Ok, Err, unwrap_or}
 use Rattle.charmlet_model.specs.declared.event.Event.{Event}
 use Rattle.charmlet_model.specs.declared.refusal.Refusal.TheVariants.{NothingHere}
 use Rattle.charmlet_model.specs.Core.{Core, present}
 use Rattle.charmlet_model.specs.Sound.{new_world}
 use Rattle.charmlet_model.specs.World.{world}
 use Rattle.charmlet_record.specs.Reading.{Kinds}
+use Rattle.charmlet_recovery.specs.Outcomes.{IsLawful}
+use Rattle.charmlet_recovery.specs.Recovered.{Nothing, recovered}
 use Rattle.charmlet_chare.specs.declared.chare.Chare as chares
 use Rattle.charmlet_disk.specs.declared.disk.Disk as disks
+use Rattle.charmlet_disk.specs.File.{Outcome}
 use Rattle.charmlet_engine.specs.declared.engine.Engine.{Engine}
 use Rattle.charmlet_engine.specs.Engine.{core_of}
 use Rattle.charmlet_recover.specs.declared.restarting.NotRestarted.{NotRestarted}
@@ -16,13 +19,22 @@ use Rattle.charmlet_recover.specs.declared.restarting.NotRestarted.{NotRestarted
 abbrev pub count_of : Core → ℕ
 count_of core = core.before + length core.history
 
--- The store has the world after the first events of a run, as many as it counts, with all that were durable among them.
+-- The store has the world after the first events of a run, as many as it counts, with all that were
+-- durable among them.
 pub record HasFirst (kinds : Kinds) (events : List Event) (durable : ℕ) (core : Core) : Type 0 where
   pub no_fewer : durable ≤ count_of core
   pub no_more : count_of core ≤ length events
   pub is : present core ≡ world (new_world kinds) (take (count_of core) events)
 
--- a store came back that has the first events of the run; or there is none, and it wasn't said to be made
-abbrev pub IsGood : {D C : Type 0} {G : disks.Ghosts D} {H : chares.Ghosts C} → Kinds → List Event → (durable : Option ℕ) → Result (Engine D C G H) (NotRestarted D C H) → Type 0
-IsGood kinds events durable (Ok engine) = HasFirst kinds events (unwrap_or durable 0) (core_of engine)
+-- a store came back that has the first events of the run; or there is none, and it wasn't said to
+-- be made
+abbrev pub IsGood : {D C : Type 0} {G : disks.Ghosts D} {H : chares.Ghosts C} → Kinds → List Event →
+    (durable : Option ℕ) → Result (Engine D C G H) (NotRestarted D C H) → Type 0
+IsGood kinds events durable (Ok engine) = HasFirst kinds events (unwrap_or durable 0)
+    (core_of engine)
 IsGood kinds events durable (Err refused) = (refused.refusal ≡ NothingHere) × (durable ≡ None)
+
+-- the files recover to nothing, or to the world after some of the events
+abbrev pub IsNothingOrLawful : Kinds → List Event → Outcome → Type 0
+IsNothingOrLawful kinds events outcome = (recovered outcome ≡ Nothing)
+    ⊎ IsLawful (new_world kinds) 0 events 0 outcome

@@ -26,19 +26,21 @@ is_shortage Memory = true
 is_shortage (BlanksWanted kind count) = true
 is_shortage _ = false
 
--- The files recover to the world after some of the events, with all that were durable among them; where the store wasn't said to be made, to nothing or to the
--- new store.
+-- The files recover to the world after some of the events, with all that were durable among them;
+-- where the store wasn't said to be made, to nothing or to the new store.
 abbrev pub IsExpected : Kinds → List Event → (durable : Option ℕ) → Outcome → Type 0
 IsExpected kinds events None outcome = IsNothingOrNew kinds outcome
 IsExpected kinds events (Some durable) outcome = IsLawful (new_world kinds) 0 events durable outcome
 
 module _ {D : Type 0} (G : disks.Ghosts D) where
-  -- A run on a disk leaves this. Its events can happen one after another; those that are durable are among them; a store was made where the disk didn't fail; and of an
-  -- honest disk on which no store was, each crash afterwards leaves what is expected.
+  -- A run on a disk leaves this. Its events can happen one after another; those that are durable
+  -- are among them; a store was made where the disk didn't fail; and of an honest disk on which no
+  -- store was, each crash afterwards leaves what is expected.
   pub record IsRound (kinds : Kinds) (first : D) (round : Round D) : Type 0 where
     pub legal : IsLegal (new_world kinds) 0 round.events.items
     pub within : IfSome round.durable (λ durable. durable ≤ length round.events.items)
     pub made : round.is_stopped ≡ false → IsSome round.durable
     pub honest : (G.honest first → G.honest round.disk) × (G.honest round.disk → G.honest first)
     pub now : G.honest first → IsClosed (G.file first Zero).now → IsClosed (G.file first One).now →
-        (outcome : Outcome) → MayLeave (G.file round.disk) outcome → IsExpected kinds round.events.items round.durable outcome
+        (outcome : Outcome) → MayLeave (G.file round.disk) outcome →
+        IsExpected kinds round.events.items round.durable outcome

@@ -1,10 +1,11 @@
 //! A restart after a crash, and whether it was bad.
 
-ghost use Rattle.std.specs.Prelude.{◌≡◌, ℕ, Some, false, IfOk};
+ghost use Rattle.std.specs.Prelude.{◌≡◌, ℕ, Some, None, false, IfOk};
 ghost use Rattle.charmlet_model.specs.Sound.{new_world};
 ghost use Rattle.charmlet_model.specs.World.{IsLegal};
 ghost use Rattle.charmlet_recovery.specs.Outcomes.{IsLawful};
 ghost use Rattle.charmlet_recover.specs.Restart.{bytes_on};
+ghost use Rattle.charmlet_lab.specs.Judged.{IsNothingOrLawful};
 ghost use Rattle.charmlet_lab.specs.Rounds.{arrays_of};
 
 use crate::judging::lab_bad;
@@ -19,8 +20,8 @@ use std::alloc::Global;
 /// Restarts from a disk after a run's crash, on as many processors as the script has and with these blanks, and answers whether
 /// that was bad, as [`lab_bad`] has it. Disk and objects are dropped.
 ///
-/// Where it wasn't, and a store was said to be made, the files of an honest disk recover to the world after some of the
-/// events, with all that were durable among them. `Memory` and `ImageFull` as [`lab_bad`] has them.
+/// Where it wasn't, the files of an honest disk recover to the world after some of the events, with all that were durable
+/// among them; and where no store was said to be made, to that or to nothing. `Memory` and `ImageFull` as [`lab_bad`] has them.
 pub fn lab_outcome<D: Disk, C: Chare>(
     alloc: Global,
     script: &Script,
@@ -32,6 +33,8 @@ pub fn lab_outcome<D: Disk, C: Chare>(
     requires legal { IsLegal (new_world (arrays_of script.now)) 0 events.now }
     ensures sound { D.honest disk → IfOk result (λ bad. bad ≡ false → (n : ℕ) → durable ≡ Some n
         → IsLawful (new_world (arrays_of script.now)) 0 events.now n (bytes_on (D.file disk))) }
+    ensures unmade { D.honest disk → IfOk result (λ bad. bad ≡ false → durable ≡ None →
+        IsNothingOrLawful (arrays_of script.now) events.now (bytes_on (D.file disk))) }
 {
     let Ok(stock) = stock_of(alloc, blanks) else {
         return Err(Refusal::Memory);

@@ -17,4 +17,5 @@ is_among x elems = list_any (same_elem x) elems
 
 -- each of these elements stands at its home, and no other stands anywhere
 abbrev pub AreAtHome : ℕ → List Elem → List (Elem × ℕ) → Type 0
-AreAtHome processors elems places = (x : Elem) → lookup (is_at (elem_cmp x)) places ≡ (if is_among x elems then Some (home x processors) else None)
+AreAtHome processors elems places = (x : Elem) → lookup (is_at (elem_cmp x)) places
+    ≡ (if is_among x elems then Some (home x processors) else None)

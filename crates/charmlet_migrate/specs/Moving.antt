@@ -38,11 +38,13 @@ store_with history stock = record { core = core_in history; blanks = blanks_in s
 
 -- the shelves show the present world, each element on the shelf of its place
 abbrev pub ShowsPresent : List View → History → Type 0
-ShowsPresent shelves history = Shows (records_on shelves) (core_in history).places (present (core_in history))
+ShowsPresent shelves history = Shows (records_on shelves)
+    (core_in history).places (present (core_in history))
 
 -- of each kind, what was supplied is on the shelves, in the stock, or retired
 abbrev pub IsCountedAmong : {C : Type 0} {G : Ghosts C} → List View → Stock C G → Type 0
-IsCountedAmong shelves stock = AddsUp (supplied_to stock) (objects_among shelves) (blanks_in stock) (λ kind. (tally_in stock kind).retired)
+IsCountedAmong shelves stock = AddsUp (supplied_to stock) (objects_among shelves) (blanks_in stock)
+    (λ kind. (tally_in stock kind).retired)
 
 -- the answer to a move
 abbrev pub move_answer : {T : Type 0} → Result T Refusal → CoreAnswer

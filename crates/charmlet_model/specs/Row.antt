@@ -1,4 +1,5 @@
--- A client's row: the number of its last request, and a window with an item for each of its last ones, the oldest first.
+-- A client's row: the number of its last request, and a window with an item for each of its last
+-- ones, the oldest first.
 use Rattle.std.specs.Prelude.{ℕ, ◌+◌, ◌-◌, ◌==◌, nat_lt, nat_le, ◌&&◌, ◌||◌, Bool, List, [], ◌∷◌, ◌++◌, length, drop, slice_index_or, slice_set, if◌then◌else◌, Option, Some, None, is_some, is_none}
 use Rattle.charmlet_model.specs.declared.client.ClientRow.{ClientRow}
 use Rattle.charmlet_model.specs.Reaction.{greatest}
@@ -56,4 +57,7 @@ with_request row number = record { last = number; window = with_place row.window
 
 -- the reply to a request of the window is kept
 abbrev pub with_reply : ClientRow → ℕ → List ℕ → ClientRow
-with_reply row number reply = record { last = row.last; window = slice_set row.window (item_place row number) (Some reply) }
+with_reply row number reply = record {
+  last = row.last;
+  window = slice_set row.window (item_place row number) (Some reply);
+}

@@ -1,13 +1,14 @@
 mod worlds;
 
 use charmlet_model::{
-    CONSTRUCT, ClientRow, Elem, Half, Kind, Manifest, MsgId, Origin, Reaction, Refusal, Sends,
+    CONSTRUCT, ClientRow, Elem, Half, Kind, Manifest, MsgId, Origin, Outgoing, Reaction, Refusal,
     State, Words,
 };
 use charmlet_plain::{pack_state, react, read_state};
 use charmlet_pup::PupFault;
-use std::alloc::{AllocError, Global};
-use std::test::Fail;
+use std::alloc::AllocGlobal;
+use std::fmt::Display;
+use std::process::Abort;
 
 const ME: Elem = Elem { array: 2, index: 3 };
 
@@ -16,155 +17,185 @@ const ITEMS: [u64; 2] = [1, 258];
 
 const TAPE: [u8; 20] = [2, 0, 0, 0, 1, 0, 0, 0, 0, 0, 0, 0, 2, 1, 0, 0, 0, 0, 0, 0];
 
-// What a message makes, and nothing where there is no reaction.
+// What a message makes.
 fn answer(
-    alloc: Global,
+    rt: &(impl AllocGlobal + Abort),
     kind: Kind,
     state: Option<&State>,
     entry: u16,
     words: &[u64],
-) -> Result<Reaction, Fail> {
-    let nothing = Reaction {
-        state: None,
-        sends: Sends::new(Vec::new(alloc)),
-        reply: Words::new(Vec::new(alloc)),
-    };
-    let reaction = react(alloc, kind, ME, state, entry, words)?;
-    Ok(reaction.unwrap_or(nothing))
+) -> Reaction {
+    let reaction = react(rt.alloc(), kind, ME, state, entry, words).expect(rt, "memory");
+    reaction.expect(rt, "a reaction")
 }
 
-#[test]
-fn tree_is_constructed_with_its_children(rt: HostRuntime) -> Result<(), Fail> {
-    let made = answer(rt.alloc(), Kind::Tree, None, CONSTRUCT, &[2])?;
-    let sends = made.sends.as_slice();
+// The children of the tree are sent that they are of depth 1.
+fn are_children(rt: &impl Abort, sends: &[Outgoing]) {
     assert_eq!(rt; sends.len(), 2);
     assert_eq!(rt; sends[0].to, Elem { array: 2, index: 7 });
     assert_eq!(rt; sends[1].to, Elem { array: 2, index: 8 });
     assert_eq!(rt; sends[1].words.as_slice(), [1u64].as_slice());
-    Ok(())
 }
 
 #[test]
-fn account_pays_what_it_has(rt: HostRuntime) -> Result<(), Fail> {
+fn tree_is_constructed_with_its_children(rt: HostRuntime) {
+    let made = answer(&rt, Kind::Tree, None, CONSTRUCT, &[2]);
+    are_children(&rt, made.sends.as_slice());
+}
+
+// An account of 10 is asked to pay this amount, and replies so.
+fn pays(rt: &(impl AllocGlobal + Abort), amount: u64, reply: u64) -> Reaction {
     let account = State::Account { balance: 10 };
-    let paid = answer(rt.alloc(), Kind::Account, Some(&account), 0, &[9, 10])?;
-    assert_eq!(rt; paid.reply.as_slice(), [1u64].as_slice());
+    let paid = answer(rt, Kind::Account, Some(&account), 0, &[9, amount]);
+    assert_eq!(rt; paid.reply.as_slice(), [reply].as_slice());
+    paid
+}
+
+#[test]
+fn account_pays_what_it_has(rt: HostRuntime) {
+    let paid = pays(&rt, 10, 1);
     assert!(rt; matches!(paid.state, Some(State::Account { balance: 0 })));
-    let refused = answer(rt.alloc(), Kind::Account, Some(&account), 0, &[9, 11])?;
-    assert_eq!(rt; refused.reply.as_slice(), [0u64].as_slice());
-    Ok(())
+    pays(&rt, 11, 0);
 }
 
 #[test]
-fn absent_elements_do_not_react(rt: HostRuntime) -> Result<(), Fail> {
-    assert!(rt; react(rt.alloc(), Kind::Ring, ME, None, 0, &[1])?.is_none());
-    Ok(())
+fn absent_elements_do_not_react(rt: HostRuntime) {
+    let reaction = react(rt.alloc(), Kind::Ring, ME, None, 0, &[1]).expect(&rt, "memory");
+    assert!(rt; reaction.is_none());
+}
+
+// A tape with the two items as it is packed.
+fn packed_tape(rt: &(impl AllocGlobal + Abort)) -> Vec<u8> {
+    let items = Words::from_slice(rt.alloc(), &ITEMS).expect(rt, "memory");
+    pack_state(rt.alloc(), &State::Tape { items }).expect(rt, "memory")
 }
 
 #[test]
-fn tapes_are_packed_and_read(rt: HostRuntime) -> Result<(), Fail> {
-    let items = Words::from_slice(rt.alloc(), &ITEMS)?;
-    let bytes = pack_state(rt.alloc(), &State::Tape { items })?;
+fn tapes_are_packed_and_read(rt: HostRuntime) {
+    let bytes = packed_tape(&rt);
     assert_eq!(rt; bytes.as_slice(), TAPE.as_slice());
-    let read = read_state(rt.alloc(), Kind::Tape, &TAPE)?;
+    let read = read_state(rt.alloc(), Kind::Tape, &TAPE).expect(&rt, "a tape");
     assert!(rt; matches!(&read, State::Tape { items } if items.as_slice() == ITEMS.as_slice()));
     let short = read_state(rt.alloc(), Kind::Tape, &TAPE[..19]);
     assert!(rt; matches!(short, Err(PupFault::Short)));
-    Ok(())
+}
+
+// The kind has this number.
+fn is_kind(rt: &impl Abort, kind: Kind, number: u16) {
+    assert_eq!(rt; kind.number(), number);
+    assert_eq!(rt; Kind::of_number(number), Some(kind));
 }
 
 #[test]
 fn kinds_have_their_numbers(rt: HostRuntime) {
     for (number, kind) in [1, 2, 3, 4, 5, 6].into_iter().zip(Kind::ALL) {
-        assert_eq!(rt; kind.number(), number);
-        assert_eq!(rt; Kind::of_number(number), Some(kind));
+        is_kind(&rt, kind, number);
     }
     assert_eq!(rt; Kind::of_number(0), None);
     assert_eq!(rt; Kind::of_number(7), None);
 }
 
-#[test]
-fn manifests_have_distinct_arrays(rt: HostRuntime) -> Result<(), Fail> {
-    let alloc = rt.alloc();
-    let manifest = Manifest::of(alloc, &[(9, 6), (0, 1)])?.ok_or("no manifest")?;
-    assert_eq!(rt; manifest.kind_of(9), Some(Kind::Tape));
-    assert_eq!(rt; manifest.kind_of(1), None);
-    for pairs in [[].as_slice(), &[(0, 0)], &[(0, 7)], &[(0, 1), (0, 2)]] {
-        assert!(rt; Manifest::of(alloc, pairs)?.is_none());
-    }
-    Ok(())
+// The manifest of these arrays, if they make one.
+fn manifest_of(rt: &(impl AllocGlobal + Abort), pairs: &[(u16, u16)]) -> Option<Manifest> {
+    Manifest::of(rt.alloc(), pairs).expect(rt, "memory")
 }
 
 #[test]
-fn ids_and_refusals_are_printed(rt: HostRuntime) -> Result<(), Fail> {
-    let alloc = rt.alloc();
+fn manifests_have_distinct_arrays(rt: HostRuntime) {
+    let manifest = manifest_of(&rt, &[(9, 6), (0, 1)]).expect(&rt, "a manifest");
+    assert_eq!(rt; manifest.kind_of(9), Some(Kind::Tape));
+    assert_eq!(rt; manifest.kind_of(1), None);
+    assert!(rt; manifest_of(&rt, &[]).is_none());
+    assert!(rt; manifest_of(&rt, &[(0, 0)]).is_none());
+    assert!(rt; manifest_of(&rt, &[(0, 7)]).is_none());
+    assert!(rt; manifest_of(&rt, &[(0, 1), (0, 2)]).is_none());
+}
+
+// It is printed so.
+fn is_printed<T: Display>(rt: &(impl AllocGlobal + Abort), value: &T, wanted: &str) {
+    let text = format!(in rt.alloc(); "{value}").expect(rt, "memory");
+    assert_eq!(rt; text.as_str(), wanted);
+}
+
+// The refusal has this number, and is printed so.
+fn is_refusal(rt: &(impl AllocGlobal + Abort), refusal: Refusal, number: u8, wanted: &str) {
+    assert_eq!(rt; refusal.number(), number);
+    is_printed(rt, &refusal, wanted);
+}
+
+#[test]
+fn ids_and_refusals_are_printed(rt: HostRuntime) {
     let client = MsgId {
         origin: Origin::Client(7),
         number: 2,
     };
-    let text = format!(in alloc; "{client}")?;
-    assert_eq!(rt; text.as_str(), "c7.2");
+    is_printed(&rt, &client, "c7.2");
     let element = MsgId {
         origin: Origin::Element(ME),
         number: 4,
     };
-    let text = format!(in alloc; "{element}")?;
-    assert_eq!(rt; text.as_str(), "e2.3.4");
+    is_printed(&rt, &element, "e2.3.4");
     let (half, offset) = (Half::Zero, 49);
     let count = 1;
     let kind = Kind::Counter;
-    for (refusal, number, wanted) in [
-        (Refusal::OutOfTurn(2), 5, "OutOfTurn 2"),
-        (Refusal::Elsewhere(1), 10, "Elsewhere 1"),
-        (Refusal::NoBlank(Kind::Tree), 11, "NoBlank 5"),
-        (Refusal::Damaged { half, offset }, 14, "Damaged 0 49"),
-        (
-            Refusal::BlanksWanted { kind, count },
-            16,
-            "BlanksWanted 1 1",
-        ),
-        (Refusal::PassOut, 19, "PassOut"),
-        (Refusal::Strayed, 22, "Strayed"),
-    ] {
-        assert_eq!(rt; refusal.number(), number);
-        let text = format!(in alloc; "{refusal}")?;
-        assert_eq!(rt; text.as_str(), wanted);
+    is_refusal(&rt, Refusal::OutOfTurn(2), 5, "OutOfTurn 2");
+    is_refusal(&rt, Refusal::Elsewhere(1), 10, "Elsewhere 1");
+    is_refusal(&rt, Refusal::NoBlank(Kind::Tree), 11, "NoBlank 5");
+    is_refusal(&rt, Refusal::Damaged { half, offset }, 14, "Damaged 0 49");
+    is_refusal(
+        &rt,
+        Refusal::BlanksWanted { kind, count },
+        16,
+        "BlanksWanted 1 1",
+    );
+    is_refusal(&rt, Refusal::PassOut, 19, "PassOut");
+    is_refusal(&rt, Refusal::Strayed, 22, "Strayed");
+}
+
+// A client that made eight requests, of which the first and the third one were replied to.
+fn full_row(rt: &(impl AllocGlobal + Abort)) -> ClientRow {
+    let reply = Words::from_slice(rt.alloc(), &[6]).expect(rt, "memory");
+    let mut row = ClientRow::new();
+    for number in 1..=8 {
+        row.accept(number);
     }
-    Ok(())
+    row.answer(3, reply);
+    assert!(rt; !row.has_place());
+    row.answer(1, Words::new(Vec::new(rt.alloc())));
+    assert!(rt; row.has_place());
+    row
+}
+
+// The same with a request more.
+fn moved_row(rt: &(impl AllocGlobal + Abort), row: &ClientRow) -> ClientRow {
+    let mut moved = row.copy(rt.alloc()).expect(rt, "memory");
+    moved.accept(9);
+    assert!(rt; !moved.has_place());
+    moved
+}
+
+// The client is told so of a request.
+fn is_told(rt: &(impl AllocGlobal + Abort), row: &ClientRow, number: u64, wanted: &str) {
+    let told = row.told(rt.alloc(), number).expect(rt, "memory");
+    is_printed(rt, &told, wanted);
 }
 
 #[test]
-fn clients_are_told_by_their_rows(rt: HostRuntime) -> Result<(), Fail> {
-    let alloc = rt.alloc();
-    let mut full = ClientRow::new();
-    for number in 1..=8 {
-        full.accept(number);
-    }
-    full.answer(3, Words::from_slice(alloc, &[6])?);
-    assert!(rt; !full.has_place());
-    full.answer(1, Words::new(Vec::new(alloc)));
-    assert!(rt; full.has_place());
-    let mut moved = full.copy(alloc)?;
-    moved.accept(9);
-    assert!(rt; !moved.has_place());
-    for (row, number, wanted) in [
-        (&ClientRow::new(), 1, "told unknown"),
-        (&ClientRow::new(), 0, "told past"),
-        (&full, 0, "told past"),
-        (&full, 1, "told replied"),
-        (&full, 2, "told accepted"),
-        (&full, 3, "told replied 6"),
-        (&full, 8, "told accepted"),
-        (&full, 9, "told unknown"),
-        (&moved, 1, "told past"),
-        (&moved, 2, "told accepted"),
-        (&moved, 3, "told replied 6"),
-        (&moved, 9, "told accepted"),
-        (&moved, 10, "told unknown"),
-    ] {
-        let told = row.told(alloc, number)?;
-        let text = format!(in alloc; "{told}")?;
-        assert_eq!(rt; text.as_str(), wanted);
-    }
-    Ok(())
+fn clients_are_told_by_their_rows(rt: HostRuntime) {
+    let new = ClientRow::new();
+    is_told(&rt, &new, 1, "told unknown");
+    is_told(&rt, &new, 0, "told past");
+    let full = full_row(&rt);
+    is_told(&rt, &full, 0, "told past");
+    is_told(&rt, &full, 1, "told replied");
+    is_told(&rt, &full, 2, "told accepted");
+    is_told(&rt, &full, 3, "told replied 6");
+    is_told(&rt, &full, 8, "told accepted");
+    is_told(&rt, &full, 9, "told unknown");
+    let moved = moved_row(&rt, &full);
+    is_told(&rt, &moved, 1, "told past");
+    is_told(&rt, &moved, 2, "told accepted");
+    is_told(&rt, &moved, 3, "told replied 6");
+    is_told(&rt, &moved, 9, "told accepted");
+    is_told(&rt, &moved, 10, "told unknown");
 }

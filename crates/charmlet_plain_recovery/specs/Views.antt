@@ -21,7 +21,13 @@ use Rattle.charmlet_plain_recovery.specs.declared.recovering.Choice.TheVariants 
 
 -- the image that has this world before its catch-up list, and that list
 abbrev pub image_of : World → List CaughtUp → Image
-image_of w deliveries = record { manifest = w.manifest; clients = w.clients; pending = w.pending; records = w.records; caught_up = deliveries }
+image_of w deliveries = record {
+  manifest = w.manifest;
+  clients = w.clients;
+  pending = w.pending;
+  records = w.records;
+  caught_up = deliveries;
+}
 
 -- the place of a record
 abbrev pub place_seen : Place → faults.Place

@@ -11,8 +11,8 @@ use Rattle.charmlet_halves.specs.Found.{Refuses}
 use Rattle.charmlet_recover.specs.Wanted.{blanks_in}
 use Rattle.charmlet_recover.specs.declared.finding.Found.{Found}
 
--- what is found of a half is what it says: its header's generation and events, the events of its log, its arrays, and the blanks of each kind that
--- a restart of it needs
+-- what is found of a half is what it says: its header's generation and events, the events of its
+-- log, its arrays, and the blanks of each kind that a restart of it needs
 pub record Says (s : Saved) (f : Found) : Type 0 where
   pub generation : f.generation ≡ s.header.generation
   pub before : f.before ≡ s.header.events
@@ -24,7 +24,8 @@ pub record Says (s : Saved) (f : Found) : Type 0 where
 abbrev pub IsRead : Found → Type 0
 IsRead f = (bytes : List ℕ) × (s : Saved) × (found bytes ≡ Open s) × Says s f
 
--- a half that says so is taken of the two; or it is refused what they say, unless memory is refused or the device fails
+-- a half that says so is taken of the two; or it is refused what they say, unless memory is refused
+-- or the device fails
 abbrev pub IsFoundIn : List ℕ → List ℕ → Result Found Refusal → Type 0
 IsFoundIn first second (Ok f) = (s : Saved) × (taken first second ≡ Takes f.half s) × Says s f
 IsFoundIn first second (Err Memory) = Unit {0}

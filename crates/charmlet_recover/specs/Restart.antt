@@ -31,7 +31,8 @@ use Rattle.charmlet_recover.specs.declared.restarting.NotRestarted.{NotRestarted
 
 -- ---- what is handed in, and back
 
--- of each kind as many objects were supplied, are blanks and were retired, and what is retired goes where it went
+-- of each kind as many objects were supplied, are blanks and were retired, and what is retired goes
+-- where it went
 pub record IsSameStock {C : Type 0} {G : chares.Ghosts C} (old new : Stock C G) : Type 0 where
   pub census : census_of new ≡ census_of old
   pub keeping : keeping_of new ≡ keeping_of old
@@ -81,7 +82,8 @@ is_lack (refusals.BlanksWanted kind count) = true
 is_lack refusals.Memory = true
 is_lack _ = false
 
--- where there is a cause it is refused so, and else it is done, unless memory is refused or the device fails
+-- where there is a cause it is refused so, and else it is done, unless memory is refused or the
+-- device fails
 abbrev pub AnswersBy : {X : Type 0} → Option Refusal → Result X Refusal → Type 0
 AnswersBy why (Ok x) = why ≡ None
 AnswersBy why (Err refusals.Memory) = Unit {0}
@@ -96,8 +98,10 @@ is_after_sync _ = true
 
 -- ---- what comes back
 
--- the world with which the store opens is the one after some events of the history, the durable ones among them
-pub record OpensWithin (w : World) (before : ℕ) (history : List Event) (durable : ℕ) (core : Core) : Type 0 where
+-- the world with which the store opens is the one after some events of the history, the durable
+-- ones among them
+pub record OpensWithin (w : World) (before : ℕ) (history : List Event) (durable : ℕ)
+    (core : Core) : Type 0 where
   pub kept : ℕ
   pub durable_kept : durable ≤ kept
   pub none_invented : kept ≤ length history
@@ -115,21 +119,27 @@ module _ {D C : Type 0} {G : disks.Ghosts D} {H : chares.Ghosts C} where
   disk_after (Err refused) = refused.disk
 
   -- that the store came back, or why not
-  abbrev pub restarted_or_refused : Result (Recovered D C G H) (NotRestarted D C H) → Result (Recovered D C G H) Refusal
+  abbrev pub restarted_or_refused : Result (Recovered D C G H) (NotRestarted D C H) →
+      Result (Recovered D C G H) Refusal
   restarted_or_refused (Ok back) = Ok back
   restarted_or_refused (Err refused) = Err refused.refusal
 
   -- the number of processors is refused before anything is done: what was handed in comes back
   abbrev pub IsHandedBack : D → Stock C H → Result (Recovered D C G H) (NotRestarted D C H) → Type 0
   IsHandedBack disk blanks (Ok back) = ⊥
-  IsHandedBack disk blanks (Err refused) = (refused.refusal ≡ refusals.BadPes) × (refused.disk ≡ disk) × (refused.blanks ≡ blanks)
+  IsHandedBack disk blanks (Err refused) = (refused.refusal ≡ refusals.BadPes)
+      × (refused.disk ≡ disk) × (refused.blanks ≡ blanks)
 
-  -- nothing has happened in the store since it opened, and each element that is there has its home for its place
+  -- nothing has happened in the store since it opened, and each element that is there has its home
+  -- for its place
   abbrev pub IsOpenedOn : ℕ → Recovered D C G H → Type 0
-  IsOpenedOn processors back = core_of back ≡ opened processors (core_of back).opening (core_of back).before (core_of back).generation (core_of back).log_end
+  IsOpenedOn processors back = core_of back
+      ≡ opened processors (core_of back).opening (core_of back).before (core_of back).generation
+      (core_of back).log_end
 
-  -- The store opens with what a half means: its world, which came after so many events, at its generation. Its log ends where that of the
-  -- half does, and of each kind the stock has what the half didn't want of the blanks.
+  -- The store opens with what a half means: its world, which came after so many events, at its
+  -- generation. Its log ends where that of the half does, and of each kind the stock has what the
+  -- half didn't want of the blanks.
   pub record OpensWith (given : Blanks) (back : Recovered D C G H) (s : Saved) : Type 0 where
     pub means : meaning_of s ≡ Whole (core_of back).opening (core_of back).before
     pub generation : (core_of back).generation ≡ s.header.generation
@@ -138,30 +148,40 @@ module _ {D C : Type 0} {G : disks.Ghosts D} {H : chares.Ghosts C} where
 
   -- on any disk, the store opens with what the bytes of some half mean
   abbrev pub IsReadFrom : Blanks → Recovered D C G H → Type 0
-  IsReadFrom given back = (bytes : List ℕ) × (s : Saved) × (found bytes ≡ Open s) × OpensWith given back s
+  IsReadFrom given back = (bytes : List ℕ) × (s : Saved) × (found bytes ≡ Open s)
+      × OpensWith given back s
 
   -- on an honest one, with what the half means that is taken
   abbrev pub IsTakenFrom : Blanks → Outcome → Recovered D C G H → Type 0
-  IsTakenFrom given outcome back = (s : Saved) × (taken (outcome Zero) (outcome One) ≡ Takes (taken_half back.halves) s) × OpensWith given back s
+  IsTakenFrom given outcome back = (s : Saved)
+      × (taken (outcome Zero) (outcome One) ≡ Takes (taken_half back.halves) s)
+      × OpensWith given back s
 
-  -- a restart after a crash comes to such a store, or lacks memory, blanks or a device, or is asked for a wrong number of processors
-  abbrev pub AnswersAfterCrash : World → ℕ → List Event → ℕ → Result (Recovered D C G H) Refusal → Type 0
-  AnswersAfterCrash w before history durable (Ok back) = OpensWithin w before history durable (core_of back)
+  -- a restart after a crash comes to such a store, or lacks memory, blanks or a device, or is asked
+  -- for a wrong number of processors
+  abbrev pub AnswersAfterCrash : World → ℕ → List Event → ℕ →
+      Result (Recovered D C G H) Refusal → Type 0
+  AnswersAfterCrash w before history durable (Ok back) =
+      OpensWithin w before history durable (core_of back)
   AnswersAfterCrash w before history durable (Err refusal) = is_lack refusal ≡ true
 
--- on any disk, blanks lack of what the bytes of some half want: of the least such kind, and the count is all that are wanted
+-- on any disk, blanks lack of what the bytes of some half want: of the least such kind, and the
+-- count is all that are wanted
 abbrev pub IsShortOfSome : Blanks → Refusal → Type 0
-IsShortOfSome given (refusals.BlanksWanted kind count) = (bytes : List ℕ) × (s : Saved) × (found bytes ≡ Open s) × (least_short given (wanted_of s) ≡ Some (kind, count))
+IsShortOfSome given (refusals.BlanksWanted kind count) = (bytes : List ℕ) × (s : Saved)
+    × (found bytes ≡ Open s) × (least_short given (wanted_of s) ≡ Some (kind, count))
 IsShortOfSome given _ = Unit {0}
 
 -- ---- one half
 
 -- that the store of a half came back, or why not
-abbrev pub reopened_or_refused : {C : Type 0} {G : chares.Ghosts C} → Result (Store C G) (NotReopened C G) → Result (Store C G) Refusal
+abbrev pub reopened_or_refused : {C : Type 0} {G : chares.Ghosts C} →
+    Result (Store C G) (NotReopened C G) → Result (Store C G) Refusal
 reopened_or_refused (Ok store) = Ok store
 reopened_or_refused (Err refused) = Err refused.refusal
 
--- a fault of a half of so many bytes, by how many are left from its record on, is damage at its offset
+-- a fault of a half of so many bytes, by how many are left from its record on, is damage at its
+-- offset
 abbrev pub FaultIs : Half → ℕ → ReadError → Refusal → Type 0
 FaultIs half size Memory refusal = refusal ≡ refusals.Memory
 FaultIs half size (Damaged fault) refusal = refusal ≡ refusals.Damaged half (size - fault.left)

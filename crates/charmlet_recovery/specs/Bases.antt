@@ -19,10 +19,13 @@ use Rattle.charmlet_image.specs.Images.{Image}
 
 -- what the message makes of a receiver with this record
 abbrev pub reaction : Kinds → Record → Message → Option Reaction
-reaction manifest r m = option_and_then (λ kind. react kind m.to r.state m.entry m.words) (lookup (is_at (nat_cmp m.to.array)) manifest)
+reaction manifest r m = option_and_then (λ kind. react kind m.to r.state m.entry m.words)
+    (lookup (is_at (nat_cmp m.to.array)) manifest)
 
--- the records once x, of this record, has made the reaction, if there is one: its state and its two counts change, and nothing else
-abbrev pub records_after : List (Elem × Record) → Elem → Record → Option Reaction → List (Elem × Record)
+-- the records once x, of this record, has made the reaction, if there is one: its state and its two
+-- counts change, and nothing else
+abbrev pub records_after : List (Elem × Record) → Elem → Record → Option Reaction →
+    List (Elem × Record)
 records_after records x r None = records
 records_after records x r (Some o) = insert_entry elem_cmp records x (advanced r o)
 
@@ -34,14 +37,17 @@ is_skipped r d = nat_le d.received r.received
 abbrev pub redelivered : Kinds → List (Elem × Record) → CaughtUp → List (Elem × Record)
 redelivered manifest records d =
     if is_skipped (record_at records d.message.to) d then records
-    else records_after records d.message.to (record_at records d.message.to) (reaction manifest (record_at records d.message.to) d.message)
+    else records_after records d.message.to (record_at records d.message.to)
+    (reaction manifest (record_at records d.message.to) d.message)
 
 -- the records after the deliveries of a catch-up list, in order
 abbrev pub redelivered_all : Kinds → List (Elem × Record) → List CaughtUp → List (Elem × Record)
 redelivered_all manifest records [] = records
-redelivered_all manifest records (d ∷ ds) = redelivered_all manifest (redelivered manifest records d) ds
+redelivered_all manifest records (d ∷ ds) =
+    redelivered_all manifest (redelivered manifest records d) ds
 
--- the world that an image gives: its catch-up list is applied to its records, and all else is as it is written
+-- the world that an image gives: its catch-up list is applied to its records, and all else is as it
+-- is written
 abbrev pub base : Image → World
 base image = record {
   manifest = image.manifest;

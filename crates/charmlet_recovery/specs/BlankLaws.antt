@@ -18,26 +18,41 @@ use Rattle.charmlet_recovery.specs.Bases.{is_skipped, redelivered_all, recovered
 use Rattle.charmlet_recovery.specs.Faults.{catch_up_tests, first_failure, first_fault}
 use Rattle.charmlet_recovery.specs.Blanks.{array_is, one_if, wanted, wanted_by_records, made, made_by_catch_up}
 
--- Where there is no fault, the blanks that are wanted by what is written are the objects that a recovery makes.
+-- Where there is no fault, the blanks that are wanted by what is written are the objects that a
+-- recovery makes.
 abbrev pub BlanksAreThoseMade : Type 0
-BlanksAreThoseMade = (mark : Mark) (image : Image) (before : ℕ) (log : List Logged) (kind : Kind) → IsImage mark image → before ≤ 2 ^ 40 →
-    AllByRecursion (IsLogged image.manifest) log → first_fault image before log ≡ None → wanted image log kind ≡ made image log kind
+BlanksAreThoseMade = (mark : Mark) (image : Image) (before : ℕ) (log : List Logged) (kind : Kind) →
+    IsImage mark image → before ≤ 2 ^ 40 →
+    AllByRecursion (IsLogged image.manifest) log → first_fault image before log ≡ None →
+    wanted image log kind ≡ made image log kind
 
 -- up to the first fault no more objects of a kind are made than are wanted by all that is written
 abbrev pub BlanksSuffice : Type 0
 BlanksSuffice = (mark : Mark) (image : Image) (before : ℕ) (log : List Logged) (kind : Kind) →
-    ((i : ℕ) → first_failure (catch_up_tests image.manifest image.records (take i image.caught_up)) ≡ None →
-    wanted_by_records image.manifest kind image.records + made_by_catch_up image.manifest kind image.records (take i image.caught_up) ≤ wanted image log kind)
-    × ((i : ℕ) → IsImage mark image → AllByRecursion (IsLogged image.manifest) log → first_fault image before (take i log) ≡ None → made image (take i log) kind ≤ wanted image log kind)
+    ((i : ℕ) → first_failure (catch_up_tests image.manifest image.records (take i image.caught_up))
+    ≡ None →
+    wanted_by_records image.manifest kind image.records
+    + made_by_catch_up image.manifest kind image.records (take i image.caught_up)
+    ≤ wanted image log kind)
+    × ((i : ℕ) → IsImage mark image → AllByRecursion (IsLogged image.manifest) log →
+    first_fault image before (take i log) ≡ None →
+    made image (take i log) kind ≤ wanted image log kind)
 
--- So a replay that takes a blank where a construction is written finds one, also at the record that proves faulty.
+-- So a replay that takes a blank where a construction is written finds one, also at the record that
+-- proves faulty.
 abbrev pub BlanksSufficeNext : Type 0
 BlanksSufficeNext = (mark : Mark) (image : Image) (before : ℕ) (kind : Kind) →
-    ((earlier later : List CaughtUp) (d : CaughtUp) (log : List Logged) → image.caught_up ≡ earlier ++ d ∷ later →
+    ((earlier later : List CaughtUp) (d : CaughtUp) (log : List Logged) → image.caught_up ≡ earlier
+    ++ d ∷ later →
     first_failure (catch_up_tests image.manifest image.records earlier) ≡ None →
-    is_skipped (record_at (redelivered_all image.manifest image.records earlier) d.message.to) d ≡ false → d.effect ≡ Constructed →
-    wanted_by_records image.manifest kind image.records + made_by_catch_up image.manifest kind image.records earlier
+    is_skipped (record_at (redelivered_all image.manifest image.records earlier) d.message.to) d
+    ≡ false → d.effect ≡ Constructed →
+    wanted_by_records image.manifest kind image.records
+    + made_by_catch_up image.manifest kind image.records earlier
     + one_if (array_is image.manifest kind d.message.to.array) ≤ wanted image log kind)
-    × ((earlier later : List Logged) (id : MsgId) (received : ℕ) (sends : List Outgoing) (m : Message) → IsImage mark image → AllByRecursion (IsLogged image.manifest) earlier →
-    first_fault image before earlier ≡ None → message_among id (recovered_world image earlier).pending ≡ Some m →
-    made image earlier kind + one_if (array_is image.manifest kind m.to.array) ≤ wanted image (earlier ++ Deliver id received Constructed sends ∷ later) kind)
+    × ((earlier later : List Logged) (id : MsgId) (received : ℕ) (sends : List Outgoing)
+    (m : Message) → IsImage mark image → AllByRecursion (IsLogged image.manifest) earlier →
+    first_fault image before earlier ≡ None →
+    message_among id (recovered_world image earlier).pending ≡ Some m →
+    made image earlier kind + one_if (array_is image.manifest kind m.to.array)
+    ≤ wanted image (earlier ++ Deliver id received Constructed sends ∷ later) kind)

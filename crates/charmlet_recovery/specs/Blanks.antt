@@ -44,18 +44,25 @@ one_if b = if b then 1 else 0
 -- the written records of this kind that have a state
 abbrev pub wanted_by_records : Kinds → Kind → List (Elem × Record) → ℕ
 wanted_by_records manifest kind [] = 0
-wanted_by_records manifest kind (e ∷ es) = one_if (is_some e.1.state && array_is manifest kind e.0.array) + wanted_by_records manifest kind es
+wanted_by_records manifest kind (e ∷ es) =
+    one_if (is_some e.1.state && array_is manifest kind e.0.array)
+    + wanted_by_records manifest kind es
 
 -- the counts of received messages, where the greatest that was read stays
 abbrev pub with_count : List (Elem × Record) → CaughtUp → List (Elem × Record)
 with_count counts d = insert_entry elem_cmp counts d.message.to
-    (record { state = None; sent = 0; received = max (record_at counts d.message.to).received d.received })
+    (record {
+      state = None;
+      sent = 0;
+      received = max (record_at counts d.message.to).received d.received;
+    })
 
 -- the constructions of the catch-up list that aren't skipped
 abbrev pub wanted_by_catch_up : Kinds → Kind → List (Elem × Record) → List CaughtUp → ℕ
 wanted_by_catch_up manifest kind counts [] = 0
 wanted_by_catch_up manifest kind counts (d ∷ ds) =
-    one_if (not (is_skipped (record_at counts d.message.to) d) && same_effect d.effect Constructed && array_is manifest kind d.message.to.array)
+    one_if (not (is_skipped (record_at counts d.message.to) d) && same_effect d.effect Constructed
+    && array_is manifest kind d.message.to.array)
     + wanted_by_catch_up manifest kind (with_count counts d) ds
 
 -- the array of the last message with this id, and else that of its sender
@@ -76,9 +83,12 @@ wanted_of_array manifest kind (Some array) = one_if (array_is manifest kind arra
 -- the constructions of the log; the messages are those written so far
 abbrev pub wanted_by_log : Kinds → Kind → List Message → List Logged → ℕ
 wanted_by_log manifest kind ms [] = 0
-wanted_by_log manifest kind ms (Accept client number to entry words ∷ log) = wanted_by_log manifest kind (ms ++ request client number to entry words ∷ []) log
+wanted_by_log manifest kind ms (Accept client number to entry words ∷ log) =
+    wanted_by_log manifest kind (ms ++ request client number to entry words ∷ []) log
 wanted_by_log manifest kind ms (Deliver id received effect sends ∷ log) =
-    (if same_effect effect Constructed then wanted_of_array manifest kind (array_of id ms (sender_array id.origin)) else 0) + wanted_by_log manifest kind ms log
+    (if same_effect effect Constructed
+    then wanted_of_array manifest kind (array_of id ms (sender_array id.origin)) else 0)
+    + wanted_by_log manifest kind ms log
 
 -- all that a restart needs
 abbrev pub wanted : Image → List Logged → Blanks
@@ -98,14 +108,17 @@ constructs r (Some o) = same_effect (effect_between r.state o.state) Constructed
 abbrev pub made_by_catch_up : Kinds → Kind → List (Elem × Record) → List CaughtUp → ℕ
 made_by_catch_up manifest kind records [] = 0
 made_by_catch_up manifest kind records (d ∷ ds) =
-    one_if (not (is_skipped (record_at records d.message.to) d) && constructs (record_at records d.message.to) (reaction manifest (record_at records d.message.to) d.message)
+    one_if (not (is_skipped (record_at records d.message.to) d)
+    && constructs (record_at records d.message.to)
+    (reaction manifest (record_at records d.message.to) d.message)
     && array_is manifest kind d.message.to.array)
     + made_by_catch_up manifest kind (redelivered manifest records d) ds
 
 -- one where the delivery of the message constructs an object of this kind
 abbrev pub made_of : Kind → World → Option Message → ℕ
 made_of kind w None = 0
-made_of kind w (Some m) = one_if (constructs (record_of w m.to) (reaction_of w m) && array_is w.manifest kind m.to.array)
+made_of kind w (Some m) = one_if (constructs (record_of w m.to) (reaction_of w m)
+    && array_is w.manifest kind m.to.array)
 
 -- the same of an event
 abbrev pub made_at : Kind → World → Event → ℕ
@@ -126,7 +139,8 @@ made image log kind =
 
 -- the kind and all that are wanted of it, where fewer are given, and else what later kinds lack
 abbrev pub short_of : Blanks → Blanks → Kind → Option (Kind × ℕ) → Option (Kind × ℕ)
-short_of given needed kind later = if nat_lt (given kind) (needed kind) then Some (kind, needed kind) else later
+short_of given needed kind later = if nat_lt (given kind) (needed kind)
+    then Some (kind, needed kind) else later
 
 -- the least kind of which fewer are given than are wanted, and all that are wanted of it
 abbrev pub least_short : Blanks → Blanks → Option (Kind × ℕ)

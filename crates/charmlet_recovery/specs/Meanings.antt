@@ -18,4 +18,5 @@ unless_faulty (Some place) w count = Faulty place
 
 -- what an image and its log come to; so many events came before the image's world
 abbrev pub meaning : Image → ℕ → List Logged → Meaning
-meaning image before log = unless_faulty (first_fault image before log) (recovered_world image log) (before + length log)
+meaning image before log = unless_faulty (first_fault image before log) (recovered_world image log)
+    (before + length log)

@@ -18,7 +18,11 @@ use Rattle.charmlet_image.specs.Images.{Image}
 -- what a catch-up list keeps of a message and of what its receiver made of it
 abbrev pub noted : World → Message → Option Reaction → List CaughtUp
 noted w m None = []
-noted w m (Some o) = record { message = m; received = (record_of w m.to).received + 1; effect = effect_between (record_of w m.to).state o.state } ∷ []
+noted w m (Some o) = record {
+  message = m;
+  received = (record_of w m.to).received + 1;
+  effect = effect_between (record_of w m.to).state o.state;
+} ∷ []
 
 -- the same of the message that a delivery finds
 abbrev pub noted_if : World → Option Message → List CaughtUp
@@ -35,19 +39,22 @@ abbrev pub deliveries : World → List Event → List CaughtUp
 deliveries w [] = []
 deliveries w (e ∷ es) = noted_at w e ++ deliveries (after w e) es
 
--- While the events came, the image of the world was taken: each element's record at some moment, clients and pending messages at
--- the end, and all deliveries from the start to the end.
+-- While the events came, the image of the world was taken: each element's record at some moment,
+-- clients and pending messages at the end, and all deliveries from the start to the end.
 pub record IsTakenDuring (w : World) (events : List Event) (image : Image) : Type 0 where
   pub manifest : image.manifest ≡ w.manifest
   pub clients : image.clients ≡ (world w events).clients
   pub pending : image.pending ≡ (world w events).pending
   pub rising : IsStrictlySortedBy elem_cmp (keys_of image.records)
   pub no_empty : All IsKept (values_of image.records)
-  pub records : (x : Elem) → (k : ℕ) × (record_at image.records x ≡ record_of (world w (take k events)) x)
+  pub records : (x : Elem) → (k : ℕ)
+      × (record_at image.records x ≡ record_of (world w (take k events)) x)
   pub caught_up : image.caught_up ≡ deliveries w events
 
--- the moment at which the record of x is taken: when its shelf is reached, after n events, or before that as soon as x is absent
+-- the moment at which the record of x is taken: when its shelf is reached, after n events, or
+-- before that as soon as x is absent
 abbrev pub moment : Elem → ℕ → World → List Event → ℕ
 moment x zero w es = 0
 moment x (suc n) w [] = 0
-moment x (suc n) w (e ∷ es) = if is_some (record_of w x).state then suc (moment x n (after w e) es) else 0
+moment x (suc n) w (e ∷ es) = if is_some (record_of w x).state
+    then suc (moment x n (after w e) es) else 0

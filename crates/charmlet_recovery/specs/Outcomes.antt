@@ -6,9 +6,10 @@ use Rattle.charmlet_model.specs.World.{World, world}
 use Rattle.charmlet_recovery.specs.Recovered.{Found, recovered}
 use Rattle.charmlet_recovery.specs.Stores.{Stores}
 
--- The files recover to the world after some events of the history, the durable ones among them. So many events came before the
--- history, which began in the world w.
-pub record IsLawful (w : World) (before : ℕ) (history : List Event) (durable : ℕ) (outcome : Half → List ℕ) : Type 0 where
+-- The files recover to the world after some events of the history, the durable ones among them. So
+-- many events came before the history, which began in the world w.
+pub record IsLawful (w : World) (before : ℕ) (history : List Event) (durable : ℕ)
+    (outcome : Half → List ℕ) : Type 0 where
   pub kept : ℕ
   pub durable_kept : durable ≤ kept
   pub none_invented : kept ≤ length history
@@ -16,7 +17,8 @@ pub record IsLawful (w : World) (before : ℕ) (history : List Event) (durable :
   pub is : recovered outcome ≡ Found (world w (take kept history)) (before + kept) generation
 
 -- the files store such a world
-pub record Keeps (w : World) (before : ℕ) (history : List Event) (durable : ℕ) (outcome : Half → List ℕ) : Type 0 where
+pub record Keeps (w : World) (before : ℕ) (history : List Event) (durable : ℕ)
+    (outcome : Half → List ℕ) : Type 0 where
   pub kept : ℕ
   pub durable_kept : durable ≤ kept
   pub none_invented : kept ≤ length history

@@ -11,7 +11,8 @@ use Rattle.charmlet_image.specs.Halves.{Taken, NothingHere, Takes, DamagedAt, ta
 use Rattle.charmlet_recovery.specs.Faults.{Place, InCatchUp, InPending, InEvents}
 use Rattle.charmlet_recovery.specs.Meanings.{Meaning, Faulty, Whole, meaning}
 
--- nothing is there, or a half is damaged at an offset, or there is a world, with the number of events that led to it and its generation
+-- nothing is there, or a half is damaged at an offset, or there is a world, with the number of
+-- events that led to it and its generation
 pub data Recovered : Type 0 where
   Nothing : Recovered
   Damaged : Half → ℕ → Recovered
@@ -29,7 +30,8 @@ meaning_of s = meaning s.image s.header.events (log_of s)
 abbrev pub event_offset : Saved → List (List Logged) → List (List Logged) → ℕ → ℕ
 event_offset s earlier [] i = 0
 event_offset s earlier (batch ∷ batches) i =
-    if nat_lt i (length batch) then length (before_event s earlier batch (take i batch)) else event_offset s (earlier ++ batch ∷ []) batches (i - length batch)
+    if nat_lt i (length batch) then length (before_event s earlier batch (take i batch))
+    else event_offset s (earlier ++ batch ∷ []) batches (i - length batch)
 
 -- the offset of the first byte of the record at a place
 abbrev pub offset_of : Saved → Place → ℕ
@@ -42,7 +44,8 @@ abbrev pub recovered_by : Half → Saved → Meaning → Recovered
 recovered_by half s (Faulty place) = Damaged half (offset_of s place)
 recovered_by half s (Whole w count) = Found w count s.header.generation
 
--- what is taken of two halves comes to: nothing, the first fault of the format, or else what the half means
+-- what is taken of two halves comes to: nothing, the first fault of the format, or else what the
+-- half means
 abbrev pub recovered_from : Taken → Recovered
 recovered_from NothingHere = Nothing
 recovered_from (DamagedAt half offset) = Damaged half offset

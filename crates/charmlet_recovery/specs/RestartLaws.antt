@@ -23,13 +23,15 @@ use Rattle.charmlet_recovery.specs.Restarts.{wanted_of, taken_refusal, restart_r
 abbrev pub IsEnough : Blanks → Blanks → Type 0
 IsEnough given needed = (kind : Kind) → needed kind ≤ given kind
 
--- fewer are given of the kind than are wanted, so many are wanted in all, and of no lesser kind fewer are given
+-- fewer are given of the kind than are wanted, so many are wanted in all, and of no lesser kind
+-- fewer are given
 pub record IsLeastShort (given needed : Blanks) (kind : Kind) (count : ℕ) : Type 0 where
   pub short : given kind < needed kind
   pub all : count ≡ needed kind
   pub least : (lesser : Kind) → kind_number lesser < kind_number kind → needed lesser ≤ given lesser
 
--- what is lacking, if anything is: the least kind of which fewer are given, and else there are enough of each
+-- what is lacking, if anything is: the least kind of which fewer are given, and else there are
+-- enough of each
 abbrev pub Lacks : Blanks → Blanks → Option (Kind × ℕ) → Type 0
 Lacks given needed None = IsEnough given needed
 Lacks given needed (Some lack) = IsLeastShort given needed lack.0 lack.1
@@ -40,7 +42,8 @@ LeastShortIsFound = (given needed : Blanks) → Lacks given needed (least_short 
 
 -- why a restart is refused is known from what is taken of the two halves
 abbrev pub RestartsAreTaken : Type 0
-RestartsAreTaken = (given : Blanks) (outcome : Half → List ℕ) → restart_refusal given outcome ≡ taken_refusal given (taken (outcome Zero) (outcome One))
+RestartsAreTaken = (given : Blanks) (outcome : Half → List ℕ) → restart_refusal given outcome
+    ≡ taken_refusal given (taken (outcome Zero) (outcome One))
 
 -- A restart that isn't refused finds a world, and has enough blanks.
 pub record CanRestart (given : Blanks) (outcome : Half → List ℕ) : Type 0 where
@@ -56,19 +59,27 @@ pub record CanRestart (given : Blanks) (outcome : Half → List ℕ) : Type 0 wh
 abbrev pub IsRefused : Blanks → (Half → List ℕ) → Option Refusal → Type 0
 IsRefused given outcome None = CanRestart given outcome
 IsRefused given outcome (Some (refusals.BlanksWanted kind count)) =
-    (half : Half) × (s : Saved) × (taken (outcome Zero) (outcome One) ≡ Takes half s) × IsLeastShort given (wanted_of s) kind count
-IsRefused given outcome (Some (refusals.Damaged half offset)) = recovered outcome ≡ Damaged half offset
-IsRefused given outcome (Some refusal) = (refusal ≡ refusals.NothingHere) × (recovered outcome ≡ Nothing)
+    (half : Half) × (s : Saved) × (taken (outcome Zero) (outcome One) ≡ Takes half s)
+    × IsLeastShort given (wanted_of s) kind count
+IsRefused given outcome (Some (refusals.Damaged half offset)) = recovered outcome
+    ≡ Damaged half offset
+IsRefused given outcome (Some refusal) = (refusal ≡ refusals.NothingHere)
+    × (recovered outcome ≡ Nothing)
 
--- each refusal has its cause, and without one the files recover to a world for which there are enough blanks
+-- each refusal has its cause, and without one the files recover to a world for which there are
+-- enough blanks
 abbrev pub RestartsAreRefusedForCause : Type 0
-RestartsAreRefusedForCause = (given : Blanks) (outcome : Half → List ℕ) → IsRefused given outcome (restart_refusal given outcome)
+RestartsAreRefusedForCause = (given : Blanks) (outcome : Half → List ℕ) →
+    IsRefused given outcome (restart_refusal given outcome)
 
 -- files that recover to a world lack blanks alone
 abbrev pub FoundLacksBlanksAlone : Type 0
-FoundLacksBlanksAlone = (given : Blanks) (outcome : Half → List ℕ) (w : World) (count generation : ℕ) (half : Half) (s : Saved) →
-    recovered outcome ≡ Found w count generation → taken (outcome Zero) (outcome One) ≡ Takes half s →
-    restart_refusal given outcome ≡ option_map (λ lack. refusals.BlanksWanted lack.0 lack.1) (least_short given (wanted_of s))
+FoundLacksBlanksAlone = (given : Blanks) (outcome : Half → List ℕ) (w : World)
+    (count generation : ℕ) (half : Half) (s : Saved) →
+    recovered outcome ≡ Found w count generation → taken (outcome Zero) (outcome One)
+    ≡ Takes half s →
+    restart_refusal given outcome ≡ option_map (λ lack. refusals.BlanksWanted lack.0 lack.1)
+    (least_short given (wanted_of s))
 
 -- the bytes of the record at a place, if there is one
 abbrev pub record_text : Saved → Place → Option (List ℕ)
@@ -83,7 +94,8 @@ RecordStandsAt offset (Some text) bytes = StandsAt offset text bytes
 
 -- the offset of a fault is that of its record's first byte
 abbrev pub FaultsStandThere : Type 0
-FaultsStandThere = (bytes : List ℕ) (s : Saved) (place : Place) → IsBytes bytes → found bytes ≡ Open s → meaning_of s ≡ Faulty place →
+FaultsStandThere = (bytes : List ℕ) (s : Saved) (place : Place) → IsBytes bytes →
+    found bytes ≡ Open s → meaning_of s ≡ Faulty place →
     RecordStandsAt (offset_of s place) (record_text s place) bytes
 
 -- both places are in one list, and the first one is before the other
@@ -101,4 +113,5 @@ IsThere s (InEvents i) = i < length (log_of s)
 
 -- offsets rise with places, so the first fault of a round is the one with the least offset
 abbrev pub OffsetsRise : Type 0
-OffsetsRise = (s : Saved) (one two : Place) → IsEarlier one two → IsThere s two → offset_of s one < offset_of s two
+OffsetsRise = (s : Saved) (one two : Place) → IsEarlier one two → IsThere s two →
+    offset_of s one < offset_of s two

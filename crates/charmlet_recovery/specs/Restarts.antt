@@ -26,11 +26,13 @@ abbrev pub short_refusal : Option (Kind × ℕ) → Option Refusal → Option Re
 short_refusal None later = later
 short_refusal (Some lack) later = Some (refusals.BlanksWanted lack.0 lack.1)
 
--- by what is taken of two halves: nothing, a fault of the format, blanks that lack, or a fault of a record, in this order
+-- by what is taken of two halves: nothing, a fault of the format, blanks that lack, or a fault of a
+-- record, in this order
 abbrev pub taken_refusal : Blanks → Taken → Option Refusal
 taken_refusal given NothingHere = Some refusals.NothingHere
 taken_refusal given (DamagedAt half offset) = Some (refusals.Damaged half offset)
-taken_refusal given (Takes half s) = short_refusal (least_short given (wanted_of s)) (fault_refusal half s (meaning_of s))
+taken_refusal given (Takes half s) = short_refusal (least_short given (wanted_of s))
+    (fault_refusal half s (meaning_of s))
 
 -- why a restart from these files is refused, if it is
 unfoldable pub restart_refusal : Blanks → (Half → List ℕ) → Option Refusal

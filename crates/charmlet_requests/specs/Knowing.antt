@@ -16,7 +16,10 @@ greater a b = if nat_lt a b then b else a
 
 -- all requests up to this number are past
 abbrev pub passed : ClientRow → ℕ → ClientRow
-passed row number = record { last = greater row.last number; window = drop (number - below row) row.window }
+passed row number = record {
+  last = greater row.last number;
+  window = drop (number - below row) row.window;
+}
 
 -- so many more requests were accepted
 abbrev pub gone_on : ClientRow → ℕ → ClientRow
@@ -38,7 +41,8 @@ heard row number Accepted = reached row number
 heard row number (Replied reply) = with_known_reply (reached row number) number reply
 heard row number Past = passed row number
 
--- The second of two answers on a request says no less than the first, and no other words: Unknown, Accepted, Replied and Past rise.
+-- The second of two answers on a request says no less than the first, and no other words: Unknown,
+-- Accepted, Replied and Past rise.
 abbrev pub IsNoLess : Told → Told → Type 0
 IsNoLess Unknown later = Unit {0}
 IsNoLess Accepted Unknown = ⊥

@@ -13,7 +13,8 @@ use Rattle.charmlet_model.specs.Told.{Holds, told_of}
 use Rattle.charmlet_model.specs.World.{client_of}
 use Rattle.charmlet_requests.specs.Knowing.{IsNoLess, heard}
 
--- A pass is of one client. Its accepts are those with the numbers after `lent_at` up to `last`; and it knows what its client was told.
+-- A pass is of one client. Its accepts are those with the numbers after `lent_at` up to `last`; and
+-- it knows what its client was told.
 pub record Pass : Type 0 where
   pub client : ℕ
   pub lent_at : ℕ
@@ -43,20 +44,27 @@ accepts_of pass = numbers_after pass.lent_at (pass.last - pass.lent_at)
 
 -- a request with a number above the last one was accepted
 abbrev pub with_accept : Pass → ℕ → Pass
-with_accept pass number = record pass { last = if nat_lt pass.last number then number else pass.last }
+with_accept pass number = record pass {
+  last = if nat_lt pass.last number then number
+      else pass.last;
+}
 
 -- what the pass knows is true of the durable events
 abbrev pub IsTold : Pass → Core → Type 0
-IsTold pass core = (number : ℕ) → Holds core.opening (take core.durable core.history) pass.client number (known pass number)
+IsTold pass core = (number : ℕ) →
+    Holds core.opening (take core.durable core.history) pass.client number (known pass number)
 
 -- the last number of the pass's client in the present world is the pass's own
 abbrev pub IsUpToDate : Pass → Core → Type 0
 IsUpToDate pass core = (client_of (present core) pass.client).last ≡ pass.last
 
--- A request or a question of this number by a pass is answered so. What is told is no less than what the pass knew of it, and then the pass knows no less than that; of
--- no request it knows less than before; what it knows stays true; and a refusal leaves it as it was.
-pub record IsHeard (pass next : Pass) (core after : Core) (number : ℕ) (result : Result Told Refusal) : Type 0 where
-  pub no_less : IsTold pass core → IfOk result (λ told. IsNoLess (known pass number) told × IsNoLess told (known next number))
+-- A request or a question of this number by a pass is answered so. What is told is no less than
+-- what the pass knew of it, and then the pass knows no less than that; of no request it knows less
+-- than before; what it knows stays true; and a refusal leaves it as it was.
+pub record IsHeard (pass next : Pass) (core after : Core) (number : ℕ)
+    (result : Result Told Refusal) : Type 0 where
+  pub no_less : IsTold pass core →
+      IfOk result (λ told. IsNoLess (known pass number) told × IsNoLess told (known next number))
   pub kept : (other : ℕ) → IsNoLess (known pass other) (known next other)
   pub holds : IsTold pass core → IsTold next after
   pub err : OnErr result (next ≡ pass)

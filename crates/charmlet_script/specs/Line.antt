@@ -39,7 +39,8 @@ words_of line = filter (λ word. not (is_empty word)) (parts_of 32 line)
 -- a decimal number of so many bits; leading zeros are allowed
 unfoldable pub number_of : ℕ → Text → Option ℕ
 number_of bits word =
-    if list_all is_ascii_digit word && (nat_lt 0 (length word) && nat_lt (digits_value 10 word) (2 ^ bits))
+    if list_all is_ascii_digit word
+    && (nat_lt 0 (length word) && nat_lt (digits_value 10 word) (2 ^ bits))
     then Some (digits_value 10 word) else None
 
 -- each word a 64-bit number
@@ -227,8 +228,10 @@ unfoldable pub spelled_by : List Text → Option Item
 spelled_by [] = None
 spelled_by (name ∷ words) =
     if bytes_eq name (codes "array") then (array_of words >>= λ line. Some (items.Array line))
-    else (if bytes_eq name (codes "pes") then (pes_of words >>= λ processors. Some (items.Processors processors))
-    else (if bytes_eq name (codes "handler") then (handler_of words >>= λ line. Some (items.Handler line))
+    else (if bytes_eq name (codes "pes")
+    then (pes_of words >>= λ processors. Some (items.Processors processors))
+    else (if bytes_eq name (codes "handler")
+    then (handler_of words >>= λ line. Some (items.Handler line))
     else (line_of name words >>= λ line. Some (items.Line line))))
 
 -- an empty line and a comment are skipped

@@ -10,7 +10,8 @@ max_letters = 32
 
 -- 1 to 32 letters, A to Z and a to z
 abbrev pub is_name : Text → Bool
-is_name word = list_all is_ascii_alphabetic word && (nat_lt 0 (length word) && nat_le (length word) max_letters)
+is_name word = list_all is_ascii_alphabetic word
+    && (nat_lt 0 (length word) && nat_le (length word) max_letters)
 
 -- a name
 unfoldable pub name_of : Text → Option Text

@@ -14,36 +14,44 @@ use Rattle.charmlet_script.specs.declared.printed.Supplied.{Supplied}
 
 -- supplied K N
 abbrev pub supplied_text : Supplied → Text
-supplied_text supplied = codes "supplied " ++ kind_text supplied.kind ++ codes " " ++ decimal supplied.count
+supplied_text supplied = codes "supplied " ++ kind_text supplied.kind ++ codes " "
+    ++ decimal supplied.count
 
 -- drained K left P
 abbrev pub drained_text : Drained → Text
-drained_text drained = codes "drained " ++ decimal drained.delivered ++ codes " left " ++ decimal drained.left
+drained_text drained = codes "drained " ++ decimal drained.delivered ++ codes " left "
+    ++ decimal drained.left
 
 -- how many messages an element sent and received
 abbrev pub counts_text : ℕ → ℕ → Text
 counts_text sent received = codes " sent " ++ decimal sent ++ codes " received " ++ decimal received
 
--- state A.I pe P sent S received R X, of an element on processor P whose packed state has the digits X
+-- state A.I pe P sent S received R X, of an element on processor P whose packed state has the
+-- digits X
 abbrev pub standing_text : Elem → (processor sent received : ℕ) → Text → Text
-standing_text elem processor sent received packed = codes "state " ++ elem_text elem ++ codes " pe " ++ decimal processor ++ counts_text sent received ++ codes " " ++ packed
+standing_text elem processor sent received packed = codes "state " ++ elem_text elem ++ codes " pe "
+    ++ decimal processor ++ counts_text sent received ++ codes " " ++ packed
 
 -- state A.I none sent S received R, of an element that isn't there
 abbrev pub absent_text : Elem → (sent received : ℕ) → Text
-absent_text elem sent received = codes "state " ++ elem_text elem ++ codes " none" ++ counts_text sent received
+absent_text elem sent received = codes "state " ++ elem_text elem ++ codes " none"
+    ++ counts_text sent received
 
 -- what a state line prints, by whether the element is there
 abbrev pub shown_text : Shown → Text
 shown_text shown =
-    option_map_or (λ standing. standing_text shown.elem standing.processor shown.sent shown.received (string_bytes standing.packed))
+    option_map_or (λ standing. standing_text shown.elem standing.processor shown.sent shown.received
+    (string_bytes standing.packed))
     shown.standing (absent_text shown.elem shown.sent shown.received)
 
 -- pending P, and each id after a space
 abbrev pub pending_text : List MsgId → Text
-pending_text ids = codes "pending " ++ decimal (length ids) ++ flat_map (λ id. codes " " ++ id_text id) ids
+pending_text ids = codes "pending " ++ decimal (length ids)
+    ++ flat_map (λ id. codes " " ++ id_text id) ids
 
 -- census K supplied S shelves H stock T retired R
 abbrev pub counted_text : Counted → Text
 counted_text counted =
-    codes "census " ++ kind_text counted.kind ++ codes " supplied " ++ decimal counted.supplied ++ codes " shelves " ++ decimal counted.on_shelves
+    codes "census " ++ kind_text counted.kind ++ codes " supplied " ++ decimal counted.supplied
+    ++ codes " shelves " ++ decimal counted.on_shelves
     ++ codes " stock " ++ decimal counted.in_stock ++ codes " retired " ++ decimal counted.retired

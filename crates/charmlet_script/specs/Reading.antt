@@ -1,4 +1,5 @@
--- A whole script, of a run or of a restart, line by line, up to its first malformed line; and what its reader answers.
+-- A whole script, of a run or of a restart, line by line, up to its first malformed line; and what
+-- its reader answers.
 use Rattle.std.specs.Prelude.{◌≡◌, ◌≢◌, ℕ, Bool, false, true, ◌+◌, ◌==◌, ◌&&◌, not, List, [], ◌∷◌, ◌++◌, length, take, is_none, Option, Some, None, Result, Ok, Err, if◌then◌else◌, nat_lt, nat_le}
 use Rattle.std.specs.List.{list_any}
 use Rattle.std.specs.Option.{option_map_or}
@@ -54,33 +55,41 @@ lines_of = parts_of 10
 abbrev pub has_array : ℕ → List ArrayLine → Bool
 has_array array = list_any (λ other. other.array == array)
 
--- the header of a run's script describes its store; that of a restart's doesn't, since its store is there already
+-- the header of a run's script describes its store; that of a restart's doesn't, since its store is
+-- there already
 abbrev pub describes_store : Purpose → Bool
 describes_store purposes.Run = true
 describes_store purposes.Restart = false
 
--- an array line stands in the header of a run's script, before the other lines, once for an array, and at most 64 times
+-- an array line stands in the header of a run's script, before the other lines, once for an array,
+-- and at most 64 times
 abbrev pub may_add : Purpose → Contents → ArrayLine → Bool
 may_add purpose script line =
-    describes_store purpose && (is_empty script.lines && (nat_lt (length script.arrays) 64 && not (has_array line.array script.arrays)))
+    describes_store purpose && (is_empty script.lines
+    && (nat_lt (length script.arrays) 64 && not (has_array line.array script.arrays)))
 
 -- the script with one more array, if it may stand there
 unfoldable pub with_array : Purpose → Contents → ArrayLine → Option Contents
 with_array purpose script line =
-    if may_add purpose script line then Some (record script { arrays = script.arrays ++ line ∷ [] }) else None
+    if may_add purpose script line then Some (record script { arrays = script.arrays ++ line ∷ [] })
+    else None
 
--- a line of the number of processors stands in the header of a run's script, before the other lines, once
+-- a line of the number of processors stands in the header of a run's script, before the other
+-- lines, once
 abbrev pub may_declare : Purpose → Contents → Bool
-may_declare purpose script = describes_store purpose && (is_empty script.lines && is_none script.declared_processors)
+may_declare purpose script = describes_store purpose
+    && (is_empty script.lines && is_none script.declared_processors)
 
 -- the script with its number of processors, if that may stand there
 unfoldable pub with_processors : Purpose → Contents → ℕ → Option Contents
 with_processors purpose script processors =
-    if may_declare purpose script then Some (record script { declared_processors = Some processors }) else None
+    if may_declare purpose script then Some
+    (record script { declared_processors = Some processors }) else None
 
 -- the script with one more handler: its line stands in a header, before the other lines
 unfoldable pub with_handler : Contents → HandlerLine → Option Contents
-with_handler script line = if is_empty script.lines then Some (record script { handlers = script.handlers ++ line ∷ [] }) else None
+with_handler script line = if is_empty script.lines
+    then Some (record script { handlers = script.handlers ++ line ∷ [] }) else None
 
 -- the script with what a line spells, if it may stand there
 unfoldable pub with_item : Purpose → Contents → Item → Option Contents
@@ -88,7 +97,8 @@ with_item purpose script items.Skipped = Some script
 with_item purpose script (items.Processors processors) = with_processors purpose script processors
 with_item purpose script (items.Array line) = with_array purpose script line
 with_item purpose script (items.Handler line) = with_handler script line
-with_item purpose script (items.Line line) = Some (record script { lines = script.lines ++ line ∷ [] })
+with_item purpose script (items.Line line) =
+    Some (record script { lines = script.lines ++ line ∷ [] })
 
 -- the script with the next line, unless that line is malformed
 unfoldable pub with_line : Purpose → Contents → Text → Option Contents
@@ -98,7 +108,8 @@ with_line purpose script line = item_of line >>= with_item purpose script
 unfoldable pub with_lines : Purpose → Contents → ℕ → List Text → Result Contents ℕ
 with_lines purpose script number [] = Ok script
 with_lines purpose script number (line ∷ lines) =
-    option_map_or (λ next. with_lines purpose next (number + 1) lines) (with_line purpose script line) (Err number)
+    option_map_or (λ next. with_lines purpose next (number + 1) lines)
+    (with_line purpose script line) (Err number)
 
 -- an item is an array
 abbrev pub is_array : Item → Bool
@@ -109,9 +120,11 @@ is_array _ = false
 abbrev pub is_array_line : Text → Bool
 is_array_line line = option_map_or is_array (item_of line) false
 
--- what the lines of a run's script spell: it, or the number of the first malformed line, which is 1 where none is an array line
+-- what the lines of a run's script spell: it, or the number of the first malformed line, which is 1
+-- where none is an array line
 unfoldable pub lines_spell : List Text → Result Contents ℕ
-lines_spell lines = if list_any is_array_line lines then with_lines purposes.Run no_lines 1 lines else Err 1
+lines_spell lines = if list_any is_array_line lines
+    then with_lines purposes.Run no_lines 1 lines else Err 1
 
 -- the script of a run that the bytes spell, or the number of the first malformed line
 abbrev pub script_of : Text → Result Contents ℕ
@@ -139,9 +152,11 @@ Answers (Err (errors.Malformed number)) spelled = spelled ≡ Err number
 Answers (Err errors.Memory) spelled = Unit {0}
 Answers (Err (errors.Failed error)) spelled = Unit {0}
 
--- a failed read is no lack of memory, which is told as that, and no interruption, after which it goes on
+-- a failed read is no lack of memory, which is told as that, and no interruption, after which it
+-- goes on
 abbrev pub TellsFailure : ReadError → Type 0
-TellsFailure (errors.Failed error) = (error_kind error ≢ OutOfMemory) × (error_kind error ≢ Interrupted)
+TellsFailure (errors.Failed error) = (error_kind error ≢ OutOfMemory)
+    × (error_kind error ≢ Interrupted)
 TellsFailure _ = Unit {0}
 
 -- what a failed read is answered by

@@ -8,7 +8,8 @@ use Rattle.charmlet_script.specs.declared.script.HandlerLine.{HandlerLine}
 use Rattle.charmlet_script.specs.declared.script.Line.{Line}
 use Rattle.charmlet_script.specs.declared.script.Line.TheVariants as lines
 
--- the header of a script, which is how many processors it declares, if it does, its arrays and its handlers; and the lines after it
+-- the header of a script, which is how many processors it declares, if it does, its arrays and its
+-- handlers; and the lines after it
 pub record Contents : Type 0 where
   pub declared_processors : Option ℕ
   pub arrays : List ArrayLine
@@ -40,14 +41,16 @@ most_lines = 2 ^ 32 - 1
 abbrev pub pairs_of : List ArrayLine → List (ℕ × ℕ)
 pairs_of = map (λ line. (line.array, kind_number line.kind))
 
--- what holds of every script: its arrays make a manifest, and its lines are few enough to add up their counts
+-- what holds of every script: its arrays make a manifest, and its lines are few enough to add up
+-- their counts
 pub record IsScript (arrays : List ArrayLine) (lines : List Line) : Type 0 where
   pub declared : is_some (manifest_of (pairs_of arrays)) ≡ true
   pub few : length lines ≤ most_lines
 
 -- how many blanks of a kind a line supplies
 abbrev pub blanks_in : Kind → Line → ℕ
-blanks_in kind (lines.Supply other count) = if kind_number other == kind_number kind then count else 0
+blanks_in kind (lines.Supply other count) = if kind_number other == kind_number kind
+    then count else 0
 blanks_in kind _ = 0
 
 -- how many of a kind all lines supply

@@ -21,7 +21,8 @@ is_newcomer_of kind (Done done) = comes_as kind done.due
 
 -- how many objects of the kind are on the shelf, a newcomer among them
 abbrev pub objects_on : View → Kind → ℕ
-objects_on shelf kind = there_in shelf.records kind + (if is_newcomer_of kind shelf.phase then 1 else 0)
+objects_on shelf kind = there_in shelf.records kind
+    + (if is_newcomer_of kind shelf.phase then 1 else 0)
 
 -- how many objects of the kind came out; `state` says what an object's state is
 abbrev pub came_out : {C : Type 0} → (C → State) → Option C → Kind → ℕ

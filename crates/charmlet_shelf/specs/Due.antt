@@ -15,7 +15,8 @@ pub record Due : Type 0 where
 
 -- what the message makes of its receiver
 abbrev pub reaction_in : Due → Option Reaction
-reaction_in due = react due.kind due.message.to due.receiver.state due.message.entry due.message.words
+reaction_in due = react due.kind due.message.to due.receiver.state due.message.entry
+    due.message.words
 
 -- the receiver's record after the message
 abbrev pub record_after : Due → Record
@@ -23,7 +24,12 @@ record_after due = advanced_if due.receiver (reaction_in due)
 
 -- the delivery of a message that constructs an element of this kind with these counts
 abbrev pub newcomer_due : Message → Kind → (sent received : ℕ) → Due
-newcomer_due message kind sent received = record { message = message; kind = kind; receiver = record { state = None; sent = sent; received = received } }
+newcomer_due message kind sent received =
+    record {
+      message = message;
+      kind = kind;
+      receiver = record { state = None; sent = sent; received = received };
+    }
 
 -- the receiver reacts, and its counts have room for that
 pub record IsDue (due : Due) : Type 0 where

@@ -24,6 +24,7 @@ IsImageIf (Some r) x (Some image) = IsImage image x r
 -- the images are those of these elements, in their order
 abbrev pub AreImages : List (Elem × Record) → List Elem → List Image → Type 0
 AreImages records [] [] = Unit {0}
-AreImages records (x ∷ xs) (image ∷ images) = IfSome (lookup (is_at (elem_cmp x)) records) (IsImage image x) × AreImages records xs images
+AreImages records (x ∷ xs) (image ∷ images) = IfSome (lookup (is_at (elem_cmp x)) records)
+    (IsImage image x) × AreImages records xs images
 AreImages records [] (image ∷ images) = ⊥
 AreImages records (x ∷ xs) [] = ⊥

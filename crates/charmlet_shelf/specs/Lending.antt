@@ -15,7 +15,8 @@ use Rattle.charmlet_shelf.specs.Due.{Due, reaction_in, record_after}
 use Rattle.charmlet_shelf.specs.Shelf.{with_record}
 
 -- the resident makes this reaction, of whose state only what is left is seen, and is counted
-pub record IsAdvanced {C : Type 0} (look : C → State) (old : Resident C) (r : Reaction) (output : Output) (new : Resident C) : Type 0 where
+pub record IsAdvanced {C : Type 0} (look : C → State) (old : Resident C) (r : Reaction)
+    (output : Output) (new : Resident C) : Type 0 where
   pub output_is : output ≡ output_of r
   pub state : IfSome r.state (λ s. look new.object ≡ s)
   pub kind : kind_of (look new.object) ≡ kind_of (look old.object)
@@ -23,12 +24,16 @@ pub record IsAdvanced {C : Type 0} (look : C → State) (old : Resident C) (r : 
   pub received : new.received ≡ old.received + 1
 
 -- the resident reacts to a message of this entry and these words, and is counted
-abbrev pub Advances : {C : Type 0} → (C → State) → Resident C → Elem → ℕ → List ℕ → Output → Resident C → Type 0
+abbrev pub Advances : {C : Type 0} → (C → State) → Resident C → Elem → ℕ → List ℕ → Output →
+    Resident C → Type 0
 Advances look old to entry words output new =
-    (r : Reaction) × (react (kind_of (look old.object)) to (Some (look old.object)) entry words ≡ Some r) × IsAdvanced look old r output new
+    (r : Reaction) × (react (kind_of (look old.object)) to (Some (look old.object)) entry words
+    ≡ Some r) × IsAdvanced look old r output new
 
--- the delivery was made: its receiver's record is the one after it, and an object that it destroyed came out
-pub record IsCarriedOut {C : Type 0} (look : C → State) (old : List (Elem × Record)) (due : Due) (output : Output) (destroyed : Option C) (new : List (Elem × Record)) : Type 0 where
+-- the delivery was made: its receiver's record is the one after it, and an object that it destroyed
+-- came out
+pub record IsCarriedOut {C : Type 0} (look : C → State) (old : List (Elem × Record)) (due : Due)
+    (output : Output) (destroyed : Option C) (new : List (Elem × Record)) : Type 0 where
   pub reacts : (r : Reaction) × (reaction_in due ≡ Some r) × (output ≡ output_of r)
   pub records : new ≡ with_record old due.message.to (record_after due)
   pub gone : is_some destroyed ≡ is_none (record_after due).state

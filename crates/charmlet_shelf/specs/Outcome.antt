@@ -10,7 +10,8 @@ pub record Performed : Type 0 where
   pub due : Due
   pub output : Option Output
 
--- of this reaction: so many sends, at most 16, whether the object is destroyed, and the output until that is taken
+-- of this reaction: so many sends, at most 16, whether the object is destroyed, and the output
+-- until that is taken
 pub record IsOf (count : ℕ) (gone : Bool) (left : Option Output) (r : Reaction) : Type 0 where
   pub sends : count ≡ length r.sends
   pub destroyed : gone ≡ is_none r.state
@@ -19,4 +20,5 @@ pub record IsOf (count : ℕ) (gone : Bool) (left : Option Output) (r : Reaction
 
 -- it is what the kind table says of the message and of the receiver before it
 abbrev pub IsPerformed : Due → ℕ → Bool → Option Output → Type 0
-IsPerformed due sends destroyed output = (r : Reaction) × (reaction_in due ≡ Some r) × IsOf sends destroyed output r
+IsPerformed due sends destroyed output = (r : Reaction) × (reaction_in due ≡ Some r)
+    × IsOf sends destroyed output r

@@ -17,4 +17,5 @@ state_if there s = if there then Some s else None
 
 -- there is a reaction, and the object made it
 abbrev pub Becomes : Option Reaction → Output → State → Type 0
-Becomes reaction output state = (r : Reaction) × (reaction ≡ Some r) × (output ≡ output_of r) × IfSome r.state (λ s. state ≡ s)
+Becomes reaction output state = (r : Reaction) × (reaction ≡ Some r) × (output ≡ output_of r)
+    × IfSome r.state (λ s. state ≡ s)

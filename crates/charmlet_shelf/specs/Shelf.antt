@@ -20,7 +20,8 @@ use Rattle.charmlet_shelf.specs.Due.{Due, reaction_in, record_after}
 use Rattle.charmlet_shelf.specs.declared.phase.Phase.{Phase}
 use Rattle.charmlet_shelf.specs.declared.phase.Phase.TheVariants.{Idle, Assigned, Done}
 
--- its processor's number, the records of its elements, before the assigned delivery, and what it is about
+-- its processor's number, the records of its elements, before the assigned delivery, and what it is
+-- about
 pub record View : Type 0 where
   pub number : ℕ
   pub records : List (Elem × Record)
@@ -28,7 +29,8 @@ pub record View : Type 0 where
 
 -- the records with this one for an element, which has none where it isn't there
 abbrev pub with_record : List (Elem × Record) → Elem → Record → List (Elem × Record)
-with_record records x r = if is_some r.state then insert_entry elem_cmp records x r else remove_entry (is_at (elem_cmp x)) records
+with_record records x r = if is_some r.state then insert_entry elem_cmp records x r
+    else remove_entry (is_at (elem_cmp x)) records
 
 -- the records before a delivery
 abbrev pub before_due : List (Elem × Record) → Due → List (Elem × Record)
@@ -36,7 +38,8 @@ before_due records due = with_record records due.message.to due.receiver
 
 -- the records without an element that a message is to construct
 abbrev pub without_newcomer : List (Elem × Record) → Due → List (Elem × Record)
-without_newcomer records due = if is_some due.receiver.state then records else remove_entry (is_at (elem_cmp due.message.to)) records
+without_newcomer records due = if is_some due.receiver.state then records
+    else remove_entry (is_at (elem_cmp due.message.to)) records
 
 -- the records before the delivery that is under way
 abbrev pub records_before : List (Elem × Record) → Phase → List (Elem × Record)
@@ -44,8 +47,10 @@ records_before records Idle = records
 records_before records (Assigned due) = without_newcomer records due
 records_before records (Done performed) = before_due records performed.due
 
--- what is known of the receiver's object: its kind, which what was there had too, its counts before the message, and this state, if it is one
-pub record IsReceiver {C : Type 0} (look : C → State) (due : Due) (becomes : Option State) (resident : Resident C) : Type 0 where
+-- what is known of the receiver's object: its kind, which what was there had too, its counts before
+-- the message, and this state, if it is one
+pub record IsReceiver {C : Type 0} (look : C → State) (due : Due) (becomes : Option State)
+    (resident : Resident C) : Type 0 where
   pub kind : kind_of (look resident.object) ≡ due.kind
   pub before : IfSome due.receiver.state (λ s. kind_of s ≡ due.kind)
   pub state : IfSome becomes (λ s. look resident.object ≡ s)
@@ -53,14 +58,19 @@ pub record IsReceiver {C : Type 0} (look : C → State) (due : Due) (becomes : O
   pub received : resident.received ≡ due.receiver.received
 
 -- the receiver's object is on the shelf, and has this state, if it is one
-abbrev pub Holds : {C : Type 0} → (C → State) → List (Elem × Resident C) → Due → Option State → Type 0
-Holds {C} state entries due held = (resident : Resident C) × (lookup (is_at (elem_cmp due.message.to)) entries ≡ Some resident) × IsReceiver state due held resident
+abbrev pub Holds : {C : Type 0} → (C → State) → List (Elem × Resident C) → Due →
+    Option State → Type 0
+Holds {C} state entries due held = (resident : Resident C)
+    × (lookup (is_at (elem_cmp due.message.to)) entries ≡ Some resident)
+    × IsReceiver state due held resident
 
--- The objects show the records; once the delivery is done, its receiver's object is ahead by exactly that delivery.
+-- The objects show the records; once the delivery is done, its receiver's object is ahead by
+-- exactly that delivery.
 abbrev pub ShowsPhase : {C : Type 0} → (C → State) → List (Elem × Resident C) → Phase → Type 0
 ShowsPhase state entries Idle = Unit {0}
 ShowsPhase state entries (Assigned due) = Holds state entries due due.receiver.state
-ShowsPhase state entries (Done performed) = Holds state entries performed.due (record_after performed.due).state
+ShowsPhase state entries (Done performed) =
+    Holds state entries performed.due (record_after performed.due).state
 
 -- ---- what calls make of a shelf
 
@@ -77,12 +87,14 @@ is_assigned _ = false
 -- the delivery of a message to an element that is here
 abbrev pub IsDueAt : List (Elem × Record) → Message → Due → Type 0
 IsDueAt records message due =
-    (s : State) × (lookup (is_at (elem_cmp message.to)) records ≡ Some due.receiver) × (due.receiver.state ≡ Some s)
+    (s : State) × (lookup (is_at (elem_cmp message.to)) records ≡ Some due.receiver)
+    × (due.receiver.state ≡ Some s)
     × (due ≡ record { message = message; kind = kind_of s; receiver = due.receiver })
 
 -- a message to an element that is here is assigned
 abbrev pub Assigns : View → Message → View → Type 0
-Assigns old message new = (due : Due) × IsDueAt old.records message due × (new ≡ record old { phase = Assigned due })
+Assigns old message new = (due : Due) × IsDueAt old.records message due
+    × (new ≡ record old { phase = Assigned due })
 
 -- the phase once a reaction was made
 abbrev pub done_by : Due → Option Reaction → Phase
@@ -132,7 +144,10 @@ records_after records _ = records
 
 -- the delivery that was done is settled
 abbrev pub settled : View → View
-settled shelf = record shelf { records = records_after shelf.records shelf.phase; phase = settled_phase shelf.phase }
+settled shelf = record shelf {
+  records = records_after shelf.records shelf.phase;
+  phase = settled_phase shelf.phase;
+}
 
 -- the message isn't assigned any more
 abbrev pub released : Phase → Phase
@@ -149,7 +164,8 @@ has_newcomer _ = false
 -- where no delivery is under way, only an element that isn't here is refused
 abbrev pub refusal_at : View → Elem → Option Refusal
 refusal_at shelf x =
-    if is_idle shelf.phase then (if is_some (lookup (is_at (elem_cmp x)) shelf.records) then None else Some refusals.Absent) else Some refusals.Uncommitted
+    if is_idle shelf.phase then (if is_some (lookup (is_at (elem_cmp x)) shelf.records) then None
+    else Some refusals.Absent) else Some refusals.Uncommitted
 
 -- counts with room for a delivery
 abbrev pub HasCounts : Record → Type 0

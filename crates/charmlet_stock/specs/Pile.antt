@@ -8,7 +8,11 @@ use Rattle.charmlet_stock.specs.Retired.{dropped_of, kept_of}
 
 -- how many objects were supplied, are in the stock and were retired; the others are out
 abbrev pub tally_of : {C : Type 0} {G : Ghosts C} → Pile C G → Tally
-tally_of pile = record { supplied = pile.supplied; in_stock = vec_len pile.objects - kept_of pile.keeps pile.retired; retired = pile.retired }
+tally_of pile = record {
+  supplied = pile.supplied;
+  in_stock = vec_len pile.objects - kept_of pile.keeps pile.retired;
+  retired = pile.retired;
+}
 
 -- no object yet
 abbrev pub nothing : Tally
@@ -40,4 +44,5 @@ with_retired_back t = record t { in_stock = t.in_stock + t.retired; retired = 0 
 
 -- room for so many objects more, and for all that are out
 abbrev pub HasRoomFor : {C : Type 0} {G : Ghosts C} → Pile C G → ℕ → Type 0
-HasRoomFor pile n = (pile.supplied + n ≤ vec_capacity pile.objects + dropped_of pile.keeps pile.retired) × (pile.supplied + n < 2 ^ 64)
+HasRoomFor pile n = (pile.supplied + n ≤ vec_capacity pile.objects
+    + dropped_of pile.keeps pile.retired) × (pile.supplied + n < 2 ^ 64)

@@ -8,4 +8,5 @@ use Rattle.charmlet_model.specs.Reaction.{kind_of}
 
 -- each of the objects is of the kind
 abbrev pub AreOf : {C : Type 0} → (C → State) → Kind → List C → Type 0
-AreOf state kind objects = list_all (λ object. kind_number (kind_of (state object)) == kind_number kind) objects ≡ true
+AreOf state kind objects = list_all
+    (λ object. kind_number (kind_of (state object)) == kind_number kind) objects ≡ true

@@ -12,7 +12,8 @@ use Rattle.charmlet_stock.specs.declared.stock.Stock.{Stock}
 use Rattle.charmlet_stock.specs.ByKind.{at, each_of}
 use Rattle.charmlet_stock.specs.Pile.{HasRoomFor, tally_of}
 
--- what the census says of the stock: for each kind, how many objects were supplied, are in the stock and were retired
+-- what the census says of the stock: for each kind, how many objects were supplied, are in the
+-- stock and were retired
 abbrev pub census_of : {C : Type 0} {G : Ghosts C} → Stock C G → ByKind Tally
 census_of stock = each_of tally_of stock.piles
 
@@ -37,5 +38,7 @@ abbrev pub part_of : Kind → ℕ → Kind → ℕ
 part_of kind count k = if kind_number k == kind_number kind then count else 0
 
 -- room for these objects
-abbrev pub HasRoomForAll : {C : Type 0} {G : Ghosts C} → (C → State) → ByKind (Pile C G) → List C → Type 0
-HasRoomForAll state piles objects = (kind : Kind) → HasRoomFor (at piles kind) (count_of state objects kind)
+abbrev pub HasRoomForAll : {C : Type 0} {G : Ghosts C} → (C → State) → ByKind (Pile C G) →
+    List C → Type 0
+HasRoomForAll state piles objects = (kind : Kind) → HasRoomFor (at piles kind)
+    (count_of state objects kind)

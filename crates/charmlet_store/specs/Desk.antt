@@ -30,23 +30,29 @@ desk_of history shelf stock = record { history = history; shelf = shelf; stock =
 
 -- how many objects of each kind are on the shelf, in the stock, or retired
 abbrev pub held_in : {C : Type 0} {G : Ghosts C} → View → Stock C G → Kind → ℕ
-held_in shelf stock kind = objects_on shelf kind + blanks_in stock kind + (tally_in stock kind).retired
+held_in shelf stock kind = objects_on shelf kind + blanks_in stock kind
+    + (tally_in stock kind).retired
 
 -- they were all supplied; others may be elsewhere
 abbrev pub IsWithin : {C : Type 0} {G : Ghosts C} → View → Stock C G → Type 0
 IsWithin shelf stock = (kind : Kind) → held_in shelf stock kind ≤ supplied_to stock kind
 
--- the part of `Shows` that is of one shelf: the records are those of the elements whose place is the processor
-pub record ShowsOn (processor : ℕ) (records : List (Elem × Record)) (places : List (Elem × ℕ)) (w : World) : Type 0 where
+-- the part of `Shows` that is of one shelf: the records are those of the elements whose place is
+-- the processor
+pub record ShowsOn (processor : ℕ) (records : List (Elem × Record)) (places : List (Elem × ℕ))
+    (w : World) : Type 0 where
   pub rising : IsStrictlySortedBy elem_cmp (keys_of records)
-  pub shown : (x : Elem) → lookup (is_at (elem_cmp x)) records ≡ if_here (lookup (is_at (elem_cmp x)) places) processor (record_of w x)
+  pub shown : (x : Elem) → lookup (is_at (elem_cmp x)) records
+      ≡ if_here (lookup (is_at (elem_cmp x)) places) processor (record_of w x)
 
 -- the shelf of one of the processors shows its part of the history's world
 pub record ShowsPart (history : History) (shelf : View) : Type 0 where
   pub on : shelf.number < (core_in history).processors
-  pub objects : ShowsOn shelf.number shelf.records (core_in history).places (present (core_in history))
+  pub objects : ShowsOn shelf.number shelf.records (core_in history).places
+      (present (core_in history))
 
--- The history is consistent, the shelf shows its part of the world and has no delivery under way, and the objects were supplied.
+-- The history is consistent, the shelf shows its part of the world and has no delivery under way,
+-- and the objects were supplied.
 pub record IsDeskConsistent {C : Type 0} {G : Ghosts C} (desk : Desk C G) : Type 0 where
   pub history : IsConsistent (kept_in desk.history)
   pub shelf : ShowsPart desk.history desk.shelf

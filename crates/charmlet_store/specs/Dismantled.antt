@@ -17,7 +17,8 @@ use Rattle.charmlet_store.specs.declared.dismantling.Dismantled.{Dismantled}
 -- of each kind, what was supplied is among the residents, in the stock, or retired
 abbrev pub IsCountedIn : {C : Type 0} {G : Ghosts C} → (C → State) → Dismantled C G → Type 0
 IsCountedIn state parts =
-    AddsUp (supplied_to parts.stock) (count_of state (objects_of parts.residents.items)) (blanks_in parts.stock) (λ kind. (tally_in parts.stock kind).retired)
+    AddsUp (supplied_to parts.stock) (count_of state (objects_of parts.residents.items))
+    (blanks_in parts.stock) (λ kind. (tally_in parts.stock kind).retired)
 
 -- the elements that have a place, each with its record
 abbrev pub standing : World → List (Elem × ℕ) → List (Elem × Record)
@@ -30,4 +31,5 @@ pub record IsOnShelf (shelves : List View) (x : Elem) (processor : ℕ) : Type 0
 
 -- the shelves without an element of a processor's
 abbrev pub without : List View → Elem → ℕ → List View
-without shelves x processor = with_records shelves processor (remove_entry (is_at (elem_cmp x)) (shelf_at shelves processor).records)
+without shelves x processor = with_records shelves processor
+    (remove_entry (is_at (elem_cmp x)) (shelf_at shelves processor).records)

@@ -8,7 +8,8 @@ use Rattle.charmlet_store.specs.declared.look.Standing.{Standing}
 
 -- it stands on the processor that is its place, and this is its packed state
 abbrev pub IsStanding : Option ℕ → State → Standing → Type 0
-IsStanding place state standing = (place ≡ Some standing.processor) × (standing.packed.items ≡ pupped state)
+IsStanding place state standing = (place ≡ Some standing.processor)
+    × (standing.packed.items ≡ pupped state)
 
 -- it stands somewhere if it is there, and else nowhere
 abbrev pub StandsWith : Option ℕ → Option State → Option Standing → Type 0

@@ -34,10 +34,11 @@ world_in store = present (core_in store.history)
 
 -- each shelf is that of the processor whose number is its place in the list
 abbrev pub AreNumbered : List View → Type 0
-AreNumbered shelves = (processor : ℕ) (shelf : View) → processor < length shelves → (get_or shelves processor shelf).number ≡ processor
+AreNumbered shelves = (processor : ℕ) (shelf : View) → processor < length shelves →
+    (get_or shelves processor shelf).number ≡ processor
 
--- Its history is consistent; it has a shelf for each processor, with no delivery under way; the shelves show the present world;
--- and the census adds up.
+-- Its history is consistent; it has a shelf for each processor, with no delivery under way; the
+-- shelves show the present world; and the census adds up.
 pub record IsStoreConsistent {C : Type 0} {G : Ghosts C} (store : Store C G) : Type 0 where
   pub history : IsConsistent (kept_in store.history)
   pub count : length store.shelves.items ≡ (core_in store.history).processors
@@ -49,4 +50,5 @@ pub record IsStoreConsistent {C : Type 0} {G : Ghosts C} (store : Store C G) : T
 -- so many of them, one of each processor
 pub record AreEmpty (processors : ℕ) (shelves : List View) : Type 0 where
   pub count : length shelves ≡ processors
-  pub empty : (processor : ℕ) (shelf : View) → processor < processors → get_or shelves processor shelf ≡ empty_shelf processor
+  pub empty : (processor : ℕ) (shelf : View) → processor < processors →
+      get_or shelves processor shelf ≡ empty_shelf processor

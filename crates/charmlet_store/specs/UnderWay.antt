@@ -18,8 +18,8 @@ use Rattle.charmlet_shelf.specs.declared.phase.Phase.TheVariants.{Assigned, Idle
 use Rattle.charmlet_migrate.specs.Moving.{store_with}
 use Rattle.charmlet_store.specs.Desk.{Desk, IsWithin, ShowsPart}
 
--- the core has assigned the delivery's message to the processor; its receiver is of this kind, has this record in the
--- world, and reacts
+-- the core has assigned the delivery's message to the processor; its receiver is of this kind, has
+-- this record in the world, and reacts
 pub record IsUnderWay (core : Core) (processor : ℕ) (due : Due) : Type 0 where
   pub message : assigned_message core processor ≡ Some due.message
   pub kind : kind_of_array (present core) due.message.to.array ≡ Some due.kind
@@ -27,22 +27,25 @@ pub record IsUnderWay (core : Core) (processor : ℕ) (due : Due) : Type 0 where
   pub reacts : is_some (reaction_in due) ≡ true
 
 -- the shelf has this delivery in this phase; its objects show the world before it
-pub record IsDelivering (history : History) (shelf : View) (due : Due) (phase : Phase) : Type 0 where
+pub record IsDelivering (history : History) (shelf : View) (due : Due)
+    (phase : Phase) : Type 0 where
   pub phase_is : shelf.phase ≡ phase
   pub under_way : IsUnderWay (core_in history) shelf.number due
   pub part : ShowsPart history shelf
 
 -- and there is room for it in the history, which is consistent and isn't halted
-pub record IsBusyAt {C : Type 0} {G : Ghosts C} (desk : Desk C G) (due : Due) (phase : Phase) : Type 0 where
+pub record IsBusyAt {C : Type 0} {G : Ghosts C} (desk : Desk C G) (due : Due)
+    (phase : Phase) : Type 0 where
   pub history : IsConsistent (kept_in desk.history)
   pub running : (core_in desk.history).halted ≡ false
   pub room : HasRoom desk.history desk.shelf.number
   pub delivering : IsDelivering desk.history desk.shelf due phase
   pub census : IsWithin desk.shelf desk.stock
 
--- the receiver of the delivery, which was there, has reacted and was counted on the shelf, which before that showed the
--- history's world; the history has room for the delivery
-pub record IsEntered {C : Type 0} {G : Ghosts C} (look : C → State) (desk : Desk C G) (due : Due) (output : Output) (destroyed : Option C) (after : View) : Type 0 where
+-- the receiver of the delivery, which was there, has reacted and was counted on the shelf, which
+-- before that showed the history's world; the history has room for the delivery
+pub record IsEntered {C : Type 0} {G : Ghosts C} (look : C → State) (desk : Desk C G) (due : Due)
+    (output : Output) (destroyed : Option C) (after : View) : Type 0 where
   pub history : IsConsistent (kept_in desk.history)
   pub running : (core_in desk.history).halted ≡ false
   pub room : HasRoom desk.history desk.shelf.number
@@ -57,7 +60,8 @@ pub record IsEntered {C : Type 0} {G : Ghosts C} (look : C → State) (desk : De
 -- the message is assigned to the processor, in the history and on its shelf
 abbrev pub IsAssignedBy : {C : Type 0} {G : Ghosts C} → StoreView → ℕ → MsgId → Desk C G → Type 0
 IsAssignedBy store processor id desk =
-    Goes store (Assign processor id) Done (store_with desk.history desk.stock) × ((due : Due) × IsBusyAt desk due (Assigned due))
+    Goes store (Assign processor id) Done (store_with desk.history desk.stock)
+    × ((due : Due) × IsBusyAt desk due (Assigned due))
 
 -- how a delivery ends
 abbrev pub Ends : {T : Type 0} → StoreView → ℕ → MsgId → Result T Refusal → StoreView → Type 0

@@ -27,11 +27,14 @@ shown [] items = []
 shown (b ∷ bs) [] = []
 shown (b ∷ bs) (item ∷ items) = (if b then item else None) ∷ shown bs items
 
--- the durable row: its last number, the items that the present window has no more, and those that it still has
+-- the durable row: its last number, the items that the present window has no more, and those that
+-- it still has
 abbrev pub durable_row : ClientRow → ℕ → List (Option (List ℕ)) → List Bool → ClientRow
-durable_row present last dropped durable = record { last = last; window = dropped ++ shown durable present.window }
+durable_row present last dropped durable =
+    record { last = last; window = dropped ++ shown durable present.window }
 
--- both windows have at most eight items, and the last ones of the durable window are the first ones of the present one
+-- both windows have at most eight items, and the last ones of the durable window are the first ones
+-- of the present one
 pub record IsWithin (window dropped : List (Option (List ℕ))) (durable : List Bool) : Type 0 where
   pub few : length window ≤ 8
   pub few_durable : length dropped + length durable ≤ 8

@@ -13,10 +13,14 @@ use Rattle.charmlet_world.specs.Seen.{Held, Seen, IsSlot, Shows, seen}
 
 -- the id of a request that can be accepted is no pending message's
 abbrev pub RequestsAreNew : Type 0
-RequestsAreNew = (k : Seen) (w : World) (client number : ℕ) (to : Elem) (entry : ℕ) (words : List ℕ) → Shows k w → IsFit w → IsRequest client number to entry words →
-    can w (Accept client number to entry words) ≡ true → message_among (record { origin = Client client; number = number }) k.pending ≡ None
+RequestsAreNew = (k : Seen) (w : World) (client number : ℕ) (to : Elem) (entry : ℕ)
+    (words : List ℕ) → Shows k w → IsFit w → IsRequest client number to entry words →
+    can w (Accept client number to entry words) ≡ true →
+    message_among (record { origin = Client client; number = number }) k.pending ≡ None
 
 -- what the receiver of a message that can be delivered makes of it can be committed
 abbrev pub DeliveriesSuit : Type 0
-DeliveriesSuit = (h : Held) (w : World) (id : MsgId) (m : Message) (slot : ℕ) (output : Output) → Shows (seen h) w → IsFit w → can w (Deliver id) ≡ true →
-    message_among id h.pending ≡ Some m → IsSlot h.rows slot m.to → IsOutcome w id output → Suits h slot output m
+DeliveriesSuit = (h : Held) (w : World) (id : MsgId) (m : Message) (slot : ℕ) (output : Output) →
+    Shows (seen h) w → IsFit w → can w (Deliver id) ≡ true →
+    message_among id h.pending ≡ Some m → IsSlot h.rows slot m.to → IsOutcome w id output →
+    Suits h slot output m

@@ -39,7 +39,13 @@ pub record Seen : Type 0 where
   pub clients : List (ℕ × Rows)
 
 abbrev pub seen : Held → Seen
-seen h = record { manifest = h.manifest; processors = h.processors; elements = risen h.rows; pending = h.pending; clients = h.clients }
+seen h = record {
+  manifest = h.manifest;
+  processors = h.processors;
+  elements = risen h.rows;
+  pending = h.pending;
+  clients = h.clients;
+}
 
 -- there are 1 to 64 processors, and room for 16 messages of each delivery that was promised it
 pub record HasRoom (processors promised room : ℕ) : Type 0 where
@@ -98,9 +104,11 @@ pub record Shows (k : Seen) (w : World) : Type 0 where
 
 -- ---- deliveries
 
--- an element takes a message with this entry: it is there or is constructed, and its counts have room
+-- an element takes a message with this entry: it is there or is constructed, and its counts have
+-- room
 abbrev pub takes : Element → ℕ → Bool
-takes e entry = (is_some e.place || (entry == CONSTRUCT)) && nat_le (e.received + 1) greatest && nat_le (e.sent + 16) greatest
+takes e entry = (is_some e.place || (entry == CONSTRUCT)) && nat_le (e.received + 1) greatest
+    && nat_le (e.sent + 16) greatest
 
 -- the receiver takes the message
 abbrev pub is_deliverable : Seen → Message → Bool
@@ -114,4 +122,5 @@ oldest k (m ∷ ms) = if is_deliverable k m then Some m.id else oldest k ms
 -- the oldest one with the processor on which its receiver stands, or its home
 abbrev pub next_due : Seen → List Message → Option (ℕ × MsgId)
 next_due k [] = None
-next_due k (m ∷ ms) = if is_deliverable k m then Some (place_or_home_in k m.to, m.id) else next_due k ms
+next_due k (m ∷ ms) = if is_deliverable k m then Some (place_or_home_in k m.to, m.id)
+    else next_due k ms

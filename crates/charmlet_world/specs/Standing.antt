@@ -19,7 +19,8 @@ element_in entries x = unwrap_or (lookup (same_elem x) entries) no_element
 
 -- an entry for the element, if it had none
 abbrev pub with_row : List (Elem × Element) → Elem → List (Elem × Element)
-with_row entries x = if is_some (lookup (same_elem x) entries) then entries else entries ++ (x, no_element) ∷ []
+with_row entries x = if is_some (lookup (same_elem x) entries) then entries else entries
+    ++ (x, no_element) ∷ []
 
 -- the same entries, their keys rising: the list that a tree of them would be
 abbrev pub risen : List (Elem × Element) → List (Elem × Element)

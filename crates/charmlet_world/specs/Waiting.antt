@@ -11,7 +11,12 @@ pub record Waiting : Type 0 where
   pub room : ℕ
 
 abbrev pub message_of : MsgId → Letter → Message
-message_of id letter = record { id = id; to = letter.to; entry = letter.entry; words = letter.words }
+message_of id letter = record {
+  id = id;
+  to = letter.to;
+  entry = letter.entry;
+  words = letter.words;
+}
 
 -- the letters that are there, each as a message; the others were taken and have left a hole
 abbrev pub with_letter : MsgId → Option Letter → List Message → List Message

@@ -4,11 +4,11 @@ ghost use Rattle.charmlet_journal_tests.specs.Standing.{IsStanding};
 
 use super::stores::{Step, created_on, events_found, take};
 use charmlet_disk::{CrashChoice, Disk, FuseDisk, MemDisk};
+use charmlet_halves::Refused;
 use charmlet_journal::Created;
 use charmlet_model::Refusal;
 use std::alloc::AllocGlobal;
 use std::process::Abort;
-use std::test::Fail;
 
 // Events, two flushes of some, one of none, and events that no flush follows.
 const STEPS: [Step; 11] = [
@@ -28,12 +28,17 @@ const STEPS: [Step; 11] = [
 // How many calls of the disk all steps make: six of the creation, and four of each flush of events.
 const CALLS: u64 = 14;
 
-// What was promised before a crash, and what is left after it.
-struct Left {
-    is_created: bool,
-    durable: u64,
-    events: u64,
-    disk: MemDisk,
+// A step is taken, or meets a failure of the device. Each one after that is refused.
+fn is_as_wanted(rt: &impl Abort, answer: Result<(), Refusal>, is_halted: bool) {
+    let failure = if is_halted {
+        Refusal::Halted
+    } else {
+        Refusal::Device
+    };
+    match answer {
+        Ok(()) => assert!(rt; !is_halted),
+        Err(refusal) => assert_eq!(rt; refusal, failure),
+    }
 }
 
 // Takes the steps. One of them may meet a failure of the device, and each later one is then refused.
@@ -43,56 +48,60 @@ fn take_all<D: Disk>(rt: &(impl AllocGlobal + Abort), store: &mut Created<D>)
 {
     for step in &STEPS {
         let is_halted = store.history.is_halted();
-        match take(store, rt.alloc(), *step) {
-            Ok(()) => assert!(rt; !is_halted),
-            Err(refusal) if is_halted => assert_eq!(rt; refusal, Refusal::Halted),
-            Err(refusal) => assert_eq!(rt; refusal, Refusal::Device),
-        }
+        let answer = take(store, rt.alloc(), *step);
+        is_as_wanted(rt, answer, is_halted);
     }
 }
 
+// What a crash leaves of the disk below.
+fn crash(disk: FuseDisk<MemDisk>, choice: CrashChoice) -> MemDisk {
+    disk.inner().crash(choice)
+}
+
+// A creation that failed leaves no store, or a new one.
+fn leaves_no_event(
+    rt: &(impl AllocGlobal + Abort),
+    refused: Refused<FuseDisk<MemDisk>>,
+    choice: CrashChoice,
+) {
+    assert_eq!(rt; refused.refusal, Refusal::Device);
+    let disk = crash(refused.disk, choice);
+    let found = events_found(rt, disk, &STEPS);
+    assert!(rt; matches!(found, None | Some(0)));
+}
+
+// A store takes the steps on a disk that passes so many calls, and a crash leaves it.
+fn leaves_what_was_durable(
+    rt: &(impl AllocGlobal + Abort),
+    mut store: Created<FuseDisk<MemDisk>>,
+    calls: u64,
+    choice: CrashChoice,
+)
+    requires { IsStanding store }
+{
+    take_all(rt, &mut store);
+    let Created { history, halves } = store;
+    assert_eq!(rt; history.is_halted(), calls < CALLS);
+    let (durable, events) = (history.durable_count(), history.event_count());
+    let disk = crash(halves.into_disk(), choice);
+    let found = events_found(rt, disk, &STEPS);
+    assert!(rt; matches!(found, Some(found) if durable <= found && found <= events));
+}
+
 // Takes the steps on a disk that passes so many calls, and crashes it.
-fn left_after(rt: &(impl AllocGlobal + Abort), calls: u64, choice: CrashChoice) -> Left {
+fn crash_after(rt: &(impl AllocGlobal + Abort), calls: u64, choice: CrashChoice) {
     let disk = FuseDisk::new(MemDisk::new(rt.alloc()), calls);
     match created_on(rt, disk) {
-        Ok(mut store) => {
-            take_all(rt, &mut store);
-            let Created { history, halves } = store;
-            assert_eq!(rt; history.is_halted(), calls < CALLS);
-            Left {
-                is_created: true,
-                durable: history.durable_count(),
-                events: history.event_count(),
-                disk: halves.into_disk().inner().crash(choice),
-            }
-        }
-        Err(refused) => {
-            assert_eq!(rt; refused.refusal, Refusal::Device);
-            Left {
-                is_created: false,
-                durable: 0,
-                events: 0,
-                disk: refused.disk.inner().crash(choice),
-            }
-        }
+        Ok(store) => leaves_what_was_durable(rt, store, calls, choice),
+        Err(refused) => leaves_no_event(rt, refused, choice),
     }
 }
 
 #[test]
-fn each_crash_leaves_what_was_durable(rt: HostRuntime) -> Result<(), Fail> {
+fn each_crash_leaves_what_was_durable(rt: HostRuntime) {
     for calls in 0..=CALLS {
         for choice in CrashChoice::ALL {
-            let Left {
-                is_created,
-                durable,
-                events,
-                disk,
-            } = left_after(&rt, calls, choice);
-            match events_found(&rt, disk, &STEPS)? {
-                None => assert!(rt; !is_created),
-                Some(found) => assert!(rt; durable <= found && found <= events),
-            }
+            crash_after(&rt, calls, choice);
         }
     }
-    Ok(())
 }

@@ -5,18 +5,29 @@ ghost use Rattle.charmlet_journal_tests.specs.Standing.{IsStanding};
 use super::stores::{Step, created_on, events_found, take};
 use charmlet_disk::{Call, CrashChoice, MemDisk};
 use charmlet_journal::Created;
-use std::alloc::{AllocGlobal, Global};
+use std::alloc::AllocGlobal;
 use std::process::Abort;
-use std::test::Fail;
 
 // So many requests of one client, each delivered before the next one.
-fn requests(alloc: Global, count: u64) -> Result<Vec<Step>, Fail> {
-    let mut steps = Vec::new(alloc);
+fn requests(rt: &(impl AllocGlobal + Abort), count: u64) -> Vec<Step> {
+    let mut steps = Vec::new(rt.alloc());
     for number in 1..=count {
-        steps.push(Step::Ask(7, number, number))?;
-        steps.push(Step::Deliver(7, number))?;
+        steps
+            .push(Step::Ask(7, number, number))
+            .expect(rt, "memory");
+        steps.push(Step::Deliver(7, number)).expect(rt, "memory");
     }
-    Ok(steps)
+    steps
+}
+
+// A store on a disk in memory.
+fn new_store(rt: &(impl AllocGlobal + Abort)) -> Created<MemDisk>
+    ensures { IsStanding result }
+{
+    match created_on(rt, MemDisk::new(rt.alloc())) {
+        Ok(store) => store,
+        Err(_) => panic!(rt; "no store was created"),
+    }
 }
 
 // Takes steps, none of which is refused.
@@ -29,40 +40,51 @@ fn take_all(rt: &(impl AllocGlobal + Abort), store: &mut Created<MemDisk>, steps
     }
 }
 
-// How many bytes each call wrote, and 0 for a sync.
-fn sizes(alloc: Global, calls: &[Call]) -> Result<Vec<usize>, Fail> {
-    let mut sizes = Vec::new(alloc);
-    for call in calls {
-        let size = match call {
-            Call::Write(_, _, bytes) => bytes.len(),
-            _ => 0,
-        };
-        sizes.push(size)?;
-    }
-    Ok(sizes)
+// So many events are durable.
+fn has_durable(rt: &impl Abort, store: &Created<MemDisk>, count: u64)
+    requires { IsStanding store.now }
+{
+    assert_eq!(rt; store.history.durable_count(), count);
 }
+
+// How many bytes a call wrote, and 0 for a sync.
+fn size(call: &Call) -> usize {
+    match call {
+        Call::Write(_, _, bytes) => bytes.len(),
+        _ => 0,
+    }
+}
+
+// The calls wrote so many bytes each.
+fn have_sizes(rt: &impl Abort, calls: &[Call], wanted: &[usize]) {
+    assert_eq!(rt; calls.len(), wanted.len());
+    for (call, wanted) in calls.iter().zip(wanted) {
+        assert_eq!(rt; size(call), *wanted);
+    }
+}
+
+// What full batches write, and the last one.
+const FULL: usize = 2_048 * 64 + 9;
+
+const LAST: usize = 904 * 64 + 9;
+
+// What the creation writes, and the batches after it.
+const SIZES: [usize; 18] = [
+    1, 0, 49, 0, 1, 0, FULL, 0, 1, 0, FULL, 0, 1, 0, LAST, 0, 1, 0,
+];
 
 // A batch has 4,096 events at most. Each is written in one call and synced, and then its gate is. A request takes 37 bytes, and
 // its delivery 27; length, count and the closed gate after them take 9.
 #[test]
-fn ten_thousand_events_take_twelve_calls(rt: HostRuntime) -> Result<(), Fail> {
-    let alloc = rt.alloc();
-    let steps = requests(alloc, 5_000)?;
-    let Ok(mut store) = created_on(&rt, MemDisk::new(alloc)) else {
-        panic!(rt; "no store was created")
-    };
+fn ten_thousand_events_take_twelve_calls(rt: HostRuntime) {
+    let steps = requests(&rt, 5_000);
+    let mut store = new_store(&rt);
     take_all(&rt, &mut store, steps.as_slice());
-    assert_eq!(rt; store.history.durable_count(), 0);
+    has_durable(&rt, &store, 0);
     take_all(&rt, &mut store, &[Step::Flush, Step::Flush]);
-    assert_eq!(rt; store.history.durable_count(), 10_000);
+    has_durable(&rt, &store, 10_000);
     let disk = store.halves.into_disk();
-    let sizes = sizes(alloc, disk.calls())?;
-    let (full, last) = (2_048 * 64 + 9, 904 * 64 + 9);
-    let wanted = [
-        1, 0, 49, 0, 1, 0, full, 0, 1, 0, full, 0, 1, 0, last, 0, 1, 0,
-    ];
-    assert_eq!(rt; sizes.as_slice(), wanted.as_slice());
-    let found = events_found(&rt, disk.crash(CrashChoice::Old), steps.as_slice())?;
+    have_sizes(&rt, disk.calls(), &SIZES);
+    let found = events_found(&rt, disk.crash(CrashChoice::Old), steps.as_slice());
     assert_eq!(rt; found, Some(10_000));
-    Ok(())
 }

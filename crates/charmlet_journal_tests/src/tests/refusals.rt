@@ -24,20 +24,27 @@ fn refusal(
     }
 }
 
+// Such a creation is refused so, or isn't.
+fn has_refusal(
+    rt: &(impl AllocGlobal + Abort),
+    zero: &[u8],
+    one: &[u8],
+    processors: u16,
+    wanted: Option<Refusal>,
+) {
+    assert_eq!(rt; refusal(rt, zero, one, processors), wanted);
+}
+
 // The number of processors is looked at first.
 #[test]
 fn creations_are_refused_in_order(rt: HostRuntime) {
-    for (zero, one, processors, wanted) in [
-        (b"".as_slice(), b"".as_slice(), 0, Some(Refusal::BadPes)),
-        (b"", b"", 1, None),
-        (b"", b"", 64, None),
-        (b"", b"", 65, Some(Refusal::BadPes)),
-        (b"\x02?", b"\x01", 2, None),
-        (b"\x01?", b"", 0, Some(Refusal::BadPes)),
-        (b"\x01?", b"", 1, Some(Refusal::AlreadyHere)),
-        (b"", b"\x01?", 65, Some(Refusal::BadPes)),
-        (b"", b"\x01?", 64, Some(Refusal::AlreadyHere)),
-    ] {
-        assert_eq!(rt; refusal(&rt, zero, one, processors), wanted);
-    }
+    has_refusal(&rt, b"", b"", 0, Some(Refusal::BadPes));
+    has_refusal(&rt, b"", b"", 1, None);
+    has_refusal(&rt, b"", b"", 64, None);
+    has_refusal(&rt, b"", b"", 65, Some(Refusal::BadPes));
+    has_refusal(&rt, b"\x02?", b"\x01", 2, None);
+    has_refusal(&rt, b"\x01?", b"", 0, Some(Refusal::BadPes));
+    has_refusal(&rt, b"\x01?", b"", 1, Some(Refusal::AlreadyHere));
+    has_refusal(&rt, b"", b"\x01?", 65, Some(Refusal::BadPes));
+    has_refusal(&rt, b"", b"\x01?", 64, Some(Refusal::AlreadyHere));
 }

@@ -22,7 +22,6 @@ use charmlet_plain::PlainWorld;
 use charmlet_plain_recovery::{Recovered, recover};
 use std::alloc::{AllocGlobal, Global};
 use std::process::Abort;
-use std::test::Fail;
 
 // What a store is asked to do.
 #[derive(Clone, Copy)]
@@ -128,46 +127,56 @@ pub fn take<D: Disk>(store: &mut Created<D>, alloc: Global, step: Step) -> Resul
 }
 
 // The event of a step, if it is one.
-fn event_of(alloc: Global, step: Step) -> Result<Option<Event>, Fail> {
-    let event = match step {
-        Step::Ask(client, number, index) => Event::Accept {
-            client,
-            number,
-            to: counter_at(index),
-            entry: CONSTRUCT,
-            words: Words::from_slice(alloc, &[index])?,
-        },
-        Step::Deliver(client, number) => Event::Deliver(request_of(client, number)),
-        Step::Flush => return Ok(None),
-    };
-    Ok(Some(event))
+fn event_of(rt: &(impl AllocGlobal + Abort), step: Step) -> Option<Event> {
+    match step {
+        Step::Ask(client, number, index) => {
+            let words = Words::from_slice(rt.alloc(), &[index]).expect(rt, "memory");
+            Some(Event::Accept {
+                client,
+                number,
+                to: counter_at(index),
+                entry: CONSTRUCT,
+                words,
+            })
+        }
+        Step::Deliver(client, number) => Some(Event::Deliver(request_of(client, number))),
+        Step::Flush => None,
+    }
 }
 
-// The world after the first so many events of the steps, as a text.
-fn world_after(
-    rt: &(impl AllocGlobal + Abort),
-    steps: &[Step],
-    count: u64,
-) -> Result<String, Fail> {
-    let alloc = rt.alloc();
-    let mut world = PlainWorld::new(alloc, counters(rt));
+// Makes the event of a step happen to the world, and says whether it is one.
+fn happens(rt: &(impl AllocGlobal + Abort), world: &mut PlainWorld, step: Step) -> bool {
+    let Some(event) = event_of(rt, step) else {
+        return false;
+    };
+    let has_happened = world.after(&event).expect(rt, "memory");
+    assert!(rt; has_happened);
+    true
+}
+
+// The world after the first so many events of the steps.
+fn world_after(rt: &(impl AllocGlobal + Abort), steps: &[Step], count: u64) -> PlainWorld {
+    let mut world = PlainWorld::new(rt.alloc(), counters(rt));
     let mut left = count;
     for step in steps {
-        if let Some(event) = event_of(alloc, *step)? {
-            if left == 0 {
-                break;
-            }
-            assert!(rt; world.after(&event)?);
+        if left > 0 && happens(rt, &mut world, *step) {
             left -= 1;
         }
     }
     assert_eq!(rt; left, 0);
-    Ok(format!(in alloc; "{world:?}")?)
+    world
+}
+
+// Both worlds are the same, as texts.
+fn are_same(rt: &(impl AllocGlobal + Abort), world: &PlainWorld, wanted: &PlainWorld) {
+    let world = format!(in rt.alloc(); "{world:?}").expect(rt, "memory");
+    let wanted = format!(in rt.alloc(); "{wanted:?}").expect(rt, "memory");
+    assert_eq!(rt; world.as_str(), wanted.as_str());
 }
 
 // Writes these bytes to a half, from its beginning on.
-fn put(rt: &(impl AllocGlobal + Abort), disk: &mut MemDisk, half: Half, bytes: &[u8]) {
-    assert!(rt; disk.write_at(half, 0, bytes).is_ok());
+fn put(rt: &impl Abort, disk: &mut impl Disk, half: Half, bytes: &[u8]) {
+    disk.write_at(half, 0, bytes).expect(rt, "a write");
 }
 
 // A disk in memory on which the halves have these bytes.
@@ -185,40 +194,43 @@ pub fn disk_of(rt: &(impl AllocGlobal + Abort), zero: &[u8], one: &[u8]) -> MemD
 fn bytes_of(rt: &(impl AllocGlobal + Abort), disk: &mut MemDisk, half: Half) -> Vec<u8> {
     let mut bytes = Vec::new(rt.alloc());
     if let Ok(length) = disk.len(half) {
-        assert!(rt; bytes.resize(length as usize, 0).is_ok());
-        assert!(rt; disk.read_at(half, 0, &mut bytes).is_ok());
+        bytes.resize(length as usize, 0).expect(rt, "memory");
+        disk.read_at(half, 0, &mut bytes).expect(rt, "bytes");
     }
     bytes
 }
 
 // What the disk recovers to.
-fn recovered(rt: &(impl AllocGlobal + Abort), disk: MemDisk) -> Result<Recovered, Fail> {
-    let mut disk = disk;
+fn recovered(rt: &(impl AllocGlobal + Abort), mut disk: MemDisk) -> Recovered {
     let zero = bytes_of(rt, &mut disk, Half::Zero);
     let one = bytes_of(rt, &mut disk, Half::One);
-    Ok(recover(rt.alloc(), zero.as_slice(), one.as_slice())?)
+    recover(rt.alloc(), zero.as_slice(), one.as_slice()).expect(rt, "memory")
 }
 
-// How many events the store has that the disk recovers to, or nothing where there is no store. It has generation 1, and its
-// world is the one after that many events of the steps.
-pub fn events_found(
+// How many events led to what was recovered, or nothing where there is no store.
+fn events_in(
     rt: &(impl AllocGlobal + Abort),
-    disk: MemDisk,
+    recovered: &Recovered,
     steps: &[Step],
-) -> Result<Option<u64>, Fail> {
-    match recovered(rt, disk)? {
-        Recovered::Nothing => Ok(None),
+) -> Option<u64> {
+    match recovered {
+        Recovered::Nothing => None,
         Recovered::Damaged { half, offset } => panic!(rt; "{half} is damaged at {offset}"),
         Recovered::Found {
             world,
             events,
             generation,
         } => {
-            assert_eq!(rt; generation, 1);
-            let text = format!(in rt.alloc(); "{world:?}")?;
-            let wanted = world_after(rt, steps, events)?;
-            assert_eq!(rt; text.as_str(), wanted.as_str());
-            Ok(Some(events))
+            assert_eq!(rt; *generation, 1);
+            are_same(rt, world, &world_after(rt, steps, *events));
+            Some(*events)
         }
     }
+}
+
+// How many events the store has that the disk recovers to, or nothing where there is no store. It has generation 1, and its
+// world is the one after that many events of the steps.
+pub fn events_found(rt: &(impl AllocGlobal + Abort), disk: MemDisk, steps: &[Step]) -> Option<u64> {
+    let recovered = recovered(rt, disk);
+    events_in(rt, &recovered, steps)
 }

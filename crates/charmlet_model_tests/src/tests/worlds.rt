@@ -3,7 +3,7 @@
 
 use charmlet_model::{CONSTRUCT, Elem, Event, Kind, Manifest, MsgId, Origin, Words};
 use charmlet_plain::PlainWorld;
-use std::alloc::{AllocError, Global};
+use std::alloc::{AllocError, AllocGlobal, Global};
 use std::process::Abort;
 use std::test::Fail;
 
@@ -224,10 +224,31 @@ Some(Tree { depth: 1 }) sent 4 received 3
 Some(Tree { depth: 0 }) sent 0 received 2
 ";
 
+// The 1,024 clients of a world have made a request each.
+const LAST_CLIENTS: &str = "\
+> req 1024 1 0 0 1
+refused
+> req 1023 2 0 0 1
+told unknown
+> deliver c1023.1
+delivered
+> req 1023 3 0 0 1
+told unknown
+> req 1024 1 0 0 1
+refused
+> flush
+flushed 1027
+> status 1023 1
+told replied
+> status 1022 1
+told accepted
+> status 1024 1
+told unknown
+";
+
 // A world as it is now, and as its durable events left it.
 #[derive(Drop)]
 struct Story {
-    alloc: Global,
     now: PlainWorld,
     durable: PlainWorld,
     events: Vec<Event>,
@@ -244,88 +265,104 @@ struct Request<'a> {
     words: &'a [u64],
 }
 
+// The request as an event.
+fn event_of(rt: &(impl AllocGlobal + Abort), request: &Request<'_>) -> Event {
+    let words = Words::from_slice(rt.alloc(), request.words).expect(rt, "memory");
+    Event::Accept {
+        client: request.client,
+        number: request.number,
+        to: request.to,
+        entry: request.entry,
+        words,
+    }
+}
+
+// A text of its own.
+fn owned(rt: &(impl AllocGlobal + Abort), text: &str) -> String {
+    String::from_str(rt.alloc(), text).expect(rt, "memory")
+}
+
+// An event that happened can happen again.
+fn happens_again(rt: &impl Abort, world: &mut PlainWorld, event: &Event) {
+    let has_happened = world.after(event).expect(rt, "memory");
+    assert!(rt; has_happened);
+}
+
 impl Story {
-    fn new(alloc: Global, array: u16, kind: u16) -> Result<Story, AllocError> {
-        Ok(Story {
-            alloc,
-            now: empty_world(alloc, array, kind)?,
-            durable: empty_world(alloc, array, kind)?,
-            events: Vec::new(alloc),
+    fn new(rt: &(impl AllocGlobal + Abort), array: u16, kind: u16) -> Story {
+        Story {
+            now: empty_world(rt.alloc(), array, kind).expect(rt, "memory"),
+            durable: empty_world(rt.alloc(), array, kind).expect(rt, "memory"),
+            events: Vec::new(rt.alloc()),
             flushed: 0,
-        })
+        }
     }
 
     // Whether the event happened.
-    fn happens(&mut self, event: Event) -> Result<bool, AllocError> {
-        let happened = self.now.after(&event)?;
-        if happened {
-            self.events.push(event)?;
+    fn happens(&mut self, rt: &impl Abort, event: Event) -> bool {
+        let has_happened = self.now.after(&event).expect(rt, "memory");
+        if has_happened {
+            self.events.push(event).expect(rt, "memory");
         }
-        Ok(happened)
+        has_happened
     }
 
-    fn deliver(&mut self, id: MsgId) -> Result<String, AllocError> {
-        let delivered = self.happens(Event::Deliver(id))?;
-        String::from_str(self.alloc, if delivered { "delivered" } else { "refused" })
+    fn deliver(&mut self, rt: &(impl AllocGlobal + Abort), id: MsgId) -> String {
+        if self.happens(rt, Event::Deliver(id)) {
+            owned(rt, "delivered")
+        } else {
+            owned(rt, "refused")
+        }
     }
 
-    // A repeat of a request of the client's window changes nothing.
-    fn request(&mut self, request: &Request<'_>) -> Result<String, AllocError> {
-        let Request {
-            client,
-            number,
-            to,
-            entry,
-            words,
-        } = *request;
-        let is_repeat = match self.now.client(client) {
-            Some(row) => row.in_window(number),
+    // Whether it repeats a request of the client's window.
+    fn is_repeat(&self, request: &Request<'_>) -> bool {
+        match self.now.client(request.client) {
+            Some(row) => row.in_window(request.number),
             None => false,
-        };
-        if !is_repeat {
-            let event = Event::Accept {
-                client,
-                number,
-                to,
-                entry,
-                words: Words::from_slice(self.alloc, words)?,
-            };
-            if !self.happens(event)? {
-                return String::from_str(self.alloc, "refused");
-            }
         }
-        self.status(client, number)
     }
 
-    fn status(&self, client: u32, number: u64) -> Result<String, AllocError> {
-        let told = self.durable.told(self.alloc, client, number)?;
-        format!(in self.alloc; "{told}")
+    // A repeat changes nothing.
+    fn request(&mut self, rt: &(impl AllocGlobal + Abort), request: &Request<'_>) -> String {
+        if self.is_repeat(request) || self.happens(rt, event_of(rt, request)) {
+            self.status(rt, request.client, request.number)
+        } else {
+            owned(rt, "refused")
+        }
     }
 
-    fn flush(&mut self) -> Result<String, AllocError> {
+    fn status(&self, rt: &(impl AllocGlobal + Abort), client: u32, number: u64) -> String {
+        let told = self
+            .durable
+            .told(rt.alloc(), client, number)
+            .expect(rt, "memory");
+        format!(in rt.alloc(); "{told}").expect(rt, "memory")
+    }
+
+    fn flush(&mut self, rt: &(impl AllocGlobal + Abort)) -> String {
         for event in self.events.iter().skip(self.flushed) {
-            if !self.durable.after(event)? {
-                return String::from_str(self.alloc, "what happened can't happen again");
-            }
+            happens_again(rt, &mut self.durable, event);
         }
         self.flushed = self.events.len();
-        format!(in self.alloc; "flushed {}", self.flushed)
+        format!(in rt.alloc(); "flushed {}", self.flushed).expect(rt, "memory")
     }
 
-    // Delivers the oldest message that can be delivered, so many times at most.
-    fn drain(&mut self, most: u64) -> Result<String, AllocError> {
+    // Delivers the oldest message that can be delivered, so many times at most, and counts them.
+    fn deliver_oldest(&mut self, rt: &impl Abort, most: u64) -> u64 {
         for count in 0..most {
             let Some(id) = self.oldest() else {
-                return self.drained(count);
+                return count;
             };
-            self.happens(Event::Deliver(id))?;
+            self.happens(rt, Event::Deliver(id));
         }
-        self.drained(most)
+        most
     }
 
-    fn drained(&self, count: u64) -> Result<String, AllocError> {
+    fn drain(&mut self, rt: &(impl AllocGlobal + Abort), most: u64) -> String {
+        let count = self.deliver_oldest(rt, most);
         let left = self.now.pending().len();
-        format!(in self.alloc; "drained {count} left {left}")
+        format!(in rt.alloc(); "drained {count} left {left}").expect(rt, "memory")
     }
 
     // The oldest message that can be delivered.
@@ -338,56 +375,61 @@ impl Story {
         None
     }
 
-    fn record(&self, elem: Elem) -> Result<String, AllocError> {
-        match self.now.record(elem) {
-            Some(record) => {
-                let state = &record.state;
-                let (sent, received) = (record.sent, record.received);
-                format!(in self.alloc; "{state:?} sent {sent} received {received}")
-            }
-            None => String::from_str(self.alloc, "none"),
-        }
+    fn record(&self, rt: &(impl AllocGlobal + Abort), elem: Elem) -> String {
+        let Some(record) = self.now.record(elem) else {
+            return owned(rt, "none");
+        };
+        let state = &record.state;
+        let (sent, received) = (record.sent, record.received);
+        format!(in rt.alloc(); "{state:?} sent {sent} received {received}").expect(rt, "memory")
     }
 
-    fn pending(&self) -> Result<String, AllocError> {
-        let mut ids = String::new(self.alloc);
+    fn pending(&self, rt: &(impl AllocGlobal + Abort)) -> String {
+        let mut ids = String::new(rt.alloc());
         for message in self.now.pending() {
-            let id = message.id;
-            let space = if ids.is_empty() { "" } else { " " };
-            ids.push_str(format!(in self.alloc; "{space}{id}")?.as_str())?;
+            push_id(rt, &mut ids, message.id);
         }
         if ids.is_empty() {
-            ids.push_str("none")?;
+            owned(rt, "none")
+        } else {
+            ids
         }
-        Ok(ids)
     }
 
     // What a line answers.
-    fn answer(&mut self, line: &str) -> Result<String, Fail> {
+    fn answer(&mut self, rt: &(impl AllocGlobal + Abort), line: &str) -> String {
         let (name, rest) = line.split_once(' ').unwrap_or((line, ""));
         if name == "deliver" {
-            return Ok(self.deliver(id_of(self.alloc, rest)?)?);
+            return self.deliver(rt, id_of(rt, rest));
         }
-        let numbers = numbers(self.alloc, rest, ' ')?;
-        let answer = match (name, numbers.as_slice()) {
-            ("req", [client, number, array, index, entry, words @ ..]) => {
-                self.request(&Request {
-                    client: u32::try_from(*client)?,
-                    number: *number,
-                    to: elem(*array, *index)?,
-                    entry: u16::try_from(*entry)?,
-                    words,
-                })
-            }
-            ("status", [client, number]) => self.status(u32::try_from(*client)?, *number),
-            ("drain", [most]) => self.drain(*most),
-            ("flush", []) => self.flush(),
-            ("record", [array, index]) => self.record(elem(*array, *index)?),
-            ("pending", []) => self.pending(),
-            _ => return Err(Fail::new("no such step")),
-        };
-        Ok(answer?)
+        let numbers = numbers(rt, rest, ' ');
+        self.answer_to(rt, name, &numbers)
     }
+
+    // What a line with this name and these numbers answers.
+    fn answer_to(
+        &mut self,
+        rt: &(impl AllocGlobal + Abort),
+        name: &str,
+        numbers: &[u64],
+    ) -> String {
+        match name {
+            "req" => self.request(rt, &request_of(rt, numbers)),
+            "status" => self.status(rt, client_of(rt, numbers), number_at(rt, numbers, 1)),
+            "drain" => self.drain(rt, number_at(rt, numbers, 0)),
+            "flush" => self.flush(rt),
+            "record" => self.record(rt, elem_at(rt, numbers, 0)),
+            "pending" => self.pending(rt),
+            _ => panic!(rt; "no such step: {name}"),
+        }
+    }
+}
+
+// Adds an id to those that are pending.
+fn push_id(rt: &(impl AllocGlobal + Abort), ids: &mut String, id: MsgId) {
+    let space = if ids.is_empty() { "" } else { " " };
+    let text = format!(in rt.alloc(); "{space}{id}").expect(rt, "memory");
+    ids.push_str(text.as_str()).expect(rt, "memory");
 }
 
 fn empty_world(alloc: Global, array: u16, kind: u16) -> Result<PlainWorld, AllocError> {
@@ -397,124 +439,152 @@ fn empty_world(alloc: Global, array: u16, kind: u16) -> Result<PlainWorld, Alloc
     }
 }
 
-fn elem(array: u64, index: u64) -> Result<Elem, Fail> {
-    Ok(Elem {
-        array: u16::try_from(array)?,
-        index,
-    })
+// The number at this place.
+fn number_at(rt: &impl Abort, numbers: &[u64], at: usize) -> u64 {
+    *numbers.get(at).expect(rt, "a number")
+}
+
+// The same, which has 16 bits.
+fn short_at(rt: &impl Abort, numbers: &[u64], at: usize) -> u16 {
+    u16::try_from(number_at(rt, numbers, at)).expect(rt, "16 bits")
+}
+
+// The client that the numbers begin with.
+fn client_of(rt: &impl Abort, numbers: &[u64]) -> u32 {
+    u32::try_from(number_at(rt, numbers, 0)).expect(rt, "32 bits")
+}
+
+// The element that two numbers from this place on are.
+fn elem_at(rt: &impl Abort, numbers: &[u64], at: usize) -> Elem {
+    Elem {
+        array: short_at(rt, numbers, at),
+        index: number_at(rt, numbers, at.saturating_add(1)),
+    }
+}
+
+// The request that the numbers are.
+fn request_of<'a>(rt: &impl Abort, numbers: &'a [u64]) -> Request<'a> {
+    Request {
+        client: client_of(rt, numbers),
+        number: number_at(rt, numbers, 1),
+        to: elem_at(rt, numbers, 2),
+        entry: short_at(rt, numbers, 4),
+        words: numbers.get(5..).expect(rt, "words"),
+    }
 }
 
 // The numbers between the separators; the empty text has none.
-fn numbers(alloc: Global, text: &str, separator: char) -> Result<Vec<u64>, Fail> {
-    let mut numbers = Vec::new(alloc);
+fn numbers(rt: &(impl AllocGlobal + Abort), text: &str, separator: char) -> Vec<u64> {
+    let mut numbers = Vec::new(rt.alloc());
     if text.is_empty() {
-        return Ok(numbers);
+        return numbers;
     }
     for word in text.split(separator) {
-        let number = word.parse::<u64>()?;
-        numbers.push(number)?;
+        let number = word.parse::<u64>().expect(rt, "a number");
+        numbers.push(number).expect(rt, "memory");
     }
-    Ok(numbers)
+    numbers
 }
 
 // The id that is printed so.
-fn id_of(alloc: Global, text: &str) -> Result<MsgId, Fail> {
-    let numbers = numbers(alloc, text.trim_start_matches(['c', 'e']), '.')?;
-    let (origin, number) = match numbers.as_slice() {
-        [client, number] => (Origin::Client(u32::try_from(*client)?), *number),
-        [array, index, number] => (Origin::Element(elem(*array, *index)?), *number),
-        _ => return Err(Fail::new("no id")),
-    };
-    Ok(MsgId { origin, number })
+fn id_of(rt: &(impl AllocGlobal + Abort), text: &str) -> MsgId {
+    let numbers = numbers(rt, text.trim_start_matches(['c', 'e']), '.');
+    if numbers.len() == 2 {
+        let origin = Origin::Client(client_of(rt, &numbers));
+        let number = number_at(rt, &numbers, 1);
+        MsgId { origin, number }
+    } else {
+        let origin = Origin::Element(elem_at(rt, &numbers, 0));
+        let number = number_at(rt, &numbers, 2);
+        MsgId { origin, number }
+    }
+}
+
+// Takes a step, and prints it with its answer.
+fn print_step(
+    rt: &(impl AllocGlobal + Abort),
+    story: &mut Story,
+    printed: &mut String,
+    step: &str,
+) {
+    let answer = story.answer(rt, step);
+    let answered = format!(in rt.alloc(); "> {step}\n{answer}\n").expect(rt, "memory");
+    printed.push_str(answered.as_str()).expect(rt, "memory");
 }
 
 // Runs the steps of a transcript, and compares what they answer with it.
-fn play(rt: &impl Abort, story: &mut Story, transcript: &str) -> Result<(), Fail> {
-    let alloc = story.alloc;
-    let mut printed = String::new(alloc);
+fn go_on(rt: &(impl AllocGlobal + Abort), story: &mut Story, transcript: &str) {
+    let mut printed = String::new(rt.alloc());
     for line in transcript.lines() {
         if let Some(step) = line.strip_prefix("> ") {
-            let answer = story.answer(step)?;
-            let answered = format!(in alloc; "> {step}\n{answer}\n")?;
-            printed.push_str(answered.as_str())?;
+            print_step(rt, story, &mut printed, step);
         }
     }
     assert_eq!(rt; printed.as_str(), transcript);
-    Ok(())
+}
+
+// The same in a new world with an array of this kind.
+fn play(rt: &(impl AllocGlobal + Abort), array: u16, kind: u16, transcript: &str) {
+    let mut story = Story::new(rt, array, kind);
+    go_on(rt, &mut story, transcript);
 }
 
 #[test]
-fn transcripts_are_as_they_were_told(rt: HostRuntime) -> Result<(), Fail> {
-    for (array, kind, transcript) in [
-        (0, 1, COUNTER),
-        (0, 1, SUM_STOPS),
-        (0, 1, COUNTER_IS_READ),
-        (0, 1, REPEATS),
-        (0, 1, EIGHT_WAIT),
-        (0, 2, RING),
-        (3, 3, ACCOUNT_LACKS),
-        (3, 3, ACCOUNT_PAYS),
-        (0, 5, TREE),
-    ] {
-        let mut story = Story::new(rt.alloc(), array, kind)?;
-        play(&rt, &mut story, transcript)?;
-    }
-    Ok(())
+fn transcripts_are_as_they_were_told(rt: HostRuntime) {
+    play(&rt, 0, 1, COUNTER);
+    play(&rt, 0, 1, SUM_STOPS);
+    play(&rt, 0, 1, COUNTER_IS_READ);
+    play(&rt, 0, 1, REPEATS);
+    play(&rt, 0, 1, EIGHT_WAIT);
+    play(&rt, 0, 2, RING);
+    play(&rt, 3, 3, ACCOUNT_LACKS);
+    play(&rt, 3, 3, ACCOUNT_PAYS);
+    play(&rt, 0, 5, TREE);
 }
 
-// The first request of a client, with so many words, all of them 1.
-fn first_request(story: &mut Story, client: u32, entry: u16, words: usize) -> Result<String, Fail> {
-    let payload = vec![in story.alloc; 1; words]?;
-    Ok(story.request(&Request {
+// The first request of a client, with so many words, all of them 1, has this answer.
+fn asks_first(
+    rt: &(impl AllocGlobal + Abort),
+    story: &mut Story,
+    client: u32,
+    entry: u16,
+    words: usize,
+    wanted: &str,
+) {
+    let payload = vec![in rt.alloc(); 1; words].expect(rt, "memory");
+    let request = Request {
         client,
         number: 1,
         to: Elem { array: 0, index: 0 },
         entry,
         words: payload.as_slice(),
-    })?)
+    };
+    let answer = story.request(rt, &request);
+    assert_eq!(rt; answer.as_str(), wanted, "client {client}");
 }
 
 #[test]
-fn payloads_have_512_words_at_most(rt: HostRuntime) -> Result<(), Fail> {
-    let mut story = Story::new(rt.alloc(), 0, 1)?;
-    let answer = first_request(&mut story, 8, 0, 513)?;
-    assert_eq!(rt; answer.as_str(), "refused");
+fn payloads_have_512_words_at_most(rt: HostRuntime) {
+    let mut story = Story::new(&rt, 0, 1);
+    asks_first(&rt, &mut story, 8, 0, 513, "refused");
     assert!(rt; story.now.client(8).is_none());
-    let answer = first_request(&mut story, 8, 0, 512)?;
-    assert_eq!(rt; answer.as_str(), "told unknown");
-    Ok(())
+    asks_first(&rt, &mut story, 8, 0, 512, "told unknown");
 }
 
 #[test]
-fn worlds_have_1024_clients_at_most(rt: HostRuntime) -> Result<(), Fail> {
-    let mut story = Story::new(rt.alloc(), 0, 1)?;
+fn worlds_have_1024_clients_at_most(rt: HostRuntime) {
+    let mut story = Story::new(&rt, 0, 1);
     for client in 0..1024 {
-        let answer = first_request(&mut story, client, CONSTRUCT, 1)?;
-        assert_eq!(rt; answer.as_str(), "told unknown", "client {client}");
+        asks_first(&rt, &mut story, client, CONSTRUCT, 1, "told unknown");
     }
-    for (step, wanted) in [
-        ("req 1024 1 0 0 1", "refused"),
-        ("req 1023 2 0 0 1", "told unknown"),
-        ("deliver c1023.1", "delivered"),
-        ("req 1023 3 0 0 1", "told unknown"),
-        ("req 1024 1 0 0 1", "refused"),
-        ("flush", "flushed 1027"),
-        ("status 1023 1", "told replied"),
-        ("status 1022 1", "told accepted"),
-        ("status 1024 1", "told unknown"),
-    ] {
-        let answer = story.answer(step)?;
-        assert_eq!(rt; answer.as_str(), wanted, "{step}");
-    }
-    Ok(())
+    go_on(&rt, &mut story, LAST_CLIENTS);
 }
 
 #[test]
-fn worlds_keep_their_manifest(rt: HostRuntime) -> Result<(), Fail> {
-    let world = empty_world(rt.alloc(), 3, 6)?;
+fn worlds_keep_their_manifest(rt: HostRuntime) {
+    let world = empty_world(rt.alloc(), 3, 6).expect(&rt, "memory");
     assert_eq!(rt; world.manifest().kind_of(3), Some(Kind::Tape));
     assert_eq!(rt; world.manifest().kind_of(0), None);
-    Ok(())
 }
 
 const ROOT: Elem = Elem { array: 0, index: 0 };

@@ -44,8 +44,16 @@ pub const GROWN_STORE: [u8; 178] = [
     1, 0, 0, 0, 0, 0, 0, 0, 0, 0, 0, 0, 3, 0, 0, 0, 0, 0, 0, 0, 1, 0,
 ];
 
+// The bytes of a store, of which the one at this offset is another one.
+pub fn changed(rt: &(impl AllocGlobal + Abort), store: &[u8], offset: usize, byte: u8) -> Vec<u8> {
+    let mut bytes = store.to_vec(rt.alloc()).expect(rt, "memory");
+    assert!(rt; offset < bytes.len());
+    bytes[offset] = byte;
+    bytes
+}
+
 // Writes the bytes of a half, again where memory was refused for the first time.
-fn write(rt: &impl Abort, disk: &mut MemDisk, half: Half, bytes: &[u8]) {
+fn write(rt: &impl Abort, disk: &mut impl Disk, half: Half, bytes: &[u8]) {
     if disk.write_at(half, 0, bytes).is_err() {
         assert!(rt; disk.write_at(half, 0, bytes).is_ok());
     }
@@ -57,4 +65,9 @@ pub fn disk_of(rt: &(impl AllocGlobal + Abort), zero: &[u8], one: &[u8]) -> MemD
     write(rt, &mut disk, Half::Zero, zero);
     write(rt, &mut disk, Half::One, one);
     disk
+}
+
+// So many calls changed something on the disk.
+pub fn has_calls(rt: &impl Abort, disk: &MemDisk, calls: usize) {
+    assert_eq!(rt; disk.calls().len(), calls);
 }

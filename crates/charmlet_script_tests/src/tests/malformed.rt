@@ -1,56 +1,67 @@
 //! Malformed scripts, scripts at their limits, and readers that fail or never end.
 
-use super::script::{lines_of, malformed, read};
+use super::script::{malformed, malformed_restart, read, script_of};
+use super::{Sought, are_found, is_found, printed, text_of};
 use charmlet_script::{MAX_LENGTH, ReadError, read_restart_script, read_script};
+use std::alloc::AllocGlobal;
 use std::io;
 use std::io::{ErrorKind, Read};
-use std::test::Fail;
+use std::process::Abort;
+
+// Scripts, with a bar for each line feed, and the first line of each that is malformed. They have no array line; an array line, one
+// of processors or one of a handler that may not stand there; no more than a line of a handler; or no line of the language.
+const FIRST_MALFORMED: &str = "\
+flush|bad| => 1
+ => 1
+array 0 0| => 1
+array 0 7| => 1
+array 65536 1| => 1
+array 0 1\r| => 1
+pes 2| => 1
+pes 2|move 0 0 1| => 1
+array 0 1|flush|array 1 1| => 3
+array 0 1|checkpoint|array 1 1| => 3
+census|array 0 1| => 2
+pes 2|array 0 1|pes 2| => 3
+pes 1|pes 1|array 0 1| => 2
+pes 0|array 0 1|pes 4| => 3
+array 0 1|supply 1 1|pes 2| => 3
+array 0 1|pending|pes 1| => 3
+array 0 1|flush|pes 2| => 3
+array 0 1|checkpoint|pes 2| => 3
+array 0 1|supply 1 1|handler add 0 1| => 3
+array 0 1|handler add 0 1|flush|handler add 0 1| => 4
+array 0 1|call 7 1 add 2|handler add 0 1| => 3
+handler add 0 1| => 1
+handler add 0 1|flush| => 1
+bad|array 0 1| => 1
+array 0 1|   | => 2
+array 0 1|flush\r| => 2
+array 0 1|checkpoint\r| => 2
+array 0 1||bad|worse| => 3
+";
+
+// The number of the malformed line of a script, in words.
+pub(super) fn malformed_in(rt: &(impl AllocGlobal + Abort), text: &str) -> String {
+    let text = text_of(rt, text);
+    let line = malformed(rt, text.as_bytes());
+    printed(rt, &line)
+}
+
+// The same of a restart's script.
+pub(super) fn malformed_restart_in(rt: &(impl AllocGlobal + Abort), text: &str) -> String {
+    let text = text_of(rt, text);
+    let line = malformed_restart(rt, text.as_bytes());
+    printed(rt, &line)
+}
 
 #[test]
 fn the_first_malformed_line_is_named(rt: HostRuntime) {
-    let alloc = rt.alloc();
-    for (text, line) in [
-        // no array line
-        ("", 1),
-        ("flush\nbad\n", 1),
-        ("array 0 0\n", 1),
-        ("array 0 7\n", 1),
-        ("array 65536 1\n", 1),
-        ("array 0 1\r\n", 1),
-        ("pes 2\n", 1),
-        ("pes 2\nmove 0 0 1\n", 1),
-        // an array line that may not stand there
-        ("array 0 1\nflush\narray 1 1\n", 3),
-        ("array 0 1\ncheckpoint\narray 1 1\n", 3),
-        ("census\narray 0 1\n", 2),
-        // a line of processors that may not stand there
-        ("pes 2\narray 0 1\npes 2\n", 3),
-        ("pes 1\npes 1\narray 0 1\n", 2),
-        ("pes 0\narray 0 1\npes 4\n", 3),
-        ("array 0 1\nsupply 1 1\npes 2\n", 3),
-        ("array 0 1\npending\npes 1\n", 3),
-        ("array 0 1\nflush\npes 2\n", 3),
-        ("array 0 1\ncheckpoint\npes 2\n", 3),
-        // a handler line that may not stand there
-        ("array 0 1\nsupply 1 1\nhandler add 0 1\n", 3),
-        ("array 0 1\nhandler add 0 1\nflush\nhandler add 0 1\n", 4),
-        ("array 0 1\ncall 7 1 add 2\nhandler add 0 1\n", 3),
-        // a handler line is no array line
-        ("handler add 0 1\n", 1),
-        ("handler add 0 1\nflush\n", 1),
-        // no line of the language
-        ("bad\narray 0 1\n", 1),
-        ("array 0 1\n   \n", 2),
-        ("array 0 1\nflush\r\n", 2),
-        ("array 0 1\ncheckpoint\r\n", 2),
-        ("array 0 1\n\nbad\nworse\n", 3),
-    ] {
-        assert_eq!(rt; malformed(alloc, text.as_bytes()), line, "{text:?}");
-    }
+    are_found(&rt, Sought::Malformed, FIRST_MALFORMED);
 }
 
-// Each of these lines is malformed after `array 0 1`.
-pub(super) const MALFORMED: &str = "\
+// Each of these lines is malformed after `array 0 1`, and in a script of a restart after `flush`.
+const MALFORMED: &str = "\
 array 0 1
 flush now
 # é
@@ -132,55 +143,86 @@ deliver 0 c.1
 deliver 0 7.1
 ";
 
-#[test]
-fn malformed_lines_are_refused(rt: HostRuntime) -> Result<(), Fail> {
-    let alloc = rt.alloc();
+// The second one of these lines is looked at: the number of the malformed line is to be this one.
+fn is_second(
+    rt: &(impl AllocGlobal + Abort),
+    sought: Sought,
+    first: &str,
+    second: &str,
+    wanted: u64,
+) {
+    let case = format!(in rt.alloc(); "{first}|{second}| => {wanted}").expect(rt, "memory");
+    is_found(rt, sought, case.as_str());
+}
+
+// Each malformed line is so after this one.
+pub(super) fn are_malformed(rt: &(impl AllocGlobal + Abort), sought: Sought, first: &str) {
     for line in MALFORMED.lines() {
-        let text = format!(in alloc; "array 0 1\n{line}\n")?;
-        assert_eq!(rt; malformed(alloc, text.as_bytes()), 2, "{line}");
+        is_second(rt, sought, first, line, 2);
     }
-    Ok(())
 }
 
 #[test]
-fn a_script_has_at_most_64_arrays(rt: HostRuntime) -> Result<(), Fail> {
-    let alloc = rt.alloc();
-    let mut text = String::new(alloc);
-    for array in 0..64u16 {
-        text.push_str(format!(in alloc; "array {array} 1\n")?.as_str())?;
+fn malformed_lines_are_refused(rt: HostRuntime) {
+    are_malformed(&rt, Sought::Malformed, "array 0 1");
+}
+
+// So many arrays.
+fn arrays(rt: &(impl AllocGlobal + Abort), count: u16) -> String {
+    let mut text = String::new(rt.alloc());
+    for array in 0..count {
+        text.push_str("array ").expect(rt, "memory");
+        text.push_str(printed(rt, &array).as_str())
+            .expect(rt, "memory");
+        text.push_str(" 1\n").expect(rt, "memory");
     }
-    let script = read(alloc, text.as_bytes())?;
-    assert_eq!(rt; script.arrays().len(), 64);
-    text.push_str("array 64 1\n")?;
-    assert_eq!(rt; malformed(alloc, text.as_bytes()), 65);
-    Ok(())
+    text
+}
+
+// How many arrays a script has.
+fn array_count(rt: &(impl AllocGlobal + Abort), text: &str) -> usize {
+    script_of(rt, text.as_bytes()).arrays().len()
 }
 
 #[test]
-fn a_script_has_at_most_1048576_bytes(rt: HostRuntime) -> Result<(), Fail> {
-    let alloc = rt.alloc();
-    let mut text = b"array 0 1\n".to_vec(alloc)?;
-    for _ in text.len()..MAX_LENGTH {
-        text.push(b'#')?;
-    }
-    assert!(rt; read(alloc, &text).is_ok());
-    text.push(b'\n')?;
-    assert_eq!(rt; malformed(alloc, &text), 2);
-    Ok(())
+fn a_script_has_at_most_64_arrays(rt: HostRuntime) {
+    let most = arrays(&rt, 64);
+    assert_eq!(rt; array_count(&rt, most.as_str()), 64);
+    let more = arrays(&rt, 65);
+    assert_eq!(rt; malformed(&rt, more.as_bytes()), 65);
+}
+
+// A text of the greatest length, which goes on with this byte.
+pub(super) fn longest(rt: &(impl AllocGlobal + Abort), start: &[u8], byte: u8) -> Vec<u8> {
+    let mut text = start.to_vec(rt.alloc()).expect(rt, "memory");
+    text.resize(MAX_LENGTH, byte).expect(rt, "memory");
+    text
+}
+
+// Whether it is a script.
+fn is_read(rt: &(impl AllocGlobal + Abort), text: &[u8]) -> bool {
+    read(rt.alloc(), text).is_ok()
 }
 
 #[test]
-fn a_script_has_at_most_1048576_line_feeds(rt: HostRuntime) -> Result<(), Fail> {
-    let alloc = rt.alloc();
-    let mut text = b"array 0 1\n".to_vec(alloc)?;
-    for _ in text.len()..MAX_LENGTH {
-        text.push(b'\n')?;
-    }
-    let script = read(alloc, &text)?;
-    assert!(rt; script.lines().is_empty());
-    text.push(b'\n')?;
-    assert_eq!(rt; malformed(alloc, &text), 1_048_568);
-    Ok(())
+fn a_script_has_at_most_1048576_bytes(rt: HostRuntime) {
+    let mut text = longest(&rt, b"array 0 1\n", b'#');
+    assert!(rt; is_read(&rt, &text));
+    text.push(b'\n').expect(&rt, "memory");
+    assert_eq!(rt; malformed(&rt, &text), 2);
+}
+
+// Whether it is a script with no line after its header.
+fn is_empty(rt: &(impl AllocGlobal + Abort), text: &[u8]) -> bool {
+    script_of(rt, text).lines().is_empty()
+}
+
+#[test]
+fn a_script_has_at_most_1048576_line_feeds(rt: HostRuntime) {
+    let mut text = longest(&rt, b"array 0 1\n", b'\n');
+    assert!(rt; is_empty(&rt, &text));
+    text.push(b'\n').expect(&rt, "memory");
+    assert_eq!(rt; malformed(&rt, &text), 1_048_568);
 }
 
 // Lines with the greatest number that one may have, and after it the next number.
@@ -219,18 +261,18 @@ state 65535 0 | state 65536 0
 state 0 18446744073709551615 | state 0 18446744073709551616
 ";
 
+// The first one of these lines is read after an array, and the second one isn't.
+fn is_limit(rt: &(impl AllocGlobal + Abort), line: &str) {
+    let (greatest, beyond) = line.split_once(" | ").expect(rt, "a bar");
+    is_second(rt, Sought::Malformed, "array 0 1", greatest, 0);
+    is_second(rt, Sought::Malformed, "array 0 1", beyond, 2);
+}
+
 #[test]
-fn numbers_go_to_their_limits(rt: HostRuntime) -> Result<(), Fail> {
-    let alloc = rt.alloc();
+fn numbers_go_to_their_limits(rt: HostRuntime) {
     for line in LIMITS.lines() {
-        let (greatest, beyond) = line.split_once(" | ").unwrap_or((line, ""));
-        let text = format!(in alloc; "array 0 1\n{greatest}\n")?;
-        let script = read(alloc, text.as_bytes());
-        assert!(rt; script.is_ok(), "{greatest}");
-        let text = format!(in alloc; "array 0 1\n{beyond}\n")?;
-        assert_eq!(rt; malformed(alloc, text.as_bytes()), 2, "{beyond}");
+        is_limit(&rt, line);
     }
-    Ok(())
 }
 
 // A reader that gives a line, and fails from then on.
@@ -251,30 +293,39 @@ impl Read for Failing {
     }
 }
 
+// A reader that fails so.
+fn failing_with(kind: ErrorKind) -> Failing {
+    Failing {
+        is_started: false,
+        kind,
+    }
+}
+
+// Why no script is read of a reader that fails so.
+fn failure(rt: &(impl AllocGlobal + Abort), kind: ErrorKind) -> ReadError {
+    read_script(rt.alloc(), &mut failing_with(kind)).expect_err(rt, "it fails")
+}
+
+// Why no script of a restart is read of a reader that fails so.
+fn failure_of_restart(rt: &(impl AllocGlobal + Abort), kind: ErrorKind) -> ReadError {
+    read_restart_script(rt.alloc(), &mut failing_with(kind)).expect_err(rt, "it fails")
+}
+
+// Whether a read failed for want of a permission.
+fn is_denied(error: ReadError) -> bool {
+    matches!(error, ReadError::Failed(error) if error.kind() == ErrorKind::PermissionDenied)
+}
+
+// Whether a read failed for want of memory.
+fn is_memory(error: ReadError) -> bool {
+    matches!(error, ReadError::Memory)
+}
+
 #[test]
 fn a_failed_read_is_told(rt: HostRuntime) {
-    let mut reader = Failing {
-        is_started: false,
-        kind: ErrorKind::PermissionDenied,
-    };
-    let result = read_script(rt.alloc(), &mut reader);
-    assert!(rt;
-        matches!(result, Err(ReadError::Failed(error)) if error.kind() == ErrorKind::PermissionDenied)
-    );
-    let mut reader = Failing {
-        is_started: false,
-        kind: ErrorKind::OutOfMemory,
-    };
-    let result = read_script(rt.alloc(), &mut reader);
-    assert!(rt; matches!(result, Err(ReadError::Memory)));
-    let mut reader = Failing {
-        is_started: false,
-        kind: ErrorKind::PermissionDenied,
-    };
-    let result = read_restart_script(rt.alloc(), &mut reader);
-    assert!(rt;
-        matches!(result, Err(ReadError::Failed(error)) if error.kind() == ErrorKind::PermissionDenied)
-    );
+    assert!(rt; is_denied(failure(&rt, ErrorKind::PermissionDenied)));
+    assert!(rt; is_memory(failure(&rt, ErrorKind::OutOfMemory)));
+    assert!(rt; is_denied(failure_of_restart(&rt, ErrorKind::PermissionDenied)));
 }
 
 // A reader that never ends: after its first bytes it gives the letter x for ever. It counts the bytes that it gave.
@@ -296,27 +347,37 @@ impl Read for Endless {
     }
 }
 
+// The line that was read to the byte after the limit.
+fn last_line(rt: &impl Abort, error: ReadError) -> u64 {
+    match error {
+        ReadError::Malformed(line) => line,
+        _ => panic!(rt; "a line is malformed"),
+    }
+}
+
+// A script with this start is read to the byte after the limit, which stands in this line.
+fn ends_in(rt: &(impl AllocGlobal + Abort), start: &'static [u8], line: u64) {
+    let mut reader = Endless { start, given: 0 };
+    let error = read_script(rt.alloc(), &mut reader).expect_err(rt, "it is too long");
+    assert_eq!(rt; last_line(rt, error), line);
+    assert_eq!(rt; reader.given, MAX_LENGTH as u64 + 1);
+}
+
+// The same of a restart's script.
+fn restart_ends_in(rt: &(impl AllocGlobal + Abort), start: &'static [u8], line: u64) {
+    let mut reader = Endless { start, given: 0 };
+    let error = read_restart_script(rt.alloc(), &mut reader).expect_err(rt, "it is too long");
+    assert_eq!(rt; last_line(rt, error), line);
+    assert_eq!(rt; reader.given, MAX_LENGTH as u64 + 1);
+}
+
 #[test]
 fn a_reader_that_never_ends_is_read_to_the_byte_after_the_limit(rt: HostRuntime) {
-    for (start, line) in [
-        (b"".as_slice(), 1),
-        (b"flush\n#".as_slice(), 2),
-        (b"flush\n\n#\n\n#".as_slice(), 5),
-    ] {
-        let mut reader = Endless { start, given: 0 };
-        let read = read_restart_script(rt.alloc(), &mut reader);
-        assert!(rt; matches!(read, Err(ReadError::Malformed(number)) if number == line));
-        assert_eq!(rt; reader.given, MAX_LENGTH as u64 + 1);
-    }
-    for (start, line) in [
-        (b"".as_slice(), 1),
-        (b"array 0 1\n".as_slice(), 2),
-        (b"array 0 1\n#".as_slice(), 2),
-        (b"array 0 1\n\n#\n\n#".as_slice(), 5),
-    ] {
-        let mut reader = Endless { start, given: 0 };
-        let read = read_script(rt.alloc(), &mut reader);
-        assert!(rt; matches!(read, Err(ReadError::Malformed(number)) if number == line));
-        assert_eq!(rt; reader.given, MAX_LENGTH as u64 + 1);
-    }
+    restart_ends_in(&rt, b"", 1);
+    restart_ends_in(&rt, b"flush\n#", 2);
+    restart_ends_in(&rt, b"flush\n\n#\n\n#", 5);
+    ends_in(&rt, b"", 1);
+    ends_in(&rt, b"array 0 1\n", 2);
+    ends_in(&rt, b"array 0 1\n#", 2);
+    ends_in(&rt, b"array 0 1\n\n#\n\n#", 5);
 }

@@ -1,12 +1,13 @@
 // The pending messages against a plain list, on long random sequences of births and takes.
 
-ghost use Rattle.std.specs.Prelude.{◌≡◌};
+ghost use Rattle.std.specs.Prelude.{◌≡◌, None};
+ghost use Rattle.charmlet_model.specs.World.{message_among};
 
 use charmlet_model::{Elem, Message, MsgId, Origin, Words};
 use charmlet_world::Pending;
 use rand_core::utils::NextWord;
 use rand_pcg::Pcg32;
-use std::alloc::{AllocError, Global};
+use std::alloc::{AllocError, AllocGlobal, Global};
 use std::process::Abort;
 use std::test::Fail;
 
@@ -32,180 +33,238 @@ fn message(alloc: Global, number: u64) -> Result<Message, AllocError> {
     })
 }
 
-// Adds a message at both ends of both lists.
+// The pending messages, and a plain list of their numbers.
+#[derive(Drop)]
+struct Lists {
+    pending: Pending,
+    plain: Vec<u64>,
+}
+
+impl Lists {
+    fn new(alloc: Global) -> Lists {
+        Lists {
+            pending: Pending::new(alloc),
+            plain: Vec::new(alloc),
+        }
+    }
+}
+
+// No message of this id is there.
+fn lacks(rt: &impl Abort, pending: &Pending, id: MsgId)
+    ensures { message_among id pending.now.messages ≡ None }
+{
+    assert!(rt; pending.find(id).is_none(), "{id} is there");
+}
+
+// Adds a message at both ends of both lists. Where memory is refused, nothing has changed.
 fn birth(
-    rt: &impl Abort,
-    alloc: Global,
-    pending: &mut Pending,
-    plain: &mut Vec<u64>,
+    rt: &(impl AllocGlobal + Abort),
+    lists: &mut Lists,
     number: u64,
 ) -> Result<(), AllocError> {
-    let message = message(alloc, number)?;
-    plain.reserve(1)?;
-    pending.reserve(1)?;
-    assert!(rt; pending.find(message.id).is_none(), "{number} is there");
-    pending.push(message);
-    plain.push(number)?;
+    lists.plain.reserve(1)?;
+    lists.pending.reserve(1)?;
+    let message = message(rt.alloc(), number)?;
+    lacks(rt, &lists.pending, message.id);
+    lists.pending.push(message);
+    lists.plain.push(number)?;
     Ok(())
 }
 
-// Takes the message at this place of the plain list.
-fn take(rt: &impl Abort, pending: &mut Pending, plain: &mut Vec<u64>, place: usize) {
-    if place >= plain.len() {
-        return;
+// So many messages are added, from this number on.
+fn births(rt: &(impl AllocGlobal + Abort), lists: &mut Lists, first: u64, end: u64) {
+    for number in first..end {
+        birth(rt, lists, number).expect(rt, "memory");
     }
-    let number = plain.remove(place);
-    let id = id_of(number);
-    assert!(rt; pending.find(id).is_some(), "{number} isn't found");
-    let Some(message) = pending.take(id) else {
-        assert!(rt; false, "{number} isn't taken");
-        return;
-    };
+}
+
+// It is the message of this number.
+fn is_message(rt: &impl Abort, message: &Message, number: u64) {
     assert_eq!(rt; message.id.number, number);
     assert_eq!(rt; message.entry, (number % 65536) as u16);
     assert_eq!(rt; message.words.as_slice().first(), Some(&number));
-    assert!(rt; pending.find(id).is_none(), "{number} is still found");
+}
+
+// The message of this number is there, and is taken once.
+fn take_message(rt: &impl Abort, pending: &mut Pending, number: u64) {
+    let id = id_of(number);
+    assert!(rt; pending.find(id).is_some(), "{number} isn't found");
+    let message = pending.take(id).expect(rt, "it is taken");
+    is_message(rt, &message, number);
+    lacks(rt, pending, id);
     assert!(rt; pending.take(id).is_none(), "{number} is taken twice");
 }
 
+// Takes the message at this place of the plain list.
+fn take(rt: &impl Abort, lists: &mut Lists, place: usize) {
+    if place < lists.plain.len() {
+        let number = lists.plain.remove(place);
+        take_message(rt, &mut lists.pending, number);
+    }
+}
+
 // Both are the same messages in the same order.
-fn are_same(rt: &impl Abort, pending: &Pending, plain: &[u64]) {
-    assert_eq!(rt; pending.len(), plain.len());
-    let mut numbers = plain.iter();
-    for (id, letter) in pending.iter() {
+fn are_same(rt: &impl Abort, lists: &Lists) {
+    assert_eq!(rt; lists.pending.len(), lists.plain.len());
+    let mut numbers = lists.plain.iter();
+    for (id, letter) in lists.pending.iter() {
         assert_eq!(rt; Some(&id.number), numbers.next());
         assert_eq!(rt; letter.words.as_slice().first(), Some(&id.number));
     }
     assert!(rt; numbers.next().is_none());
 }
 
-// Of so many steps of a hundred, this many are births. One of so many takes is at random, the others are of the oldest.
-fn run(
-    rt: &impl Abort,
-    alloc: Global,
+// How the steps of a run are chosen.
+#[derive(Clone, Copy)]
+struct Choice {
     seed: u64,
     steps: u64,
+    // So many of a hundred steps are births.
     births: u32,
+    // So many of a hundred takes are at random, the others are of the oldest.
     random: u32,
-) -> Result<(), Fail> {
-    let mut rng = Pcg32::new(seed, 54);
-    let mut pending = Pending::new(alloc);
-    let mut plain = Vec::new(alloc);
-    for number in 1..steps {
-        if rng.next_word() % 100 < births {
-            birth(rt, alloc, &mut pending, &mut plain, number)?;
-        } else if !plain.is_empty() {
-            let place = if rng.next_word() % 100 < random {
-                rng.next_word() as usize % plain.len()
-            } else {
-                0
-            };
-            take(rt, &mut pending, &mut plain, place);
-        }
+}
+
+// A place of a list of this length, which isn't 0.
+fn some_place(rng: &mut Pcg32, random: u32, length: usize) -> usize {
+    if rng.next_word() % 100 < random {
+        (rng.next_word() as usize).checked_rem(length).unwrap_or(0)
+    } else {
+        0
+    }
+}
+
+// A birth of this number, or a take.
+fn step(
+    rt: &(impl AllocGlobal + Abort),
+    rng: &mut Pcg32,
+    lists: &mut Lists,
+    choice: Choice,
+    number: u64,
+) {
+    if rng.next_word() % 100 < choice.births {
+        birth(rt, lists, number).expect(rt, "memory");
+    } else if !lists.plain.is_empty() {
+        let place = some_place(rng, choice.random, lists.plain.len());
+        take(rt, lists, place);
+    }
+}
+
+fn run(rt: &(impl AllocGlobal + Abort), choice: Choice) {
+    let mut rng = Pcg32::new(choice.seed, 54);
+    let mut lists = Lists::new(rt.alloc());
+    for number in 1..choice.steps {
+        step(rt, &mut rng, &mut lists, choice, number);
         if number % 64 == 0 {
-            are_same(rt, &pending, plain.as_slice());
+            are_same(rt, &lists);
         }
     }
-    are_same(rt, &pending, plain.as_slice());
-    Ok(())
+    are_same(rt, &lists);
 }
 
 #[test]
-fn messages_are_taken_in_order_of_birth(rt: HostRuntime) -> Result<(), Fail> {
-    run(&rt, rt.alloc(), 1, 8000, 52, 0)
+fn messages_are_taken_in_order_of_birth(rt: HostRuntime) {
+    let choice = Choice {
+        seed: 1,
+        steps: 8000,
+        births: 52,
+        random: 0,
+    };
+    run(&rt, choice);
 }
 
 #[test]
-fn messages_are_taken_at_random(rt: HostRuntime) -> Result<(), Fail> {
-    run(&rt, rt.alloc(), 2, 8000, 55, 100)
+fn messages_are_taken_at_random(rt: HostRuntime) {
+    let choice = Choice {
+        seed: 2,
+        steps: 8000,
+        births: 55,
+        random: 100,
+    };
+    run(&rt, choice);
 }
 
 #[test]
-fn most_messages_are_taken_at_once(rt: HostRuntime) -> Result<(), Fail> {
-    run(&rt, rt.alloc(), 3, 4000, 30, 50)
+fn most_messages_are_taken_at_once(rt: HostRuntime) {
+    let choice = Choice {
+        seed: 3,
+        steps: 4000,
+        births: 30,
+        random: 50,
+    };
+    run(&rt, choice);
+}
+
+// Takes a message at random, if there is any.
+fn take_any(rt: &impl Abort, rng: &mut Pcg32, lists: &mut Lists) {
+    if !lists.plain.is_empty() {
+        let place = some_place(rng, 100, lists.plain.len());
+        take(rt, lists, place);
+    }
 }
 
 // Many come, and all go: the holes are swept.
 #[test]
-fn all_messages_are_taken_after_a_burst(rt: HostRuntime) -> Result<(), Fail> {
-    let alloc = rt.alloc();
-    let mut pending = Pending::new(alloc);
-    let mut plain = Vec::new(alloc);
-    for number in 1..1000 {
-        birth(&rt, alloc, &mut pending, &mut plain, number)?;
-    }
+fn all_messages_are_taken_after_a_burst(rt: HostRuntime) {
+    let mut lists = Lists::new(rt.alloc());
+    births(&rt, &mut lists, 1, 1000);
     let mut rng = Pcg32::new(4, 54);
     for _ in 0..1000 {
-        if !plain.is_empty() {
-            let place = rng.next_word() as usize % plain.len();
-            take(&rt, &mut pending, &mut plain, place);
-        }
-        if plain.len() % 50 == 0 {
-            are_same(&rt, &pending, plain.as_slice());
+        take_any(&rt, &mut rng, &mut lists);
+        if lists.plain.len() % 50 == 0 {
+            are_same(&rt, &lists);
         }
     }
-    assert_eq!(rt; pending.len(), 0);
-    birth(&rt, alloc, &mut pending, &mut plain, 2000)?;
-    are_same(&rt, &pending, plain.as_slice());
-    Ok(())
+    assert_eq!(rt; lists.pending.len(), 0);
+    births(&rt, &mut lists, 2000, 2001);
+    are_same(&rt, &lists);
 }
 
 // An id whose message was taken may come again, and its message is then the last.
 #[test]
-fn a_taken_id_comes_again_as_the_last(rt: HostRuntime) -> Result<(), Fail> {
-    let alloc = rt.alloc();
-    let mut pending = Pending::new(alloc);
-    let mut plain = Vec::new(alloc);
-    for number in 1..9 {
-        birth(&rt, alloc, &mut pending, &mut plain, number)?;
-    }
-    take(&rt, &mut pending, &mut plain, 2);
-    birth(&rt, alloc, &mut pending, &mut plain, 3)?;
-    are_same(&rt, &pending, plain.as_slice());
-    Ok(())
+fn a_taken_id_comes_again_as_the_last(rt: HostRuntime) {
+    let mut lists = Lists::new(rt.alloc());
+    births(&rt, &mut lists, 1, 9);
+    take(&rt, &mut lists, 2);
+    births(&rt, &mut lists, 3, 4);
+    are_same(&rt, &lists);
 }
 
 // Adds a message, and once more where memory is refused, after which nothing has changed.
 fn birth_again(
-    rt: &impl Abort,
-    alloc: Global,
-    pending: &mut Pending,
-    plain: &mut Vec<u64>,
+    rt: &(impl AllocGlobal + Abort),
+    lists: &mut Lists,
     number: u64,
 ) -> Result<(), AllocError> {
-    if birth(rt, alloc, pending, plain, number).is_err() {
-        are_same(rt, pending, plain.as_slice());
-        birth(rt, alloc, pending, plain, number)?;
+    if birth(rt, lists, number).is_ok() {
+        return Ok(());
     }
-    Ok(())
+    are_same(rt, lists);
+    birth(rt, lists, number)
 }
 
 #[test]
 fn refused_memory_leaves_the_pending_messages(rt: HostRuntime) -> Result<(), Fail> {
-    let alloc = rt.alloc();
-    let mut pending = Pending::new(alloc);
-    let mut plain = Vec::new(alloc);
+    let mut lists = Lists::new(rt.alloc());
     for number in 1..40 {
-        birth_again(&rt, alloc, &mut pending, &mut plain, number)?;
+        birth_again(&rt, &mut lists, number)?;
         if number % 3 == 0 {
-            take(&rt, &mut pending, &mut plain, 1);
+            take(&rt, &mut lists, 1);
         }
     }
-    are_same(&rt, &pending, plain.as_slice());
+    are_same(&rt, &lists);
     Ok(())
 }
 
 // Room for sixteen is made before sixteen messages come, and none of them takes more.
 #[test]
-fn sixteen_messages_come_within_the_room_that_was_made(rt: HostRuntime) -> Result<(), Fail> {
-    let alloc = rt.alloc();
-    let mut pending = Pending::new(alloc);
-    pending.reserve(16)?;
+fn sixteen_messages_come_within_the_room_that_was_made(rt: HostRuntime) {
+    let mut pending = Pending::new(rt.alloc());
+    pending.reserve(16).expect(&rt, "memory");
     for number in 0..16 {
-        let message = message(alloc, number)?;
+        let message = message(rt.alloc(), number).expect(&rt, "memory");
         assert!(rt; pending.find(message.id).is_none());
         pending.push(message);
     }
     assert_eq!(rt; pending.len(), 16);
-    Ok(())
 }

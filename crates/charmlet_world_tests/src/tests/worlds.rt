@@ -1,17 +1,18 @@
 // The present world against the plain one, event by event, on random histories.
 
-ghost use Rattle.std.specs.Prelude.{◌≡◌, OnOk, OnErr, IfOk, IfSome, true};
+ghost use Rattle.std.specs.Prelude.{◌≡◌, OnOk, true};
 ghost use Rattle.charmlet_world_tests.specs.Pair.{IsPair};
 
 use charmlet_chare::Output;
-use charmlet_model::{CONSTRUCT, Elem, Event, Manifest, MsgId, Reaction, Told, Window, Words};
+use charmlet_model::{
+    CONSTRUCT, Elem, Event, Manifest, Message, MsgId, Reaction, Told, Window, Words,
+};
 use charmlet_plain::PlainWorld;
-use charmlet_world::PresentWorld;
+use charmlet_world::{Letter, PresentWorld};
 use rand_core::utils::NextWord;
 use rand_pcg::Pcg32;
-use std::alloc::{AllocError, Global};
+use std::alloc::{AllocError, AllocGlobal, Global};
 use std::process::Abort;
-use std::test::Fail;
 
 const PROCESSORS: u16 = 4;
 
@@ -110,58 +111,74 @@ fn deliver(world: &mut PresentWorld, plain: &mut PlainWorld, id: MsgId) -> Resul
 
 // ---- what both show
 
+// A pending message is this one.
+fn is_message(rt: &impl Abort, id: MsgId, letter: &Letter, message: &Message) {
+    assert_eq!(rt; id, message.id);
+    assert_eq!(rt; letter.to, message.to);
+    assert_eq!(rt; letter.entry, message.entry);
+    assert_eq!(rt; letter.words.as_slice(), message.words.as_slice());
+}
+
+// The oldest message that can be delivered.
+fn oldest(plain: &PlainWorld) -> Option<MsgId> {
+    for message in plain.pending() {
+        if plain.can_receive(message) {
+            return Some(message.id);
+        }
+    }
+    None
+}
+
 fn messages_are_same(rt: &impl Abort, world: &PresentWorld, plain: &PlainWorld) {
     assert_eq!(rt; world.pending_count(), plain.pending().len());
     let mut messages = plain.pending().iter();
-    let mut oldest = None;
     for (id, letter) in world.messages() {
-        let Some(message) = messages.next() else {
-            assert!(rt; false, "{id} is too many");
-            return;
-        };
-        assert_eq!(rt; id, message.id);
-        assert_eq!(rt; letter.to, message.to);
-        assert_eq!(rt; letter.entry, message.entry);
-        assert_eq!(rt; letter.words.as_slice(), message.words.as_slice());
-        if oldest.is_none() && plain.can_receive(message) {
-            oldest = Some(id);
-        }
+        let message = messages.next().expect(rt, "a message of the plain world");
+        is_message(rt, id, letter, message);
     }
     assert!(rt; messages.next().is_none());
-    assert_eq!(rt; world.oldest(), oldest);
+    assert_eq!(rt; world.oldest(), oldest(plain));
+}
+
+fn element_is_same(rt: &impl Abort, world: &PresentWorld, plain: &PlainWorld, elem: Elem) {
+    let (sent, received) = plain.counts(elem);
+    let element = world.element(elem);
+    assert_eq!(rt; element.sent, sent);
+    assert_eq!(rt; element.received, received);
+    assert_eq!(rt; element.place.is_some(), plain.state(elem).is_some());
 }
 
 fn elements_are_same(rt: &impl Abort, world: &PresentWorld, plain: &PlainWorld) {
     for elem in ELEMENTS {
-        let (sent, received) = plain.counts(elem);
-        let element = world.element(elem);
-        assert_eq!(rt; element.sent, sent);
-        assert_eq!(rt; element.received, received);
-        assert_eq!(rt; element.place.is_some(), plain.state(elem).is_some());
+        element_is_same(rt, world, plain, elem);
     }
+}
+
+// The reply at this place of a window.
+fn reply_at(window: &Window, place: usize) -> Option<&[u64]> {
+    window.get(place).map(|words: &Words| words.as_slice())
 }
 
 fn windows_are_same(rt: &impl Abort, window: &Window, plain: &Window) {
     assert_eq!(rt; window.len(), plain.len());
     for place in 0..8 {
-        let reply = window.get(place).map(|words: &Words| words.as_slice());
-        let expected = plain.get(place).map(|words: &Words| words.as_slice());
-        assert_eq!(rt; reply, expected);
+        assert_eq!(rt; reply_at(window, place), reply_at(plain, place));
     }
+}
+
+fn client_is_same(rt: &impl Abort, world: &PresentWorld, plain: &PlainWorld, client: u32) {
+    let Some(expected) = plain.client(client) else {
+        assert!(rt; world.client(client).is_none());
+        return;
+    };
+    let present = world.client(client).expect(rt, "a row").present();
+    assert_eq!(rt; present.last, expected.last);
+    windows_are_same(rt, &present.window, &expected.window);
 }
 
 fn clients_are_same(rt: &impl Abort, world: &PresentWorld, plain: &PlainWorld) {
     for client in 0..CLIENTS {
-        let Some(expected) = plain.client(client) else {
-            assert!(rt; world.client(client).is_none());
-            continue;
-        };
-        let Some(rows) = world.client(client) else {
-            assert!(rt; false, "{client} has no row");
-            continue;
-        };
-        assert_eq!(rt; rows.present().last, expected.last);
-        windows_are_same(rt, &rows.present().window, &expected.window);
+        client_is_same(rt, world, plain, client);
     }
 }
 
@@ -254,60 +271,61 @@ fn some_event(
 }
 
 // Both worlds, in which nothing has happened, with an array of each kind.
-fn both(alloc: Global) -> Result<(PresentWorld, PlainWorld), Fail>
-    ensures { IfOk result (λ worlds. IsPair worlds.0 worlds.1) }
+fn both(rt: &(impl AllocGlobal + Abort)) -> (PresentWorld, PlainWorld)
+    ensures { IsPair result.0 result.1 }
 {
     let arrays = [(0, 1), (1, 2), (2, 3), (3, 4), (4, 5), (5, 6)];
-    let Some(manifest) = Manifest::of(alloc, &arrays)? else {
-        return Err("no manifest")?;
-    };
-    let Some(same) = Manifest::of(alloc, &arrays)? else {
-        return Err("no manifest")?;
-    };
-    let world = PresentWorld::new(alloc, manifest, PROCESSORS);
-    Ok((world, PlainWorld::new(alloc, same)))
+    let manifest = Manifest::of(rt.alloc(), &arrays).expect(rt, "memory");
+    let manifest = manifest.expect(rt, "a manifest");
+    let same = Manifest::of(rt.alloc(), &arrays).expect(rt, "memory");
+    let same = same.expect(rt, "a manifest");
+    let world = PresentWorld::new(rt.alloc(), manifest, PROCESSORS);
+    (world, PlainWorld::new(rt.alloc(), same))
 }
 
 // So many tries of a history, and how many events happened.
-fn history(rt: &impl Abort, alloc: Global, seed: u64, tries: u32) -> Result<u64, Fail> {
+fn history(rt: &(impl AllocGlobal + Abort), seed: u64, tries: u32) -> u64 {
     let mut rng = Pcg32::new(seed, 54);
-    let (mut world, mut plain) = both(alloc)?;
+    let (mut world, mut plain) = both(rt);
     let mut happened: u64 = 0;
     for _ in 0..tries {
-        if some_event(alloc, &mut rng, &mut world, &mut plain)? {
+        let event = some_event(rt.alloc(), &mut rng, &mut world, &mut plain);
+        if event.expect(rt, "memory") {
             happened = happened.saturating_add(1);
         }
         worlds_are_same(rt, &world, &plain);
     }
-    Ok(happened)
+    happened
 }
 
 #[test]
-fn random_histories_give_the_plain_world(rt: HostRuntime) -> Result<(), Fail> {
+fn random_histories_give_the_plain_world(rt: HostRuntime) {
     let mut happened: u64 = 0;
     for seed in 0..300 {
-        happened = happened.saturating_add(history(&rt, rt.alloc(), seed, 40)?);
+        happened = happened.saturating_add(history(&rt, seed, 40));
     }
     assert!(rt; happened > 4000, "{happened}");
-    Ok(())
 }
 
 #[test]
-fn a_long_history_gives_the_plain_world(rt: HostRuntime) -> Result<(), Fail> {
-    let happened = history(&rt, rt.alloc(), 4711, 2000)?;
+fn a_long_history_gives_the_plain_world(rt: HostRuntime) {
+    let happened = history(&rt, 4711, 2000);
     assert!(rt; happened > 300, "{happened}");
-    Ok(())
 }
 
 // ---- what clients are told, and room
 
 const ME: Elem = Elem { array: 0, index: 0 };
 
+// What client 2 is told of its first request.
+fn told(rt: &(impl AllocGlobal + Abort), world: &PresentWorld) -> Told {
+    world.told(rt.alloc(), 2, 1).expect(rt, "memory")
+}
+
 // A counter is constructed by client 2: what the client is told changes with a flush alone.
 #[test]
-fn clients_are_told_what_was_flushed(rt: HostRuntime) -> Result<(), Fail> {
-    let alloc = rt.alloc();
-    let (mut world, mut plain) = both(alloc)?;
+fn clients_are_told_what_was_flushed(rt: HostRuntime) {
+    let (mut world, mut plain) = both(&rt);
     let request = Request {
         client: 2,
         number: 1,
@@ -315,9 +333,9 @@ fn clients_are_told_what_was_flushed(rt: HostRuntime) -> Result<(), Fail> {
         entry: CONSTRUCT,
         words: &[5],
     };
-    assert!(rt; accept(alloc, &mut world, &mut plain, &request)?);
-    assert!(rt; matches!(&world.told(alloc, 2, 1)?, Told::Unknown));
+    let accepted = accept(rt.alloc(), &mut world, &mut plain, &request);
+    assert!(rt; accepted.expect(&rt, "memory"));
+    assert!(rt; matches!(told(&rt, &world), Told::Unknown));
     world.flush_client(2);
-    assert!(rt; matches!(&world.told(alloc, 2, 1)?, Told::Accepted));
-    Ok(())
+    assert!(rt; matches!(told(&rt, &world), Told::Accepted));
 }

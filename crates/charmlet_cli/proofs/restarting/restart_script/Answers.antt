@@ -1,9 +1,8 @@
-use Rattle.std.proofs.Common.{◌≡◌, ◌≤◌, List, true, false, rules, refl, sym, subst}
+use Rattle.std.proofs.Common.{◌≡◌, ◌≤◌, true, false, rules, refl, sym, subst}
 use Rattle.charmlet_model.specs.Core.{Blanks}
 use Rattle.charmlet_script.specs.Script.{blanks_of}
 use Rattle.charmlet_stock.specs.Stock.{supplied_to}
-use Rattle.charmlet_cli.specs.Lines.{blanks_left}
-use Rattle.charmlet_cli.specs.Restarted.{EndsRestart, IsRestarted, given_of}
+use Rattle.charmlet_cli.specs.Restarted.{IsRestarted, given_of}
 use Rattle.charmlet_cli.proofs.Endings.{on_ok}
 use Rattle.charmlet_cli.proofs.Restarts.{ok_map, restart_ends}
 use Rattle.charmlet_cli.proofs.Supplies.{is_enough, is_too_few}

@@ -1,4 +1,4 @@
-use Rattle.std.proofs.Common.{◌+◌, ◌≤◌, length, arith}
+use Rattle.std.proofs.Common.{◌≤◌, length, arith}
 use Rattle.std.specs.Map.{keys_of}
 use Rattle.charmlet_requests.proofs.Gaps.{all-low, count-of-all}
 use Rattle.charmlet_requests.proofs.calling.array_not_in.Goals as goal
