@@ -8,7 +8,7 @@ use Rattle.charmlet_model.specs.declared.refusal.Refusal.TheVariants as refusals
 use Rattle.charmlet_model.specs.Refusal.{refusal_number}
 use Rattle.charmlet_model.specs.World.{client_of, kind_of_array}
 use Rattle.charmlet_model.specs.Told.{told}
-use Rattle.charmlet_model.specs.Core.{Core, CoreStep, Request, Status, Assign, Commit, Finish, Release, Move, Flush, Checkpoint, CoreAnswer, Refuses, Blanks, Stepped, Steps, Gate, When, MayLackMemory, MayFail, away_gates, blank_for, durable_world, first_refusal, gates, has_words, is_repeat, lacks_blank, may_fail, message_gates, new_request_gates, pending_message, place_or_home, present, stepped_unless}
+use Rattle.charmlet_model.specs.Core.{Core, CoreStep, Request, Status, Assign, Commit, Finish, Release, Move, Flush, Checkpoint, Refuses, Blanks, Stepped, Steps, Gate, When, MayLackMemory, MayFail, away_gates, blank_for, durable_world, first_refusal, gates, has_words, is_repeat, lacks_blank, may_fail, message_gates, new_request_gates, pending_message, place_or_home, present, stepped_unless}
 use Rattle.charmlet_model.specs.CoreLaws.{IsQuiet}
 use Rattle.charmlet_model.proofs.CoreLemmas.{answers_no_refusal}
 
