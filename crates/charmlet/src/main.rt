@@ -36,9 +36,9 @@ macro_rules! boxed {
     };
 }
 
-/// A new blank object of a kind, boxed, or none where memory is refused. It is a macro, since the checker has each function make
-/// the boxes of a `dyn` type that it needs, and none hand them out; and it has no way out, since each would drop all that its
-/// function owns.
+/// A new blank object of a kind, boxed, or the error of refused memory. It is a macro, since the checker has each function make
+/// the boxes of a `dyn` type that it needs, and none hand them out. It has no `?`, since each would drop all that its function
+/// owns there.
 macro_rules! blank {
     ($alloc:expr, $kind:expr) => {{
         let blank: Option<Box<dyn Chare + Send>> = match $kind {
