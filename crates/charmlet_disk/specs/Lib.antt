@@ -4,6 +4,7 @@ pub mod Crash
 pub mod Disk
 pub mod Torn
 pub mod Fuse
+pub mod Once
 pub mod FileDisk
 pub mod Memory
 pub mod MemDisk

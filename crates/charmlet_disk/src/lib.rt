@@ -7,6 +7,7 @@ mod file_disk;
 mod fuse_disk;
 pub mod laws;
 mod mem_disk;
+mod once_disk;
 mod through;
 
 pub use crate::crash::CrashChoice;
@@ -14,4 +15,5 @@ pub use crate::disk::{DeviceFault, Disk};
 pub use crate::file_disk::FileDisk;
 pub use crate::fuse_disk::FuseDisk;
 pub use crate::mem_disk::{Call, MemDisk};
+pub use crate::once_disk::OnceDisk;
 pub use crate::through::{settle, write_through};

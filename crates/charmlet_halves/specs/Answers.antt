@@ -1,7 +1,7 @@
 -- When writers refuse.
 use Rattle.std.specs.Prelude.{◌≡◌, ℕ, ◌+◌, ◌^◌, nat_le, ◌||◌, Bool, true, false, if◌then◌else◌, Option, Some, None, Result, Ok, Err, IfErr}
 use Rattle.charmlet_model.specs.declared.refusal.Refusal.{Refusal}
-use Rattle.charmlet_model.specs.declared.refusal.Refusal.TheVariants.{Device, Halted, LogFull, ImageFull}
+use Rattle.charmlet_model.specs.declared.refusal.Refusal.TheVariants.{Damaged, Device, Halted, ImageFull, LogFull, Memory, NothingHere}
 
 -- the call is refused so, or it is done unless the device fails
 abbrev pub Answers : {X : Type 0} → Option Refusal → Result X Refusal → Type 0
@@ -27,3 +27,11 @@ abbrev pub is_no_failure : {X : Type 0} → Result X Refusal → Bool
 is_no_failure (Ok x) = true
 is_no_failure (Err Device) = false
 is_no_failure (Err refusal) = true
+
+-- what two halves say can't be told: a fault, no store, no memory, or a failure
+abbrev pub is_finding_refusal : Refusal → Bool
+is_finding_refusal (Damaged half offset) = true
+is_finding_refusal NothingHere = true
+is_finding_refusal Memory = true
+is_finding_refusal Device = true
+is_finding_refusal _ = false

@@ -152,6 +152,21 @@ opens bytes s e =
     let begins : top bytes ≡ Begun s.header t.1 = t.3 ∙ ap (λ (h : Header). Begun h t.1) (sym same) in
     record { rest = t.1; begins = begins; read = ap (found_from (length bytes)) (sym begins) ∙ e }
 
+-- What an open half is read from, part by part.
+pub record OpenParts (bytes : List ℕ) (s : Saved) : Type 0 where
+  pub body : List ℕ
+  pub after : List ℕ
+  pub gate : bytes ≡ 1 ∷ drop 1 bytes
+  pub header : read_header (drop 1 bytes) ≡ Ok (s.header, body)
+  pub saved : read_saved s.header body ≡ Ok (s, after)
+
+pub open_parts : (bytes : List ℕ) (s : Saved) → found bytes ≡ Open s → OpenParts bytes s
+open_parts bytes s e =
+    let o = opens bytes s e in
+    let begins = top_is bytes s.header o.rest o.begins in
+    let read = named_open (length bytes) (read_saved s.header o.rest) s o.read in
+    record { body = o.rest; after = read.0; gate = begins.0; header = begins.1; saved = read.1 }
+
 pub later_halves_are_taken : LaterHalvesAreTaken
 later_halves_are_taken = λ first second s t open_s open_t.
     let a = opens first s open_s in

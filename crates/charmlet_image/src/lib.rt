@@ -17,9 +17,9 @@ mod sizes;
 mod writing;
 
 pub use crate::entries::Entry;
-pub use crate::half::{Beginning, HalfView, OpenHalf, read_half, read_top};
+pub use crate::half::{Beginning, HalfView, OpenHalf, read_half, read_top, reread_half};
 pub use crate::header::{HEADER_SIZE, Header, MAX_GENERATION, Mark};
 pub use crate::image::ImageView;
-pub use crate::log::{LogBatches, LogView};
+pub use crate::log::{KnownLog, LogBatches, LogView};
 pub use crate::sizes::{arrays_size, client_size, entry_size};
 pub use crate::writing::{new_store, write_arrays, write_client, write_entry, write_header};

@@ -20,7 +20,8 @@ use Rattle.charmlet_recovery.specs.RestartLaws.{IsEnough, Lacks}
 use Rattle.charmlet_recovery.proofs.Restarting.{least_short_is_found, restarts_are_taken}
 use Rattle.charmlet_recovery.proofs.Stored.{recovered_is_taken}
 use Rattle.charmlet_halves.specs.Found.{Finds}
-use Rattle.charmlet_recover.specs.Restart.{AnswersBy, IsShortOfSome, is_finding_refusal, is_half_refusal}
+use Rattle.charmlet_recover.specs.Restart.{AnswersBy, IsShortOfSome, is_half_refusal}
+use Rattle.charmlet_halves.specs.Answers.{is_finding_refusal}
 
 -- ---- causes
 

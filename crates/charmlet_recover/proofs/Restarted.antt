@@ -18,7 +18,7 @@ use Rattle.charmlet_recovery.specs.Restarts.{taken_refusal}
 use Rattle.charmlet_stock.specs.Stock.{blanks_in}
 use Rattle.charmlet_halves.specs.declared.halves.Halves.{Halves}
 use Rattle.charmlet_halves.specs.declared.opening.Opened.{Opened}
-use Rattle.charmlet_halves.specs.Answers.{is_no_failure}
+use Rattle.charmlet_halves.specs.Answers.{is_finding_refusal, is_no_failure}
 use Rattle.charmlet_halves.specs.Found.{Finds, Says}
 use Rattle.charmlet_halves.specs.Opened.{OpensAs}
 use Rattle.charmlet_halves.specs.Halves.{disk_of, taken_half, text_of}
@@ -26,7 +26,7 @@ use Rattle.charmlet_journal.specs.Rest.{GoesOn, IsKept}
 use Rattle.charmlet_recover.specs.declared.restarting.NotRestarted.{NotRestarted}
 use Rattle.charmlet_recover.specs.declared.restarting.Recovered.{Recovered}
 use Rattle.charmlet_replay.specs.Replayed.{IsReplayed}
-use Rattle.charmlet_recover.specs.Restart.{AnswersBy, IsOpenedOn, IsReadFrom, IsShortOfSome, IsTakenFrom, OpensWith, ReadsSame, bytes_on, core_of, is_finding_refusal, is_half_refusal, is_restart_refusal, restarted_or_refused}
+use Rattle.charmlet_recover.specs.Restart.{AnswersBy, IsOpenedOn, IsReadFrom, IsShortOfSome, IsTakenFrom, OpensWith, ReadsSame, bytes_on, core_of, is_half_refusal, is_restart_refusal, restarted_or_refused}
 use Rattle.charmlet_recover.proofs.Answered.{half_is_short, taken_is_recovered}
 use Rattle.charmlet_recover.proofs.Kept.{opened_goes_on, opened_keeps, survey_found}
 use Rattle.charmlet_recover.proofs.Left.{left_unwanted}

@@ -59,14 +59,6 @@ is_restart_refusal (refusals.BlanksWanted kind count) = true
 is_restart_refusal refusals.Memory = true
 is_restart_refusal _ = false
 
--- the halves are found, or refused so
-abbrev pub is_finding_refusal : Refusal → Bool
-is_finding_refusal refusals.Device = true
-is_finding_refusal (refusals.Damaged half offset) = true
-is_finding_refusal refusals.NothingHere = true
-is_finding_refusal refusals.Memory = true
-is_finding_refusal _ = false
-
 -- what a half means comes back, or is refused so
 abbrev pub is_half_refusal : Refusal → Bool
 is_half_refusal (refusals.Damaged half offset) = true

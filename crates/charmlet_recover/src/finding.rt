@@ -1,11 +1,11 @@
 //! What two halves say, for those who would restart from them.
 
-ghost use Rattle.std.specs.Prelude.{◌≡◌, IfOk};
+ghost use Rattle.std.specs.Prelude.{◌≡◌, true, IfErr, IfOk};
 ghost use Rattle.charmlet_model.specs.declared.half.Half.TheVariants as halves;
 ghost use Rattle.charmlet_disk.specs.Disk.{LeavesOnly, SameFiles, faults_after};
 ghost use Rattle.charmlet_disk.specs.File.{MayLeave};
 ghost use Rattle.charmlet_image.specs.Images.{Saved};
-ghost use Rattle.charmlet_halves.specs.Answers.{is_no_failure};
+ghost use Rattle.charmlet_halves.specs.Answers.{is_finding_refusal, is_no_failure};
 ghost use Rattle.charmlet_halves.specs.Found as surveys;
 ghost use Rattle.charmlet_recover.specs.Found.{IsFoundIn, IsRead, Says};
 
@@ -13,7 +13,7 @@ use crate::half::wanted_in;
 use crate::wanted::Wanted;
 use charmlet_disk::Disk;
 use charmlet_halves::{Surveyed, survey};
-use charmlet_image::{HalfView, ImageView, OpenHalf, read_half};
+use charmlet_image::{ImageView, OpenHalf};
 use charmlet_model::{Half, Manifest, Refusal};
 use std::alloc::{AllocError, Global};
 
@@ -41,6 +41,7 @@ pub struct Found {
 /// [`charmlet_halves::survey`] has it; `Memory`; `Device`. Whether the events can have happened isn't tested.
 pub fn manifest<D: Disk>(alloc: Global, disk: &mut D) -> Result<Found, Refusal>
     ensures read { IfOk result IsRead }
+    ensures err { IfErr result (λ refusal. is_finding_refusal refusal ≡ true) }
     ensures found { D.honest disk.old → IsFoundIn (D.file disk.old halves.Zero).now
         (D.file disk.old halves.One).now result }
     ensures same { D.honest disk.old → SameFiles (D.file disk.old) (D.file disk.new) }
@@ -66,21 +67,16 @@ fn found_in(alloc: Global, survey: &Surveyed) -> Result<Found, AllocError>
     ensures says { IfOk result (λ found. (s : Saved) →
         surveys.Says survey.now.bytes.items survey.now.contents s → Says s found) }
 {
-    let bytes = survey.bytes.as_slice();
-    match read_half(alloc, bytes)? {
-        HalfView::Open(half) => {
-            let wanted = wanted_in(alloc, bytes, &half)?;
-            let OpenHalf { image, .. } = half;
-            let ImageView { manifest, .. } = image;
-            Ok(Found {
-                half: survey.half,
-                generation: survey.contents.header.generation,
-                before: survey.contents.header.events,
-                logged: survey.contents.logged,
-                manifest,
-                wanted,
-            })
-        }
-        HalfView::Closed | HalfView::Damaged(_) => unreachable!(),
-    }
+    let half = survey.reread(alloc)?;
+    let wanted = wanted_in(alloc, survey.bytes.as_slice(), &half)?;
+    let OpenHalf { image, .. } = half;
+    let ImageView { manifest, .. } = image;
+    Ok(Found {
+        half: survey.half,
+        generation: survey.contents.header.generation,
+        before: survey.contents.header.events,
+        logged: survey.contents.logged,
+        manifest,
+        wanted,
+    })
 }

@@ -2,7 +2,7 @@
 ghost use Rattle.std.specs.Prelude.{◌≡◌, false};
 ghost use Rattle.charmlet_disk.specs.Disk.{faults_after};
 
-use charmlet_disk::{DeviceFault, Disk, FuseDisk, MemDisk};
+use charmlet_disk::{DeviceFault, Disk, FuseDisk, MemDisk, OnceDisk};
 use charmlet_model::Half;
 
 // Writes a byte to the end of a half, and syncs it, so many times. How many of the calls succeeded.
@@ -54,6 +54,39 @@ fn blown_fuses_pass_lengths_and_reads(rt: HostRuntime) {
         assert_eq!(rt; first_byte(&mut fuse, Half::Zero), Some(b'x'));
     }
     assert_eq!(rt; fuse.failures(), 3);
+}
+
+// Each time a length is asked for, a byte is written and the half is synced; where the length fails, the write isn't made.
+#[test]
+fn once_disks_fail_one_call(rt: HostRuntime) {
+    for calls in 0..13 {
+        let mut once = OnceDisk::new(MemDisk::new(rt.alloc()), calls);
+        let failed = u64::from(calls < 12);
+        assert_eq!(rt; lengthen(&mut once, Half::One, 4), 8 - failed);
+        assert_eq!(rt; once.failures(), failed);
+        let mut disk = once.inner();
+        assert_eq!(rt; disk.calls().len() as u64, 8 - failed);
+        assert_eq!(rt; disk.failures(), 0);
+        assert_eq!(rt; lengthen(&mut disk, Half::One, 1), 2);
+    }
+}
+
+// Lengths and reads count as other calls do.
+#[test]
+fn once_disks_fail_lengths_and_reads(rt: HostRuntime) {
+    for calls in 3..7 {
+        let mut once = OnceDisk::new(MemDisk::new(rt.alloc()), calls);
+        assert_eq!(rt; lengthen(&mut once, Half::Zero, 1), 2);
+        for time in 0..3 {
+            let wanted = if 3 + 2 * time <= calls && calls < 5 + 2 * time {
+                None
+            } else {
+                Some(b'x')
+            };
+            assert_eq!(rt; first_byte(&mut once, Half::Zero), wanted);
+        }
+        assert_eq!(rt; once.failures(), 1);
+    }
 }
 
 // A disk whose every call fails.

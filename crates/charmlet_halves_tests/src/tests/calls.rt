@@ -3,7 +3,7 @@ ghost use Rattle.charmlet_disk.specs.Disk.{IsSettled};
 ghost use Rattle.charmlet_disk.specs.MemDisk.{files};
 
 use super::{NEW_STORE, batch, bytes_of, create_on, disk_of, image, later_image};
-use charmlet_disk::{Call, Disk, MemDisk};
+use charmlet_disk::{Call, Disk, MemDisk, OnceDisk, settle};
 use charmlet_halves::Halves;
 use charmlet_model::{Half, Refusal};
 use std::alloc::AllocGlobal;
@@ -205,5 +205,52 @@ fn open_halves_are_kept(rt: HostRuntime) {
                 assert_eq!(rt; bytes_of(&rt, &mut disk, Half::One).as_slice(), one);
             }
         }
+    }
+}
+
+// The halves' first call that is refused where the disk fails the call after so many: of a creation, a batch, an image and its
+// gate, in this order.
+fn first_refused(rt: &(impl AllocGlobal + Abort), calls: u64) -> &'static str {
+    let disk = OnceDisk::new(MemDisk::new(rt.alloc()), calls);
+    let Ok(mut halves) = create_on(rt, disk) else {
+        return "creation";
+    };
+    if halves.append_batch(batch()).is_err() {
+        return "batch";
+    }
+    if halves.prepare_image(image()).is_err() {
+        return "image";
+    }
+    if halves.open_gate().is_err() {
+        return "gate";
+    }
+    "none"
+}
+
+// A creation looks at both first gates by two calls each, and makes six more. Of the others each makes its writes and syncs
+// alone, and asks for no length and no byte.
+#[test]
+fn writers_read_nothing(rt: HostRuntime) {
+    for (calls, wanted) in [
+        (0, "creation"),
+        (9, "creation"),
+        (10, "batch"),
+        (13, "batch"),
+        (14, "image"),
+        (17, "image"),
+        (18, "gate"),
+        (19, "gate"),
+        (20, "none"),
+    ] {
+        assert_eq!(rt; first_refused(&rt, calls), wanted);
+    }
+}
+
+// So does a settling.
+#[test]
+fn a_settling_reads_nothing(rt: HostRuntime) {
+    for calls in 0..4 {
+        let mut once = OnceDisk::new(MemDisk::new(rt.alloc()), calls);
+        assert_eq!(rt; settle(&mut once).is_ok(), calls >= 2);
     }
 }

@@ -45,6 +45,37 @@ fn each_crash_is_survived(rt: HostRuntime) -> Result<(), Fail> {
     Ok(())
 }
 
+// How many events were durable, as the run was told, where the disk fails after so many calls; none, if no store was made.
+fn durable_after(rt: &impl AllocGlobal, calls: u64) -> Result<Option<u64>, Fail> {
+    let alloc = rt.alloc();
+    let flushes = script(rt, FLUSHES)?;
+    let round = lab_round(
+        alloc,
+        &flushes,
+        calls,
+        blanks(alloc, 1)?,
+        MemDisk::new(alloc),
+    )?;
+    Ok(round.durable)
+}
+
+// The creation makes six calls, and each flush four.
+#[test]
+fn durable_numbers_are_those_that_were_told(rt: HostRuntime) -> Result<(), Fail> {
+    for (calls, durable) in [
+        (0, None),
+        (5, None),
+        (6, Some(0)),
+        (9, Some(0)),
+        (10, Some(2)),
+        (13, Some(2)),
+        (14, Some(4)),
+    ] {
+        assert_eq!(rt; durable_after(&rt, calls)?, durable);
+    }
+    Ok(())
+}
+
 #[test]
 fn a_disk_that_forgets_is_found_out(rt: HostRuntime) -> Result<(), Fail> {
     let rt = &rt;
