@@ -1,18 +1,37 @@
 -- Runs that began with a new store.
-use Rattle.std.proofs.Common.{◌≡◌, ℕ, ◌+◌, ◌≤◌, arith, List, [], Option, Some, length, sym, ap, subst, ◌∙◌}
-use Rattle.std.specs.Prelude.{unwrap_or}
+use Rattle.std.proofs.Common.{◌≡◌, ◌⊎◌, inl, inr, ℕ, ◌+◌, ◌≤◌, arith, false, List, [], Option, Some, None, length, sym, ap, subst, ◌∙◌}
+use Rattle.std.specs.Prelude.{Result, Ok, Err, IfErr, option_map, unwrap_or}
+use Rattle.std.specs.Result.{IsErrAnd}
 use Rattle.charmlet_model.specs.declared.event.Event.{Event}
-use Rattle.charmlet_model.specs.Core.{Core}
+use Rattle.charmlet_model.specs.declared.half.Half.TheVariants.{Zero, One}
+use Rattle.charmlet_model.specs.declared.kind.Kind.{Kind}
+use Rattle.charmlet_model.specs.declared.kind.Kind.TheVariants as kinds
+use Rattle.charmlet_model.specs.declared.refusal.Refusal.{Refusal}
+use Rattle.charmlet_model.specs.declared.refusal.Refusal.TheVariants as refusals
+use Rattle.charmlet_model.specs.declared.state.State.{State}
+use Rattle.charmlet_model.specs.Core.{Blanks, Core}
 use Rattle.charmlet_model.specs.Manifest.{manifest_of}
+use Rattle.charmlet_model.specs.Shelves.{count_of}
 use Rattle.charmlet_model.specs.Sound.{IsSound, new_world}
 use Rattle.charmlet_model.specs.World.{IsLegal, World}
 use Rattle.charmlet_record.specs.Reading.{Kinds}
+use Rattle.charmlet_recovery.specs.Blanks.{least_short}
 use Rattle.charmlet_recovery.specs.Outcomes.{IsLawful}
+use Rattle.charmlet_recovery.specs.RestartLaws.{IsEnough, Lacks}
+use Rattle.charmlet_recovery.proofs.Restarting.{least_short_is_found}
+use Rattle.charmlet_chare.specs.declared.chare.Chare as chares
+use Rattle.charmlet_stock.specs.declared.stock.Stock.{Stock}
+use Rattle.charmlet_stock.specs.declared.pile.Tally.{Tally}
+use Rattle.charmlet_stock.specs.Stock.{blanks_in, supplied_to}
+use Rattle.charmlet_replay.specs.Unused.{IsUnused}
+use Rattle.charmlet_disk.specs.declared.disk.Disk as disks
 use Rattle.charmlet_disk.specs.File.{Outcome}
+use Rattle.charmlet_halves.specs.Bytes.{IsOpen}
+use Rattle.charmlet_locate.specs.Locations.{is_processor_count}
 use Rattle.charmlet_journal.specs.NewStores.{new_core}
-use Rattle.charmlet_script.specs.Script.{Contents, pairs_of}
+use Rattle.charmlet_script.specs.Script.{Contents, blanks_of, pairs_of, processors_of}
 use Rattle.charmlet_engine.specs.Outcomes.{Onward, is_lawful_now}
-use Rattle.charmlet_lab.specs.Rounds.{arrays_of}
+use Rattle.charmlet_lab.specs.Rounds.{IsNotRun, arrays_of, needed_by}
 
 -- a manifest of the script's arrays is them
 pub same_arrays : (script : Contents) (kinds : Kinds) → manifest_of (pairs_of script.arrays) ≡ Some kinds → arrays_of script ≡ kinds
@@ -46,3 +65,58 @@ module _ (kinds : Kinds) (processors : ℕ) (first last : Core) (opens : first �
       (subst (λ (es : List Event). IsLawful (new_world kinds) 0 es last.durable o) (sym are)
       (subst (λ (n : ℕ). IsLawful (new_world kinds) n last.history last.durable o) none_before
       (subst (λ (w : World). IsLawful w last.before last.history last.durable o) opening lawful)))
+
+-- ---- why nothing was run
+
+-- what holds of each of the kinds holds of all
+pub by_kind : (P : Kind → Type 0) → P kinds.Counter → P kinds.Ring → P kinds.Account → P kinds.Sum → P kinds.Tree → P kinds.Tape → (kind : Kind) → P kind
+by_kind P counter ring account sum tree tape kinds.Counter = counter
+by_kind P counter ring account sum tree tape kinds.Ring = ring
+by_kind P counter ring account sum tree tape kinds.Account = account
+by_kind P counter ring account sum tree tape kinds.Sum = sum
+by_kind P counter ring account sum tree tape kinds.Tree = tree
+by_kind P counter ring account sum tree tape kinds.Tape = tape
+
+module _ {D C : Type 0} (G : disks.Ghosts D) (state : C → State) (blanks : List C) (script : Contents) (first : D) where
+  -- blanks lack
+  pub blanks_lack : (found : Option (Kind × ℕ)) → Lacks (count_of state blanks) (needed_by script) found → (refusal : Refusal) →
+      option_map (λ (lack : Kind × ℕ). refusals.BlanksWanted lack.0 lack.1) found ≡ Some refusal → IsNotRun G state blanks script first refusal
+  blanks_lack (Some lack) lacks refusal told = subst (IsNotRun G state blanks script first) (let same : refusals.BlanksWanted lack.0 lack.1 ≡ refusal = cc in same) lacks
+  blanks_lack None enough refusal told = absurd cc
+
+  -- the store can't be made
+  pub not_made : (refusal : Refusal) → (refusal ≡ refusals.Device → ⊥) →
+      ((refusal ≡ refusals.BadPes) ⊎ ((refusal ≡ refusals.AlreadyHere) ⊎ ((refusal ≡ refusals.Memory) ⊎ (refusal ≡ refusals.Device)))) →
+      (refusal ≡ refusals.BadPes → is_processor_count (processors_of script) ≡ false) →
+      (refusal ≡ refusals.AlreadyHere → G.honest first → IsOpen (G.file first Zero).now ⊎ IsOpen (G.file first One).now) →
+      IsNotRun G state blanks script first refusal
+  not_made refusal other (inl is) bad here = subst (IsNotRun G state blanks script first) (sym is) (bad is)
+  not_made refusal other (inr (inl is)) bad here = subst (IsNotRun G state blanks script first) (sym is) (here is)
+  not_made refusal other (inr (inr (inl is))) bad here = subst (IsNotRun G state blanks script first) (sym is) tt
+  not_made refusal other (inr (inr (inr is))) bad here = absurd (other is)
+
+  -- memory is lacking
+  pub memory_lacks : {T : Type 0} (result : Result T Refusal) → IsErrAnd result (λ told. told ≡ refusals.Memory) → IfErr result (IsNotRun G state blanks script first)
+  memory_lacks (Ok x) is = tt
+  memory_lacks (Err told) is = subst (IsNotRun G state blanks script first) (sym is) tt
+
+  -- as the stock of these blanks and the count of the lines say
+  module _ (given needed : Blanks) (given_are : (kind : Kind) → given kind ≡ count_of state blanks kind) (needed_are : (kind : Kind) → needed kind ≡ blanks_of kind script.lines) where
+    lacks : Lacks (count_of state blanks) (needed_by script) (least_short given needed)
+    lacks =
+        subst (λ (g : Blanks). Lacks g (needed_by script) (least_short given needed)) (λ i kind. given_are kind i)
+        (subst (λ (n : Blanks). Lacks given n (least_short given needed)) (λ i kind. needed_are kind i) (least_short_is_found given needed))
+
+    pub told_lack : (refusal : Refusal) → option_map (λ (lack : Kind × ℕ). refusals.BlanksWanted lack.0 lack.1) (least_short given needed) ≡ Some refusal → IsNotRun G state blanks script first refusal
+    told_lack refusal told = blanks_lack (least_short given needed) lacks refusal told
+
+    pub told_enough : option_map (λ (lack : Kind × ℕ). refusals.BlanksWanted lack.0 lack.1) (least_short given needed) ≡ None → IsEnough (count_of state blanks) (needed_by script)
+    told_enough none = all (least_short given needed) lacks none
+      where
+        all : (found : Option (Kind × ℕ)) → Lacks (count_of state blanks) (needed_by script) found → option_map (λ (lack : Kind × ℕ). refusals.BlanksWanted lack.0 lack.1) found ≡ None → IsEnough (count_of state blanks) (needed_by script)
+        all None enough none = enough
+        all (Some lack) short none = absurd cc
+
+-- all objects that were supplied to a stock of which none was used are blanks
+pub all_blanks : {C : Type 0} {H : chares.Ghosts C} (stock : Stock C H) → IsUnused stock → (kind : Kind) → blanks_in stock kind ≡ supplied_to stock kind
+all_blanks stock unused kind = omega (arith, ap (λ (t : Tally). t.in_stock) (unused.all kind))

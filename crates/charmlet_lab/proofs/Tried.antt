@@ -1,6 +1,6 @@
 -- Restarts that aren't bad.
-use Rattle.std.proofs.Common.{◌≡◌, inl, inr, ℕ, ◌+◌, arith, true, false, List, [], Option, Some, None, Result, Ok, Err, length, take, refl, sym, ap, subst, ◌∙◌}
-use Rattle.std.specs.Prelude.{IfOk, unwrap_or}
+use Rattle.std.proofs.Common.{◌≡◌, ◌⊎◌, inl, inr, Bool, ℕ, ◌+◌, arith, true, false, List, [], Option, Some, None, Result, Ok, Err, length, take, refl, sym, ap, subst, ◌∙◌}
+use Rattle.std.specs.Prelude.{IfErr, IfOk, unwrap_or}
 use Rattle.charmlet_model.specs.declared.event.Event.{Event}
 use Rattle.charmlet_model.specs.declared.half.Half.{Half}
 use Rattle.charmlet_model.specs.declared.kind.Kind.{Kind}
@@ -29,7 +29,7 @@ use Rattle.charmlet_recover.specs.declared.restarting.Recovered as stores
 use Rattle.charmlet_recover.specs.Restart.{AnswersBy, IsHandedBack, IsOpenedOn, restarted_or_refused}
 use Rattle.charmlet_engine.specs.declared.engine.Engine.{Engine}
 use Rattle.charmlet_engine.specs.Engine.{core_of, recovered_in, recovered_or_not}
-use Rattle.charmlet_lab.specs.Judged.{HasFirst, IsGood, IsNothingOrLawful, count_of}
+use Rattle.charmlet_lab.specs.Judged.{HasFirst, IsGood, IsNotJudged, IsNothingOrLawful, count_of}
 
 -- a store in which nothing has happened since it opened, and which has the first events of a run, was recovered from lawful files
 opened_is_lawful : (kinds : Kinds) (events : List Event) (n processors : ℕ) (core : Core) (outcome : Outcome) →
@@ -93,3 +93,13 @@ module _ {D C : Type 0} {G : disks.Ghosts D} {H : chares.Ghosts C} where
         | false ↦ λ bad answer. absurd (let both : refusals.BadPes ≡ refusals.NothingHere = sym (bad refl) ∙ good.0 in let never : ⊥ = cc in never)
       ] (λ no. (bad no).0) answer in
       inl (nothing_is_here given outcome why)
+
+  -- what isn't judged is so for memory, or since the store is too large for an image
+  why : (r : Result (Engine D C G H) (NotRestarted D C H)) (refusal : Refusal) → IsNotJudged r refusal → (refusal ≡ refusals.Memory) ⊎ (refusal ≡ refusals.ImageFull)
+  why (Ok engine) refusal (inl is) = inl is
+  why (Ok engine) refusal (inr full) = inr full.0
+  why (Err refused) refusal h = absurd h
+
+  pub all_why : (judged : Result Bool Refusal) (r : Result (Engine D C G H) (NotRestarted D C H)) → IfErr judged (IsNotJudged r) → IfErr judged (λ refusal. (refusal ≡ refusals.Memory) ⊎ (refusal ≡ refusals.ImageFull))
+  all_why (Ok bad) r h = tt
+  all_why (Err refusal) r h = why r refusal h

@@ -1,6 +1,7 @@
 -- Whether what came back is a world of a run.
 use Rattle.std.specs.Prelude.{◌≡◌, ◌⊎◌, ◌+◌, ◌≤◌, ℕ, List, length, take, Option, None, Result, Ok, Err, unwrap_or}
 use Rattle.charmlet_model.specs.declared.event.Event.{Event}
+use Rattle.charmlet_model.specs.declared.refusal.Refusal.{Refusal}
 use Rattle.charmlet_model.specs.declared.refusal.Refusal.TheVariants.{NothingHere}
 use Rattle.charmlet_model.specs.Core.{Core, present}
 use Rattle.charmlet_model.specs.Sound.{new_world}
@@ -8,11 +9,12 @@ use Rattle.charmlet_model.specs.World.{world}
 use Rattle.charmlet_record.specs.Reading.{Kinds}
 use Rattle.charmlet_recovery.specs.Outcomes.{IsLawful}
 use Rattle.charmlet_recovery.specs.Recovered.{Nothing, recovered}
+use Rattle.charmlet_checkpoint.specs.Showing.{IsRefusal}
 use Rattle.charmlet_chare.specs.declared.chare.Chare as chares
 use Rattle.charmlet_disk.specs.declared.disk.Disk as disks
 use Rattle.charmlet_disk.specs.File.{Outcome}
 use Rattle.charmlet_engine.specs.declared.engine.Engine.{Engine}
-use Rattle.charmlet_engine.specs.Engine.{core_of}
+use Rattle.charmlet_engine.specs.Engine.{core_of, disk_in, supplied_of, view_of}
 use Rattle.charmlet_recover.specs.declared.restarting.NotRestarted.{NotRestarted}
 
 -- how many events there are, those before the opening world among them
@@ -33,6 +35,28 @@ abbrev pub IsGood : {D C : Type 0} {G : disks.Ghosts D} {H : chares.Ghosts C} �
 IsGood kinds events durable (Ok engine) = HasFirst kinds events (unwrap_or durable 0)
     (core_of engine)
 IsGood kinds events durable (Err refused) = (refused.refusal ≡ NothingHere) × (durable ≡ None)
+
+-- why a restart isn't judged, where a store came back: memory is lacking, or an image of it would
+-- pass a limit; a refused restart always is
+abbrev pub IsNotJudged : {D C : Type 0} {G : disks.Ghosts D} {H : chares.Ghosts C} →
+    Result (Engine D C G H) (NotRestarted D C H) → Refusal → Type 0
+IsNotJudged (Ok engine) refusal = IsRefusal (core_of engine) refusal
+IsNotJudged (Err refused) refusal = ⊥
+
+-- the same store with the same blanks, and the same disk
+pub record IsSameEngine {D C : Type 0} {G : disks.Ghosts D} {H : chares.Ghosts C}
+    (old new : Engine D C G H) : Type 0 where
+  pub view : view_of new ≡ view_of old
+  pub supplied : supplied_of new ≡ supplied_of old
+  pub disk : disk_in new ≡ disk_in old
+
+-- the engine that came back is as it was, and so is a refusal
+abbrev pub IsAsBefore : {D C : Type 0} {G : disks.Ghosts D} {H : chares.Ghosts C} →
+    (old new : Result (Engine D C G H) (NotRestarted D C H)) → Type 0
+IsAsBefore (Ok old) (Ok new) = IsSameEngine old new
+IsAsBefore (Err old) (Err new) = new ≡ old
+IsAsBefore (Ok old) (Err new) = ⊥
+IsAsBefore (Err old) (Ok new) = ⊥
 
 -- the files recover to nothing, or to the world after some of the events
 abbrev pub IsNothingOrLawful : Kinds → List Event → Outcome → Type 0

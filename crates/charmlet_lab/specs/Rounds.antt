@@ -1,18 +1,24 @@
 -- What a run over a disk that fails leaves.
-use Rattle.std.specs.Prelude.{◌≡◌, ◌≤◌, ℕ, Bool, true, false, List, [], length, Option, Some, None, IfSome, IsSome, unwrap_or}
+use Rattle.std.specs.Prelude.{◌≡◌, ◌⊎◌, ◌≤◌, ⊤, ℕ, false, List, [], length, Option, Some, None, IfSome, IsSome, unwrap_or}
 use Rattle.charmlet_model.specs.declared.event.Event.{Event}
 use Rattle.charmlet_model.specs.declared.half.Half.TheVariants.{Zero, One}
 use Rattle.charmlet_model.specs.declared.refusal.Refusal.{Refusal}
-use Rattle.charmlet_model.specs.declared.refusal.Refusal.TheVariants.{BlanksWanted, Memory}
+use Rattle.charmlet_model.specs.declared.refusal.Refusal.TheVariants.{AlreadyHere, BadPes, BlanksWanted, Memory}
+use Rattle.charmlet_model.specs.declared.state.State.{State}
+use Rattle.charmlet_model.specs.Core.{Blanks}
 use Rattle.charmlet_model.specs.Manifest.{manifest_of}
+use Rattle.charmlet_model.specs.Shelves.{count_of}
 use Rattle.charmlet_model.specs.Sound.{new_world}
 use Rattle.charmlet_model.specs.World.{IsLegal}
 use Rattle.charmlet_record.specs.Reading.{Kinds}
 use Rattle.charmlet_image.specs.Spelled.{IsClosed}
 use Rattle.charmlet_recovery.specs.Outcomes.{IsLawful}
+use Rattle.charmlet_recovery.specs.RestartLaws.{IsLeastShort}
 use Rattle.charmlet_disk.specs.declared.disk.Disk as disks
 use Rattle.charmlet_disk.specs.File.{MayLeave, Outcome}
-use Rattle.charmlet_script.specs.Script.{Contents, pairs_of}
+use Rattle.charmlet_halves.specs.Bytes.{IsOpen}
+use Rattle.charmlet_locate.specs.Locations.{is_processor_count}
+use Rattle.charmlet_script.specs.Script.{Contents, blanks_of, pairs_of, processors_of}
 use Rattle.charmlet_engine.specs.Outcomes.{IsNothingOrNew}
 use Rattle.charmlet_lab.specs.declared.round.Round.{Round}
 
@@ -20,11 +26,9 @@ use Rattle.charmlet_lab.specs.declared.round.Round.{Round}
 abbrev pub arrays_of : Contents → Kinds
 arrays_of script = unwrap_or (manifest_of (pairs_of script.arrays)) []
 
--- memory or blanks lack
-abbrev pub is_shortage : Refusal → Bool
-is_shortage Memory = true
-is_shortage (BlanksWanted kind count) = true
-is_shortage _ = false
+-- how many blanks of each kind the script's lines supply
+abbrev pub needed_by : Contents → Blanks
+needed_by script kind = blanks_of kind script.lines
 
 -- The files recover to the world after some of the events, with all that were durable among them;
 -- where the store wasn't said to be made, to nothing or to the new store.
@@ -34,13 +38,29 @@ IsExpected kinds events (Some durable) outcome = IsLawful (new_world kinds) 0 ev
 
 module _ {D : Type 0} (G : disks.Ghosts D) where
   -- A run on a disk leaves this. Its events can happen one after another; those that are durable
-  -- are among them; a store was made where the disk didn't fail; and of an honest disk on which no
-  -- store was, each crash afterwards leaves what is expected.
+  -- are among them; a store was made where the disk didn't fail, and on an honest disk only where
+  -- no half was open; and of an honest disk on which no store was, each crash afterwards leaves what
+  -- is expected.
   pub record IsRound (kinds : Kinds) (first : D) (round : Round D) : Type 0 where
     pub legal : IsLegal (new_world kinds) 0 round.events.items
     pub within : IfSome round.durable (λ durable. durable ≤ length round.events.items)
     pub made : round.is_stopped ≡ false → IsSome round.durable
     pub honest : (G.honest first → G.honest round.disk) × (G.honest round.disk → G.honest first)
+    pub closed : G.honest first → IsSome round.durable →
+        IsClosed (G.file first Zero).now × IsClosed (G.file first One).now
     pub now : G.honest first → IsClosed (G.file first Zero).now → IsClosed (G.file first One).now →
         (outcome : Outcome) → MayLeave (G.file round.disk) outcome →
         IsExpected kinds round.events.items round.durable outcome
+
+  -- why there is no round: there can't be so many processors; a half of an honest disk is open;
+  -- this is the least kind of which the lines supply more than there is, so many; or memory is
+  -- lacking
+  abbrev pub IsNotRun : {C : Type 0} → (C → State) → List C → Contents → (first : D) → Refusal →
+      Type 0
+  IsNotRun state blanks script first BadPes = is_processor_count (processors_of script) ≡ false
+  IsNotRun state blanks script first AlreadyHere = G.honest first →
+      IsOpen (G.file first Zero).now ⊎ IsOpen (G.file first One).now
+  IsNotRun state blanks script first (BlanksWanted kind count) =
+      IsLeastShort (count_of state blanks) (needed_by script) kind count
+  IsNotRun state blanks script first Memory = ⊤
+  IsNotRun state blanks script first _ = ⊥

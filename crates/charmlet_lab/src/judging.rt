@@ -4,8 +4,9 @@ ghost use Rattle.std.specs.Prelude.{◌≡◌, ◌↔◌, ◌≤◌, false, true
 ghost use Rattle.charmlet_model.specs.Fit.{IsFit};
 ghost use Rattle.charmlet_model.specs.Sound.{new_world};
 ghost use Rattle.charmlet_model.specs.World.{IsLegal, world};
+ghost use Rattle.charmlet_checkpoint.specs.Showing.{IsRefusal};
 ghost use Rattle.charmlet_engine.specs.Engine.{IsEngineConsistent, core_of, world_of};
-ghost use Rattle.charmlet_lab.specs.Judged.{HasFirst, IsGood};
+ghost use Rattle.charmlet_lab.specs.Judged.{HasFirst, IsAsBefore, IsGood, IsNotJudged, IsSameEngine};
 ghost use Rattle.charmlet_lab.specs.Rounds.{arrays_of};
 
 use crate::same::is_same_world;
@@ -26,7 +27,7 @@ const OPEN: u8 = 1;
 /// wasn't said to be made; or the store hasn't the world after the first events of the run, as many as it counts, or not all
 /// that were durable among them. The world is that of a plain program, which knows no file. The engine goes on as before.
 ///
-/// `Memory` where memory is lacking; `ImageFull` where the store is too large for an image, of which its world is read.
+/// `Memory` where memory is lacking; `ImageFull` where an image of the store, of which its world is read, would pass a limit.
 pub fn lab_bad<D: Disk, C: Chare>(
     alloc: Global,
     script: &Script,
@@ -38,6 +39,8 @@ pub fn lab_bad<D: Disk, C: Chare>(
     requires legal { IsLegal (new_world (arrays_of script.now)) 0 events.now }
     ensures ok { IfOk result (λ bad.
         (bad ≡ false) ↔ IsGood (arrays_of script.now) events.now durable answer.old) }
+    ensures err { IfErr result (IsNotJudged answer.old) }
+    ensures same { IsAsBefore answer.old answer.new }
     ensures consistent { IfOk answer.new IsEngineConsistent }
 {
     match answer {
@@ -61,6 +64,8 @@ fn has_first<D: Disk, C: Chare>(
     requires legal { IsLegal (new_world (arrays_of script.now)) 0 events.now }
     ensures ok { IfOk result (λ good.
         (good ≡ true) ↔ HasFirst (arrays_of script.now) events.now durable (core_of engine.old)) }
+    ensures err { IfErr result (IsRefusal (core_of engine.old)) }
+    ensures same { IsSameEngine engine.old engine.new }
     ensures consistent { IsEngineConsistent engine.new }
 {
     let count = engine.event_count();
@@ -95,6 +100,8 @@ fn world_in<D: Disk, C: Chare>(
     requires { IsEngineConsistent engine.old }
     ensures is { IfOk result (λ plain. plain ≡ world_of engine.old) }
     ensures fit { IfOk result (λ plain. IsFit plain) }
+    ensures err { IfErr result (IsRefusal (core_of engine.old)) }
+    ensures same { IsSameEngine engine.old engine.new }
     ensures consistent { IsEngineConsistent engine.new }
 {
     let image = engine.image()?;

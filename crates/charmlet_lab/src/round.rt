@@ -1,16 +1,19 @@
 //! A run of a script over a disk that fails from some call on.
 
-ghost use Rattle.std.specs.Prelude.{◌≡◌, ◌≤◌, false, true, length, IfErr, IfOk, List, ℕ};
+ghost use Rattle.std.specs.Prelude.{◌≡◌, ◌≤◌, ◌+◌, true, IfErr, IfOk};
+ghost use Rattle.charmlet_model.specs.declared.kind.Kind as kinds;
 ghost use Rattle.charmlet_model.specs.declared.refusal.Refusal.TheVariants as refusals;
-ghost use Rattle.charmlet_model.specs.Fit.{IsFit};
-ghost use Rattle.charmlet_model.specs.Sound.{new_world};
+ghost use Rattle.charmlet_model.specs.Shelves.{count_of};
+ghost use Rattle.charmlet_recovery.specs.RestartLaws.{IsEnough};
 ghost use Rattle.charmlet_disk.specs.Disk.{IsSettled};
 ghost use Rattle.charmlet_locate.specs.Locations.{is_processor_count};
-ghost use Rattle.charmlet_script.specs.Script.{processors_of};
+ghost use Rattle.charmlet_stock.specs.Stock as stocks;
+ghost use Rattle.charmlet_stock.specs.Stock.{part_of};
+ghost use Rattle.charmlet_recover.specs.Wanted as wants;
+ghost use Rattle.charmlet_script.specs.Script.{blanks_in, blanks_of, processors_of};
 ghost use Rattle.charmlet_engine.specs.Advances.{Advances};
 ghost use Rattle.charmlet_engine.specs.Engine.{IsEngineConsistent};
-ghost use Rattle.charmlet_engine.specs.Outcomes.{not_device};
-ghost use Rattle.charmlet_lab.specs.Rounds.{IsRound, arrays_of, is_shortage};
+ghost use Rattle.charmlet_lab.specs.Rounds.{IsNotRun, IsRound, arrays_of, needed_by};
 
 use charmlet_chare::Chare;
 use charmlet_disk::{Disk, FuseDisk};
@@ -18,7 +21,7 @@ use charmlet_engine::Engine;
 use charmlet_halves::Refused;
 use charmlet_history::Request;
 use charmlet_model::{Answer, Elem, Event, Kind, Refusal, Step, Words};
-use charmlet_recover::stock_of;
+use charmlet_recover::{Wanted, lacking, stock_of};
 use charmlet_requests::{Handler, Handlers};
 use charmlet_script::{HandlerLine, Line, Script};
 use charmlet_stock::Stock;
@@ -43,8 +46,9 @@ pub struct Round<D: Disk> {
 /// On an honest disk on which no store was, each crash after the run leaves files that recover to the world after some of
 /// the events, with all that were durable among them; where the store wasn't said to be made, to nothing or to the new store.
 ///
-/// `BadPes` where the script's number of processors isn't 1 to 64; `AlreadyHere` where a half of the disk is open;
-/// `BlanksWanted` where a supply line has fewer blanks than it supplies; `Memory`.
+/// `BlanksWanted` where the script's lines supply more blanks of a kind than there are, with the least such kind and all that they
+/// supply of it; `BadPes` where the script's number of processors isn't 1 to 64; `AlreadyHere` where a half of the disk is open;
+/// `Memory`.
 pub fn lab_round<D: Disk, C: Chare>(
     alloc: Global,
     script: &Script,
@@ -55,20 +59,23 @@ pub fn lab_round<D: Disk, C: Chare>(
     requires settled { D.honest disk → IsSettled (D.file disk) }
     ensures ok { IfOk result (IsRound D.Disk (arrays_of script.now) disk) }
     ensures processors { IfOk result (λ _. is_processor_count (processors_of script.now) ≡ true) }
-    ensures bad { IfErr result (λ refusal. refusal ≡ refusals.BadPes →
-        is_processor_count (processors_of script.now) ≡ false) }
-    ensures err { IfErr result (λ refusal. not_device refusal ≡ true) }
+    ensures enough { IfOk result (λ _.
+        IsEnough (count_of C.state blanks.items) (needed_by script.now)) }
+    ensures err { IfErr result (IsNotRun D.Disk C.state blanks.items script.now disk) }
 {
     let manifest = script.manifest(alloc)?;
     let handlers = handlers_of(alloc, script.handlers())?;
     let Ok(mut source) = stock_of(alloc, blanks) else {
         return Err(Refusal::Memory);
     };
+    if let Some(lack) = lacking(&source, &supplied_by(script)) {
+        return Err(lack);
+    }
     let fuse = FuseDisk::new(disk, calls);
     match Engine::create(alloc, fuse, manifest, script.processors()) {
         Ok(mut engine) => {
             engine.note_events();
-            run_lines(&mut engine, &handlers, &mut source, script.lines())?;
+            run_lines(&mut engine, &handlers, &mut source, script.lines());
             let Some(noted) = engine.events() else {
                 return Err(Refusal::Memory);
             };
@@ -97,9 +104,23 @@ pub fn lab_round<D: Disk, C: Chare>(
     }
 }
 
+/// How many blanks of each kind the script's lines supply.
+fn supplied_by(script: &Script) -> Wanted
+    ensures { (kind : kinds.Kind) → wants.blanks_in result kind ≡ blanks_of kind script.now.lines }
+{
+    Wanted {
+        counters: script.blanks(Kind::Counter),
+        rings: script.blanks(Kind::Ring),
+        accounts: script.blanks(Kind::Account),
+        sums: script.blanks(Kind::Sum),
+        trees: script.blanks(Kind::Tree),
+        tapes: script.blanks(Kind::Tape),
+    }
+}
+
 /// The handlers of these lines, of which the last one of a name counts. `Memory` alone.
 fn handlers_of(alloc: Global, lines: &[HandlerLine]) -> Result<Handlers, Refusal>
-    ensures { IfErr result (λ refusal. is_shortage refusal ≡ true) }
+    ensures { IfErr result (λ refusal. refusal ≡ refusals.Memory) }
 {
     let mut handlers = Handlers::new(alloc);
     for line in lines {
@@ -145,41 +166,44 @@ fn event_of(alloc: Global, event: &Event) -> Result<Event, AllocError>
     }
 }
 
-/// Runs lines one after another, until the disk fails. `BlanksWanted` where a supply line has fewer blanks than it supplies.
+/// Runs lines one after another, until the disk fails. There have to be as many blanks as they supply.
 fn run_lines<D: Disk, C: Chare>(
     engine: &mut Engine<D, C>,
     handlers: &Handlers,
     source: &mut Stock<C>,
     lines: &[Line],
-) -> Result<(), Refusal>
-    requires { IsEngineConsistent engine.old }
+)
+    requires consistent { IsEngineConsistent engine.old }
+    requires enough { (kind : kinds.Kind) →
+        blanks_of kind lines.now ≤ stocks.blanks_in source.old kind }
     ensures consistent { IsEngineConsistent engine.new }
     ensures advances { Advances engine.old engine.new }
-    ensures err { IfErr result (λ refusal. is_shortage refusal ≡ true) }
 {
     for line in lines {
         if engine.is_halted() {
-            break;
+            return;
         }
-        run_line(engine, handlers, source, line)?;
+        run_line(engine, handlers, source, line);
     }
-    Ok(())
 }
 
-/// Runs one line, and answers nothing. `BlanksWanted` where a supply line has fewer blanks than it supplies.
+/// Runs one line, and answers nothing. There have to be as many blanks as it supplies, and it takes no more.
 fn run_line<D: Disk, C: Chare>(
     engine: &mut Engine<D, C>,
     handlers: &Handlers,
     source: &mut Stock<C>,
     line: &Line,
-) -> Result<(), Refusal>
-    requires { IsEngineConsistent engine.old }
+)
+    requires consistent { IsEngineConsistent engine.old }
+    requires enough { (kind : kinds.Kind) →
+        blanks_in kind line.now ≤ stocks.blanks_in source.old kind }
     ensures consistent { IsEngineConsistent engine.new }
+    ensures left { (kind : kinds.Kind) → stocks.blanks_in source.old kind
+        ≤ stocks.blanks_in source.new kind + blanks_in kind line.now }
     ensures advances { Advances engine.old engine.new }
-    ensures err { IfErr result (λ refusal. is_shortage refusal ≡ true) }
 {
     match line {
-        Line::Supply { kind, count } => supply(engine, source, *kind, *count)?,
+        Line::Supply { kind, count } => supply(engine, source, *kind, *count),
         Line::Drain { count } => drain(engine, *count),
         Line::State(_) | Line::Pending | Line::Census => {}
         Line::Call {
@@ -208,30 +232,23 @@ fn run_line<D: Disk, C: Chare>(
             engine.step(step);
         }
     }
-    Ok(())
 }
 
-/// Supplies so many blanks. Where memory is refused the line is refused, and the run goes on without them.
+/// Supplies so many blanks, which are there. Where memory is refused the line is refused, and the run goes on without them.
 fn supply<D: Disk, C: Chare>(
     engine: &mut Engine<D, C>,
     source: &mut Stock<C>,
     kind: Kind,
     count: u32,
-) -> Result<(), Refusal>
-    requires { IsEngineConsistent engine.old }
+)
+    requires consistent { IsEngineConsistent engine.old }
+    requires enough { count ≤ stocks.blanks_in source.old kind }
     ensures consistent { IsEngineConsistent engine.new }
+    ensures left { (other : kinds.Kind) → stocks.blanks_in source.old other
+        ≤ stocks.blanks_in source.new other + part_of kind count other }
     ensures advances { Advances engine.old engine.new }
-    ensures err { IfErr result (λ refusal. is_shortage refusal ≡ true) }
 {
-    let wanted = u64::from(count);
-    if source.census().get(kind).in_stock < wanted {
-        return Err(Refusal::BlanksWanted {
-            kind,
-            count: wanted,
-        });
-    }
     let _ = engine.draw(source, kind, count as usize);
-    Ok(())
 }
 
 /// Delivers the oldest message that can be delivered, up to so many times, or up to a refusal.

@@ -1,6 +1,7 @@
 //! A restart after a crash, and whether it was bad.
 
-ghost use Rattle.std.specs.Prelude.{◌≡◌, ℕ, Some, None, false, IfOk};
+ghost use Rattle.std.specs.Prelude.{◌≡◌, ◌⊎◌, ℕ, Some, None, false, IfErr, IfOk};
+ghost use Rattle.charmlet_model.specs.declared.refusal.Refusal.TheVariants as refusals;
 ghost use Rattle.charmlet_model.specs.Sound.{new_world};
 ghost use Rattle.charmlet_model.specs.World.{IsLegal};
 ghost use Rattle.charmlet_recovery.specs.Outcomes.{IsLawful};
@@ -35,6 +36,8 @@ pub fn lab_outcome<D: Disk, C: Chare>(
         → IsLawful (new_world (arrays_of script.now)) 0 events.now n (bytes_on (D.file disk))) }
     ensures unmade { D.honest disk → IfOk result (λ bad. bad ≡ false → durable ≡ None →
         IsNothingOrLawful (arrays_of script.now) events.now (bytes_on (D.file disk))) }
+    ensures err { IfErr result (λ refusal.
+        (refusal ≡ refusals.Memory) ⊎ (refusal ≡ refusals.ImageFull)) }
 {
     let Ok(stock) = stock_of(alloc, blanks) else {
         return Err(Refusal::Memory);

@@ -1,4 +1,4 @@
-//! The blanks that a restart lacks.
+//! The blanks that are lacking.
 
 ghost use Rattle.std.specs.Prelude.{◌≡◌, option_map};
 ghost use Rattle.charmlet_model.specs.declared.refusal.Refusal.TheVariants as refusals;
@@ -40,9 +40,9 @@ fn least_short<C: Chare>(stock: &Stock<C>, wanted: &Wanted) -> Option<(Kind, u64
     short_of(stock, wanted, Kind::Counter, short)
 }
 
-/// The refusal of a restart that needs more blanks than the stock has: `BlanksWanted`, with the least such kind and all that are wanted of
-/// it. There is none where the stock has enough of each kind.
-pub(crate) fn lacking<C: Chare>(stock: &Stock<C>, wanted: &Wanted) -> Option<Refusal>
+/// The refusal where more blanks are wanted than the stock has: `BlanksWanted`, with the least such kind and all that are wanted of it.
+/// There is none where the stock has enough of each kind.
+pub fn lacking<C: Chare>(stock: &Stock<C>, wanted: &Wanted) -> Option<Refusal>
     ensures { result ≡ option_map (λ lack. refusals.BlanksWanted lack.0 lack.1)
         (least_short (stocks.blanks_in stock.now) (blanks_in wanted.now)) }
 {

@@ -16,5 +16,6 @@ mod wanted;
 
 pub use crate::blanks::stock_of;
 pub use crate::finding::{Found, manifest};
+pub use crate::lack::lacking;
 pub use crate::restarting::{NotRestarted, Recovered, restart};
 pub use crate::wanted::Wanted;

@@ -2,7 +2,7 @@
 
 use charmlet_model::Kind;
 
-/// How many blank objects of each kind a restart needs.
+/// How many blank objects of each kind are needed.
 #[derive(Clone, Copy, Debug, PartialEq, Eq)]
 pub struct Wanted {
     pub counters: u64,

@@ -95,6 +95,14 @@ fn a_trial_that_cannot_begin_says_why(rt: HostRuntime) -> Result<(), Fail> {
         count: 1,
     };
     assert_eq!(rt; round.err(), Some(lacks));
+    // Of two kinds of which there are too few blanks the lesser one is told, with all that its lines supply.
+    let fewer = script(&rt, "array 0 1\nsupply 6 9\nsupply 2 3\nsupply 2 4\n")?;
+    let round = lab_round(alloc, &fewer, 9, blanks(alloc, 5)?, MemDisk::new(alloc));
+    let lacks = Refusal::BlanksWanted {
+        kind: Kind::Ring,
+        count: 7,
+    };
+    assert_eq!(rt; round.err(), Some(lacks));
     let wide = script(&rt, "array 0 1\npes 65\n")?;
     let round = lab_round(alloc, &wide, 9, blanks(alloc, 0)?, MemDisk::new(alloc));
     assert_eq!(rt; round.err(), Some(Refusal::BadPes));

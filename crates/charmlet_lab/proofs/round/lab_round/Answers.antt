@@ -1,21 +1,18 @@
-use Rattle.std.proofs.Common.{◌≡◌, true, false, Some, None, refl, sym, ap, subst, ◌∙◌, arith}
-use Rattle.std.specs.Prelude.{Result, Ok, Err, IfErr}
-use Rattle.std.specs.Result.{IsErrAnd}
-use Rattle.charmlet_model.specs.declared.refusal.Refusal.{Refusal}
-use Rattle.charmlet_model.specs.declared.refusal.Refusal.TheVariants.{BadPes, Device, Memory}
-use Rattle.charmlet_locate.specs.Locations.{is_processor_count}
-use Rattle.charmlet_script.specs.Script.{processors_of}
-use Rattle.charmlet_engine.specs.Outcomes.{not_device}
+use Rattle.std.proofs.Common.{◌≡◌, ◌≤◌, List, true, Some, None, refl, sym, ap, subst, ◌∙◌, arith}
 use Rattle.charmlet_model.specs.declared.half.Half.TheVariants.{Zero, One}
-use Rattle.charmlet_model.specs.World.{IsLegal}
+use Rattle.charmlet_model.specs.declared.kind.Kind.{Kind}
 use Rattle.charmlet_model.specs.Sound.{new_world}
-use Rattle.charmlet_disk.specs.File.{MayLeave}
-use Rattle.charmlet_image.specs.Spelled.{IsClosed}
+use Rattle.charmlet_model.specs.World.{IsLegal}
 use Rattle.charmlet_record.specs.Reading.{Kinds}
+use Rattle.charmlet_image.specs.Spelled.{IsClosed}
+use Rattle.charmlet_disk.specs.File.{MayLeave}
 use Rattle.charmlet_history.specs.Kept.{core_in}
+use Rattle.charmlet_stock.specs.Stock.{blanks_in}
+use Rattle.charmlet_script.specs.declared.script.Line.{Line}
+use Rattle.charmlet_script.specs.Script.{blanks_of}
 use Rattle.charmlet_engine.proofs.Lawful.{lawful_now}
-use Rattle.charmlet_lab.specs.Rounds.{IsRound, is_shortage}
-use Rattle.charmlet_lab.proofs.Rounds.{durable_within, lawful_events, legal_events, same_arrays}
+use Rattle.charmlet_lab.specs.Rounds.{IsRound}
+use Rattle.charmlet_lab.proofs.Rounds.{all_blanks, durable_within, lawful_events, legal_events, memory_lacks, same_arrays, told_enough, told_lack}
 use Rattle.charmlet_lab.proofs.round.lab_round.Goals as goal
 
 pub returns-in-Ok-create-clause-ok : goal.returns-in-Ok-create-clause-ok
@@ -29,7 +26,7 @@ returns-in-Ok-create-clause-ok g c =
     let on = c.run_lines.ensures.advances.onward in
     let sound = c.run_lines.ensures.consistent.shows.history.sound in
     let events = c.in_ok-events-in-Ok-create.events.items in
-    let are : events ≡ last.history = c.in_ok-events-in-Ok-create.ensures ∙ rw c.in-Some.is at c.events.ensures in
+    let are : events ≡ last.history = c.in_ok-events-in-Ok-create.ensures ∙ rw c.in-Some-events.is at c.events.ensures in
     let durable = c.durable.result in
     let fuse : c.new-fuse.result.disk ≡ c.args.disk = c.new-fuse.ensures.disk in
     let inner : c.inner.result ≡ c.run_lines.new.engine.halves.disk.disk = c.inner.ensures ∙ ap (λ fuse. fuse.disk) c.into_disk.ensures in
@@ -42,6 +39,9 @@ returns-in-Ok-create-clause-ok g c =
         (λ h. subst g.D.Disk.honest (sym inner) (forth h)),
         (λ h. subst g.D.Disk.honest fuse (c.in-Ok-create.ensures.honest.1 (subst (λ fuse. g.D.Disk.honest fuse.disk) disk (c.run_lines.ensures.advances.honest.1 (subst g.D.Disk.honest inner h))))),
       );
+      closed = λ honest made.
+          let were = c.in-Ok-create.ensures.closed (subst g.D.Disk.honest (sym fuse) honest) in
+          (subst (λ d. IsClosed (g.D.Disk.file d Zero).now) fuse were.0, subst (λ d. IsClosed (g.D.Disk.file d One).now) fuse were.1);
       now = λ honest _ _ o left.
           lawful_events kinds c.processors.result first last opens on events are durable c.durable.ensures o
           (lawful_now last c.run_lines.new.engine.halves (c.run_lines.ensures.consistent.keeps (forth honest)) o (subst (λ d. MayLeave (g.D.Disk.file d) o) inner left));
@@ -64,42 +64,42 @@ returns-in-Err-Device-clause-ok g c =
         (λ h. subst g.D.Disk.honest (sym inner) (forth h)),
         (λ h. subst g.D.Disk.honest fuse (c.in-Err-Device.ensures.honest.1 (subst g.D.Disk.honest inner h))),
       );
+      closed = λ honest made. absurd (let no : ⊥ = cc in no);
       now = λ honest zero one o left.
           let here = subst g.D.Disk.honest (sym fuse) honest in
           let any = c.in-Err-Device.ensures.any_moment here (subst (λ d. IsClosed (g.D.Disk.file d Zero).now) (sym fuse) zero) (subst (λ d. IsClosed (g.D.Disk.file d One).now) (sym fuse) one) in
           any.each o (laws.counts_now end.disk (g.D.Disk.moment c.new-fuse.result.disk) o (forth honest) any.later (subst (λ d. MayLeave (g.D.Disk.file d) o) inner left));
     })
 
--- ---- what is told where memory or blanks lack
+-- ---- blanks that lack, or don't
 
-no_device : (refusal : Refusal) → is_shortage refusal ≡ true → not_device refusal ≡ true
-no_device Device short = short
-no_device _ short = refl
+pub returns-in-Some-clause-err : goal.returns-in-Some-clause-err
+returns-in-Some-clause-err g c =
+    let source = c.in-Ok.source in
+    let given_are = λ (kind : Kind). all_blanks source c.in-Ok.ensures.unused kind ∙ c.in-Ok.ensures.supplied kind in
+    told_lack g.D.Disk g.C.Chare.state c.args.blanks.items c.args.script.now c.args.disk (blanks_in source) _ given_are c.supplied_by.ensures c.in-Some.lack (sym c.lacking.ensures ∙ c.in-Some.is)
 
--- it is a shortage, and no other refusal
-short_of : {T : Type 0} (result : Result T Refusal) (refusal : Refusal) → IsErrAnd result (λ told. told ≡ refusal) → is_shortage refusal ≡ true
-    → (P : Refusal → Type 0) → ((told : Refusal) → is_shortage told ≡ true → P told) → IfErr result P
-short_of (Ok x) refusal is short P each = tt
-short_of (Err told) refusal is short P each = each told (ap is_shortage is ∙ short)
+pub run_lines-requires-clause-enough : goal.run_lines-requires-clause-enough
+run_lines-requires-clause-enough g c κs within = λ kind.
+    let source = c.in-Ok.source in
+    let given_are = λ (kind : Kind). all_blanks source c.in-Ok.ensures.unused kind ∙ c.in-Ok.ensures.supplied kind in
+    let enough = told_enough g.D.Disk g.C.Chare.state c.args.blanks.items c.args.script.now c.args.disk (blanks_in source) _ given_are c.supplied_by.ensures (sym c.lacking.ensures ∙ c.in_default-lacking.is) in
+    subst (λ (lines : List Line). blanks_of kind lines ≤ blanks_in source kind) (sym c.lines.ensures) (subst (λ n. blanks_of kind c.args.script.now.lines ≤ n) (sym (given_are kind)) (enough kind))
 
-pub returns-in_err-run_lines-in-Ok-create-clause-bad : goal.returns-in_err-run_lines-in-Ok-create-clause-bad
-returns-in_err-run_lines-in-Ok-create-clause-bad g c =
-    short_of c.from_residual-in_err-run_lines-in-Ok-create.result c.in_err-run_lines-in-Ok-create.field-0.0 c.from_residual-in_err-run_lines-in-Ok-create.ensures.1
-    c.in_err-run_lines-in-Ok-create.ensures.err (λ refusal. refusal ≡ BadPes → is_processor_count (processors_of c.args.script.now) ≡ false)
-    (λ told short same. absurd (let no : false ≡ true = ap is_shortage (sym same) ∙ short in let never : ⊥ = cc in never))
+pub returns-in-Ok-create-clause-enough : goal.returns-in-Ok-create-clause-enough
+returns-in-Ok-create-clause-enough g c =
+    let source = c.in-Ok.source in
+    let given_are = λ (kind : Kind). all_blanks source c.in-Ok.ensures.unused kind ∙ c.in-Ok.ensures.supplied kind in
+    told_enough g.D.Disk g.C.Chare.state c.args.blanks.items c.args.script.now c.args.disk (blanks_in source) _ given_are c.supplied_by.ensures (sym c.lacking.ensures ∙ c.in_default-lacking.is)
 
-pub returns-in_err-run_lines-in-Ok-create-clause-err : goal.returns-in_err-run_lines-in-Ok-create-clause-err
-returns-in_err-run_lines-in-Ok-create-clause-err g c =
-    short_of c.from_residual-in_err-run_lines-in-Ok-create.result c.in_err-run_lines-in-Ok-create.field-0.0 c.from_residual-in_err-run_lines-in-Ok-create.ensures.1
-    c.in_err-run_lines-in-Ok-create.ensures.err (λ refusal. not_device refusal ≡ true) no_device
+pub returns-in-Err-Device-clause-enough : goal.returns-in-Err-Device-clause-enough
+returns-in-Err-Device-clause-enough g c =
+    let source = c.in-Ok.source in
+    let given_are = λ (kind : Kind). all_blanks source c.in-Ok.ensures.unused kind ∙ c.in-Ok.ensures.supplied kind in
+    told_enough g.D.Disk g.C.Chare.state c.args.blanks.items c.args.script.now c.args.disk (blanks_in source) _ given_are c.supplied_by.ensures (sym c.lacking.ensures ∙ c.in_default-lacking.is)
 
-pub returns-in_err-events-in-Ok-create-clause-bad : goal.returns-in_err-events-in-Ok-create-clause-bad
-returns-in_err-events-in-Ok-create-clause-bad g c =
-    short_of c.from_residual-in_err-events-in-Ok-create.result Memory c.from_residual-in_err-events-in-Ok-create.ensures.1
-    refl (λ refusal. refusal ≡ BadPes → is_processor_count (processors_of c.args.script.now) ≡ false)
-    (λ told short same. absurd (let no : false ≡ true = ap is_shortage (sym same) ∙ short in let never : ⊥ = cc in never))
+-- ---- memory that lacks
 
 pub returns-in_err-events-in-Ok-create-clause-err : goal.returns-in_err-events-in-Ok-create-clause-err
 returns-in_err-events-in-Ok-create-clause-err g c =
-    short_of c.from_residual-in_err-events-in-Ok-create.result Memory c.from_residual-in_err-events-in-Ok-create.ensures.1
-    refl (λ refusal. not_device refusal ≡ true) no_device
+    memory_lacks g.D.Disk g.C.Chare.state c.args.blanks.items c.args.script.now c.args.disk c.from_residual-in_err-events-in-Ok-create.result c.from_residual-in_err-events-in-Ok-create.ensures.1

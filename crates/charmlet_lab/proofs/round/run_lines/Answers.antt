@@ -1,4 +1,8 @@
-use Rattle.std.proofs.Common.{refl}
+use Rattle.std.proofs.Common.{refl, ◌≡◌, ◌+◌, ◌≤◌, ap, arith}
+use Rattle.std.specs.Prelude.{drop, get_or}
+use Rattle.std.proofs.lemmas.List.Sums.{sum_by-drop_more}
+use Rattle.charmlet_stock.specs.Stock as stocks
+use Rattle.charmlet_script.specs.Script.{blanks_in, blanks_of}
 use Rattle.charmlet_engine.specs.Engine.{disk_in}
 use Rattle.charmlet_engine.proofs.Advancing.{advances_after, advances_still}
 use Rattle.charmlet_lab.proofs.round.run_lines.Goals as goal
@@ -7,12 +11,29 @@ pub loop-line-init : goal.loop-line-init
 loop-line-init g c =
     let laws = g.met.D.Disk g.world.𝓛 g.world.𝓜 g.world.𝓡 ((λ s x. x), (λ x. x), (λ x. x), (λ x. x)) in
     let engine = c.args.engine.now in
-    (c.requires, advances_still {G = g.D.Disk} {H = g.C.Chare} engine engine c.requires refl refl (λ honest o left. laws.only_now (disk_in engine) o honest left))
+    (c.requires.consistent, advances_still {G = g.D.Disk} {H = g.C.Chare} engine engine c.requires.consistent refl refl (λ honest o left. laws.only_now (disk_in engine) o honest left), c.requires.enough)
 
-pub returns-in_err-run_line-clause-advances : goal.returns-in_err-run_line-clause-advances
-returns-in_err-run_line-clause-advances g c =
-    advances_after {G = g.D.Disk} {H = g.C.Chare} c.args.engine.now c.loop-line.engine c.run_line.new.engine c.loop-line.invariant.1 c.run_line.ensures.advances
+pub run_line-requires-clause-enough : goal.run_line-requires-clause-enough
+run_line-requires-clause-enough g c κs within = λ kind.
+    let lines = c.args.lines.now in
+    let at = c.loop-line.line-index in
+    let split : blanks_of kind (drop at lines) ≡ blanks_in kind (get_or lines at c.line-item.result) + blanks_of kind (drop (at + 1) lines) =
+    sum_by-drop_more (blanks_in kind) lines at c.line-item.result c.loop-line-test.true in
+    let here : blanks_in kind c.line-item.result ≡ blanks_in kind (get_or lines at c.line-item.result) = ap (blanks_in kind) c.line-item.is in
+    let enough : blanks_of kind (drop at lines) ≤ stocks.blanks_in c.loop-line.source kind = c.loop-line.invariant.2 kind in
+    omega arith
 
 pub loop-line-preserved : goal.loop-line-preserved
 loop-line-preserved g c =
-    (c.run_line.ensures.consistent, advances_after {G = g.D.Disk} {H = g.C.Chare} c.args.engine.now c.loop-line.engine c.run_line.new.engine c.loop-line.invariant.1 c.run_line.ensures.advances)
+    let lines = c.args.lines.now in
+    let at = c.loop-line.line-index in (
+      c.run_line.ensures.consistent,
+      advances_after {G = g.D.Disk} {H = g.C.Chare} c.args.engine.now c.loop-line.engine c.run_line.new.engine c.loop-line.invariant.1 c.run_line.ensures.advances,
+      λ kind.
+          let split : blanks_of kind (drop at lines) ≡ blanks_in kind (get_or lines at c.line-item.result) + blanks_of kind (drop (at + 1) lines) =
+          sum_by-drop_more (blanks_in kind) lines at c.line-item.result c.loop-line-test.true in
+          let here : blanks_in kind c.line-item.result ≡ blanks_in kind (get_or lines at c.line-item.result) = ap (blanks_in kind) c.line-item.is in
+          let enough : blanks_of kind (drop at lines) ≤ stocks.blanks_in c.loop-line.source kind = c.loop-line.invariant.2 kind in
+          let left : stocks.blanks_in c.loop-line.source kind ≤ stocks.blanks_in c.run_line.new.source kind + blanks_in kind c.line-item.result = c.run_line.ensures.left kind in
+          omega arith,
+    )

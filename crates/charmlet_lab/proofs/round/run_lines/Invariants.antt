@@ -1,7 +1,14 @@
+use Rattle.std.proofs.Common.{◌≡◌, ◌≤◌, drop}
+use Rattle.charmlet_model.specs.declared.kind.Kind.{Kind}
+use Rattle.charmlet_stock.specs.Stock as stocks
+use Rattle.charmlet_script.specs.Script.{blanks_of}
 use Rattle.charmlet_engine.specs.Advances.{Advances}
 use Rattle.charmlet_engine.specs.Engine.{IsEngineConsistent}
 use Rattle.charmlet_lab.proofs.round.run_lines.Given as goal
 
--- the engine went on
+-- the engine went on, and there are blanks for the other lines
 abbrev pub invariant-loop-line : goal.invariant-loop-line
-invariant-loop-line g l = IsEngineConsistent l.engine × Advances {G = g.D.Disk} {H = g.C.Chare} l.initial.engine l.engine
+invariant-loop-line g l =
+    IsEngineConsistent l.engine
+    × Advances {G = g.D.Disk} {H = g.C.Chare} l.initial.engine l.engine
+    × ((kind : Kind) → blanks_of kind (drop l.line-index l.lines) ≤ stocks.blanks_in l.source kind)
