@@ -103,6 +103,7 @@ pub fn kind_of<C: Chare>(object: &C) -> Kind
         3 => Kind::Account,
         4 => Kind::Sum,
         5 => Kind::Tree,
-        _ => Kind::Tape,
+        6 => Kind::Tape,
+        _ => unreachable!(),
     }
 }

@@ -35,16 +35,6 @@ pub struct MemDisk {
         → ((file_of zero).ranges ≡ []) × ((file_of one).ranges ≡ []) },
 }
 
-// Adds a call for which there is room.
-fn record(calls: &mut Vec<Call>, call: Call)
-    requires { vec_len calls.old < vec_capacity calls.old }
-    ensures items { calls.new.items ≡ calls.old.items ++ call ∷ [] }
-    ensures len { vec_len calls.new ≡ vec_len calls.old + 1 }
-    ensures capacity { vec_capacity calls.old ≤ vec_capacity calls.new }
-{
-    let _ = calls.push(call);
-}
-
 // Writes to a half, and puts that on record; or leaves both as they are, where memory is refused.
 fn write_to(
     alloc: Global,
@@ -70,7 +60,7 @@ fn write_to(
     let written = bytes.to_vec(alloc)?;
     calls.reserve(2)?;
     file.write(offset, bytes)?;
-    record(calls, Call::Write(half, offset, written));
+    calls.push_reserved(Call::Write(half, offset, written));
     Ok(())
 }
 
@@ -91,7 +81,7 @@ fn sync_to(half: Half, file: &mut MemFile, calls: &mut Vec<Call>) -> Result<(), 
 {
     calls.reserve(2)?;
     file.make_sure();
-    record(calls, Call::Sync(half));
+    calls.push_reserved(Call::Sync(half));
     Ok(())
 }
 
@@ -141,7 +131,7 @@ impl MemDisk {
         } = self;
         zero.leave(choice);
         one.leave(choice);
-        record(&mut calls, Call::Crash(choice));
+        calls.push_reserved(Call::Crash(choice));
         MemDisk {
             alloc,
             zero,

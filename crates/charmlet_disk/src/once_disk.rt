@@ -115,8 +115,8 @@ impl<D: Disk> Disk for OnceDisk<D> {
         requires { D.honest (inner_disk self.old) →
             offset + length into.old ≤ length (D.file (inner_disk self.old) half).now }
         ensures spends { Spends D.faults self.old self.new (is_ok result) }
-        ensures bytes { D.honest (inner_disk self.old) → OnOk result
-            (into.new ≡ take (length into.old) (drop offset (D.file (inner_disk self.old) half).now)) }
+        ensures bytes { D.honest (inner_disk self.old) → OnOk result (into.new
+            ≡ take (length into.old) (drop offset (D.file (inner_disk self.old) half).now)) }
         ensures same { D.honest (inner_disk self.old) →
             SameFiles (D.file (inner_disk self.old)) (D.file (inner_disk self.new)) }
         ensures time { D.honest (inner_disk self.old) →

@@ -131,7 +131,7 @@ impl<D: Disk, C: Chare> Engine<D, C> {
         let mut answers = Vec::with_capacity(self.store.alloc, steps.len())?;
         for step in steps {
             let answer = self.step(step);
-            answers.push(answer)?;
+            answers.push_reserved(answer);
         }
         Ok(answers)
     }

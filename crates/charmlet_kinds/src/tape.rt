@@ -55,7 +55,7 @@ impl Tape {
         } else {
             self.items.remove(0);
         }
-        let _ = self.items.push(item);
+        self.items.push_reserved(item);
         Ok(())
     }
 }

@@ -103,7 +103,9 @@ pub(crate) fn bring_forward<C: Chare>(
 {
     let to = outcome.delivery().message().to;
     if outcome.is_destroyed() {
-        let resident = take(residents, to)?;
+        let Some(resident) = take(residents, to) else {
+            unreachable!()
+        };
         return Some(resident.object);
     }
     let Some(index) = index_from(residents, index, to) else {
@@ -134,6 +136,8 @@ pub(crate) fn take_newcomer<C: Chare>(
     if delivery.is_there() {
         return None;
     }
-    let resident = take(residents, delivery.message().to)?;
+    let Some(resident) = take(residents, delivery.message().to) else {
+        unreachable!()
+    };
     Some(resident.object)
 }

@@ -68,9 +68,10 @@ fn rising_elems<C: Chare>(
     let mut index = residents.len();
     while index > 0 {
         index -= 1;
-        if let Some((elem, _)) = residents.get_index(index) {
-            elems.insert(*elem)?;
-        }
+        let Some((elem, _)) = residents.get_index(index) else {
+            unreachable!()
+        };
+        elems.insert(*elem)?;
     }
     Ok(elems)
 }

@@ -104,7 +104,7 @@ impl<C: Chare> Pile<C> {
         ensures tally { tally_of self.new ≡ supplied_more (tally_of self.old) 1 }
     {
         self.supplied += 1;
-        let _ = self.objects.push(object);
+        self.objects.push_reserved(object);
     }
 
     /// Takes a blank out, if there is one.
@@ -132,7 +132,7 @@ impl<C: Chare> Pile<C> {
         ensures keeps { self.new.keeps ≡ self.old.keeps }
         ensures tally { tally_of self.new ≡ with_one_back (tally_of self.old) }
     {
-        let _ = self.objects.push(object);
+        self.objects.push_reserved(object);
     }
 
     /// Retires an object that is out: it is kept where retired objects are kept, and else dropped.
@@ -144,7 +144,7 @@ impl<C: Chare> Pile<C> {
         ensures tally { tally_of self.new ≡ with_one_retired (tally_of self.old) }
     {
         if self.keeps {
-            let _ = self.objects.push(object);
+            self.objects.push_reserved(object);
         } else {
             drop(object);
         }

@@ -216,9 +216,10 @@ fn rising_rows(
     let mut index = rows.len();
     while index > 0 {
         index -= 1;
-        if let Some((elem, element)) = rows.get_index(index) {
-            tree.insert(*elem, *element)?;
-        }
+        let Some((elem, element)) = rows.get_index(index) else {
+            unreachable!()
+        };
+        tree.insert(*elem, *element)?;
     }
     Ok(tree)
 }
@@ -235,9 +236,10 @@ fn rising_places(
     let mut index = rows.len();
     while index > 0 {
         index -= 1;
-        if let Some((elem, element)) = rows.get_index(index) {
-            put_place(&mut tree, *elem, element)?;
-        }
+        let Some((elem, element)) = rows.get_index(index) else {
+            unreachable!()
+        };
+        put_place(&mut tree, *elem, element)?;
     }
     Ok(tree)
 }

@@ -17,14 +17,6 @@ pub struct MemFile {
     ghost room: { length bytes.items ≤ vec_capacity sure },
 }
 
-// Adds an item for which there is room.
-fn push_within<T: Drop>(items: &mut Vec<T>, item: T)
-    requires { vec_len items.old < vec_capacity items.old }
-    ensures { items.new.items ≡ items.old.items ++ item ∷ [] }
-{
-    let _ = items.push(item);
-}
-
 // Makes room for bytes up to this length.
 fn reserve_up_to(bytes: &mut Vec<u8>, length: usize) -> Result<(), AllocError>
     ensures same { bytes.new.items ≡ bytes.old.items }
@@ -65,7 +57,9 @@ fn append(bytes: &mut Vec<u8>, others: &[u8])
     ensures longer { bytes.new.items ≡ bytes.old.items ++ others.now }
     ensures capacity { vec_capacity bytes.old ≤ vec_capacity bytes.new }
 {
-    let _ = bytes.extend_from_slice(others);
+    let Ok(()) = bytes.extend_from_slice(others) else {
+        unreachable!()
+    };
 }
 
 // Appends zeros up to a length for which there is room.
@@ -76,7 +70,9 @@ fn pad(bytes: &mut Vec<u8>, count: usize)
         ++ replicate (count - length bytes.old.items) 0 }
     ensures capacity { vec_capacity bytes.old ≤ vec_capacity bytes.new }
 {
-    let _ = bytes.resize(count, 0);
+    let Ok(()) = bytes.resize(count, 0) else {
+        unreachable!()
+    };
 }
 
 impl MemFile {
@@ -122,7 +118,7 @@ impl MemFile {
         self.ranges.reserve(1)?;
         reserve_up_to(&mut self.sure, end)?;
         overwrite(&mut self.bytes, offset, bytes)?;
-        push_within(&mut self.ranges, (offset, bytes.len()));
+        self.ranges.push_reserved((offset, bytes.len()));
         Ok(())
     }
 

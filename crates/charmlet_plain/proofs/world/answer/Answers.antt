@@ -10,8 +10,8 @@ use Rattle.charmlet_model.specs.Row.{no_client, with_reply}
 use Rattle.charmlet_model.proofs.Entries.{set_is_insert}
 use Rattle.charmlet_plain.proofs.world.answer.Goals as goal
 
-pub returns-in-Some : goal.returns-in-Some
-returns-in-Some c =
+pub returns : goal.returns
+returns c =
     let es = c.args.clients.now.entries in
     let here : lookup (is_at (nat_cmp c.args.client)) es ≡ Some c.in-Some.row.now = sym c.get_mut.ensures.value ∙ ap option_copied_mut c.in-Some.is in
     let w = c.answer.new.self in

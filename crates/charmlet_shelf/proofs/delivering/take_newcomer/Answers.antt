@@ -30,8 +30,8 @@ pub returns-clause-kind : goal.returns-clause-kind
 returns-clause-kind g c =
     let es = risen c.args.residents.now.entries in
     let due = c.args.delivery.now in
-    let here : at es due.message.to ≡ Some c.in_ok-resident.resident = ap (λ (m : Message). at es m.to) (sym c.message.ensures) ∙ sym c.take.ensures.value ∙ c.in_ok-resident.was in
-    (receiver_is g.C.Chare.state es due c.in_ok-resident.resident here due.receiver.state c.requires).kind
+    let here : at es due.message.to ≡ Some c.in-Some.resident = ap (λ (m : Message). at es m.to) (sym c.message.ensures) ∙ sym c.take.ensures.value ∙ c.in-Some.is in
+    (receiver_is g.C.Chare.state es due c.in-Some.resident here due.receiver.state c.requires).kind
 
 pub returns-then-is_there-clause-count : goal.returns-then-is_there-clause-count
 returns-then-is_there-clause-count g c = λ kind.
@@ -40,5 +40,5 @@ returns-then-is_there-clause-count g c = λ kind.
 
 pub returns-clause-count : goal.returns-clause-count
 returns-clause-count g c = λ kind.
-    counts_released kind g.C.Chare.state c.args.delivery.now (Some c.in_ok-resident.resident.object) _ _ (returns-clause-records g c)
+    counts_released kind g.C.Chare.state c.args.delivery.now (Some c.in-Some.resident.object) _ _ (returns-clause-records g c)
     (sym (is_none_not c.args.delivery.now.receiver.state ∙ ap not (sym c.is_there.ensures.there ∙ c.if-is_there.false))) (returns-clause-kind g c)

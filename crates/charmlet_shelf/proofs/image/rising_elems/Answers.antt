@@ -6,8 +6,8 @@ use Rattle.charmlet_shelf.specs.Risen.{risen}
 use Rattle.charmlet_shelf.proofs.Risen.{keys_put, one_more}
 use Rattle.charmlet_shelf.proofs.image.rising_elems.Goals as goal
 
-pub loop-index-preserved-in_ok-insert : goal.loop-index-preserved-in_ok-insert
-loop-index-preserved-in_ok-insert g c =
+pub loop-index-preserved : goal.loop-index-preserved
+loop-index-preserved g c =
     let es = c.args.residents.now.entries in
     let i = c.loop-index.index - 1 in
     let x = c.in-Some.elem.now in

@@ -1,12 +1,20 @@
 use Rattle.std.proofs.Common.{◌≡◌, sym, ap, ◌∙◌}
-use Rattle.std.specs.Prelude.{Some, option_map}
-use Rattle.charmlet_model.specs.Core.{present}
+use Rattle.std.specs.Prelude.{None, Some, option_and_then, option_map}
+use Rattle.charmlet_model.specs.Core.{blank_for, present}
 use Rattle.charmlet_model.specs.World.{record_of}
 use Rattle.charmlet_world.specs.declared.element.Element.{Element}
 use Rattle.charmlet_world.specs.Waiting.{shown_message}
 use Rattle.charmlet_history.specs.Kept.{assigned_message, core_in}
 use Rattle.charmlet_store.proofs.Delivering.{delivering_new}
 use Rattle.charmlet_store.proofs.delivery.shelve_newcomer.Goals as goal
+
+pub unreachable-requires : goal.unreachable-requires
+unreachable-requires g c =
+    let core = core_in c.args.history.now in
+    let none : assigned_message core c.args.shelf.now.number ≡ None =
+    ap (assigned_message core) (sym c.number.ensures) ∙ sym c.assigned.ensures ∙ ap (option_map shown_message) c.in_default.is in
+    let blank = sym (ap (option_and_then (blank_for core)) none) ∙ c.requires.wanted in
+    cc
 
 pub returns-in-Ok-assign_new-clause-ok : goal.returns-in-Ok-assign_new-clause-ok
 returns-in-Ok-assign_new-clause-ok g c =

@@ -6,8 +6,8 @@ use Rattle.charmlet_world.specs.Standing.{places_of, risen}
 use Rattle.charmlet_world.proofs.Places.{never_placed, no_more_place, one_more_place}
 use Rattle.charmlet_world.proofs.elements.rising_places.Goals as goal
 
-pub loop-index-preserved-in-Continue-1 : goal.loop-index-preserved-in-Continue-1
-loop-index-preserved-in-Continue-1 c =
+pub loop-index-preserved : goal.loop-index-preserved
+loop-index-preserved c =
     let es = c.args.rows.now.entries in
     let i = c.loop-index.index - 1 in
     let x = c.in-Some.elem.now in

@@ -33,7 +33,7 @@ returns-clause-lawful c = elim [
 pub invariant_of-result : goal.invariant_of-result
 invariant_of-result c =
     let disk = c.args.self in record {
-      zero_replayed = crash_replayed Zero c.args.choice (file_of disk.zero) (file_of c.leave.new.self) disk.calls.items c.record.new.calls.items c.record.ensures.items c.leave.ensures disk.zero_replayed;
-      one_replayed = crash_replayed One c.args.choice (file_of disk.one) (file_of c.leave-2.new.self) disk.calls.items c.record.new.calls.items c.record.ensures.items c.leave-2.ensures disk.one_replayed;
+      zero_replayed = crash_replayed Zero c.args.choice (file_of disk.zero) (file_of c.leave.new.self) disk.calls.items c.push_reserved.new.self.items c.push_reserved.ensures.items c.leave.ensures disk.zero_replayed;
+      one_replayed = crash_replayed One c.args.choice (file_of disk.one) (file_of c.leave-2.new.self) disk.calls.items c.push_reserved.new.self.items c.push_reserved.ensures.items c.leave-2.ensures disk.one_replayed;
       room = λ full. (ap (λ (f : File). f.ranges) c.leave.ensures, ap (λ (f : File). f.ranges) c.leave-2.ensures);
     }

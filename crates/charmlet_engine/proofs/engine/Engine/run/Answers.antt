@@ -62,21 +62,21 @@ loop-step-preserved g c =
     let within : c.loop-step.step-index < length steps = search rules in
     let is : get_or steps c.loop-step.step-index step ≡ step = search rules in
     take_more steps c.loop-step.step-index step within ∙ ap (λ s. take c.loop-step.step-index steps ++ s ∷ []) is in
-    let pushed : c.push.new.self.items ≡ answers ++ answer ∷ [] = c.in_ok-push.ensures.items in
+    let pushed : c.push_reserved.new.self.items ≡ answers ++ answer ∷ [] = c.push_reserved.ensures.items in
     let reached = does_between before next step answer so_far.consistent.shows.history.sound done.consistent.shows.history.sound done.does in
     let runs = runs_join first before next (take c.loop-step.step-index steps) (step ∷ []) answers (answer ∷ []) so_far.runs (next, done.does, refl) in
     let told = all_told_join next.core.opening (sure next.core) (take c.loop-step.step-index steps) (step ∷ []) answers (answer ∷ [])
     (all_told_later before.core next.core (take c.loop-step.step-index steps) answers reached so_far.told) (done.told, tt) in
     record {
       consistent = done.consistent;
-      runs = subst (λ (l : List Step). Runs first l c.push.new.self.items next) (sym more) (subst (λ (l : List Answer). Runs first (take c.loop-step.step-index steps ++ step ∷ []) l next) (sym pushed) runs);
-      told = subst (λ (l : List Step). AllTold next.core.opening (sure next.core) l c.push.new.self.items) (sym more) (subst (λ (l : List Answer). AllTold next.core.opening (sure next.core) (take c.loop-step.step-index steps ++ step ∷ []) l) (sym pushed) told);
+      runs = subst (λ (l : List Step). Runs first l c.push_reserved.new.self.items next) (sym more) (subst (λ (l : List Answer). Runs first (take c.loop-step.step-index steps ++ step ∷ []) l next) (sym pushed) runs);
+      told = subst (λ (l : List Step). AllTold next.core.opening (sure next.core) l c.push_reserved.new.self.items) (sym more) (subst (λ (l : List Answer). AllTold next.core.opening (sure next.core) (take c.loop-step.step-index steps ++ step ∷ []) l) (sym pushed) told);
       advances = advances_after {G = g.D.Disk} {H = g.C.Chare} old mid new so_far.advances done.advances;
       image = λ honest is. done.image (so_far.advances.honest.0 honest) (sym (ends_more answers answer) ∙ ap ends_with_image (sym pushed) ∙ is);
       supplied = done.supplied ∙ so_far.supplied;
       counted = done.counted ∙ ap (faults_after (is_no_fault answer)) so_far.counted ∙ sym (faults_more answers answer (g.D.Disk.faults (disk_in old))) ∙ ap (λ (l : List Answer). faults_through l (g.D.Disk.faults (disk_in old))) (sym pushed);
-      count = let count = so_far.count in let pushed = c.in_ok-push.ensures.len in omega arith;
-      room = let room = so_far.room in let grown = c.push.ensures.capacity in omega arith;
+      count = let count = so_far.count in let pushed = c.push_reserved.ensures.len in omega arith;
+      room = let room = so_far.room in let grown = c.push_reserved.ensures.capacity in omega arith;
     }
 
 pub returns-clause-now : goal.returns-clause-now

@@ -17,6 +17,6 @@ returns-clause-ok c =
     let others = c.remove.ensures.items
     ∙ ap (λ (ms : List Message). remove ms c.args.place) (c.reserve.ensures.items ∙ ap (λ (v : World). v.pending) view)
     ∙ sym c.requires.place in
-    let pending = c.in_ok-append.ensures.items ∙ (λ i. others i ++ births i) in
+    let pending = c.in-Ok.ensures.items ∙ (λ i. others i ++ births i) in
     let clients = c.in_ok-keep.ensures.clients ∙ ap (λ (v : World). answered v.clients c.args.id.origin c.args.id.number o.reply) view in
     λ i. record { manifest = manifest i; records = records i; pending = pending i; clients = clients i }
