@@ -19,6 +19,7 @@ use Rattle.charmlet_command.specs.declared.Command.TheVariants.{Lab, Restart, Ru
 use Rattle.charmlet_command.specs.declared.CommandError.{CommandError}
 use Rattle.charmlet_command.specs.declared.CommandError.TheVariants.{Memory, Line}
 
+-- `do`: the next step on this one's value, or none where there is none
 infixl 10 ◌>>=◌
 abbrev pub ◌>>=◌ : {A B : Type 0} → Option A → (A → Option B) → Option B
 o >>= f = option_and_then f o

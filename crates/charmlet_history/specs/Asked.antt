@@ -5,6 +5,7 @@ use Rattle.charmlet_model.specs.declared.names.Origin.TheVariants.{Client, Eleme
 use Rattle.charmlet_model.specs.declared.event.Event.{Event}
 use Rattle.charmlet_model.specs.declared.event.Event.TheVariants.{Accept, Deliver}
 
+-- the client that an origin names, if it names one
 abbrev pub client_in : Origin → Option ℕ
 client_in (Client c) = Some c
 client_in (Element x) = None

@@ -55,6 +55,7 @@ pub record Kept : Type 0 where
   pub assigned : List (ℕ × MsgId)
   pub promised : ℕ
 
+-- what a history keeps, its room aside; its opening world has the arrays of the present one
 abbrev pub kept_in : History → Kept
 kept_in h = record {
   opening = with_arrays h.present.manifest h.opening.world;
@@ -99,6 +100,7 @@ core_of k = record {
   busy = false;
 }
 
+-- the core that a history is
 abbrev pub core_in : History → Core
 core_in h = core_of (kept_in h)
 

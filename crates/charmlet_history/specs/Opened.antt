@@ -23,6 +23,7 @@ opened_element processors x r =
       received = r.received;
     }
 
+-- each element of a world's records is put among these, on its home if it is there
 abbrev pub with_elements : ℕ → List (Elem × Element) → List (Elem × Record) → List (Elem × Element)
 with_elements processors = with_made elem_cmp (opened_element processors)
 
@@ -30,6 +31,7 @@ with_elements processors = with_made elem_cmp (opened_element processors)
 abbrev pub opened_client : ℕ → ClientRow → Rows
 opened_client client row = same_rows row
 
+-- each client's row of a world is put among these, the same in both worlds
 abbrev pub with_clients : List (ℕ × Rows) → List (ℕ × ClientRow) → List (ℕ × Rows)
 with_clients = with_made nat_cmp opened_client
 

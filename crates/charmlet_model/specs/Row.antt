@@ -24,6 +24,7 @@ in_window row number = nat_lt (below row) number && nat_le number row.last
 abbrev pub item_place : ClientRow → ℕ → ℕ
 item_place row number = number - below row - 1
 
+-- the item of one of its numbers
 abbrev pub item_of : ClientRow → ℕ → Item
 item_of row number = slice_index_or row.window (item_place row number) None
 

@@ -50,6 +50,7 @@ pub record IsLegalInParts (w : World) (before : ℕ) (earlier later : List Event
   pub earlier_is : IsLegal w before earlier
   pub later_is : IsLegal (world w earlier) (before + length earlier) later
 
+-- a legal history, cut anywhere, is legal in both parts
 abbrev pub LegalHistoriesPart : Type 0
 LegalHistoriesPart = (w : World) (before : ℕ) (earlier later : List Event) →
     IsLegal w before (earlier ++ later) → IsLegalInParts w before earlier later

@@ -25,6 +25,7 @@ pub record Desk (C : Type 0) (G : Ghosts C) : Type 0 where
   pub shelf : View
   pub stock : Stock C G
 
+-- a desk of these three
 abbrev pub desk_of : {C : Type 0} {G : Ghosts C} → History → View → Stock C G → Desk C G
 desk_of history shelf stock = record { history = history; shelf = shelf; stock = stock }
 

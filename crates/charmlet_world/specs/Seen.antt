@@ -38,6 +38,7 @@ pub record Seen : Type 0 where
   pub pending : List Message
   pub clients : List (ℕ × Rows)
 
+-- what is held, as it is seen
 abbrev pub seen : Held → Seen
 seen h = record {
   manifest = h.manifest;
@@ -59,6 +60,7 @@ pub record HasRoom (processors promised room : ℕ) : Type 0 where
 abbrev pub no_element : Element
 no_element = standing.no_element
 
+-- what is kept of the element
 abbrev pub element_at : List (Elem × Element) → Elem → Element
 element_at elements x = unwrap_or (lookup (is_at (elem_cmp x)) elements) no_element
 
@@ -85,6 +87,7 @@ place_or_home_in k x = unwrap_or (element_at k.elements x).place (home x k.proce
 abbrev pub new_client : Rows
 new_client = same_rows no_client
 
+-- the rows of the client
 abbrev pub client_at : List (ℕ × Rows) → ℕ → Rows
 client_at clients c = unwrap_or (lookup (is_at (nat_cmp c)) clients) new_client
 

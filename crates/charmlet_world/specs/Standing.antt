@@ -6,6 +6,7 @@ use Rattle.charmlet_model.specs.declared.names.Elem.{Elem}
 use Rattle.charmlet_model.specs.Names.{elem_cmp, same_elem}
 use Rattle.charmlet_world.specs.declared.element.Element.{Element}
 
+-- the elements in the order in which they came, and for how many more there is room
 pub record Standing : Type 0 where
   pub entries : List (Elem × Element)
   pub room : ℕ
@@ -14,6 +15,7 @@ pub record Standing : Type 0 where
 abbrev pub no_element : Element
 no_element = record { place = None; sent = 0; received = 0 }
 
+-- what is kept of the element
 abbrev pub element_in : List (Elem × Element) → Elem → Element
 element_in entries x = unwrap_or (lookup (same_elem x) entries) no_element
 

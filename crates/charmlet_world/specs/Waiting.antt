@@ -10,6 +10,7 @@ pub record Waiting : Type 0 where
   pub messages : List Message
   pub room : ℕ
 
+-- a letter under its id is a message
 abbrev pub message_of : MsgId → Letter → Message
 message_of id letter = record {
   id = id;
@@ -18,11 +19,12 @@ message_of id letter = record {
   words = letter.words;
 }
 
--- the letters that are there, each as a message; the others were taken and have left a hole
+-- the letter, where it is there, as a message before these; one that was taken left a hole
 abbrev pub with_letter : MsgId → Option Letter → List Message → List Message
 with_letter id None ms = ms
 with_letter id (Some letter) ms = message_of id letter ∷ ms
 
+-- the letters that are there, each as a message, in the entries' order
 abbrev pub live : List (MsgId × Option Letter) → List Message
 live [] = []
 live (e ∷ es) = with_letter e.0 e.1 (live es)
