@@ -8,7 +8,7 @@ ghost use Rattle.charmlet_model.specs.Core.{has_words, home};
 ghost use Rattle.charmlet_model.specs.Sound.{new_world};
 ghost use Rattle.charmlet_model.specs.Fit.{AreDistinct};
 ghost use Rattle.charmlet_model.specs.Told.{told_of};
-ghost use Rattle.charmlet_model.specs.Names.{elem_cmp, same_elem};
+ghost use Rattle.charmlet_model.specs.Names.{elem_cmp};
 ghost use Rattle.charmlet_model.specs.World.{World as AWorld, after, message_among};
 ghost use Rattle.charmlet_model.specs.declared.event.Event.TheVariants.{Accept, Deliver};
 ghost use Rattle.charmlet_model.specs.declared.names.Elem.{Elem as AnElem};
@@ -162,14 +162,6 @@ impl PresentWorld {
         self.elements.element(elem)
     }
 
-    /// Where an element is kept, if it is.
-    pub fn slot_of(&self, elem: Elem) -> Option<Slot>
-        ensures found { IfSome result (λ slot. IsSlot self.now.rows slot elem) }
-        ensures which { is_some result ≡ is_some (lookup (same_elem elem) self.now.rows) }
-    {
-        self.elements.slot_of(elem)
-    }
-
     /// What is kept there.
     pub fn at(&self, slot: Slot) -> Element
         requires { slot < length self.now.rows }
@@ -184,13 +176,6 @@ impl PresentWorld {
         ensures few { is_processor_count result ≡ true }
     {
         self.processors
-    }
-
-    /// The processor of an element, if it is there.
-    pub fn where_is(&self, elem: Elem) -> Option<u16>
-        ensures { result ≡ (element_at (seen self.now).elements elem).place }
-    {
-        self.element(elem).place
     }
 
     /// The processor of an element of which this is kept, or the home of one that isn't there.

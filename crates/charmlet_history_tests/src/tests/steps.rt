@@ -42,6 +42,23 @@ pub enum Step {
     Counts(Elem),
     Next,
     Pending,
+    // Where a client's message of this number is due.
+    Due(u32, u64),
+    // Where an element's is.
+    DueSent(Elem, u64),
+    // The kind of an array.
+    Kind(u16),
+    // How many clients, elements and places are kept.
+    Rows,
+    Generation,
+    // How many events there are, and how many of them are durable.
+    Events,
+    // How many bytes wait to be written, and where the log ends after them.
+    Waiting,
+    // The present world becomes the opening one.
+    Renew,
+    // The same as `Assign`, and then the store is halted and the message committed. Nothing may come back but a refusal.
+    HaltAssigned(u16, u32, u64),
 }
 
 // What is answered.
@@ -58,16 +75,23 @@ pub enum Answer {
     Assigned(Option<MsgId>),
     Next(Option<(u16, MsgId)>),
     Pending(usize),
+    Kind(Option<Kind>),
+    Rows(usize, usize, usize),
+    Generation(u64),
+    Events(u64, u64),
+    Waiting(usize, bool, u64),
+    // Something came back beside a refusal.
+    CameBack,
 }
 
-pub(super) fn of_client(client: u32, number: u64) -> MsgId {
+fn of_client(client: u32, number: u64) -> MsgId {
     MsgId {
         origin: Origin::Client(client),
         number,
     }
 }
 
-pub(super) fn of_element(elem: Elem, number: u64) -> MsgId {
+fn of_element(elem: Elem, number: u64) -> MsgId {
     MsgId {
         origin: Origin::Element(elem),
         number,
@@ -138,6 +162,31 @@ fn durable(answered: Result<u64, Refusal>) -> Answer {
     }
 }
 
+// How many clients, elements and places are kept.
+fn rows(history: &History) -> Answer
+    requires { IsConsistent (kept_in history.now) }
+{
+    let clients = history.clients().len();
+    let Ok(elements) = history.elements() else {
+        return Answer::Refused(Refusal::Memory);
+    };
+    let Ok(places) = history.places() else {
+        return Answer::Refused(Refusal::Memory);
+    };
+    Answer::Rows(clients, elements.len(), places.len())
+}
+
+// How many bytes wait to be written, whether there is none, and where the log ends after them.
+fn waiting(history: &History) -> Answer
+    requires { IsConsistent (kept_in history.now) }
+{
+    let backlog = history.backlog();
+    match history.test_flush() {
+        Ok(end) => Answer::Waiting(backlog.size(), backlog.is_empty(), end),
+        Err(refusal) => Answer::Refused(refusal),
+    }
+}
+
 // The answer to a step that changes nothing, if it is one.
 fn looked_up(history: &History, step: Step) -> Option<Answer>
     requires { IsConsistent (kept_in history.now) }
@@ -157,6 +206,13 @@ fn looked_up(history: &History, step: Step) -> Option<Answer>
         Step::Counts(elem) => Answer::Counted(history.element(elem)),
         Step::Next => Answer::Next(history.next()),
         Step::Pending => Answer::Pending(history.pending_count()),
+        Step::Due(client, number) => Answer::Place(history.due_on(of_client(client, number))),
+        Step::DueSent(elem, number) => Answer::Place(history.due_on(of_element(elem, number))),
+        Step::Kind(array) => Answer::Kind(history.manifest().kind_of(array)),
+        Step::Rows => rows(history),
+        Step::Generation => Answer::Generation(history.generation()),
+        Step::Events => Answer::Events(history.event_count(), history.durable_count()),
+        Step::Waiting => waiting(history),
         _ => return None,
     };
     Some(found)
@@ -170,7 +226,7 @@ fn assigned(history: &History, processor: u16) -> Option<MsgId>
 }
 
 // The element moves to the processor, where it can.
-pub(super) fn relocate(history: &mut History, elem: Elem, processor: u16) -> Option<Refusal>
+fn relocate(history: &mut History, elem: Elem, processor: u16) -> Option<Refusal>
     requires { IsConsistent (kept_in history.old) }
     ensures { IsConsistent (kept_in history.new) }
 {
@@ -208,6 +264,13 @@ fn answer_to(history: &mut History, alloc: Global, step: Step) -> Answer
         Step::Halt => {
             history.halt();
             Answer::Done
+        }
+        Step::Renew => {
+            history.renew();
+            Answer::Done
+        }
+        Step::HaltAssigned(processor, client, number) => {
+            halt_assigned(history, alloc, processor, of_client(client, number))
         }
         _ => looked_up(history, step).unwrap_or(Answer::Done),
     }
@@ -267,25 +330,30 @@ fn deliver(history: &mut History, alloc: Global, processor: u16, id: MsgId) -> O
     }
 }
 
-// Halts the store after such a message was assigned. The commit is refused, and nothing comes back.
-pub fn halts_before_the_commit(
-    rt: &(impl AllocGlobal + Abort),
-    history: &mut History,
-    processor: u16,
-    id: MsgId,
-)
+// Halts the store after such a message was assigned. The commit is refused, and what was handed in comes back.
+fn halt_assigned(history: &mut History, alloc: Global, processor: u16, id: MsgId) -> Answer
     requires { IsConsistent (kept_in history.old) }
     ensures { IsConsistent (kept_in history.new) }
 {
     let refused = assign(history, processor, id);
-    assert!(rt; refused.is_none());
+    if refused.is_some() {
+        return done(refused);
+    }
     history.halt();
-    let committed = history.commit(processor, nothing(rt.alloc()));
-    let refused = committed.err().expect(rt, "it is refused");
-    assert_eq!(rt; refused.refusal, Refusal::Halted);
-    assert!(rt; refused.output.sends.as_slice().is_empty());
-    assert!(rt; refused.output.reply.is_empty());
-    assert!(rt; !refused.output.is_destroyed);
+    match history.commit(processor, nothing(alloc)) {
+        Ok(()) => Answer::Done,
+        Err(refused) => came_back(refused),
+    }
+}
+
+// The refusal, where nothing that was sent or replied came back with it.
+fn came_back(refused: RefusedCommit) -> Answer {
+    let RefusedCommit { refusal, output } = refused;
+    if output.sends.as_slice().is_empty() && output.reply.is_empty() && !output.is_destroyed {
+        Answer::Refused(refusal)
+    } else {
+        Answer::CameBack
+    }
 }
 
 fn lacks_memory(answer: &Answer) -> bool {
@@ -347,6 +415,19 @@ fn write_answer(text: &mut String, answer: &Answer) -> Result<(), AllocError> {
         Answer::Assigned(id) => write_assigned(text, *id),
         Answer::Next(next) => write_next(text, *next),
         Answer::Pending(count) => writeln!(text, "pending {count}"),
+        Answer::Kind(kind) => writeln!(text, "{kind:?}"),
+        Answer::Rows(clients, elements, places) => {
+            writeln!(
+                text,
+                "clients {clients} elements {elements} places {places}"
+            )
+        }
+        Answer::Generation(generation) => writeln!(text, "generation {generation}"),
+        Answer::Events(all, durable) => writeln!(text, "events {all} durable {durable}"),
+        Answer::Waiting(bytes, is_empty, end) => {
+            writeln!(text, "waiting {bytes} none {is_empty} end {end}")
+        }
+        Answer::CameBack => writeln!(text, "came back"),
     }
 }
 

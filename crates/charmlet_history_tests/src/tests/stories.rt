@@ -3,11 +3,16 @@
 ghost use Rattle.std.specs.Prelude.{◌≡◌, ◌≤◌, ◌<◌, ◌^◌};
 ghost use Rattle.charmlet_history.specs.Kept.{IsConsistent, kept_in};
 
-use super::opening::{counter_at, opened};
-use super::steps::{Step, halts_before_the_commit, of_client, of_element, relocate, run};
+use super::opening::opened;
+use super::steps::{Step, run};
 use charmlet_history::History;
-use charmlet_model::{Elem, Kind, Refusal};
+use charmlet_model::{Elem, Refusal};
 use std::process::Abort;
+
+// Memory is what was refused.
+fn is_memory(rt: &impl Abort, refusal: Refusal) {
+    assert_eq!(rt; refusal, Refusal::Memory);
+}
 
 // The history that opens with the small world on four processors. Where memory is refused it opens at the second try.
 fn open(rt: &(impl AllocGlobal + Abort), before: u64, generation: u64, log_end: u64) -> History
@@ -16,23 +21,38 @@ fn open(rt: &(impl AllocGlobal + Abort), before: u64, generation: u64, log_end: 
     requires few_generations { generation ≤ 2 ^ 40 }
     ensures { IsConsistent (kept_in result) }
 {
-    let first = opened(rt.alloc(), before, generation, log_end, 4);
-    match first {
+    match opened(rt.alloc(), before, generation, log_end, 4) {
         Ok(history) => history,
         Err(refusal) => {
-            assert_eq!(rt; refusal, Refusal::Memory);
+            is_memory(rt, refusal);
             let second = opened(rt.alloc(), before, generation, log_end, 4);
             second.ok().expect(rt, "memory")
         }
     }
 }
 
-// What such a history answers to the steps is this text. It is that of the first file, whose log has no bytes.
+// What such a history answers to the steps is this text.
+fn answers_from(
+    rt: &(impl AllocGlobal + Abort),
+    before: u64,
+    generation: u64,
+    log_end: u64,
+    steps: &[Step],
+    wanted: &str,
+)
+    requires before { before ≤ 2 ^ 40 }
+    requires some_generation { 1 ≤ generation }
+    requires few_generations { generation ≤ 2 ^ 40 }
+{
+    let mut history = open(rt, before, generation, log_end);
+    run(rt, &mut history, steps, wanted);
+}
+
+// The same of the first file, whose log has no bytes.
 fn answers(rt: &(impl AllocGlobal + Abort), before: u64, steps: &[Step], wanted: &str)
     requires { before ≤ 2 ^ 40 }
 {
-    let mut history = open(rt, before, 1, 0);
-    run(rt, &mut history, steps, wanted);
+    answers_from(rt, before, 1, 0, steps, wanted);
 }
 
 // The same of the last file, whose log has room for so many bytes more.
@@ -46,8 +66,7 @@ fn answers_at_limits(
     requires { before ≤ 2 ^ 40 }
 {
     let end = ((1u64 << 31) - 1).saturating_sub(room as u64);
-    let mut history = open(rt, before, 1 << 40, end);
-    run(rt, &mut history, steps, wanted);
+    answers_from(rt, before, 1 << 40, end, steps, wanted);
 }
 
 // How many bytes a batch of one request with one word takes.
@@ -298,64 +317,101 @@ fn logs_fill_to_their_last_byte(rt: HostRuntime) {
 // What a history keeps is shown, and what isn't durable is what a flush would write.
 #[test]
 fn histories_show_what_they_keep(rt: HostRuntime) {
-    let mut history = open(&rt, 5, 3, 100);
-    assert_eq!(rt; history.manifest().kind_of(1), Some(Kind::Tree));
-    let elements = history.elements().expect(&rt, "memory");
-    assert_eq!(rt; (history.clients().len(), elements.len()), (2, 3));
-    assert_eq!(rt; history.places().expect(&rt, "memory").len(), 2);
-    assert_eq!(rt; history.generation(), 3);
-    assert_eq!(rt; (history.event_count(), history.durable_count()), (5, 5));
-    assert!(rt; history.backlog().is_empty());
-    assert_eq!(rt; history.test_flush(), Ok(100));
-    run(&rt, &mut history, &[Step::Ask(7, 3)], "told unknown\n");
-    assert_eq!(rt; (history.event_count(), history.durable_count()), (6, 5));
-    assert_eq!(rt; history.backlog().size(), ONE_REQUEST as usize);
-    assert_eq!(rt; history.test_flush(), Ok(100 + ONE_REQUEST as u64));
-    run(&rt, &mut history, &[Step::Flush], "durable 6\n");
-    assert_eq!(rt; (history.event_count(), history.durable_count()), (6, 6));
-    assert!(rt; history.backlog().is_empty());
-    assert_eq!(rt; history.test_flush(), Ok(100 + ONE_REQUEST as u64));
+    let steps = [
+        Step::Kind(1),
+        Step::Kind(2),
+        Step::Rows,
+        Step::Generation,
+        Step::Events,
+        Step::Waiting,
+        Step::Ask(7, 3),
+        Step::Events,
+        Step::Waiting,
+        Step::Flush,
+        Step::Events,
+        Step::Waiting,
+    ];
+    let wanted = "Some(Tree)\n\
+         None\n\
+         clients 2 elements 3 places 2\n\
+         generation 3\n\
+         events 5 durable 5\n\
+         waiting 0 none true end 100\n\
+         told unknown\n\
+         events 6 durable 5\n\
+         waiting 46 none false end 146\n\
+         durable 6\n\
+         events 6 durable 6\n\
+         waiting 0 none true end 146\n";
+    answers_from(&rt, 5, 3, 100, &steps, wanted);
 }
 
 // Once the present world is the opening one, what happened before is durable, and the rest goes on.
 #[test]
 fn renewed_histories_go_on(rt: HostRuntime) {
-    let mut history = open(&rt, 5, 3, 100);
-    run(&rt, &mut history, &[Step::Ask(7, 3)], "told unknown\n");
-    history.renew();
-    assert_eq!(rt; (history.event_count(), history.durable_count()), (6, 6));
-    assert!(rt; history.backlog().is_empty());
-    assert_eq!(rt; (history.generation(), history.test_flush()), (3, Ok(100)));
-    assert_eq!(rt; history.pending_count(), 4);
-    run(&rt, &mut history, &[Step::Ask(7, 3)], "told accepted\n");
-    run(&rt, &mut history, &[Step::Ask(7, 4)], "told unknown\n");
-    assert_eq!(rt; (history.event_count(), history.durable_count()), (7, 6));
-    assert_eq!(rt; history.test_flush(), Ok(100 + ONE_REQUEST as u64));
-    history.renew();
-    history.renew();
-    assert_eq!(rt; (history.event_count(), history.durable_count()), (7, 7));
+    let steps = [
+        Step::Ask(7, 3),
+        Step::Renew,
+        Step::Events,
+        Step::Waiting,
+        Step::Generation,
+        Step::Pending,
+        Step::Ask(7, 3),
+        Step::Ask(7, 4),
+        Step::Events,
+        Step::Waiting,
+        Step::Renew,
+        Step::Renew,
+        Step::Events,
+    ];
+    let wanted = "told unknown\n\
+         done\n\
+         events 6 durable 6\n\
+         waiting 0 none true end 100\n\
+         generation 3\n\
+         pending 4\n\
+         told accepted\n\
+         told unknown\n\
+         events 7 durable 6\n\
+         waiting 46 none false end 146\n\
+         done\n\
+         done\n\
+         events 7 durable 7\n";
+    answers_from(&rt, 5, 3, 100, &steps, wanted);
 }
 
 // A pending message is due where its receiver stands, or where an absent one has its home.
 #[test]
 fn messages_are_due_at_their_receivers(rt: HostRuntime) {
-    let mut history = open(&rt, 0, 1, 0);
-    assert_eq!(rt; history.due_on(of_client(7, 2)), Some(0));
-    assert_eq!(rt; history.due_on(of_element(counter_at(5), 2)), Some(1));
-    assert_eq!(rt; history.due_on(of_client(8, 2)), Some(1));
-    assert_eq!(rt; history.due_on(of_client(8, 3)), None);
-    assert!(rt; relocate(&mut history, counter_at(5), 3).is_none());
-    assert_eq!(rt; history.due_on(of_client(8, 2)), Some(3));
+    let steps = [
+        Step::Due(7, 2),
+        Step::DueSent(LAST, 2),
+        Step::Due(8, 2),
+        Step::Due(8, 3),
+        Step::Relocate(LAST, 3),
+        Step::Due(8, 2),
+    ];
+    answers(
+        &rt,
+        0,
+        &steps,
+        "Some(0)\nSome(1)\nSome(1)\nNone\ndone\nSome(3)\n",
+    );
+}
+
+// A history on so many processors is refused so, or isn't.
+fn is_refused_on(rt: &(impl AllocGlobal + Abort), processors: u16, wanted: Option<Refusal>) {
+    let refusal = opened(rt.alloc(), 0, 1, 0, processors).err();
+    assert_eq!(rt; refusal, wanted);
 }
 
 #[test]
 fn processors_are_1_to_64(rt: HostRuntime) {
-    for processors in [0u16, 65, 65535] {
-        let refused = opened(rt.alloc(), 0, 1, 0, processors);
-        assert!(rt; matches!(refused, Err(Refusal::BadPes)));
+    for processors in [0, 65, 65535] {
+        is_refused_on(&rt, processors, Some(Refusal::BadPes));
     }
-    for processors in [1u16, 64] {
-        assert!(rt; opened(rt.alloc(), 0, 1, 0, processors).is_ok());
+    for processors in [1, 64] {
+        is_refused_on(&rt, processors, None);
     }
 }
 
@@ -543,10 +599,9 @@ fn refused_memory_changes_no_answer_of_a_durable_window(rt: HostRuntime) {
 // Each step of a halted store but a release, beside a message that was assigned before.
 #[test]
 fn halted_stores_refuse_each_call(rt: HostRuntime) {
-    let mut history = open(&rt, 0, 1, 0);
-    run(&rt, &mut history, &[Step::IsHalted], "halted false\n");
-    halts_before_the_commit(&rt, &mut history, 1, of_client(8, 2));
     let steps = [
+        Step::IsHalted,
+        Step::HaltAssigned(1, 8, 2),
         Step::IsHalted,
         Step::Ask(7, 3),
         Step::Ask(7, 2),
@@ -567,7 +622,9 @@ fn halted_stores_refuse_each_call(rt: HostRuntime) {
         Step::Move(NOWHERE, 3),
         Step::Flush,
     ];
-    let wanted = "halted true\n\
+    let wanted = "halted false\n\
+         Halted\n\
+         halted true\n\
          Halted\n\
          Halted\n\
          Halted\n\
@@ -586,15 +643,14 @@ fn halted_stores_refuse_each_call(rt: HostRuntime) {
          Halted\n\
          Halted\n\
          Halted\n";
-    run(&rt, &mut history, &steps, wanted);
+    answers(&rt, 0, &steps, wanted);
 }
 
 // A message that was assigned before stays, and is released. What is only looked at is answered as before.
 #[test]
 fn halted_stores_release_and_show(rt: HostRuntime) {
-    let mut history = open(&rt, 0, 1, 0);
-    halts_before_the_commit(&rt, &mut history, 1, of_client(8, 2));
     let steps = [
+        Step::HaltAssigned(1, 8, 2),
         Step::Assigned(1),
         Step::Release(1),
         Step::Assigned(1),
@@ -609,7 +665,8 @@ fn halted_stores_release_and_show(rt: HostRuntime) {
         Step::Pending,
         Step::Next,
     ];
-    let wanted = "assigned c8.2\n\
+    let wanted = "Halted\n\
+         assigned c8.2\n\
          done\n\
          assigned none\n\
          done\n\
@@ -622,7 +679,7 @@ fn halted_stores_release_and_show(rt: HostRuntime) {
          Some(1) sent 2 received 1\n\
          pending 3\n\
          next 0 c7.2\n";
-    run(&rt, &mut history, &steps, wanted);
+    answers(&rt, 0, &steps, wanted);
 }
 
 // The same calls before the store is halted, each refused for another reason.

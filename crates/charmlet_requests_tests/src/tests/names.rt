@@ -1,5 +1,6 @@
 //! Names of handlers.
 
+use super::asking::register;
 use charmlet_requests::{Handler, Handlers};
 use std::process::Abort;
 
@@ -21,10 +22,10 @@ fn handlers_are_found_by_their_names(rt: HostRuntime) {
         entry: 0,
     };
     has(rt, &handlers, "make", None);
-    handlers.register("make", make).ok().expect(rt, "memory");
-    handlers.register("b", bump).ok().expect(rt, "memory");
+    register(rt, &mut handlers, "make", make);
+    register(rt, &mut handlers, "b", bump);
     let long = "abcdefghijklmnopqrstuvwxyzABCDEF";
-    handlers.register(long, bump).ok().expect(rt, "memory");
+    register(rt, &mut handlers, long, bump);
     has(rt, &handlers, "make", Some(make));
     has(rt, &handlers, "b", Some(bump));
     has(rt, &handlers, long, Some(bump));
@@ -32,7 +33,7 @@ fn handlers_are_found_by_their_names(rt: HostRuntime) {
     has(rt, &handlers, "makes", None);
     has(rt, &handlers, "", None);
     // One that is registered under a name once more replaces the one before.
-    handlers.register("make", bump).ok().expect(rt, "memory");
+    register(rt, &mut handlers, "make", bump);
     has(rt, &handlers, "make", Some(bump));
     has(rt, &handlers, "b", Some(bump));
 }

@@ -1,6 +1,6 @@
 //! What a pass knows of requests, by what its client was told.
 
-use super::asking::new_history;
+use super::asking::{is_text, lent, new_history};
 use charmlet_model::{Told, Words};
 use charmlet_requests::{ClientPass, Passes};
 use std::process::Abort;
@@ -28,8 +28,7 @@ fn told(rt: &(impl AllocGlobal + Abort), answer: Answer) -> Told {
 
 fn new_pass(rt: &(impl AllocGlobal + Abort)) -> ClientPass {
     let history = new_history(rt);
-    let mut passes = Passes::new(rt.alloc());
-    passes.lend(&history, 7).ok().expect(rt, "memory")
+    lent(rt, &mut Passes::new(rt.alloc()), &history, 7)
 }
 
 // A letter for what a pass knows of a request: its reply is its first word.
@@ -43,19 +42,34 @@ fn write_known(rt: &(impl AllocGlobal + Abort), text: &mut String, known: &Told)
     written.expect(rt, "memory");
 }
 
+// Tells the pass so of a request.
+fn hear(rt: &(impl AllocGlobal + Abort), pass: &mut ClientPass, number: u64, answer: Answer) {
+    let answer = told(rt, answer);
+    pass.hear(number, &answer).expect(rt, "memory");
+}
+
+// The same for what the pass knows of this request.
+fn write_known_of(
+    rt: &(impl AllocGlobal + Abort),
+    text: &mut String,
+    pass: &ClientPass,
+    number: u64,
+) {
+    let known = pass.known(number).expect(rt, "memory");
+    write_known(rt, text, &known);
+}
+
 // A pass that was told so in this order knows this of the requests 0 to 12.
 fn knows(rt: &(impl AllocGlobal + Abort), heard: &[(u64, Answer)], wanted: &str) {
     let mut pass = new_pass(rt);
     for (number, answer) in heard {
-        let answer = told(rt, *answer);
-        pass.hear(*number, &answer).expect(rt, "memory");
+        hear(rt, &mut pass, *number, *answer);
     }
     let mut text = String::new(rt.alloc());
     for number in 0..13 {
-        let known = pass.known(number).expect(rt, "memory");
-        write_known(rt, &mut text, &known);
+        write_known_of(rt, &mut text, &pass, number);
     }
-    assert_eq!(rt; text.as_str(), wanted);
+    is_text(rt, text.as_str(), wanted);
 }
 
 #[test]
@@ -120,14 +134,11 @@ fn a_pass_knows_what_it_was_told(rt: HostRuntime) {
 fn the_greatest_number_is_known_too(rt: HostRuntime) {
     let rt = &rt;
     let mut pass = new_pass(rt);
-    let answer = told(rt, Answer::Replied(4));
-    pass.hear(u64::MAX, &answer).expect(rt, "memory");
+    hear(rt, &mut pass, u64::MAX, Answer::Replied(4));
     let mut text = String::new(rt.alloc());
     for number in u64::MAX - 8..u64::MAX {
-        let known = pass.known(number).expect(rt, "memory");
-        write_known(rt, &mut text, &known);
+        write_known_of(rt, &mut text, &pass, number);
     }
-    let known = pass.known(u64::MAX).expect(rt, "memory");
-    write_known(rt, &mut text, &known);
-    assert_eq!(rt; text.as_str(), "paaaaaaa[4]");
+    write_known_of(rt, &mut text, &pass, u64::MAX);
+    is_text(rt, text.as_str(), "paaaaaaa[4]");
 }
