@@ -1,11 +1,13 @@
 // How often deliveries pack their receivers: never.
-ghost use Rattle.std.specs.Prelude.{◌≡◌};
+ghost use Rattle.std.specs.Prelude.{◌≡◌, true};
+ghost use Rattle.charmlet_shelf.specs.Shelf.{is_assigned};
 
 use super::shelf::{ME, assigned, constructing, resident, ring};
 use charmlet_chare::{Chare, Outbox};
 use charmlet_kinds::Tree;
 use charmlet_model::{Elem, Resident};
 use charmlet_pup::PupFault;
+use charmlet_shelf::Shelf;
 use std::alloc::AllocError;
 use std::process::Abort;
 use std::sync::Arc;
@@ -68,41 +70,79 @@ fn counted<C: Chare>(
     resident(Packer { object, packings }, sent, received)
 }
 
+// A count, at 0.
+fn no_packings(rt: &(impl AllocGlobal + Abort)) -> Arc<AtomicU64> {
+    Arc::new(rt.alloc(), AtomicU64::new(0)).expect(rt, "a count")
+}
+
+// So often were objects sized or packed.
+fn has_packed(rt: &impl Abort, packings: &Arc<AtomicU64>, count: u64) {
+    assert!(rt; packings.load(Ordering::SeqCst) == count);
+}
+
+// The assigned message is performed at the first try, and its output can be taken.
+fn performs_at_once<C: Chare>(rt: &impl Abort, shelf: &mut Shelf<C>)
+    requires { is_assigned shelf.old.phase ≡ true }
+{
+    assert!(rt; shelf.perform().is_ok());
+    assert!(rt; shelf.take_output().is_some());
+}
+
+// The delivery is settled, and the object stays.
+fn keeps_object<C: Chare>(rt: &impl Abort, shelf: &mut Shelf<C>) {
+    assert!(rt; shelf.settle().is_none());
+}
+
+// The delivery is settled, and the object comes out.
+fn gives_object<C: Chare>(rt: &impl Abort, shelf: &mut Shelf<C>) {
+    assert!(rt; shelf.settle().is_some());
+}
+
+// The message is taken back, and no object comes out.
+fn releases<C: Chare>(rt: &impl Abort, shelf: &mut Shelf<C>) {
+    assert!(rt; shelf.release().is_none());
+}
+
+// The element has an image, where memory is there for it.
+fn has_image<C: Chare>(rt: &impl Abort, shelf: &mut Shelf<C>) {
+    assert!(rt; shelf.image(ME).is_ok());
+}
+
 #[test]
 fn deliveries_pack_nothing(rt: HostRuntime) {
-    let packings = Arc::new(rt.alloc(), AtomicU64::new(0)).expect(&rt, "a count");
+    let packings = no_packings(&rt);
     let mut shelf = assigned(&rt, counted(&rt, ring(&rt), &packings), 0, &[6]);
-    assert!(rt; shelf.perform().is_ok());
-    assert!(rt; shelf.take_output().is_some() && shelf.settle().is_none());
-    assert!(rt; packings.load(Ordering::SeqCst) == 0);
-    assert!(rt; shelf.image(ME).is_ok());
-    assert!(rt; packings.load(Ordering::SeqCst) == 1);
+    performs_at_once(&rt, &mut shelf);
+    keeps_object(&rt, &mut shelf);
+    has_packed(&rt, &packings, 0);
+    has_image(&rt, &mut shelf);
+    has_packed(&rt, &packings, 1);
 }
 
 #[test]
 fn constructions_pack_nothing(rt: HostRuntime) {
-    let packings = Arc::new(rt.alloc(), AtomicU64::new(0)).expect(&rt, "a count");
+    let packings = no_packings(&rt);
     let blank = resident(Tree::blank(), 40, 7);
     let mut shelf = constructing(&rt, counted(&rt, blank, &packings), &[5]);
-    assert!(rt; shelf.perform().is_ok());
-    assert!(rt; shelf.take_output().is_some() && shelf.settle().is_none());
-    assert!(rt; packings.load(Ordering::SeqCst) == 0);
+    performs_at_once(&rt, &mut shelf);
+    keeps_object(&rt, &mut shelf);
+    has_packed(&rt, &packings, 0);
 }
 
 #[test]
 fn destructions_pack_nothing(rt: HostRuntime) {
-    let packings = Arc::new(rt.alloc(), AtomicU64::new(0)).expect(&rt, "a count");
+    let packings = no_packings(&rt);
     let tree = resident(Tree::blank(), 40, 7);
     let mut shelf = assigned(&rt, counted(&rt, tree, &packings), 0, &[]);
-    assert!(rt; shelf.perform().is_ok());
-    assert!(rt; shelf.take_output().is_some() && shelf.settle().is_some());
-    assert!(rt; packings.load(Ordering::SeqCst) == 0);
+    performs_at_once(&rt, &mut shelf);
+    gives_object(&rt, &mut shelf);
+    has_packed(&rt, &packings, 0);
 }
 
 #[test]
 fn released_messages_pack_nothing(rt: HostRuntime) {
-    let packings = Arc::new(rt.alloc(), AtomicU64::new(0)).expect(&rt, "a count");
+    let packings = no_packings(&rt);
     let mut shelf = assigned(&rt, counted(&rt, ring(&rt), &packings), 0, &[6]);
-    assert!(rt; shelf.release().is_none());
-    assert!(rt; packings.load(Ordering::SeqCst) == 0);
+    releases(&rt, &mut shelf);
+    has_packed(&rt, &packings, 0);
 }

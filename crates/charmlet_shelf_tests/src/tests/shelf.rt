@@ -72,13 +72,23 @@ impl Chare for Probe {
     }
 }
 
+// The object takes this packed form at the first try.
+fn takes_form<C: Chare>(rt: &impl Abort, object: &mut C, packed: &[u8]) {
+    assert!(rt; object.unpack(packed).is_ok());
+}
+
+// So often was a tree entered.
+fn has_entries(rt: &impl Abort, entries: &Arc<AtomicU64>, count: u64) {
+    assert!(rt; entries.load(Ordering::SeqCst) == count);
+}
+
 // A tree of that packed form, which sent 40 messages and received 7.
 fn probe_of(rt: &impl Abort, entries: &Arc<AtomicU64>, packed: &[u8]) -> Resident<Probe>
     ensures sent { result.sent ≡ 40 }
     ensures received { result.received ≡ 7 }
 {
     let mut tree = Tree::blank();
-    assert!(rt; tree.unpack(packed).is_ok());
+    takes_form(rt, &mut tree, packed);
     let entries = entries.clone().expect(rt, "it is shared");
     resident(Probe { tree, entries }, 40, 7)
 }
@@ -89,7 +99,7 @@ pub(super) fn ring(rt: &impl Abort) -> Resident<Ring>
     ensures received { result.received ≡ 5 }
 {
     let mut ring = Ring::blank();
-    assert!(rt; ring.unpack(&RING).is_ok());
+    takes_form(rt, &mut ring, &RING);
     resident(ring, 4, 5)
 }
 
@@ -213,13 +223,28 @@ fn performed<C: Chare>(
     shelf
 }
 
+// The bytes are these.
+fn are_bytes(rt: &impl Abort, found: &[u8], wanted: &[u8]) {
+    assert!(rt; found == wanted);
+}
+
+// The words are these.
+fn are_words(rt: &impl Abort, found: &[u64], wanted: &[u64]) {
+    assert!(rt; found == wanted);
+}
+
+// Packs the object. Where memory is refused, it is packed at the second try.
+fn packs_into<C: Chare>(rt: &impl Abort, object: &mut C, packed: &mut Vec<u8>) {
+    if object.pack(packed).is_err() {
+        assert!(rt; object.pack(packed).is_ok());
+    }
+}
+
 // The object packs to these bytes.
 fn packs_to<C: Chare>(rt: &(impl AllocGlobal + Abort), object: &mut C, bytes: &[u8]) {
     let mut packed = Vec::new(rt.alloc());
-    if object.pack(&mut packed).is_err() {
-        assert!(rt; object.pack(&mut packed).is_ok());
-    }
-    assert!(rt; packed.as_slice() == bytes);
+    packs_into(rt, object, &mut packed);
+    are_bytes(rt, &packed, bytes);
 }
 
 // The element isn't on the shelf, and no delivery is under way.
@@ -276,6 +301,16 @@ fn settles<C: Chare>(
     lifts(rt, shelf, ME, counts, packed);
 }
 
+// The output has that many messages, and destroys the object or doesn't.
+fn has_effects(rt: &impl Abort, output: &Output, sends: usize, is_destroyed: bool) {
+    assert!(rt; output.sends.as_slice().len() == sends && output.is_destroyed == is_destroyed);
+}
+
+// No output can be taken.
+fn has_no_output<C: Chare>(rt: &impl Abort, shelf: &mut Shelf<C>) {
+    assert!(rt; shelf.take_output().is_none());
+}
+
 // The output can be taken once. It has that many messages and this reply, and destroys the object or
 // doesn't.
 fn gives<C: Chare>(
@@ -286,9 +321,9 @@ fn gives<C: Chare>(
     is_destroyed: bool,
 ) {
     let output = shelf.take_output().expect(rt, "an output");
-    assert!(rt; output.sends.as_slice().len() == sends && output.is_destroyed == is_destroyed);
-    assert!(rt; output.reply.as_slice() == reply);
-    assert!(rt; shelf.take_output().is_none());
+    has_effects(rt, &output, sends, is_destroyed);
+    are_words(rt, output.reply.as_slice(), reply);
+    has_no_output(rt, shelf);
 }
 
 #[test]
@@ -311,7 +346,7 @@ fn is_outcome(rt: &impl Abort, outcome: &Outcome) {
 fn passes_token(rt: &impl Abort, output: &Output) {
     let send = output.sends.as_slice().first().expect(rt, "a message");
     assert!(rt; send.to == NEXT && send.entry == 0);
-    assert!(rt; matches!(send.words.as_slice(), [5]));
+    are_words(rt, send.words.as_slice(), &[5]);
 }
 
 #[test]
@@ -362,7 +397,7 @@ fn newcomers_are_constructed_once(rt: HostRuntime) {
     let entries = Arc::new(rt.alloc(), AtomicU64::new(0)).expect(&rt, "a count");
     let mut shelf = constructing(&rt, probe_of(&rt, &entries, &ZERO), &[5]);
     performs(&rt, &mut shelf);
-    assert!(rt; entries.load(Ordering::SeqCst) == 1);
+    has_entries(&rt, &entries, 1);
     settles(&rt, &mut shelf, (42, 8), &FIVE);
 }
 
@@ -377,7 +412,7 @@ fn refused_memory_leaves_the_blank(rt: HostRuntime) {
 fn present_elements_are_not_constructed_anew(rt: HostRuntime) {
     let entries = Arc::new(rt.alloc(), AtomicU64::new(0)).expect(&rt, "a count");
     let mut shelf = performed(&rt, probe_of(&rt, &entries, &FIVE), CONSTRUCT, &[3]);
-    assert!(rt; entries.load(Ordering::SeqCst) == 0);
+    has_entries(&rt, &entries, 0);
     settles(&rt, &mut shelf, (40, 8), &FIVE);
 }
 
@@ -385,7 +420,7 @@ fn present_elements_are_not_constructed_anew(rt: HostRuntime) {
 fn destroyed_objects_come_out(rt: HostRuntime) {
     let entries = Arc::new(rt.alloc(), AtomicU64::new(0)).expect(&rt, "a count");
     let mut shelf = performed(&rt, probe_of(&rt, &entries, &FIVE), 0, &[]);
-    assert!(rt; entries.load(Ordering::SeqCst) == 1);
+    has_entries(&rt, &entries, 1);
     gives(&rt, &mut shelf, 0, &[5], true);
     let mut tree = shelf.settle().expect(&rt, "an object");
     packs_to(&rt, &mut tree, &FIVE);
@@ -419,7 +454,7 @@ fn objects_that_lent_messages_destroy_come_out(rt: HostRuntime) {
     let mut tree = lends(&rt, &mut shelf, &[])
         .destroyed
         .expect(&rt, "an object");
-    assert!(rt; entries.load(Ordering::SeqCst) == 1);
+    has_entries(&rt, &entries, 1);
     packs_to(&rt, &mut tree, &FIVE);
     lacks(&rt, &mut shelf, ME);
 }
@@ -427,8 +462,9 @@ fn objects_that_lent_messages_destroy_come_out(rt: HostRuntime) {
 // It is the image of the element, with these counts and this packed form.
 fn is_image(rt: &impl Abort, image: Option<&Image>, elem: Elem, counts: (u64, u64), packed: &[u8]) {
     let image = image.expect(rt, "an image");
-    assert!(rt; image.elem == elem && (image.sent, image.received) == counts);
-    assert!(rt; image.packed.as_slice() == packed);
+    assert!(rt; image.elem == elem);
+    assert!(rt; image.sent == counts.0 && image.received == counts.1);
+    are_bytes(rt, image.packed.as_slice(), packed);
 }
 
 #[test]
@@ -465,14 +501,31 @@ fn objects_are_counted_by_kind(rt: HostRuntime) {
     assert!(rt; shelf.count(Kind::Ring) == 1 && shelf.count(Kind::Tree) == 0);
 }
 
-// No element is lifted or shown.
-fn refuses_elements(rt: &impl Abort, shelf: &mut Shelf<Ring>)
+// The element isn't lifted, for this reason.
+fn refuses_to_lift<C: Chare>(rt: &impl Abort, shelf: &mut Shelf<C>, elem: Elem, refusal: Refusal)
     ensures { shelf.new ≡ shelf.old }
 {
-    assert!(rt; matches!(shelf.lift(ME), Err(Refusal::Uncommitted)));
-    assert!(rt; matches!(shelf.lift(OTHER), Err(Refusal::Uncommitted)));
-    assert!(rt; matches!(shelf.image(ME), Err(Refusal::Uncommitted)));
-    assert!(rt; matches!(shelf.images(), Err(Refusal::Uncommitted)));
+    let reason = shelf.lift(elem).err().expect(rt, "a refusal");
+    assert!(rt; reason == refusal);
+}
+
+// No image is made, for this reason.
+fn refuses_images<C: Chare>(rt: &impl Abort, shelf: &mut Shelf<C>, refusal: Refusal)
+    ensures { shelf.new ≡ shelf.old }
+{
+    let of_one = shelf.image(ME).err().expect(rt, "a refusal");
+    assert!(rt; of_one == refusal);
+    let of_all = shelf.images().err().expect(rt, "a refusal");
+    assert!(rt; of_all == refusal);
+}
+
+// No element is lifted or shown.
+fn refuses_elements<C: Chare>(rt: &impl Abort, shelf: &mut Shelf<C>)
+    ensures { shelf.new ≡ shelf.old }
+{
+    refuses_to_lift(rt, shelf, ME, Refusal::Uncommitted);
+    refuses_to_lift(rt, shelf, OTHER, Refusal::Uncommitted);
+    refuses_images(rt, shelf, Refusal::Uncommitted);
 }
 
 // No message is assigned, and it comes back.
