@@ -9,7 +9,7 @@ mod tree;
 
 use charmlet_chare::{Chare, Outbox, Output};
 use charmlet_kinds::{Account, Counter, Ring, Sum, Tape, Tree};
-use charmlet_model::{CONSTRUCT, Elem};
+use charmlet_model::{CONSTRUCT, Elem, Outgoing};
 use charmlet_pup::PupFault;
 use std::alloc::{AllocError, Global};
 use std::process::Abort;
@@ -27,6 +27,19 @@ struct Sent {
     word: u64,
 }
 
+// What an entry of the element `me` sends and replies, at the first try.
+fn output_at_once<C: Chare>(
+    alloc: Global,
+    object: &mut C,
+    me: Elem,
+    entry: u16,
+    payload: &[u64],
+) -> Result<Output, AllocError> {
+    let mut out = Outbox::new(alloc);
+    object.enter(me, entry, payload, &mut out)?;
+    Ok(out.into_output())
+}
+
 // What an entry of the element `me` sends and replies. One that is refused memory is tried again.
 fn output_at<C: Chare>(
     alloc: Global,
@@ -35,12 +48,10 @@ fn output_at<C: Chare>(
     entry: u16,
     payload: &[u64],
 ) -> Result<Output, AllocError> {
-    let mut out = Outbox::new(alloc);
-    if object.enter(me, entry, payload, &mut out).is_err() {
-        out = Outbox::new(alloc);
-        object.enter(me, entry, payload, &mut out)?;
+    match output_at_once(alloc, object, me, entry, payload) {
+        Ok(output) => Ok(output),
+        Err(_) => output_at_once(alloc, object, me, entry, payload),
     }
-    Ok(out.into_output())
 }
 
 // What an entry sends and replies.
@@ -53,12 +64,18 @@ fn output_of<C: Chare>(
     output_at(alloc, object, ME, entry, payload)
 }
 
-// The packed form. One that is refused memory appends nothing, and is tried again.
+// Appends the packed form. One that is refused memory appends nothing, and is tried again.
+fn packs_into<C: Chare>(object: &mut C, bytes: &mut Vec<u8>) -> Result<(), AllocError> {
+    match object.pack(bytes) {
+        Ok(()) => Ok(()),
+        Err(_) => object.pack(bytes),
+    }
+}
+
+// The packed form.
 fn packed_form<C: Chare>(alloc: Global, object: &mut C) -> Result<Vec<u8>, AllocError> {
     let mut bytes = Vec::new(alloc);
-    if object.pack(&mut bytes).is_err() {
-        object.pack(&mut bytes)?;
-    }
+    packs_into(object, &mut bytes)?;
     Ok(bytes)
 }
 
@@ -68,22 +85,57 @@ fn packs_to<C: Chare>(
     object: &mut C,
     bytes: &[u8],
 ) -> Result<(), Fail> {
-    assert_eq!(rt; object.size(), bytes.len());
+    has_size(rt, object, bytes.len());
     let packed = packed_form(rt.alloc(), object)?;
-    assert_eq!(rt; packed.as_slice(), bytes);
+    are_bytes(rt, &packed, bytes);
     Ok(())
+}
+
+// The number is this one.
+fn is_number(rt: &impl Abort, found: u64, wanted: u64) {
+    assert_eq!(rt; found, wanted);
+}
+
+// The words are these.
+fn are_words(rt: &impl Abort, found: &[u64], wanted: &[u64]) {
+    assert_eq!(rt; found, wanted);
+}
+
+// The bytes are these.
+fn are_bytes(rt: &impl Abort, found: &[u8], wanted: &[u8]) {
+    assert_eq!(rt; found, wanted);
+}
+
+// The object is of the kind with this number.
+fn is_of_kind<C: Chare>(rt: &impl Abort, object: &C, kind: u16) {
+    is_number(rt, u64::from(object.kind()), u64::from(kind));
+}
+
+// The object is sized so.
+fn has_size<C: Chare>(rt: &impl Abort, object: &mut C, size: usize) {
+    is_number(rt, object.size() as u64, size as u64);
+}
+
+// The message is this one, in this array.
+fn is_message(rt: &impl Abort, message: &Outgoing, array: u16, sent: Sent) {
+    is_number(rt, u64::from(message.to.array), u64::from(array));
+    is_number(rt, message.to.index, sent.index);
+    is_number(rt, u64::from(message.entry), u64::from(sent.entry));
+    are_words(rt, message.words.as_slice(), &[sent.word]);
 }
 
 // The messages are these, in order, all in this array.
 fn sends_are(rt: &impl Abort, array: u16, output: &Output, sends: &[Sent]) {
     let messages = output.sends.as_slice();
-    assert_eq!(rt; messages.len(), sends.len());
+    is_number(rt, messages.len() as u64, sends.len() as u64);
     for (message, sent) in messages.iter().zip(sends) {
-        assert_eq!(rt; message.to.array, array);
-        assert_eq!(rt; message.to.index, sent.index);
-        assert_eq!(rt; message.entry, sent.entry);
-        assert_eq!(rt; message.words.as_slice(), [sent.word].as_slice());
+        is_message(rt, message, array, *sent);
     }
+}
+
+// The output doesn't destroy the object.
+fn object_stays(rt: &impl Abort, output: &Output) {
+    assert!(rt; !output.is_destroyed);
 }
 
 // An entry sends and replies that, doesn't destroy the object, and leaves it with that packed form.
@@ -98,8 +150,8 @@ fn acts<C: Chare>(
 ) -> Result<(), Fail> {
     let output = output_of(rt.alloc(), object, entry, payload)?;
     sends_are(rt, ME.array, &output, sends);
-    assert_eq!(rt; output.reply.as_slice(), reply);
-    assert!(rt; !output.is_destroyed);
+    are_words(rt, output.reply.as_slice(), reply);
+    object_stays(rt, &output);
     packs_to(rt, object, packed)
 }
 
@@ -115,6 +167,50 @@ fn ignores<C: Chare>(
     acts(rt, object, entry, payload, &[], &[], packed)
 }
 
+// The bytes have this fault, which leaves the object with its packed form.
+fn refuses<C: Chare>(
+    rt: &(impl AllocGlobal + Abort),
+    object: &mut C,
+    bytes: &[u8],
+    fault: PupFault,
+    packed: &[u8],
+) -> Result<(), Fail> {
+    has_fault(rt, object, bytes, fault);
+    packs_to(rt, object, packed)
+}
+
+// The bytes have this fault.
+fn has_fault<C: Chare>(rt: &impl Abort, object: &mut C, bytes: &[u8], fault: PupFault) {
+    let found = object.unpack(bytes).err().expect(rt, "a fault");
+    assert_eq!(rt; found, fault);
+}
+
+// The bytes are those of an object of this kind and one more. With their faults they leave the object, which
+// has this packed form.
+fn refuses_each<C: Chare>(
+    rt: &(impl AllocGlobal + Abort),
+    object: &mut C,
+    bytes: &[u8],
+    packed: &[u8],
+) -> Result<(), Fail>
+    requires { 2 ≤ length bytes.now }
+{
+    refuses(rt, object, &[], PupFault::Short, packed)?;
+    let short = &bytes[..bytes.len() - 2];
+    refuses(rt, object, short, PupFault::Short, packed)?;
+    refuses(rt, object, bytes, PupFault::Trailing, packed)
+}
+
+// The bytes are those of an object of this kind, and make it that object.
+fn becomes<C: Chare>(
+    rt: &(impl AllocGlobal + Abort),
+    object: &mut C,
+    bytes: &[u8],
+) -> Result<(), Fail> {
+    object.unpack(bytes)?;
+    packs_to(rt, object, bytes)
+}
+
 // The bytes are those of an object of this kind and one more. With their faults they leave the object;
 // without the last one they make it that other object.
 fn unpacks<C: Chare>(
@@ -124,19 +220,38 @@ fn unpacks<C: Chare>(
 ) -> Result<(), Fail>
     requires { 2 ≤ length bytes.now }
 {
-    let whole = &bytes[..bytes.len() - 1];
     let packed = packed_form(rt.alloc(), object)?;
-    for (bytes, fault) in [
-        ([].as_slice(), PupFault::Short),
-        (&bytes[..bytes.len() - 2], PupFault::Short),
-        (bytes, PupFault::Trailing),
-    ] {
-        let unpacked = object.unpack(bytes);
-        assert_eq!(rt; unpacked, Err(fault));
-        packs_to(rt, object, &packed)?;
+    refuses_each(rt, object, bytes, &packed)?;
+    becomes(rt, object, &bytes[..bytes.len() - 1])
+}
+
+// The object gets the state with these bytes. Where memory is refused it is as it was, and tries once more.
+fn survives_unpacking<C: Chare>(
+    rt: &(impl AllocGlobal + Abort),
+    object: &mut C,
+    bytes: &[u8],
+) -> Result<(), Fail> {
+    let before = packed_form(rt.alloc(), object)?;
+    if object.unpack(bytes).is_err() {
+        packs_to(rt, object, &before)?;
+        object.unpack(bytes)?;
     }
-    object.unpack(whole)?;
-    packs_to(rt, object, whole)
+    packs_to(rt, object, bytes)
+}
+
+// The object, which has these bytes, enters. Where memory is refused it still has them, and tries once more.
+fn survives_entering<C: Chare>(
+    rt: &(impl AllocGlobal + Abort),
+    object: &mut C,
+    bytes: &[u8],
+    entry: u16,
+    payload: &[u64],
+) -> Result<(), Fail> {
+    if output_at_once(rt.alloc(), object, ME, entry, payload).is_err() {
+        packs_to(rt, object, bytes)?;
+        output_at_once(rt.alloc(), object, ME, entry, payload)?;
+    }
+    Ok(())
 }
 
 // The object gets the state with these bytes, and then enters. Where memory is refused it is as it was,
@@ -149,19 +264,8 @@ fn survives<C: Chare>(
     payload: &[u64],
     after: &[u8],
 ) -> Result<(), Fail> {
-    let alloc = rt.alloc();
-    let before = packed_form(alloc, object)?;
-    if object.unpack(bytes).is_err() {
-        packs_to(rt, object, &before)?;
-        object.unpack(bytes)?;
-    }
-    packs_to(rt, object, bytes)?;
-    let mut out = Outbox::new(alloc);
-    if object.enter(ME, entry, payload, &mut out).is_err() {
-        packs_to(rt, object, bytes)?;
-        out = Outbox::new(alloc);
-        object.enter(ME, entry, payload, &mut out)?;
-    }
+    survives_unpacking(rt, object, bytes)?;
+    survives_entering(rt, object, bytes, entry, payload)?;
     packs_to(rt, object, after)
 }
 
@@ -193,11 +297,9 @@ fn lives<C: Chare>(
     entry: u16,
     payload: &[u64],
 ) -> Result<(), Fail> {
-    let mut packed = Vec::new(alloc);
-    let mut out = Outbox::new(alloc);
     object.unpack(bytes)?;
-    object.pack(&mut packed)?;
-    object.enter(ME, entry, payload, &mut out)?;
+    object.pack(&mut Vec::new(alloc))?;
+    output_at_once(alloc, object, ME, entry, payload)?;
     Ok(())
 }
 

@@ -1,4 +1,4 @@
-use super::{GREATEST, ME, Sent, acts, ignores, unpacks};
+use super::{GREATEST, ME, Sent, acts, ignores, is_of_kind, unpacks};
 use charmlet_chare::Chare;
 use charmlet_kinds::Account;
 use charmlet_model::CONSTRUCT;
@@ -13,7 +13,7 @@ const FULL: [u8; 8] = [255; 8];
 
 // An account of any form is constructed, pays and is paid, packs and unpacks.
 fn pays<C: Chare>(rt: &(impl AllocGlobal + Abort), account: &mut C) -> Result<(), Fail> {
-    assert_eq!(rt; account.kind(), 3);
+    is_of_kind(rt, account, 3);
     acts(rt, account, CONSTRUCT, &[10], &[], &[], &TEN)?;
     acts(rt, account, 2, &[], &[], &[10], &TEN)?;
     let payment = Sent {

@@ -1,4 +1,4 @@
-use super::{GREATEST, acts, ignores, unpacks};
+use super::{GREATEST, acts, ignores, is_of_kind, unpacks};
 use charmlet_chare::Chare;
 use charmlet_kinds::Counter;
 use charmlet_model::CONSTRUCT;
@@ -13,7 +13,7 @@ const EIGHT: [u8; 8] = [8, 0, 0, 0, 0, 0, 0, 0];
 
 // A counter of any form is constructed, counts, packs and unpacks.
 fn counts<C: Chare>(rt: &(impl AllocGlobal + Abort), counter: &mut C) -> Result<(), Fail> {
-    assert_eq!(rt; counter.kind(), 1);
+    is_of_kind(rt, counter, 1);
     acts(rt, counter, CONSTRUCT, &[5], &[], &[], &FIVE)?;
     acts(rt, counter, 1, &[], &[], &[5], &FIVE)?;
     acts(rt, counter, 0, &[3], &[], &[8], &EIGHT)?;

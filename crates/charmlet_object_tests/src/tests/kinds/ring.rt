@@ -1,4 +1,4 @@
-use super::{GREATEST, Sent, acts, ignores, unpacks};
+use super::{GREATEST, Sent, acts, ignores, is_of_kind, unpacks};
 use charmlet_chare::Chare;
 use charmlet_kinds::Ring;
 use charmlet_model::CONSTRUCT;
@@ -22,7 +22,7 @@ const FULL: [u8; 16] = [
 
 // A ring of any form is constructed, takes a token, packs and unpacks.
 fn takes_tokens<C: Chare>(rt: &(impl AllocGlobal + Abort), ring: &mut C) -> Result<(), Fail> {
-    assert_eq!(rt; ring.kind(), 2);
+    is_of_kind(rt, ring, 2);
     acts(rt, ring, CONSTRUCT, &[3], &[], &[], &FRESH)?;
     let passed = Sent {
         index: 3,

@@ -1,4 +1,4 @@
-use super::{GREATEST, ME, Sent, acts, ignores, unpacks};
+use super::{GREATEST, ME, Sent, acts, ignores, is_of_kind, unpacks};
 use charmlet_chare::Chare;
 use charmlet_kinds::Sum;
 use charmlet_model::CONSTRUCT;
@@ -23,7 +23,7 @@ const LONG: [u8; 33] = [
 
 // A sum of any form is constructed, adds up and begins anew, packs and unpacks.
 fn adds_up<C: Chare>(rt: &(impl AllocGlobal + Abort), sum: &mut C) -> Result<(), Fail> {
-    assert_eq!(rt; sum.kind(), 4);
+    is_of_kind(rt, sum, 4);
     acts(rt, sum, CONSTRUCT, &[2, 3], &[], &[], &FRESH)?;
     for total in [15, 20] {
         acts(rt, sum, 0, &[10], &[], &[], &BEGUN)?;

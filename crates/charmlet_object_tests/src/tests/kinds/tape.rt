@@ -1,5 +1,5 @@
-use super::{output_of, packed_form};
-use charmlet_chare::Chare;
+use super::{are_bytes, are_words, has_fault, has_size, is_of_kind, output_of, packed_form};
+use charmlet_chare::{Chare, Output};
 use charmlet_kinds::Tape;
 use charmlet_model::CONSTRUCT;
 use charmlet_pup::PupFault;
@@ -24,7 +24,39 @@ fn has_items<C: Chare>(
     items: &[u64],
 ) -> Result<(), AllocError> {
     let output = output_of(alloc, object, READ, &[])?;
-    assert_eq!(rt; output.reply.as_slice(), items);
+    are_words(rt, output.reply.as_slice(), items);
+    Ok(())
+}
+
+// The object packs to these bytes.
+fn has_form<C: Chare>(
+    rt: &impl Abort,
+    alloc: Global,
+    object: &mut C,
+    bytes: &[u8],
+) -> Result<(), AllocError> {
+    let packed = packed_form(alloc, object)?;
+    are_bytes(rt, &packed, bytes);
+    Ok(())
+}
+
+// The output has no reply and no message, and doesn't destroy the object.
+fn is_silent(rt: &impl Abort, output: &Output) {
+    assert!(rt; output.reply.is_empty());
+    assert!(rt; output.sends.as_slice().is_empty());
+    assert!(rt; !output.is_destroyed);
+}
+
+// The entry sends and replies nothing, and doesn't destroy the object.
+fn enters_silently<C: Chare>(
+    rt: &impl Abort,
+    alloc: Global,
+    object: &mut C,
+    entry: u16,
+    payload: &[u64],
+) -> Result<(), AllocError> {
+    let output = output_of(alloc, object, entry, payload)?;
+    is_silent(rt, &output);
     Ok(())
 }
 
@@ -41,26 +73,26 @@ fn push_all<C: Chare>(
     Ok(())
 }
 
+// The object takes this packed form.
+fn takes_form<C: Chare>(rt: &impl Abort, object: &mut C, packed: &[u8]) {
+    assert!(rt; object.unpack(packed).is_ok());
+}
+
 // A tape of any form is constructed, keeps what it is given, packs and unpacks.
 fn keeps<C: Chare>(rt: &impl Abort, alloc: Global, object: &mut C) -> Result<(), Fail> {
-    assert_eq!(rt; object.kind(), 6);
-    assert_eq!(rt; object.size(), 4);
+    is_of_kind(rt, object, 6);
+    has_size(rt, object, 4);
     output_of(alloc, object, PUSH, &[9])?;
     output_of(alloc, object, CONSTRUCT, &[5])?;
-    let bytes = packed_form(alloc, object)?;
-    assert_eq!(rt; bytes.as_slice(), [0u8; 4].as_slice());
+    has_form(rt, alloc, object, &[0; 4])?;
     for item in [1, 2] {
-        let pushed = output_of(alloc, object, PUSH, &[item, 7])?;
-        assert!(rt; pushed.reply.is_empty());
-        assert!(rt; pushed.sends.as_slice().is_empty());
-        assert!(rt; !pushed.is_destroyed);
+        enters_silently(rt, alloc, object, PUSH, &[item, 7])?;
     }
     has_items(rt, alloc, object, &[1, 2])?;
-    assert_eq!(rt; object.size(), 20);
-    let bytes = packed_form(alloc, object)?;
-    assert_eq!(rt; bytes.as_slice(), &PACKED[..20]);
+    has_size(rt, object, 20);
+    has_form(rt, alloc, object, &PACKED[..20])?;
     output_of(alloc, object, PUSH, &[3])?;
-    assert!(rt; object.unpack(&PACKED[..20]).is_ok());
+    takes_form(rt, object, &PACKED[..20]);
     has_items(rt, alloc, object, &[1, 2])?;
     Ok(())
 }
@@ -85,19 +117,46 @@ fn items(alloc: Global, first: u64, end: u64) -> Result<Vec<u64>, AllocError> {
     Ok(items)
 }
 
+// The tape has 64 items, the numbers from `oldest` on, below `next`.
+fn is_full(
+    rt: &impl Abort,
+    alloc: Global,
+    tape: &mut Tape,
+    oldest: u64,
+    next: u64,
+) -> Result<(), AllocError> {
+    has_size(rt, tape, 516);
+    let items = items(alloc, oldest, next)?;
+    has_items(rt, alloc, tape, &items)
+}
+
+// The packed form begins with these bytes.
+fn begins_with(
+    rt: &impl Abort,
+    alloc: Global,
+    tape: &mut Tape,
+    bytes: &[u8],
+) -> Result<(), AllocError> {
+    let packed = packed_form(alloc, tape)?;
+    assert!(rt; packed.starts_with(bytes));
+    Ok(())
+}
+
 #[test]
 fn full_tapes_drop_their_oldest_item(rt: HostRuntime) -> Result<(), Fail> {
     let alloc = rt.alloc();
     let mut tape = Tape::blank(alloc);
     push_all(alloc, &mut tape, 1, 64)?;
     for (oldest, next) in [(1u64, 65u64), (2, 66)] {
-        assert_eq!(rt; tape.size(), 516);
-        let items = items(alloc, oldest, next)?;
-        has_items(&rt, alloc, &mut tape, &items)?;
+        is_full(&rt, alloc, &mut tape, oldest, next)?;
         output_of(alloc, &mut tape, PUSH, &[next])?;
     }
-    let bytes = packed_form(alloc, &mut tape)?;
-    assert!(rt; bytes.starts_with(&[64, 0, 0, 0, 3, 0, 0, 0, 0, 0, 0, 0]));
+    begins_with(
+        &rt,
+        alloc,
+        &mut tape,
+        &[64, 0, 0, 0, 3, 0, 0, 0, 0, 0, 0, 0],
+    )?;
     output_of(alloc, &mut tape, CONSTRUCT, &[])?;
     has_items(&rt, alloc, &mut tape, &[])?;
     Ok(())
@@ -109,12 +168,8 @@ fn other_entries_leave_the_tape(rt: HostRuntime) -> Result<(), Fail> {
     let mut tape = Tape::blank(alloc);
     push_all(alloc, &mut tape, 1, 2)?;
     for (entry, payload) in [(PUSH, [].as_slice()), (2, &[3]), (65534, &[3])] {
-        let output = output_of(alloc, &mut tape, entry, payload)?;
-        assert!(rt; output.reply.is_empty());
-        assert!(rt; output.sends.as_slice().is_empty());
-        assert!(rt; !output.is_destroyed);
-        let bytes = packed_form(alloc, &mut tape)?;
-        assert_eq!(rt; bytes.as_slice(), &PACKED[..20]);
+        enters_silently(&rt, alloc, &mut tape, entry, payload)?;
+        has_form(&rt, alloc, &mut tape, &PACKED[..20])?;
     }
     Ok(())
 }
@@ -130,8 +185,7 @@ fn faults_leave_the_tape(rt: HostRuntime) -> Result<(), Fail> {
         (&PACKED[..3], PupFault::Short),
         (&[0x41, 0, 0, 0], PupFault::TooMany),
     ] {
-        let unpacked = tape.unpack(bytes);
-        assert_eq!(rt; unpacked, Err(fault));
+        has_fault(&rt, &mut tape, bytes, fault);
         has_items(&rt, alloc, &mut tape, &[8, 9])?;
     }
     Ok(())

@@ -1,9 +1,11 @@
 use super::{
-    GREATEST, ME, Sent, acts, ignores, output_at, output_of, packs_to, sends_are, unpacks,
+    GREATEST, ME, Sent, acts, are_words, ignores, is_of_kind, output_at, output_of, packs_to,
+    sends_are, unpacks,
 };
-use charmlet_chare::Chare;
+use charmlet_chare::{Chare, Output};
 use charmlet_kinds::Tree;
 use charmlet_model::{CONSTRUCT, Elem};
+use std::alloc::AllocError;
 use std::process::Abort;
 use std::test::Fail;
 
@@ -20,9 +22,23 @@ fn child(index: u64) -> Sent {
     }
 }
 
+// The output destroys the object.
+fn object_goes(rt: &impl Abort, output: &Output) {
+    assert!(rt; output.is_destroyed);
+}
+
+// A tree of depth 256 is destroyed and replies its depth.
+fn is_done<C: Chare>(rt: &(impl AllocGlobal + Abort), tree: &mut C) -> Result<(), AllocError> {
+    let done = output_of(rt.alloc(), tree, 0, &[9])?;
+    object_goes(rt, &done);
+    are_words(rt, done.reply.as_slice(), &[256]);
+    sends_are(rt, ME.array, &done, &[]);
+    Ok(())
+}
+
 // A tree of any form is constructed with its children, packs and unpacks, and is done.
 fn grows<C: Chare>(rt: &(impl AllocGlobal + Abort), tree: &mut C) -> Result<(), Fail> {
-    assert_eq!(rt; tree.kind(), 5);
+    is_of_kind(rt, tree, 5);
     acts(
         rt,
         tree,
@@ -33,10 +49,7 @@ fn grows<C: Chare>(rt: &(impl AllocGlobal + Abort), tree: &mut C) -> Result<(), 
         &TWO,
     )?;
     unpacks(rt, tree, &[0, 1, 0, 0, 0, 0, 0, 0, 9])?;
-    let done = output_of(rt.alloc(), tree, 0, &[9])?;
-    assert!(rt; done.is_destroyed);
-    assert_eq!(rt; done.reply.as_slice(), [256u64].as_slice());
-    sends_are(rt, ME.array, &done, &[]);
+    is_done(rt, tree)?;
     packs_to(rt, tree, &[0, 1, 0, 0, 0, 0, 0, 0])
 }
 
@@ -80,6 +93,14 @@ fn depths_reach_the_greatest_number(rt: HostRuntime) -> Result<(), Fail> {
     )
 }
 
+// A tree of depth 2 in this place constructs these children.
+fn has_children(rt: &(impl AllocGlobal + Abort), me: Elem, children: &[Sent]) -> Result<(), Fail> {
+    let mut tree = Tree::blank();
+    let output = output_at(rt.alloc(), &mut tree, me, CONSTRUCT, &[2])?;
+    sends_are(rt, me.array, &output, children);
+    packs_to(rt, &mut tree, &TWO)
+}
+
 #[test]
 fn children_have_numbers_of_64_bits(rt: HostRuntime) -> Result<(), Fail> {
     let both = [child(0xffff_ffff_ffff_fffd), child(0xffff_ffff_ffff_fffe)];
@@ -90,11 +111,7 @@ fn children_have_numbers_of_64_bits(rt: HostRuntime) -> Result<(), Fail> {
         (0x8000_0000_0000_0000, &[]),
         (GREATEST, &[]),
     ] {
-        let mut tree = Tree::blank();
-        let me = Elem { array: 3, index };
-        let output = output_at(rt.alloc(), &mut tree, me, CONSTRUCT, &[2])?;
-        sends_are(&rt, 3, &output, children);
-        packs_to(&rt, &mut tree, &TWO)?;
+        has_children(&rt, Elem { array: 3, index }, children)?;
     }
     Ok(())
 }
