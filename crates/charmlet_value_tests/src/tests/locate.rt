@@ -14,13 +14,30 @@ const LAST: Elem = Elem {
     index: 0xffff_ffff_ffff_ffff,
 };
 
+// The home on so many processors.
+fn has_home(rt: &impl Abort, elem: Elem, processors: u16, wanted: u16) {
+    let found = home(elem, processors).ok().expect(rt, "a home");
+    assert_eq!(rt; found, wanted);
+}
+
+// The element stands on this processor.
+fn is_at(rt: &impl Abort, locations: &Locations, elem: Elem, wanted: u16) {
+    let found = locations.where_is(elem).expect(rt, "a place");
+    assert_eq!(rt; found, wanted);
+}
+
+// The element stands nowhere.
+fn is_nowhere(rt: &impl Abort, locations: &Locations, elem: Elem) {
+    assert!(rt; locations.where_is(elem).is_none());
+}
+
 // The homes on 1, 2, 3 and 64 processors.
 fn has_homes(rt: &impl Abort, elem: Elem, homes: [u16; 4]) {
     let [on_one, on_two, on_three, on_all] = homes;
-    assert_eq!(rt; home(elem, 1), Ok(on_one));
-    assert_eq!(rt; home(elem, 2), Ok(on_two));
-    assert_eq!(rt; home(elem, 3), Ok(on_three));
-    assert_eq!(rt; home(elem, 64), Ok(on_all));
+    has_home(rt, elem, 1, on_one);
+    has_home(rt, elem, 2, on_two);
+    has_home(rt, elem, 3, on_three);
+    has_home(rt, elem, 64, on_all);
 }
 
 #[test]
@@ -30,28 +47,38 @@ fn homes_are_by_array_and_index(rt: HostRuntime) {
     has_homes(&rt, LAST, [0, 0, 0, 62]);
     let early = Elem { array: 3, index: 5 };
     has_homes(&rt, early, [0, 0, 2, 8]);
-    assert_eq!(rt; home(early, 4), Ok(0));
+    has_home(&rt, early, 4, 0);
+}
+
+// There can't be so many processors.
+fn has_no_homes(rt: &(impl AllocGlobal + Abort), processors: u16) {
+    let of_home = home(ME, processors).err().expect(rt, "a refusal");
+    assert_eq!(rt; of_home, Refusal::BadPes);
+    let map = restart_map(rt.alloc(), &[], processors);
+    let of_map = map.err().expect(rt, "a refusal");
+    assert_eq!(rt; of_map, Refusal::BadPes);
 }
 
 #[test]
 fn processors_are_1_to_64(rt: HostRuntime) {
     for processors in [0u16, 65, 65535] {
-        assert_eq!(rt; home(ME, processors), Err(Refusal::BadPes));
-        let map = restart_map(rt.alloc(), &[], processors);
-        assert_eq!(rt; map.err(), Some(Refusal::BadPes));
+        has_no_homes(&rt, processors);
     }
+}
+
+// Two of the elements stand on these processors, and the other one nowhere.
+fn are_at(rt: &impl Abort, locations: &Locations, of_me: u16, of_last: u16) {
+    is_at(rt, locations, ME, of_me);
+    is_nowhere(rt, locations, OTHER);
+    is_at(rt, locations, LAST, of_last);
 }
 
 #[test]
 fn elements_come_to_processors(rt: HostRuntime) -> Result<(), Fail> {
-    let alloc = rt.alloc();
-    let locations = restart_map(alloc, &[], 64)?;
-    assert_eq!(rt; locations.where_is(ME), None);
+    is_nowhere(&rt, &restart_map(rt.alloc(), &[], 64)?, ME);
     for (processors, of_me, of_last) in [(1, 0, 0), (2, 1, 0), (3, 0, 0), (64, 9, 62)] {
-        let locations = restart_map(alloc, &[ME, LAST, ME], processors)?;
-        assert_eq!(rt; locations.where_is(ME), Some(of_me));
-        assert_eq!(rt; locations.where_is(OTHER), None);
-        assert_eq!(rt; locations.where_is(LAST), Some(of_last));
+        let locations = restart_map(rt.alloc(), &[ME, LAST, ME], processors)?;
+        are_at(&rt, &locations, of_me, of_last);
     }
     Ok(())
 }
@@ -59,9 +86,7 @@ fn elements_come_to_processors(rt: HostRuntime) -> Result<(), Fail> {
 #[test]
 fn elements_restart_at_their_homes(rt: HostRuntime) -> Result<(), Fail> {
     let locations = restart_map(rt.alloc(), &[LAST, ME, LAST], 64)?;
-    assert_eq!(rt; locations.where_is(ME), Some(9));
-    assert_eq!(rt; locations.where_is(OTHER), None);
-    assert_eq!(rt; locations.where_is(LAST), Some(62));
+    are_at(&rt, &locations, 9, 62);
     Ok(())
 }
 
@@ -102,10 +127,10 @@ fn refused_memory_leaves_the_places(rt: HostRuntime) -> Result<(), Fail> {
     are_at_home(&rt, &in_row, &elems);
     let locations = restarted(&rt, &[LAST, ME, LAST])?;
     are_at_home(&rt, &locations, &[LAST, ME]);
-    assert_eq!(rt; locations.where_is(ME), Some(0));
-    assert_eq!(rt; locations.where_is(OTHER), None);
+    is_at(&rt, &locations, ME, 0);
+    is_nowhere(&rt, &locations, OTHER);
     are_at_home(&rt, &in_row, &elems);
-    assert_eq!(rt; in_row.where_is(ME), None);
+    is_nowhere(&rt, &in_row, ME);
     Ok(())
 }
 

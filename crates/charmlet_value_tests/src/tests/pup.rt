@@ -6,6 +6,7 @@ ghost use Rattle.charmlet_pup.specs.Visit.{AnyRoom, RoomForBytes, RoomForWords, 
 
 use charmlet_pup::{Er, Pass, Pup, PupFault, pack, packed_values_are_read, size_of, unpack};
 use std::alloc::Global;
+use std::process::Abort;
 use std::test::Fail;
 
 // A field of every sort.
@@ -137,6 +138,49 @@ impl Pup for Name {
     ghost reads_back = { λ n within. ReadsBack-byte_list 4 n.letters.items within (lit< tt) };
 }
 
+// The number is this one.
+fn is_number(rt: &impl Abort, found: u64, wanted: u64) {
+    assert_eq!(rt; found, wanted);
+}
+
+// The numbers are these.
+fn are_numbers(rt: &impl Abort, found: &[u64], wanted: &[u64]) {
+    assert_eq!(rt; found, wanted);
+}
+
+// The bytes are these.
+fn are_bytes(rt: &impl Abort, found: &[u8], wanted: &[u8]) {
+    assert_eq!(rt; found, wanted);
+}
+
+// The mark is set.
+fn is_set(rt: &impl Abort, mark: bool) {
+    assert!(rt; mark);
+}
+
+// The value packs to so many bytes.
+fn has_size<P: Pup>(rt: &impl Abort, value: &mut P, size: usize) {
+    assert_eq!(rt; size_of(value), size);
+}
+
+// The value packs to these bytes.
+fn packs_to<P: Pup>(
+    rt: &(impl AllocGlobal + Abort),
+    value: &mut P,
+    packed: &[u8],
+) -> Result<(), Fail> {
+    let mut bytes = Vec::new(rt.alloc());
+    pack(value, &mut bytes)?;
+    are_bytes(rt, &bytes, packed);
+    Ok(())
+}
+
+// The bytes have this fault.
+fn has_fault<P: Pup>(rt: &impl Abort, value: &mut P, bytes: &[u8], fault: PupFault) {
+    let found = unpack(value, bytes).err().expect(rt, "a fault");
+    assert_eq!(rt; found, fault);
+}
+
 // A sample with nothing in it.
 fn blank(alloc: Global) -> Sample {
     Sample {
@@ -150,89 +194,90 @@ fn blank(alloc: Global) -> Sample {
     }
 }
 
+// The sample has these numbers, and its mark is set.
+fn has_numbers(rt: &impl Abort, sample: &Sample) {
+    is_number(rt, u64::from(sample.narrow), 0xab);
+    is_number(rt, u64::from(sample.short), 0x1234);
+    is_number(rt, u64::from(sample.wide), 0x89ab_cdef);
+    is_number(rt, sample.long, 5);
+    is_set(rt, sample.is_open);
+}
+
+// The sample has the one word 7 and the name hi.
+fn has_lists(rt: &impl Abort, sample: &Sample) {
+    are_numbers(rt, sample.words.as_slice(), &[7]);
+    are_bytes(rt, sample.name.as_slice(), b"hi");
+}
+
 #[test]
 fn one_routine_serves_all_modes(rt: HostRuntime) -> Result<(), Fail> {
-    let alloc = rt.alloc();
     let packed = [
         0xabu8, 0x34, 0x12, 0xef, 0xcd, 0xab, 0x89, 5, 0, 0, 0, 0, 0, 0, 0, 1, 1, 0, 0, 0, 7, 0, 0,
         0, 0, 0, 0, 0, 2, 0, 0, 0, 0x68, 0x69,
     ];
-    let mut sample = blank(alloc);
-    assert_eq!(rt; size_of(&mut sample), 24);
+    let mut sample = blank(rt.alloc());
+    has_size(&rt, &mut sample, 24);
     unpack(&mut sample, &packed)?;
-    assert_eq!(rt; sample.narrow, 0xab);
-    assert_eq!(rt; sample.short, 0x1234);
-    assert_eq!(rt; sample.wide, 0x89ab_cdef);
-    assert_eq!(rt; sample.long, 5);
-    assert!(rt; sample.is_open);
-    assert_eq!(rt; sample.words.as_slice(), [7u64].as_slice());
-    assert_eq!(rt; sample.name.as_slice(), b"hi".as_slice());
-    assert_eq!(rt; size_of(&mut sample), 34);
-    let mut bytes = Vec::new(alloc);
-    pack(&mut sample, &mut bytes)?;
-    assert_eq!(rt; bytes.as_slice(), packed.as_slice());
-    Ok(())
+    has_numbers(&rt, &sample);
+    has_lists(&rt, &sample);
+    has_size(&rt, &mut sample, 34);
+    packs_to(&rt, &mut sample, &packed)
+}
+
+// The parcel has the number 7, is sealed, and has the label tea.
+fn is_tea(rt: &impl Abort, parcel: &Parcel) {
+    is_number(rt, u64::from(parcel.number), 7);
+    is_set(rt, parcel.is_sealed);
+    are_bytes(rt, parcel.label.as_slice(), b"tea");
+}
+
+// The bytes have this fault, and leave the parcel as long as it was.
+fn leaves_parcel(rt: &impl Abort, parcel: &mut Parcel, bytes: &[u8], fault: PupFault) {
+    has_fault(rt, parcel, bytes, fault);
+    has_size(rt, parcel, 12);
 }
 
 #[test]
 fn parcels_pack_to_their_fields(rt: HostRuntime) -> Result<(), Fail> {
-    let alloc = rt.alloc();
     let packed = [7u8, 0, 0, 0, 1, 3, 0, 0, 0, 0x74, 0x65, 0x61];
     let mut parcel = Parcel {
         number: 0,
         is_sealed: false,
-        label: Vec::new(alloc),
+        label: Vec::new(rt.alloc()),
     };
     unpack(&mut parcel, &packed)?;
-    assert_eq!(rt; parcel.number, 7);
-    assert!(rt; parcel.is_sealed);
-    assert_eq!(rt; parcel.label.as_slice(), b"tea".as_slice());
-    assert_eq!(rt; size_of(&mut parcel), 12);
-    let mut bytes = Vec::new(alloc);
-    pack(&mut parcel, &mut bytes)?;
-    assert_eq!(rt; bytes.as_slice(), packed.as_slice());
-    for (bytes, fault) in [
-        (&packed[..3], PupFault::Short),
-        (&[7, 0, 0, 0, 2], PupFault::BadFlag),
-        (&[7, 0, 0, 0, 1, 17, 0, 0, 0], PupFault::TooMany),
-    ] {
-        let unpacked = unpack(&mut parcel, bytes);
-        assert_eq!(rt; unpacked, Err(fault));
-        assert_eq!(rt; size_of(&mut parcel), 12);
-    }
+    is_tea(&rt, &parcel);
+    has_size(&rt, &mut parcel, 12);
+    packs_to(&rt, &mut parcel, &packed)?;
+    leaves_parcel(&rt, &mut parcel, &packed[..3], PupFault::Short);
+    leaves_parcel(&rt, &mut parcel, &[7, 0, 0, 0, 2], PupFault::BadFlag);
+    let too_many = [7, 0, 0, 0, 1, 17, 0, 0, 0];
+    leaves_parcel(&rt, &mut parcel, &too_many, PupFault::TooMany);
     packed_values_are_read::<Parcel>();
     Ok(())
 }
 
 #[test]
 fn counter_packs_to_its_number(rt: HostRuntime) -> Result<(), Fail> {
-    let mut bytes = Vec::new(rt.alloc());
-    pack(&mut 5u64, &mut bytes)?;
-    assert_eq!(rt; bytes.as_slice(), [5u8, 0, 0, 0, 0, 0, 0, 0].as_slice());
-    Ok(())
+    packs_to(&rt, &mut 5u64, &[5, 0, 0, 0, 0, 0, 0, 0])
 }
 
 #[test]
 fn list_is_its_length_and_items(rt: HostRuntime) -> Result<(), Fail> {
-    let alloc = rt.alloc();
     let packed = [2u8, 0, 0, 0, 1, 0, 0, 0, 0, 0, 0, 0, 2, 0, 0, 0, 0, 0, 0, 0];
     let mut row = Row {
-        items: Vec::new(alloc),
+        items: Vec::new(rt.alloc()),
     };
     unpack(&mut row, &packed)?;
-    assert_eq!(rt; row.items.as_slice(), [1u64, 2].as_slice());
-    assert_eq!(rt; size_of(&mut row), 20);
-    let mut bytes = Vec::new(alloc);
-    pack(&mut row, &mut bytes)?;
-    assert_eq!(rt; bytes.as_slice(), packed.as_slice());
-    Ok(())
+    are_numbers(&rt, row.items.as_slice(), &[1, 2]);
+    has_size(&rt, &mut row, 20);
+    packs_to(&rt, &mut row, &packed)
 }
 
 #[test]
 fn faults_leave_the_list(rt: HostRuntime) -> Result<(), Fail> {
-    let alloc = rt.alloc();
     let mut row = Row {
-        items: Vec::new(alloc),
+        items: Vec::new(rt.alloc()),
     };
     unpack(&mut row, &[1, 0, 0, 0, 7, 0, 0, 0, 0, 0, 0, 0])?;
     let trailing = [
@@ -245,18 +290,16 @@ fn faults_leave_the_list(rt: HostRuntime) -> Result<(), Fail> {
         (&trailing[..3], PupFault::Short),
         (too_many.as_slice(), PupFault::TooMany),
     ] {
-        let unpacked = unpack(&mut row, bytes);
-        assert_eq!(rt; unpacked, Err(fault));
-        assert_eq!(rt; row.items.as_slice(), [7u64].as_slice());
+        has_fault(&rt, &mut row, bytes, fault);
+        are_numbers(&rt, row.items.as_slice(), &[7]);
     }
     Ok(())
 }
 
 #[test]
 fn bytes_are_their_length_and_themselves(rt: HostRuntime) -> Result<(), Fail> {
-    let alloc = rt.alloc();
     let mut name = Name {
-        letters: Vec::new(alloc),
+        letters: Vec::new(rt.alloc()),
     };
     for packed in [
         [4u8, 0, 0, 0, 0x64, 0x6f, 0x6f, 0x72].as_slice(),
@@ -264,11 +307,9 @@ fn bytes_are_their_length_and_themselves(rt: HostRuntime) -> Result<(), Fail> {
         &[2, 0, 0, 0, 0, 0xff],
     ] {
         unpack(&mut name, packed)?;
-        assert_eq!(rt; name.letters.as_slice(), &packed[4..]);
-        assert_eq!(rt; size_of(&mut name), packed.len());
-        let mut bytes = Vec::new(alloc);
-        pack(&mut name, &mut bytes)?;
-        assert_eq!(rt; bytes.as_slice(), packed);
+        are_bytes(&rt, name.letters.as_slice(), &packed[4..]);
+        has_size(&rt, &mut name, packed.len());
+        packs_to(&rt, &mut name, packed)?;
     }
     Ok(())
 }
@@ -290,9 +331,8 @@ fn faults_leave_the_bytes(rt: HostRuntime) -> Result<(), Fail> {
         (&[5, 0, 0, 0, 1, 2, 3, 4, 5], PupFault::TooMany),
         (&[0, 0, 0, 1], PupFault::TooMany),
     ] {
-        let unpacked = unpack(&mut name, bytes);
-        assert_eq!(rt; unpacked, Err(fault));
-        assert_eq!(rt; name.letters.as_slice(), [7u8, 9].as_slice());
+        has_fault(&rt, &mut name, bytes, fault);
+        are_bytes(&rt, name.letters.as_slice(), &[7, 9]);
     }
     Ok(())
 }
@@ -305,28 +345,39 @@ fn truth_values_are_0_or_1(rt: HostRuntime) -> Result<(), Fail> {
         (&[2], PupFault::BadFlag),
         (&[0, 0], PupFault::Trailing),
     ] {
-        let unpacked = unpack(&mut flag, bytes);
-        assert_eq!(rt; unpacked, Err(fault));
-        assert!(rt; flag);
+        has_fault(&rt, &mut flag, bytes, fault);
+        is_set(&rt, flag);
     }
     unpack(&mut flag, &[0])?;
-    assert!(rt; !flag);
-    assert_eq!(rt; size_of(&mut flag), 1);
+    is_set(&rt, !flag);
+    has_size(&rt, &mut flag, 1);
     let mut bytes = Vec::new(rt.alloc());
     pack(&mut flag, &mut bytes)?;
     pack(&mut true, &mut bytes)?;
-    assert_eq!(rt; bytes.as_slice(), [0u8, 1].as_slice());
+    are_bytes(&rt, &bytes, &[0, 1]);
     Ok(())
+}
+
+// The mode is sizing, packing or unpacking, as these say.
+fn is_mode(rt: &impl Abort, er: &Er<'_>, modes: (bool, bool, bool)) {
+    assert!(rt; er.is_sizing() == modes.0);
+    assert!(rt; er.is_packing() == modes.1);
+    assert!(rt; er.is_unpacking() == modes.2);
 }
 
 #[test]
 fn modes_are_told_apart(rt: HostRuntime) {
-    let sizing = Er::Sizing(0);
+    is_mode(&rt, &Er::Sizing(0), (true, false, false));
     let packing = Er::Packing(Vec::new(rt.alloc()));
-    let unpacking = Er::Unpacking(&[], Pass::Test);
-    assert!(rt; sizing.is_sizing() && !sizing.is_packing() && !sizing.is_unpacking());
-    assert!(rt; packing.is_packing() && !packing.is_sizing() && !packing.is_unpacking());
-    assert!(rt; unpacking.is_unpacking() && !unpacking.is_sizing() && !unpacking.is_packing());
+    is_mode(&rt, &packing, (false, true, false));
+    is_mode(&rt, &Er::Unpacking(&[], Pass::Test), (false, false, true));
+}
+
+// The fault is told in these words.
+fn is_told(rt: &(impl AllocGlobal + Abort), fault: PupFault, text: &str) -> Result<(), Fail> {
+    let said = format!(in rt.alloc(); "{fault}")?;
+    assert_eq!(rt; said.as_str(), text);
+    Ok(())
 }
 
 #[test]
@@ -338,8 +389,7 @@ fn faults_are_told_in_words(rt: HostRuntime) -> Result<(), Fail> {
         (PupFault::Trailing, "bytes are left over"),
         (PupFault::Memory, "out of memory"),
     ] {
-        let said = format!(in rt.alloc(); "{fault}")?;
-        assert_eq!(rt; said.as_str(), text);
+        is_told(&rt, fault, text)?;
     }
     Ok(())
 }
