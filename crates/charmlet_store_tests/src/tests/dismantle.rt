@@ -66,19 +66,29 @@ fn new_store(rt: &(impl AllocGlobal + Abort)) -> Store<Counter>
     store
 }
 
+// The resident has received one message and sent none.
+fn has_received(rt: &impl Abort, resident: &Resident<Counter>) {
+    assert!(rt; resident.sent == 0 && resident.received == 1);
+}
+
 // The elements of these residents, each of which has received one message and sent none.
 fn elems_of(rt: &(impl AllocGlobal + Abort), residents: &[(Elem, Resident<Counter>)]) -> Vec<Elem> {
     let mut elems = Vec::new(rt.alloc());
     for (elem, resident) in residents {
-        assert!(rt; (resident.sent, resident.received) == (0, 1));
-        assert!(rt; elems.push(*elem).is_ok());
+        has_received(rt, resident);
+        elems.push(*elem).expect(rt, "memory");
     }
     elems
 }
 
-// How many blank counters are in the stock.
-fn counters_in(stock: &Stock<Counter>) -> u64 {
-    stock.census().counters.in_stock
+// So many blank counters are in the stock.
+fn has_counters(rt: &impl Abort, stock: &Stock<Counter>, count: u64) {
+    assert_eq!(rt; stock.census().counters.in_stock, count);
+}
+
+// The elements are these.
+fn are_elems(rt: &impl Abort, found: &[Elem], wanted: &[Elem]) {
+    assert!(rt; found == wanted);
 }
 
 #[test]
@@ -88,6 +98,6 @@ fn stores_come_apart(rt: HostRuntime) {
     construct(&rt, &mut store, 8, FIRST);
     let parts = store.dismantle().ok().expect(&rt, "memory is there");
     let elems = elems_of(&rt, parts.residents.as_slice());
-    assert!(rt; elems.as_slice() == [FIRST, SECOND].as_slice());
-    assert_eq!(rt; counters_in(&parts.stock), 1);
+    are_elems(&rt, &elems, &[FIRST, SECOND]);
+    has_counters(&rt, &parts.stock, 1);
 }

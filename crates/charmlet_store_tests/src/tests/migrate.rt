@@ -56,13 +56,23 @@ fn source_with<C: Chare>(rt: &(impl AllocGlobal + Abort), object: C) -> Shelf<C>
     shelf
 }
 
+// The bytes are these.
+fn are_bytes(rt: &impl Abort, found: &[u8], wanted: &[u8]) {
+    assert!(rt; found == wanted);
+}
+
+// Packs the object. Where memory is refused, it is packed at the second try.
+fn packs_into<C: Chare>(rt: &impl Abort, object: &mut C, packed: &mut Vec<u8>) {
+    if object.pack(packed).is_err() {
+        assert!(rt; object.pack(packed).is_ok());
+    }
+}
+
 // The object has this packed form.
 fn packs_to<C: Chare>(rt: &(impl AllocGlobal + Abort), object: &mut C, bytes: &[u8]) {
     let mut packed = Vec::new(rt.alloc());
-    if object.pack(&mut packed).is_err() {
-        assert!(rt; object.pack(&mut packed).is_ok());
-    }
-    assert!(rt; packed.as_slice() == bytes);
+    packs_into(rt, object, &mut packed);
+    are_bytes(rt, &packed, bytes);
 }
 
 // An object of this packed form.
@@ -77,8 +87,24 @@ fn unpacked<C: Chare>(rt: &impl Abort, mut blank: C, packed: &[u8]) -> C
 }
 
 // The element isn't on the shelf, and no delivery is under way.
-fn lacks<C: Chare>(rt: &impl Abort, shelf: &mut Shelf<C>) {
-    assert!(rt; matches!(shelf.lift(ME), Err(Refusal::Absent)));
+fn lacks<C: Chare>(rt: &impl Abort, shelf: &mut Shelf<C>, elem: Elem) {
+    let refusal = shelf.lift(elem).err().expect(rt, "it is refused");
+    is_refusal(rt, refusal, Refusal::Absent);
+}
+
+// The refusal is this one.
+fn is_refusal(rt: &impl Abort, found: Refusal, wanted: Refusal) {
+    assert_eq!(rt; found, wanted);
+}
+
+// The element is on the shelf. Afterwards it isn't there any more.
+fn lifts<C: Chare>(rt: &impl Abort, shelf: &mut Shelf<C>, elem: Elem) {
+    assert!(rt; shelf.lift(elem).is_ok());
+}
+
+// The assignment is taken back, and no object comes out.
+fn releases<C: Chare>(rt: &impl Abort, shelf: &mut Shelf<C>) {
+    assert!(rt; shelf.release().is_none());
 }
 
 // What stands on the last and the first of three shelves once a copy of the element with this object was placed there:
@@ -93,15 +119,20 @@ fn copied<C: Chare>(rt: &(impl AllocGlobal + Abort), object: C, blank: C) -> (C,
         assert!(rt; refusal == Refusal::Memory);
         assert!(rt; place_copy(&mut shelves, 2, 0, ME, blank).is_ok());
     }
-    lacks(rt, &mut shelves[1]);
+    lacks(rt, &mut shelves[1], ME);
     (lifted(rt, &mut shelves[2]), lifted(rt, &mut shelves[0]))
 }
 
 // The object of the element, which has sent 4 messages and received 5.
 fn lifted<C: Chare>(rt: &impl Abort, shelf: &mut Shelf<C>) -> C {
     let resident = shelf.lift(ME).expect(rt, "it is there");
-    assert!(rt; (resident.sent, resident.received) == (4, 5));
+    has_counts(rt, resident.sent, resident.received);
     resident.object
+}
+
+// Four messages were sent and five received.
+fn has_counts(rt: &impl Abort, sent: u64, received: u64) {
+    assert!(rt; sent == 4 && received == 5);
 }
 
 // The element with this object is copied into the blank, and so is its state.
@@ -152,10 +183,10 @@ fn nothing_is_copied_during_a_delivery(rt: HostRuntime) {
     let mut shelves = [Shelf::new(rt.alloc(), 0), source];
     let copied = place_copy(&mut shelves, 1, 0, ME, Ring::blank());
     let (refusal, _) = copied.err().expect(&rt, "it is refused");
-    assert_eq!(rt; refusal, Refusal::Uncommitted);
-    assert!(rt; shelves[1].release().is_none());
-    assert!(rt; shelves[1].lift(ME).is_ok());
-    lacks(&rt, &mut shelves[0]);
+    is_refusal(&rt, refusal, Refusal::Uncommitted);
+    releases(&rt, &mut shelves[1]);
+    lifts(&rt, &mut shelves[1], ME);
+    lacks(&rt, &mut shelves[0], ME);
 }
 
 // The shelf of processor 1, with another element.
@@ -188,10 +219,10 @@ fn nothing_is_copied_to_a_shelf_during_its_delivery(rt: HostRuntime) {
     let mut shelves = [busy, source];
     let copied = place_copy(&mut shelves, 1, 0, OTHER, Ring::blank());
     let (refusal, _) = copied.err().expect(&rt, "it is refused");
-    assert_eq!(rt; refusal, Refusal::Uncommitted);
-    assert!(rt; shelves[0].release().is_none());
-    assert!(rt; matches!(shelves[0].lift(OTHER), Err(Refusal::Absent)));
-    assert!(rt; shelves[1].lift(OTHER).is_ok());
+    is_refusal(&rt, refusal, Refusal::Uncommitted);
+    releases(&rt, &mut shelves[0]);
+    lacks(&rt, &mut shelves[0], OTHER);
+    lifts(&rt, &mut shelves[1], OTHER);
 }
 
 // How often a probe was used.
@@ -268,25 +299,38 @@ impl Chare for Probe {
     }
 }
 
+// The uses of a probe that has none yet.
+fn no_uses(rt: &(impl AllocGlobal + Abort)) -> Arc<Uses> {
+    Arc::new(rt.alloc(), Uses::new()).expect(rt, "uses")
+}
+
+// A tree that counts its uses here.
+fn probe_of(rt: &impl Abort, tree: Tree, uses: &Arc<Uses>) -> Probe
+    ensures { result.tree ≡ tree }
+{
+    let uses = uses.clone().expect(rt, "it is shared");
+    Probe { tree, uses }
+}
+
+// The probe was packed, unpacked and dropped so often, and never entered.
+fn has_uses(rt: &impl Abort, uses: &Arc<Uses>, packed: u64, unpacked: u64, dropped: u64) {
+    assert!(rt; uses.are(packed, unpacked, 0, dropped));
+}
+
 #[test]
 fn blanks_become_copies(rt: HostRuntime) {
-    let of_old = Arc::new(rt.alloc(), Uses::new()).expect(&rt, "uses");
-    let of_blank = Arc::new(rt.alloc(), Uses::new()).expect(&rt, "uses");
+    let of_old = no_uses(&rt);
+    let of_blank = no_uses(&rt);
     let tree = unpacked(&rt, Tree::blank(), &TREE);
-    let uses = of_old.clone().expect(&rt, "it is shared");
-    let old = Probe { tree, uses };
-    let uses = of_blank.clone().expect(&rt, "it is shared");
-    let blank = Probe {
-        tree: Tree::blank(),
-        uses,
-    };
+    let old = probe_of(&rt, tree, &of_old);
+    let blank = probe_of(&rt, Tree::blank(), &of_blank);
     let (old, new) = copied(&rt, old, blank);
-    assert!(rt; of_old.are(1, 0, 0, 0));
-    assert!(rt; of_blank.are(0, 1, 0, 0));
+    has_uses(&rt, &of_old, 1, 0, 0);
+    has_uses(&rt, &of_blank, 0, 1, 0);
     drop(new);
-    assert!(rt; of_blank.are(0, 1, 0, 1));
+    has_uses(&rt, &of_blank, 0, 1, 1);
     drop(old);
-    assert!(rt; of_old.are(1, 0, 0, 1));
+    has_uses(&rt, &of_old, 1, 0, 1);
 }
 
 // A history of three processors in which nothing has happened.
@@ -303,8 +347,8 @@ fn history_of(rt: &(impl AllocGlobal + Abort)) -> History
         .expect(rt, "three processors")
 }
 
-// A move of an element that was never there is refused so.
-fn is_refused(rt: &(impl AllocGlobal + Abort), processor: u16, refusal: Refusal) {
+// How a move of an element that was never there ends.
+fn move_of_none(rt: &(impl AllocGlobal + Abort), processor: u16) -> Result<(), Refusal> {
     let mut history = history_of(rt);
     let mut shelves: [Shelf<Ring>; 3] = [
         Shelf::new(rt.alloc(), 0),
@@ -312,8 +356,13 @@ fn is_refused(rt: &(impl AllocGlobal + Abort), processor: u16, refusal: Refusal)
         Shelf::new(rt.alloc(), 2),
     ];
     let mut stock = Stock::new(rt.alloc());
-    let moved = move_to(&mut history, &mut shelves, &mut stock, ME, processor);
-    assert!(rt; moved == Err(refusal));
+    move_to(&mut history, &mut shelves, &mut stock, ME, processor)
+}
+
+// Such a move is refused so.
+fn is_refused(rt: &(impl AllocGlobal + Abort), processor: u16, refusal: Refusal) {
+    let moved = move_of_none(rt, processor);
+    is_refusal(rt, moved.err().expect(rt, "it is refused"), refusal);
 }
 
 #[test]

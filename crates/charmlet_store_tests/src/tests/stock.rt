@@ -7,7 +7,7 @@ use charmlet_chare::{Chare, Outbox};
 use charmlet_kinds::Counter;
 use charmlet_model::{Elem, Kind};
 use charmlet_pup::PupFault;
-use charmlet_stock::{Stock, Tally};
+use charmlet_stock::{ByKind, Stock, Tally};
 use std::alloc::{AllocError, Global};
 use std::process::Abort;
 use std::sync::Arc;
@@ -92,6 +92,37 @@ fn retires<C: Chare>(stock: &mut Stock<C>, kind: Kind) -> bool
     }
 }
 
+// The stock has a blank of this kind, which comes back.
+fn lends<C: Chare>(rt: &impl Abort, stock: &mut Stock<C>, kind: Kind) {
+    assert!(rt; borrows(stock, kind));
+}
+
+// The stock has no blank of this kind.
+fn lends_none<C: Chare>(rt: &impl Abort, stock: &mut Stock<C>, kind: Kind) {
+    assert!(rt; !borrows(stock, kind));
+}
+
+// A counter of the stock is retired.
+fn retires_counter<C: Chare>(rt: &impl Abort, stock: &mut Stock<C>)
+    ensures { keeping_of stock.new ≡ keeping_of stock.old }
+{
+    assert!(rt; retires(stock, Kind::Counter));
+}
+
+// The stock has no counter that could be retired.
+fn retires_none<C: Chare>(rt: &impl Abort, stock: &mut Stock<C>)
+    ensures { keeping_of stock.new ≡ keeping_of stock.old }
+{
+    assert!(rt; !retires(stock, Kind::Counter));
+}
+
+// The stock takes the blanks at the first try.
+fn takes_blanks<C: Chare>(rt: &impl Abort, stock: &mut Stock<C>, blanks: Vec<C>)
+    ensures { keeping_of stock.new ≡ keeping_of stock.old }
+{
+    assert!(rt; stock.supply(blanks).is_ok());
+}
+
 fn tally(supplied: u64, in_stock: u64, retired: u64) -> Tally {
     Tally {
         supplied,
@@ -102,11 +133,12 @@ fn tally(supplied: u64, in_stock: u64, retired: u64) -> Tally {
 
 // The stock has so many counters that were supplied, are there still, and are retired.
 fn counts<C: Chare>(rt: &impl Abort, stock: &Stock<C>, supplied: u64, in_stock: u64, retired: u64) {
-    let census = stock.census();
-    assert_eq!(rt;
-        *census.get(Kind::Counter),
-        tally(supplied, in_stock, retired)
-    );
+    has_tally(rt, stock, Kind::Counter, tally(supplied, in_stock, retired));
+}
+
+// The stock has this tally of objects of this kind.
+fn has_tally<C: Chare>(rt: &impl Abort, stock: &Stock<C>, kind: Kind, wanted: Tally) {
+    assert_eq!(rt; *stock.census().get(kind), wanted);
 }
 
 // So many probes were dropped.
@@ -114,30 +146,38 @@ fn has_dropped(rt: &impl Abort, drops: &Arc<AtomicU64>, count: u64) {
     assert_eq!(rt; drops.load(Ordering::SeqCst), count);
 }
 
+// A counter is taken of the stock for good.
+fn gives_counter<C: Chare>(rt: &impl Abort, stock: &mut Stock<C>) {
+    assert!(rt; stock.take(Kind::Counter).is_some());
+}
+
 // What the census says of counters while three blanks come and go.
 fn comes_and_goes<C: Chare>(rt: &impl Abort, alloc: Global, blanks: Vec<C>) {
     let mut stock = Stock::new(alloc);
-    assert!(rt; !borrows(&mut stock, Kind::Counter));
-    assert!(rt; stock.supply(blanks).is_ok());
+    lends_none(rt, &mut stock, Kind::Counter);
+    takes_blanks(rt, &mut stock, blanks);
     counts(rt, &stock, 3, 3, 0);
-    assert!(rt; borrows(&mut stock, Kind::Counter));
-    assert!(rt; !borrows(&mut stock, Kind::Tape));
+    lends(rt, &mut stock, Kind::Counter);
+    lends_none(rt, &mut stock, Kind::Tape);
     counts(rt, &stock, 3, 3, 0);
-    let taken = stock.take(Kind::Counter);
-    assert!(rt; taken.is_some());
+    gives_counter(rt, &mut stock);
     counts(rt, &stock, 3, 2, 0);
-    let census = stock.census();
-    assert_eq!(rt; *census.get(Kind::Ring), tally(0, 0, 0));
+    has_tally(rt, &stock, Kind::Ring, tally(0, 0, 0));
+}
+
+// Three boxed counters.
+fn boxed_counters(alloc: Global) -> Result<Vec<Box<dyn Chare + Send>>, AllocError> {
+    let mut blanks: Vec<Box<dyn Chare + Send>> = Vec::new(alloc);
+    for _ in 0..3 {
+        blanks.push(Box::new(alloc, Counter::blank())?)?;
+    }
+    Ok(blanks)
 }
 
 #[test]
 fn blanks_come_and_go(rt: HostRuntime) {
     let alloc = rt.alloc();
-    let mut blanks: Vec<Box<dyn Chare + Send>> = Vec::new(alloc);
-    for _ in 0..3 {
-        let counter = Box::new(alloc, Counter::blank()).expect(&rt, "a box");
-        assert!(rt; blanks.push(counter).is_ok());
-    }
+    let blanks = boxed_counters(alloc).expect(&rt, "three boxes");
     comes_and_goes(&rt, alloc, blanks);
 }
 
@@ -156,7 +196,7 @@ fn supplies(
     ensures { keeping_of stock.new ≡ keeping_of stock.old }
 {
     let blanks = probes(rt.alloc(), drops, count).expect(rt, "probes");
-    assert!(rt; stock.supply(blanks).is_ok());
+    takes_blanks(rt, stock, blanks);
 }
 
 #[test]
@@ -164,13 +204,13 @@ fn retired_objects_are_dropped_at_once(rt: HostRuntime) {
     let drops = no_drops(&rt);
     let mut stock = Stock::new(rt.alloc());
     supplies(&rt, &mut stock, &drops, 2);
-    assert!(rt; borrows(&mut stock, Kind::Counter));
+    lends(&rt, &mut stock, Kind::Counter);
     has_dropped(&rt, &drops, 0);
-    assert!(rt; retires(&mut stock, Kind::Counter));
+    retires_counter(&rt, &mut stock);
     has_dropped(&rt, &drops, 1);
     counts(&rt, &stock, 2, 1, 1);
-    assert!(rt; retires(&mut stock, Kind::Counter));
-    assert!(rt; !retires(&mut stock, Kind::Counter));
+    retires_counter(&rt, &mut stock);
+    retires_none(&rt, &mut stock);
     has_dropped(&rt, &drops, 2);
     counts(&rt, &stock, 2, 0, 2);
 }
@@ -189,16 +229,16 @@ fn kept_objects_are_taken_back(rt: HostRuntime) {
     let drops = no_drops(&rt);
     let mut stock = keeping(rt.alloc());
     supplies(&rt, &mut stock, &drops, 3);
-    assert!(rt; retires(&mut stock, Kind::Counter));
+    retires_counter(&rt, &mut stock);
     counts(&rt, &stock, 3, 2, 1);
-    assert!(rt; retires(&mut stock, Kind::Counter));
-    assert!(rt; retires(&mut stock, Kind::Counter));
-    assert!(rt; !retires(&mut stock, Kind::Counter));
+    retires_counter(&rt, &mut stock);
+    retires_counter(&rt, &mut stock);
+    retires_none(&rt, &mut stock);
     counts(&rt, &stock, 3, 0, 3);
     stock.take_back();
     counts(&rt, &stock, 3, 3, 0);
     has_dropped(&rt, &drops, 0);
-    assert!(rt; retires(&mut stock, Kind::Counter));
+    retires_counter(&rt, &mut stock);
     has_dropped(&rt, &drops, 0);
 }
 
@@ -207,13 +247,13 @@ fn kept_objects_are_dropped_together(rt: HostRuntime) {
     let drops = no_drops(&rt);
     let mut stock = keeping(rt.alloc());
     supplies(&rt, &mut stock, &drops, 4);
-    assert!(rt; retires(&mut stock, Kind::Counter));
-    assert!(rt; retires(&mut stock, Kind::Counter));
+    retires_counter(&rt, &mut stock);
+    retires_counter(&rt, &mut stock);
     has_dropped(&rt, &drops, 0);
     stock.drop_retired();
     has_dropped(&rt, &drops, 2);
     counts(&rt, &stock, 4, 2, 2);
-    assert!(rt; retires(&mut stock, Kind::Counter));
+    retires_counter(&rt, &mut stock);
     has_dropped(&rt, &drops, 3);
     counts(&rt, &stock, 4, 1, 3);
 }
@@ -226,27 +266,52 @@ fn draws<C: Chare>(stock: &mut Stock<C>, source: &mut Stock<C>, count: u64) -> b
     stock.draw(source, Kind::Counter, count as usize).is_ok()
 }
 
+// So many blanks are drawn at the first try.
+fn draws_so_many<C: Chare>(
+    rt: &impl Abort,
+    stock: &mut Stock<C>,
+    source: &mut Stock<C>,
+    count: u64,
+) {
+    assert!(rt; draws(stock, source, count));
+}
+
+// There aren't so many blanks, and none is drawn.
+fn draws_none<C: Chare>(rt: &impl Abort, stock: &mut Stock<C>, source: &mut Stock<C>, count: u64) {
+    assert!(rt; !draws(stock, source, count));
+}
+
 #[test]
 fn blanks_are_drawn_from_another_stock(rt: HostRuntime) {
     let drops = no_drops(&rt);
     let mut source = Stock::new(rt.alloc());
     supplies(&rt, &mut source, &drops, 5);
     let mut stock = Stock::new(rt.alloc());
-    assert!(rt; draws(&mut stock, &mut source, 3));
-    assert!(rt; !draws(&mut stock, &mut source, 3));
-    assert!(rt; draws(&mut stock, &mut source, 0));
+    draws_so_many(&rt, &mut stock, &mut source, 3);
+    draws_none(&rt, &mut stock, &mut source, 3);
+    draws_so_many(&rt, &mut stock, &mut source, 0);
     counts(&rt, &stock, 3, 3, 0);
     counts(&rt, &source, 5, 2, 0);
     has_dropped(&rt, &drops, 0);
+}
+
+// There are three blanks.
+fn are_three<C: Chare>(rt: &impl Abort, blanks: &[C]) {
+    assert_eq!(rt; blanks.len(), 3);
+}
+
+// The census of the stock is this one.
+fn has_census<C: Chare>(rt: &impl Abort, stock: &Stock<C>, wanted: &ByKind<Tally>) {
+    assert!(rt; stock.census() == *wanted);
 }
 
 // Supplies three blanks. Where memory is refused nothing is lost, and it is tried once more.
 fn supplies_again<C: Chare>(rt: &impl Abort, stock: &mut Stock<C>, blanks: Vec<C>) {
     let before = stock.census();
     if let Err(back) = stock.supply(blanks) {
-        assert_eq!(rt; back.len(), 3);
-        assert!(rt; stock.census() == before);
-        assert!(rt; stock.supply(back).is_ok());
+        are_three(rt, &back);
+        has_census(rt, stock, &before);
+        takes_blanks(rt, stock, back);
     }
 }
 
@@ -255,7 +320,7 @@ fn draws_again<C: Chare>(rt: &impl Abort, stock: &mut Stock<C>, source: &mut Sto
     if !draws(stock, source, 2) {
         counts(rt, stock, 0, 0, 0);
         counts(rt, source, 3, 3, 0);
-        assert!(rt; draws(stock, source, 2));
+        draws_so_many(rt, stock, source, 2);
     }
 }
 
@@ -267,7 +332,15 @@ fn survives<C: Chare>(rt: &impl Abort, alloc: Global, blanks: Vec<C>) {
     draws_again(rt, &mut stock, &mut source);
     counts(rt, &stock, 2, 2, 0);
     counts(rt, &source, 3, 1, 0);
-    assert!(rt; borrows(&mut source, Kind::Counter) && borrows(&mut stock, Kind::Counter));
+    lends(rt, &mut source, Kind::Counter);
+    lends(rt, &mut stock, Kind::Counter);
+}
+
+// The same with three probes, all of which are dropped at its end.
+fn drops_all(rt: &impl Abort, alloc: Global, drops: &Arc<AtomicU64>, blanks: Vec<Probe>) {
+    let dropped = drops.load(Ordering::SeqCst);
+    survives(rt, alloc, blanks);
+    assert_eq!(rt; drops.load(Ordering::SeqCst).saturating_sub(dropped), 3);
 }
 
 #[test]
@@ -281,9 +354,7 @@ fn refused_memory_loses_no_blank(rt: HostRuntime) -> Result<(), Fail> {
         Ok(blanks) => blanks,
         Err(_) => probes(alloc, &drops, 3)?,
     };
-    let dropped = drops.load(Ordering::SeqCst);
-    survives(&rt, alloc, blanks);
-    assert_eq!(rt; drops.load(Ordering::SeqCst).saturating_sub(dropped), 3);
+    drops_all(&rt, alloc, &drops, blanks);
     Ok(())
 }
 
@@ -292,5 +363,5 @@ fn drawing_meets_no_refusal(rt: HostRuntime) {
     let drops = no_drops(&rt);
     let mut source = Stock::new(rt.alloc());
     supplies(&rt, &mut source, &drops, 3);
-    assert!(rt; draws(&mut Stock::new(rt.alloc()), &mut source, 2));
+    draws_so_many(&rt, &mut Stock::new(rt.alloc()), &mut source, 2);
 }
