@@ -17,6 +17,43 @@ fn put<D: Disk>(disk: &mut D, half: Half, offset: u64, bytes: &[u8]) -> bool {
     }
 }
 
+// The bytes are written.
+fn puts(rt: &impl Abort, disk: &mut MemDisk, half: Half, offset: u64, bytes: &[u8]) {
+    assert!(rt; put(disk, half, offset, bytes));
+}
+
+// The half is synced.
+fn syncs(rt: &impl Abort, disk: &mut MemDisk, half: Half) {
+    assert!(rt; disk.sync(half).is_ok());
+}
+
+// Both halves are synced.
+fn settles(rt: &impl Abort, disk: &mut MemDisk) {
+    assert!(rt; settle(disk).is_ok());
+}
+
+// The half is of this length.
+fn has_len(rt: &impl Abort, disk: &mut MemDisk, half: Half, len: u64) {
+    assert_eq!(rt; disk.len(half), Ok(len));
+}
+
+// The bytes are these.
+fn are_bytes(rt: &impl Abort, found: &[u8], wanted: &[u8]) {
+    assert_eq!(rt; found, wanted);
+}
+
+// The half has these bytes.
+fn has_bytes(
+    rt: &(impl AllocGlobal + Abort),
+    disk: &mut MemDisk,
+    half: Half,
+    bytes: &[u8],
+) -> Result<(), AllocError> {
+    let found = all(rt.alloc(), disk, half)?;
+    are_bytes(rt, &found, bytes);
+    Ok(())
+}
+
 // All bytes of a half.
 fn all(alloc: Global, disk: &mut MemDisk, half: Half) -> Result<Vec<u8>, AllocError> {
     let mut bytes = Vec::new(alloc);
@@ -30,12 +67,25 @@ fn all(alloc: Global, disk: &mut MemDisk, half: Half) -> Result<Vec<u8>, AllocEr
 // A disk whose half has these bytes, and then was written in this way.
 fn written(rt: &(impl AllocGlobal + Abort), half: Half, old: &[u8], writes: &[Write]) -> MemDisk {
     let mut disk = MemDisk::new(rt.alloc());
-    assert!(rt; put(&mut disk, half, 0, old));
-    assert!(rt; settle(&mut disk).is_ok());
+    puts(rt, &mut disk, half, 0, old);
+    settles(rt, &mut disk);
     for Write(offset, bytes) in writes {
-        assert!(rt; put(&mut disk, half, *offset, bytes));
+        puts(rt, &mut disk, half, *offset, bytes);
     }
     disk
+}
+
+// The half has these bytes, all of which are sure, and the other half is empty.
+fn stays(
+    rt: &(impl AllocGlobal + Abort),
+    mut disk: MemDisk,
+    half: Half,
+    bytes: &[u8],
+) -> Result<(), Fail> {
+    has_bytes(rt, &mut disk, half, bytes)?;
+    has_len(rt, &mut disk, half.other(), 0);
+    has_bytes(rt, &mut disk.crash(CrashChoice::Old), half, bytes)?;
+    Ok(())
 }
 
 // Each choice leaves of the half what is wanted, all of it is sure, and the other half stays empty.
@@ -46,14 +96,9 @@ fn leaves(
     writes: &[Write],
     wanted: &[&[u8]; 6],
 ) -> Result<(), Fail> {
-    let alloc = rt.alloc();
     for k in 0..6 {
-        let choice = CrashChoice::ALL[k];
-        let mut left = written(rt, half, old, writes).crash(choice);
-        assert_eq!(rt; all(alloc, &mut left, half)?.as_slice(), wanted[k]);
-        assert_eq!(rt; left.len(half.other()), Ok(0));
-        let mut again = left.crash(CrashChoice::Old);
-        assert_eq!(rt; all(alloc, &mut again, half)?.as_slice(), wanted[k]);
+        let left = written(rt, half, old, writes).crash(CrashChoice::ALL[k]);
+        stays(rt, left, half, wanted[k])?;
     }
     Ok(())
 }
@@ -123,8 +168,8 @@ fn crashes_cut_off_what_is_past_the_old_end(rt: HostRuntime) -> Result<(), Fail>
 // A disk of whose half 0 all is sure, and of whose half 1 nothing is.
 fn half_sure(rt: &(impl AllocGlobal + Abort)) -> MemDisk {
     let mut disk = written(rt, Half::Zero, b"sure", &[]);
-    assert!(rt; put(&mut disk, Half::One, 0, b"lost"));
-    assert!(rt; disk.sync(Half::Zero).is_ok());
+    puts(rt, &mut disk, Half::One, 0, b"lost");
+    syncs(rt, &mut disk, Half::Zero);
     disk
 }
 
@@ -132,11 +177,8 @@ fn half_sure(rt: &(impl AllocGlobal + Abort)) -> MemDisk {
 #[test]
 fn crashes_leave_what_was_synced(rt: HostRuntime) -> Result<(), Fail> {
     let mut left = half_sure(&rt).crash(CrashChoice::Old);
-    assert_eq!(rt;
-        all(rt.alloc(), &mut left, Half::Zero)?.as_slice(),
-        b"sure".as_slice()
-    );
-    assert_eq!(rt; left.len(Half::One), Ok(0));
+    has_bytes(&rt, &mut left, Half::Zero, b"sure")?;
+    has_len(&rt, &mut left, Half::One, 0);
     Ok(())
 }
 
@@ -147,10 +189,19 @@ fn bytes_written_through_are_sure(rt: HostRuntime) -> Result<(), Fail> {
         assert!(rt; write_through(&mut disk, Half::One, end, b"kept").is_ok());
     }
     let mut left = disk.crash(CrashChoice::Old);
-    assert_eq!(rt;
-        all(rt.alloc(), &mut left, Half::One)?.as_slice(),
-        b"\x07\x07\x07\x07kept".as_slice()
-    );
+    has_bytes(&rt, &mut left, Half::One, b"\x07\x07\x07\x07kept")?;
+    Ok(())
+}
+
+// No call is on record.
+fn has_no_calls(rt: &impl Abort, disk: &MemDisk) {
+    assert!(rt; disk.calls().is_empty());
+}
+
+// These calls are on record, in words.
+fn has_calls(rt: &(impl AllocGlobal + Abort), disk: &MemDisk, wanted: &str) -> Result<(), Fail> {
+    let text = format!(in rt.alloc(); "{:?}", disk.calls())?;
+    assert_eq!(rt; text.as_str(), wanted);
     Ok(())
 }
 
@@ -158,17 +209,27 @@ fn bytes_written_through_are_sure(rt: HostRuntime) -> Result<(), Fail> {
 #[test]
 fn calls_are_on_record(rt: HostRuntime) -> Result<(), Fail> {
     let mut disk = MemDisk::new(rt.alloc());
-    assert!(rt; disk.calls().is_empty());
-    assert!(rt; put(&mut disk, Half::One, 0, b"a"));
-    assert!(rt; disk.sync(Half::One).is_ok());
-    assert!(rt; put(&mut disk, Half::One, 1, b"bc"));
+    has_no_calls(&rt, &disk);
+    puts(&rt, &mut disk, Half::One, 0, b"a");
+    syncs(&rt, &mut disk, Half::One);
+    puts(&rt, &mut disk, Half::One, 1, b"bc");
     let again = disk.crash(CrashChoice::New).crash(CrashChoice::Old);
-    let text = format!(in rt.alloc(); "{:?}", again.calls())?;
-    assert_eq!(rt;
-        text.as_str(),
-        "[Write(One, 0, [97]), Sync(One), Write(One, 1, [98, 99]), Crash(New)]"
-    );
-    Ok(())
+    has_calls(
+        &rt,
+        &again,
+        "[Write(One, 0, [97]), Sync(One), Write(One, 1, [98, 99]), Crash(New)]",
+    )
+}
+
+// So many calls were faults.
+fn has_failures(rt: &impl Abort, disk: &MemDisk, failures: u64) {
+    assert_eq!(rt; disk.failures(), failures);
+}
+
+// A half ends there, or two bytes before.
+fn has_end(rt: &impl Abort, disk: &mut MemDisk, end: u64) {
+    let last = disk.len(Half::One);
+    assert!(rt; last == Ok(end) || last == Ok(end.saturating_sub(2)));
 }
 
 // Whatever memory is refused, the answers and the failures tell what the disk has.
@@ -186,12 +247,11 @@ fn refused_memory_is_a_fault_that_changes_nothing(rt: HostRuntime) {
         if disk.sync(Half::One).is_err() {
             faults = faults.saturating_add(1);
         }
-        assert_eq!(rt; disk.len(Half::One), Ok(end));
-        assert_eq!(rt; disk.failures(), faults);
+        has_len(&rt, &mut disk, Half::One, end);
+        has_failures(&rt, &disk, faults);
     }
     let mut left = disk.crash(CrashChoice::FirstHalves);
-    let last = left.len(Half::One);
-    assert!(rt; last == Ok(end) || last == Ok(end.saturating_sub(2)));
+    has_end(&rt, &mut left, end);
 }
 
 // Small writes after a large file cost what they write.
@@ -201,13 +261,13 @@ fn small_writes_after_a_large_file(rt: HostRuntime) -> Result<(), Fail> {
     let large = vec![in rt.alloc(); 7u8; 1_000_000]?;
     assert!(rt; write_through(&mut disk, Half::One, 0, &large).is_ok());
     for k in 0..20_000 {
-        assert!(rt; put(&mut disk, Half::One, 1_000_000 + k, &[1]));
+        puts(&rt, &mut disk, Half::One, 1_000_000 + k, &[1]);
         if k % 8 == 0 {
-            assert!(rt; disk.sync(Half::One).is_ok());
+            syncs(&rt, &mut disk, Half::One);
         }
     }
-    assert_eq!(rt; disk.len(Half::One), Ok(1_020_000));
+    has_len(&rt, &mut disk, Half::One, 1_020_000);
     let mut left = disk.crash(CrashChoice::Old);
-    assert_eq!(rt; left.len(Half::One), Ok(1_019_993));
+    has_len(&rt, &mut left, Half::One, 1_019_993);
     Ok(())
 }

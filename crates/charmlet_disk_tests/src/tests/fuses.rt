@@ -1,9 +1,10 @@
 // Disks that fail from some call on.
-ghost use Rattle.std.specs.Prelude.{◌≡◌, false};
+ghost use Rattle.std.specs.Prelude.{◌≡◌, ◌≤◌, false};
 ghost use Rattle.charmlet_disk.specs.Disk.{faults_after};
 
 use charmlet_disk::{DeviceFault, Disk, FuseDisk, MemDisk, OnceDisk};
 use charmlet_model::Half;
+use std::process::Abort;
 
 // Writes a byte to the end of a half, and syncs it, so many times. How many of the calls succeeded.
 fn lengthen<D: Disk>(disk: &mut D, half: Half, times: u64) -> u64 {
@@ -17,19 +18,56 @@ fn lengthen<D: Disk>(disk: &mut D, half: Half, times: u64) -> u64 {
     done
 }
 
+// The number is this one.
+fn is_number(rt: &impl Abort, found: u64, wanted: u64) {
+    assert_eq!(rt; found, wanted);
+}
+
+// So many calls succeed while a half is lengthened so many times.
+fn lengthens<D: Disk>(rt: &impl Abort, disk: &mut D, half: Half, times: u64, calls: u64) {
+    is_number(rt, lengthen(disk, half, times), calls);
+}
+
+// So many calls were faults.
+fn has_failures<D: Disk>(rt: &impl Abort, disk: &D, failures: u64) {
+    is_number(rt, disk.failures(), failures);
+}
+
+// The half is of this length.
+fn has_len<D: Disk>(rt: &impl Abort, disk: &mut D, half: Half, len: u64) {
+    let found = disk.len(half).ok().expect(rt, "a length");
+    is_number(rt, found, len);
+}
+
+// So many calls are on record.
+fn has_calls(rt: &impl Abort, disk: &MemDisk, calls: u64) {
+    is_number(rt, disk.calls().len() as u64, calls);
+}
+
+// A fuse passes so many of twelve calls, and lengths too.
+fn passes_calls(rt: &impl Abort, fuse: &mut FuseDisk<MemDisk>, calls: u64)
+    requires { calls ≤ 12 }
+{
+    lengthens(rt, fuse, Half::One, 6, calls);
+    has_failures(rt, fuse, 12 - calls);
+    has_len(rt, fuse, Half::One, calls.div_ceil(2));
+    has_failures(rt, fuse, 12 - calls);
+}
+
+// The disk under a fuse that passed so many calls got these alone, and none of them failed.
+fn got_calls(rt: &impl Abort, disk: &mut MemDisk, calls: u64) {
+    has_calls(rt, disk, calls);
+    has_len(rt, disk, Half::One, calls.div_ceil(2));
+    has_failures(rt, disk, 0);
+    lengthens(rt, disk, Half::One, 1, 2);
+}
+
 #[test]
 fn fuses_pass_so_many_calls(rt: HostRuntime) {
     for calls in 0..13 {
         let mut fuse = FuseDisk::new(MemDisk::new(rt.alloc()), calls);
-        assert_eq!(rt; lengthen(&mut fuse, Half::One, 6), calls);
-        assert_eq!(rt; fuse.failures(), 12 - calls);
-        assert_eq!(rt; fuse.len(Half::One), Ok(calls.div_ceil(2)));
-        assert_eq!(rt; fuse.failures(), 12 - calls);
-        let mut disk = fuse.inner();
-        assert_eq!(rt; disk.calls().len() as u64, calls);
-        assert_eq!(rt; disk.len(Half::One), Ok(calls.div_ceil(2)));
-        assert_eq!(rt; disk.failures(), 0);
-        assert_eq!(rt; lengthen(&mut disk, Half::One, 1), 2);
+        passes_calls(&rt, &mut fuse, calls);
+        got_calls(&rt, &mut fuse.inner(), calls);
     }
 }
 
@@ -45,15 +83,27 @@ fn first_byte<D: Disk>(disk: &mut D, half: Half) -> Option<u8> {
     }
 }
 
+// The first byte of a half is this one, or none.
+fn begins_with<D: Disk>(rt: &impl Abort, disk: &mut D, half: Half, byte: Option<u8>) {
+    assert_eq!(rt; first_byte(disk, half), byte);
+}
+
 // Lengths and reads pass a blown fuse, and don't count.
 #[test]
 fn blown_fuses_pass_lengths_and_reads(rt: HostRuntime) {
     let mut fuse = FuseDisk::new(MemDisk::new(rt.alloc()), 1);
-    assert_eq!(rt; lengthen(&mut fuse, Half::Zero, 2), 1);
+    lengthens(&rt, &mut fuse, Half::Zero, 2, 1);
     for _ in 0..3 {
-        assert_eq!(rt; first_byte(&mut fuse, Half::Zero), Some(b'x'));
+        begins_with(&rt, &mut fuse, Half::Zero, Some(b'x'));
     }
-    assert_eq!(rt; fuse.failures(), 3);
+    has_failures(&rt, &fuse, 3);
+}
+
+// The disk got so many calls, and none of them failed.
+fn got_rest(rt: &impl Abort, disk: &mut MemDisk, calls: u64) {
+    has_calls(rt, disk, calls);
+    has_failures(rt, disk, 0);
+    lengthens(rt, disk, Half::One, 1, 2);
 }
 
 // Each time a length is asked for, a byte is written and the half is synced; where the length fails, the write isn't made.
@@ -62,12 +112,9 @@ fn once_disks_fail_one_call(rt: HostRuntime) {
     for calls in 0..13 {
         let mut once = OnceDisk::new(MemDisk::new(rt.alloc()), calls);
         let failed = u64::from(calls < 12);
-        assert_eq!(rt; lengthen(&mut once, Half::One, 4), 8 - failed);
-        assert_eq!(rt; once.failures(), failed);
-        let mut disk = once.inner();
-        assert_eq!(rt; disk.calls().len() as u64, 8 - failed);
-        assert_eq!(rt; disk.failures(), 0);
-        assert_eq!(rt; lengthen(&mut disk, Half::One, 1), 2);
+        lengthens(&rt, &mut once, Half::One, 4, 8 - failed);
+        has_failures(&rt, &once, failed);
+        got_rest(&rt, &mut once.inner(), 8 - failed);
     }
 }
 
@@ -76,16 +123,16 @@ fn once_disks_fail_one_call(rt: HostRuntime) {
 fn once_disks_fail_lengths_and_reads(rt: HostRuntime) {
     for calls in 3..7 {
         let mut once = OnceDisk::new(MemDisk::new(rt.alloc()), calls);
-        assert_eq!(rt; lengthen(&mut once, Half::Zero, 1), 2);
+        lengthens(&rt, &mut once, Half::Zero, 1, 2);
         for time in 0..3 {
             let wanted = if 3 + 2 * time <= calls && calls < 5 + 2 * time {
                 None
             } else {
                 Some(b'x')
             };
-            assert_eq!(rt; first_byte(&mut once, Half::Zero), wanted);
+            begins_with(&rt, &mut once, Half::Zero, wanted);
         }
-        assert_eq!(rt; once.failures(), 1);
+        has_failures(&rt, &once, 1);
     }
 }
 
@@ -145,22 +192,32 @@ impl Disk for BrokenDisk {
     }
 }
 
+// A half can't be synced.
+fn fails_to_sync<D: Disk>(rt: &impl Abort, disk: &mut D) {
+    assert!(rt; disk.sync(Half::One).is_err());
+}
+
+// The length of a half can't be read.
+fn has_no_len<D: Disk>(rt: &impl Abort, disk: &mut D) {
+    assert!(rt; disk.len(Half::One).is_err());
+}
+
 #[test]
 fn failures_stay_at_the_greatest_count(rt: HostRuntime) {
     let broken = BrokenDisk {
         faults: u64::MAX - 2,
     };
     let mut fuse = FuseDisk::new(broken, 1);
-    assert_eq!(rt; fuse.failures(), u64::MAX - 2);
-    assert!(rt; fuse.sync(Half::One).is_err());
-    assert_eq!(rt; fuse.failures(), u64::MAX - 1);
-    assert!(rt; fuse.sync(Half::One).is_err());
-    assert_eq!(rt; fuse.failures(), u64::MAX);
-    assert!(rt; fuse.sync(Half::One).is_err());
-    assert!(rt; fuse.len(Half::One).is_err());
-    assert_eq!(rt; fuse.failures(), u64::MAX);
+    has_failures(&rt, &fuse, u64::MAX - 2);
+    fails_to_sync(&rt, &mut fuse);
+    has_failures(&rt, &fuse, u64::MAX - 1);
+    fails_to_sync(&rt, &mut fuse);
+    has_failures(&rt, &fuse, u64::MAX);
+    fails_to_sync(&rt, &mut fuse);
+    has_no_len(&rt, &mut fuse);
+    has_failures(&rt, &fuse, u64::MAX);
     let mut disk = fuse.inner();
-    assert_eq!(rt; disk.failures(), u64::MAX);
-    assert!(rt; disk.len(Half::One).is_err());
-    assert_eq!(rt; disk.failures(), u64::MAX);
+    has_failures(&rt, &disk, u64::MAX);
+    has_no_len(&rt, &mut disk);
+    has_failures(&rt, &disk, u64::MAX);
 }
