@@ -1,6 +1,9 @@
+ghost use Rattle.std.specs.Prelude.{◌≡◌, OnOk, is_ok, is_some, true};
+ghost use Rattle.charmlet_model.specs.Fit.{IsFit};
+ghost use Rattle.charmlet_model.specs.Sound.{new_world};
 ghost use Rattle.charmlet_disk.specs.Disk.{IsSettled};
 ghost use Rattle.charmlet_disk.specs.MemDisk.{files};
-ghost use Rattle.charmlet_halves.specs.Bytes.{EndsClosed};
+ghost use Rattle.charmlet_halves.specs.Halves.{prepared_end};
 
 mod calls;
 mod crashes;
@@ -8,7 +11,7 @@ mod found;
 
 use charmlet_disk::{Disk, MemDisk, settle};
 use charmlet_halves::{Halves, Refused};
-use charmlet_model::{Half, Manifest};
+use charmlet_model::{Half, Manifest, Refusal};
 use std::alloc::{AllocGlobal, Global};
 use std::process::Abort;
 
@@ -31,40 +34,27 @@ const LATER_IMAGE: &[u8] = b"CKP2\x03\0\0\0\0\0\0\0\x02\0\0\0\0\0\0\0Q\0\0\0\
 \x01\0\0\0\0\0\x01\0\x01\0\0\0\x07\0\0\0\x01\0\0\0\0\0\0\0\x01\x01\0\0\0\0\0\0\0\0\x01\0\0\0\
 \0\0\0\0\0\0\0\0\0\0\0\0\0\0\0\0\0\0\x01\0\0\0\0\0\0\0\x01\x08\0\0\0\x05\0\0\0\0\0\0\0\0\0\0\0\0";
 
-// The batch.
-fn batch() -> &'static [u8]
-    ensures { EndsClosed result.now }
+// One array of counters.
+fn counters(rt: &(impl AllocGlobal + Abort)) -> Manifest
+    ensures { IsFit (new_world result) }
 {
-    BATCH
-}
-
-// The image.
-fn image() -> &'static [u8]
-    ensures { EndsClosed result.now }
-{
-    IMAGE
-}
-
-// The later one.
-fn later_image() -> &'static [u8]
-    ensures { EndsClosed result.now }
-{
-    LATER_IMAGE
+    match Manifest::of(rt.alloc(), &[(0, 1)]) {
+        Ok(Some(manifest)) => manifest,
+        _ => panic!(rt; "there is memory for a manifest"),
+    }
 }
 
 // Halves with one array of counters, made on a disk.
 fn create_on<D: Disk>(rt: &(impl AllocGlobal + Abort), disk: D) -> Result<Halves<D>, Refused<D>>
     requires { D.honest disk → IsSettled (D.file disk) }
 {
-    match Manifest::of(rt.alloc(), &[(0, 1)]) {
-        Ok(Some(manifest)) => Halves::create(rt.alloc(), disk, &manifest),
-        _ => panic!(rt; "there is memory for a manifest"),
-    }
+    let manifest = counters(rt);
+    Halves::create(rt.alloc(), disk, &manifest)
 }
 
 // Writes these bytes to a half, from its beginning on.
-fn put(rt: &(impl AllocGlobal + Abort), disk: &mut MemDisk, half: Half, bytes: &[u8]) {
-    assert!(rt; disk.write_at(half, 0, bytes).is_ok());
+fn put(rt: &impl Abort, disk: &mut MemDisk, half: Half, bytes: &[u8]) {
+    disk.write_at(half, 0, bytes).expect(rt, "a write");
 }
 
 // A disk in memory on which the halves have these bytes.
@@ -82,8 +72,47 @@ fn disk_of(rt: &(impl AllocGlobal + Abort), zero: &[u8], one: &[u8]) -> MemDisk
 fn bytes_of(rt: &(impl AllocGlobal + Abort), disk: &mut MemDisk, half: Half) -> Vec<u8> {
     let mut bytes = Vec::new(rt.alloc());
     if let Ok(length) = disk.len(half) {
-        assert!(rt; bytes.resize(length as usize, 0).is_ok());
-        assert!(rt; disk.read_at(half, 0, &mut bytes).is_ok());
+        bytes.resize(length as usize, 0).expect(rt, "memory");
+        disk.read_at(half, 0, &mut bytes).expect(rt, "bytes");
     }
     bytes
+}
+
+// A half has these bytes.
+fn assert_bytes(rt: &(impl AllocGlobal + Abort), disk: &mut MemDisk, half: Half, wanted: &[u8]) {
+    let bytes = bytes_of(rt, disk, half);
+    assert_eq!(rt; bytes.as_slice(), wanted);
+}
+
+// Appends bytes that end with a closed gate.
+fn append<D: Disk>(rt: &impl Abort, halves: &mut Halves<D>, batch: &[u8]) -> Result<(), Refusal> {
+    assert!(rt; !batch.is_empty() && batch[batch.len() - 1] != 1);
+    halves.append_batch(batch)
+}
+
+// Prepares an image, which ends with a closed gate.
+fn prepare<D: Disk>(rt: &impl Abort, halves: &mut Halves<D>, image: &[u8]) -> Result<(), Refusal>
+    ensures { OnOk result (is_some (prepared_end halves.new) ≡ true) }
+{
+    assert!(rt; !image.is_empty() && image[image.len() - 1] != 1);
+    halves.prepare_image(image)
+}
+
+// Opens the gate of the image that was prepared.
+fn open_gate<D: Disk>(halves: &mut Halves<D>) -> Result<(), Refusal>
+    requires { is_some (prepared_end halves.old) ≡ true }
+{
+    halves.open_gate()
+}
+
+// The call was not refused.
+fn is_done(rt: &impl Abort, answer: Result<(), Refusal>)
+    ensures { is_ok answer ≡ true }
+{
+    assert_eq!(rt; answer, Ok(()));
+}
+
+// The call was refused so.
+fn is_refused(rt: &impl Abort, answer: Result<(), Refusal>, wanted: Refusal) {
+    assert_eq!(rt; answer, Err(wanted));
 }

@@ -2,9 +2,12 @@
 ghost use Rattle.charmlet_disk.specs.Disk.{IsSettled};
 ghost use Rattle.charmlet_disk.specs.MemDisk.{files};
 
-use super::{NEW_STORE, batch, bytes_of, create_on, disk_of, image, later_image};
+use super::{
+    BATCH, IMAGE, LATER_IMAGE, NEW_STORE, append, assert_bytes, create_on, disk_of, is_done,
+    open_gate, prepare,
+};
 use charmlet_disk::{Call, Disk, MemDisk, OnceDisk, settle};
-use charmlet_halves::Halves;
+use charmlet_halves::{Halves, Refused};
 use charmlet_model::{Half, Refusal};
 use std::alloc::AllocGlobal;
 use std::process::Abort;
@@ -19,13 +22,18 @@ enum Made {
     Crash,
 }
 
+// What a write was. That of one byte is a gate.
+fn made_by_write(half: Half, offset: usize, bytes: &[u8]) -> Made {
+    match bytes {
+        [gate] => Made::Gate(half, offset, *gate),
+        _ => Made::Write(half, offset, bytes.len()),
+    }
+}
+
 // What a call was.
 fn made_by(call: &Call) -> Made {
     match call {
-        Call::Write(half, offset, bytes) => match bytes.as_slice() {
-            [gate] => Made::Gate(*half, *offset, *gate),
-            bytes => Made::Write(*half, *offset, bytes.len()),
-        },
+        Call::Write(half, offset, bytes) => made_by_write(*half, *offset, bytes.as_slice()),
         Call::Sync(half) => Made::Sync(*half),
         Call::Crash(_) => Made::Crash,
     }
@@ -53,9 +61,9 @@ fn created(rt: &(impl AllocGlobal + Abort), disk: MemDisk) -> Halves<MemDisk>
 #[test]
 fn a_new_store_and_a_batch_take_ten_calls(rt: HostRuntime) {
     let mut disk = created(&rt, MemDisk::new(rt.alloc())).into_disk();
-    assert_eq!(rt; bytes_of(&rt, &mut disk, Half::Zero).as_slice(), NEW_STORE);
+    assert_bytes(&rt, &mut disk, Half::Zero, NEW_STORE);
     let mut halves = created(&rt, MemDisk::new(rt.alloc()));
-    assert_eq!(rt; halves.append_batch(batch()), Ok(()));
+    is_done(&rt, append(&rt, &mut halves, BATCH));
     assert_eq!(rt; halves.log_end(), 122);
     let half = Half::Zero;
     let wanted = [
@@ -78,14 +86,14 @@ fn a_new_store_and_a_batch_take_ten_calls(rt: HostRuntime) {
 #[test]
 fn an_image_takes_six_calls(rt: HostRuntime) {
     let mut halves = created(&rt, MemDisk::new(rt.alloc()));
-    assert_eq!(rt; halves.prepare_image(image()), Ok(()));
-    assert_eq!(rt; halves.prepare_image(image()), Ok(()));
-    assert_eq!(rt; halves.open_gate(), Ok(()));
+    is_done(&rt, prepare(&rt, &mut halves, IMAGE));
+    is_done(&rt, prepare(&rt, &mut halves, IMAGE));
+    is_done(&rt, open_gate(&mut halves));
     assert_eq!(rt;
         (halves.taken(), halves.generation(), halves.log_end()),
         (Half::One, 2, 106)
     );
-    assert_eq!(rt; halves.prepare_image(image()), Ok(()));
+    is_done(&rt, prepare(&rt, &mut halves, IMAGE));
     let (zero, one) = (Half::Zero, Half::One);
     let wanted = [
         Made::Gate(one, 0, 0),
@@ -108,11 +116,11 @@ fn an_image_takes_six_calls(rt: HostRuntime) {
 #[test]
 fn checkpoints_go_to_and_fro(rt: HostRuntime) {
     let mut halves = created(&rt, MemDisk::new(rt.alloc()));
-    assert_eq!(rt; halves.prepare_image(image()), Ok(()));
-    assert_eq!(rt; halves.open_gate(), Ok(()));
-    assert_eq!(rt; halves.prepare_image(later_image()), Ok(()));
-    assert_eq!(rt; halves.open_gate(), Ok(()));
-    assert_eq!(rt; halves.append_batch(batch()), Ok(()));
+    is_done(&rt, prepare(&rt, &mut halves, IMAGE));
+    is_done(&rt, open_gate(&mut halves));
+    is_done(&rt, prepare(&rt, &mut halves, LATER_IMAGE));
+    is_done(&rt, open_gate(&mut halves));
+    is_done(&rt, append(&rt, &mut halves, BATCH));
     assert_eq!(rt;
         (halves.taken(), halves.generation(), halves.log_end()),
         (Half::Zero, 3, 179)
@@ -151,7 +159,7 @@ fn closed_gates_stay_closed(rt: HostRuntime) {
     let disk = disk_of(&rt, b"\x02and more", b"\x07");
     let earlier = disk.calls().len();
     let mut halves = created(&rt, disk);
-    assert_eq!(rt; halves.prepare_image(image()), Ok(()));
+    is_done(&rt, prepare(&rt, &mut halves, IMAGE));
     let wanted = [
         Made::Write(Half::Zero, 1, 49),
         Made::Sync(Half::Zero),
@@ -169,7 +177,7 @@ fn lone_gates_are_closed_first(rt: HostRuntime) {
     let disk = disk_of(&rt, b"\x01", b"\x01");
     let earlier = disk.calls().len();
     let mut halves = created(&rt, disk);
-    assert_eq!(rt; halves.prepare_image(image()), Ok(()));
+    is_done(&rt, prepare(&rt, &mut halves, IMAGE));
     let wanted = [
         Made::Gate(Half::Zero, 0, 0),
         Made::Sync(Half::Zero),
@@ -185,72 +193,92 @@ fn lone_gates_are_closed_first(rt: HostRuntime) {
     assert_made(&rt, &halves.into_disk(), earlier, &wanted);
 }
 
-// A store that is there is neither written nor closed, in whichever half it is, whatever it says.
-#[test]
-fn open_halves_are_kept(rt: HostRuntime) {
-    for (zero, one) in [
-        (b"\x01?".as_slice(), b"".as_slice()),
-        (b"", b"\x01?"),
-        (b"\x01?", b"\x01?"),
-    ] {
-        let disk = disk_of(&rt, zero, one);
-        let earlier = disk.calls().len();
-        match create_on(&rt, disk) {
-            Ok(_) => panic!(rt; "a store was made over another one"),
-            Err(refused) => {
-                assert_eq!(rt; refused.refusal, Refusal::AlreadyHere);
-                let mut disk = refused.disk;
-                assert_made(&rt, &disk, earlier, &[]);
-                assert_eq!(rt; bytes_of(&rt, &mut disk, Half::Zero).as_slice(), zero);
-                assert_eq!(rt; bytes_of(&rt, &mut disk, Half::One).as_slice(), one);
-            }
-        }
+// A creation was refused, made none of a disk's calls after the first so many, and left these bytes.
+fn assert_kept(
+    rt: &(impl AllocGlobal + Abort),
+    refused: Refused<MemDisk>,
+    earlier: usize,
+    zero: &[u8],
+    one: &[u8],
+) {
+    assert_eq!(rt; refused.refusal, Refusal::AlreadyHere);
+    let mut disk = refused.disk;
+    assert_made(rt, &disk, earlier, &[]);
+    assert_bytes(rt, &mut disk, Half::Zero, zero);
+    assert_bytes(rt, &mut disk, Half::One, one);
+}
+
+// A creation over these bytes is refused, and keeps them.
+fn assert_not_made(rt: &(impl AllocGlobal + Abort), zero: &[u8], one: &[u8]) {
+    let disk = disk_of(rt, zero, one);
+    let earlier = disk.calls().len();
+    match create_on(rt, disk) {
+        Ok(_) => panic!(rt; "a store was made over another one"),
+        Err(refused) => assert_kept(rt, refused, earlier, zero, one),
     }
 }
 
-// The halves' first call that is refused where the disk fails the call after so many: of a creation, a batch, an image and its
-// gate, in this order.
-fn first_refused(rt: &(impl AllocGlobal + Abort), calls: u64) -> &'static str {
-    let disk = OnceDisk::new(MemDisk::new(rt.alloc()), calls);
-    let Ok(mut halves) = create_on(rt, disk) else {
-        return "creation";
-    };
-    if halves.append_batch(batch()).is_err() {
+// A store that is there is neither written nor closed, in whichever half it is, whatever it says.
+#[test]
+fn open_halves_are_kept(rt: HostRuntime) {
+    assert_not_made(&rt, b"\x01?", b"");
+    assert_not_made(&rt, b"", b"\x01?");
+    assert_not_made(&rt, b"\x01?", b"\x01?");
+}
+
+// The first call that halves refuse: of a batch, an image and its gate, in this order.
+fn first_refused_by<D: Disk>(rt: &impl Abort, halves: &mut Halves<D>) -> &'static str {
+    if append(rt, halves, BATCH).is_err() {
         return "batch";
     }
-    if halves.prepare_image(image()).is_err() {
+    if prepare(rt, halves, IMAGE).is_err() {
         return "image";
     }
-    if halves.open_gate().is_err() {
+    if open_gate(halves).is_err() {
         return "gate";
     }
     "none"
+}
+
+// The same with the halves' creation before, where the disk fails the call after so many.
+fn first_refused(rt: &(impl AllocGlobal + Abort), calls: u64) -> &'static str {
+    let disk = OnceDisk::new(MemDisk::new(rt.alloc()), calls);
+    match create_on(rt, disk) {
+        Ok(mut halves) => first_refused_by(rt, &mut halves),
+        Err(_) => "creation",
+    }
+}
+
+// This is refused first where the disk fails the call after so many.
+fn assert_first_refused(rt: &(impl AllocGlobal + Abort), calls: u64, wanted: &str) {
+    assert_eq!(rt; first_refused(rt, calls), wanted);
 }
 
 // A creation looks at both first gates by two calls each, and makes six more. Of the others each makes its writes and syncs
 // alone, and asks for no length and no byte.
 #[test]
 fn writers_read_nothing(rt: HostRuntime) {
-    for (calls, wanted) in [
-        (0, "creation"),
-        (9, "creation"),
-        (10, "batch"),
-        (13, "batch"),
-        (14, "image"),
-        (17, "image"),
-        (18, "gate"),
-        (19, "gate"),
-        (20, "none"),
-    ] {
-        assert_eq!(rt; first_refused(&rt, calls), wanted);
-    }
+    assert_first_refused(&rt, 0, "creation");
+    assert_first_refused(&rt, 9, "creation");
+    assert_first_refused(&rt, 10, "batch");
+    assert_first_refused(&rt, 13, "batch");
+    assert_first_refused(&rt, 14, "image");
+    assert_first_refused(&rt, 17, "image");
+    assert_first_refused(&rt, 18, "gate");
+    assert_first_refused(&rt, 19, "gate");
+    assert_first_refused(&rt, 20, "none");
+}
+
+// Whether a settling is done on a disk that fails the call after so many.
+fn is_settled(rt: &impl AllocGlobal, calls: u64) -> bool {
+    let mut once = OnceDisk::new(MemDisk::new(rt.alloc()), calls);
+    settle(&mut once).is_ok()
 }
 
 // So does a settling.
 #[test]
 fn a_settling_reads_nothing(rt: HostRuntime) {
     for calls in 0..4 {
-        let mut once = OnceDisk::new(MemDisk::new(rt.alloc()), calls);
-        assert_eq!(rt; settle(&mut once).is_ok(), calls >= 2);
+        assert_eq!(rt; is_settled(&rt, calls), calls >= 2);
     }
 }

@@ -2,9 +2,10 @@
 ghost use Rattle.std.specs.Prelude.{◌≤◌};
 ghost use Rattle.charmlet_disk.specs.Disk.{IsSettled};
 ghost use Rattle.charmlet_disk.specs.MemDisk.{files};
-ghost use Rattle.charmlet_halves.specs.Bytes.{EndsClosed};
 
-use super::{batch, create_on, disk_of, image, later_image};
+use super::{
+    BATCH, IMAGE, LATER_IMAGE, append, create_on, disk_of, is_refused, open_gate, prepare,
+};
 use charmlet_disk::{CrashChoice, Disk, FuseDisk, MemDisk};
 use charmlet_halves::{Halves, survey};
 use charmlet_model::Refusal;
@@ -56,19 +57,22 @@ const STORES: [Store; 8] = [
 ];
 
 // A batch and then an image with its gate, until a call is refused: how many of the three steps were done, and the refusal.
-fn round<D: Disk>(halves: &mut Halves<D>, image: &[u8]) -> (usize, Result<(), Refusal>)
-    requires { EndsClosed image.now }
+fn round<D: Disk>(
+    rt: &impl Abort,
+    halves: &mut Halves<D>,
+    image: &[u8],
+) -> (usize, Result<(), Refusal>)
     ensures { result.0 ≤ 3 }
 {
-    let appended = halves.append_batch(batch());
+    let appended = append(rt, halves, BATCH);
     if appended.is_err() {
         return (0, appended);
     }
-    let prepared = halves.prepare_image(image);
+    let prepared = prepare(rt, halves, image);
     if prepared.is_err() {
         return (1, prepared);
     }
-    let opened = halves.open_gate();
+    let opened = open_gate(halves);
     if opened.is_err() {
         return (2, opened);
     }
@@ -76,14 +80,14 @@ fn round<D: Disk>(halves: &mut Halves<D>, image: &[u8]) -> (usize, Result<(), Re
 }
 
 // Two such rounds.
-fn work<D: Disk>(halves: &mut Halves<D>) -> (usize, Result<(), Refusal>)
+fn work<D: Disk>(rt: &impl Abort, halves: &mut Halves<D>) -> (usize, Result<(), Refusal>)
     ensures { result.0 ≤ 7 }
 {
-    let (first, last) = round(halves, image());
+    let (first, last) = round(rt, halves, IMAGE);
     if last.is_err() {
         return (1 + first, last);
     }
-    let (second, last) = round(halves, later_image());
+    let (second, last) = round(rt, halves, LATER_IMAGE);
     (4 + second, last)
 }
 
@@ -96,6 +100,15 @@ fn found(rt: &(impl AllocGlobal + Abort), disk: &mut MemDisk) -> Store {
         },
         Err(Refusal::NothingHere) => STORES[0],
         Err(refusal) => panic!(rt; "{refusal}"),
+    }
+}
+
+// A call that was refused met a failure of the device, and each later one is refused.
+fn is_halted<D: Disk>(rt: &impl Abort, halves: &mut Halves<D>, last: Result<(), Refusal>) {
+    if last.is_err() {
+        is_refused(rt, last, Refusal::Device);
+        is_refused(rt, append(rt, halves, BATCH), Refusal::Halted);
+        is_refused(rt, prepare(rt, halves, IMAGE), Refusal::Halted);
     }
 }
 
@@ -112,16 +125,12 @@ fn left_after(
     let disk = FuseDisk::new(disk, calls);
     let (done, disk) = match create_on(rt, disk) {
         Ok(mut halves) => {
-            let (done, last) = work(&mut halves);
-            if last.is_err() {
-                assert_eq!(rt; last, Err(Refusal::Device));
-                assert_eq!(rt; halves.append_batch(batch()), Err(Refusal::Halted));
-                assert_eq!(rt; halves.prepare_image(image()), Err(Refusal::Halted));
-            }
+            let (done, last) = work(rt, &mut halves);
+            is_halted(rt, &mut halves, last);
             (done, halves.into_disk())
         }
         Err(refused) => {
-            assert_eq!(rt; refused.refusal, Refusal::Device);
+            is_refused(rt, Err(refused.refusal), Refusal::Device);
             (0, refused.disk)
         }
     };

@@ -1,11 +1,14 @@
 // What is found in two files.
-ghost use Rattle.std.specs.Prelude.{◌≤◌, IfOk, length};
+ghost use Rattle.charmlet_disk.specs.Disk.{IsSettled};
+ghost use Rattle.charmlet_disk.specs.MemDisk.{files};
 
-use super::{BATCH, NEW_STORE, batch, bytes_of, disk_of, image};
+use super::{
+    BATCH, IMAGE, NEW_STORE, append, assert_bytes, disk_of, is_done, is_refused, open_gate, prepare,
+};
 use charmlet_disk::MemDisk;
-use charmlet_halves::{Halves, Surveyed, survey};
+use charmlet_halves::{Contents, Halves, Surveyed, survey};
 use charmlet_model::{Half, Refusal};
-use std::alloc::{AllocError, AllocGlobal};
+use std::alloc::{AllocError, AllocGlobal, Global};
 use std::process::Abort;
 use std::test::Fail;
 
@@ -19,14 +22,52 @@ struct Seen {
     log_end: u64,
 }
 
-fn seen_by(survey: &Surveyed) -> Seen {
+// What is told of a half and its contents.
+fn seen_of(half: Half, contents: Contents) -> Seen {
+    let Contents {
+        header,
+        logged,
+        log_end,
+    } = contents;
     Seen {
-        half: survey.half,
-        generation: survey.contents.header.generation,
-        events: survey.contents.header.events,
-        logged: survey.contents.logged,
-        log_end: survey.contents.log_end,
+        half,
+        generation: header.generation,
+        events: header.events,
+        logged,
+        log_end,
     }
+}
+
+fn seen_by(survey: &Surveyed) -> Seen {
+    seen_of(survey.half, survey.contents)
+}
+
+// What a survey of the disk tells.
+fn surveyed(alloc: Global, disk: &mut MemDisk) -> Result<Seen, Refusal> {
+    match survey(alloc, disk) {
+        Ok(survey) => Ok(seen_by(&survey)),
+        Err(refusal) => Err(refusal),
+    }
+}
+
+// What an opening of the disk tells, and the disk.
+fn opened(alloc: Global, disk: MemDisk) -> (Result<Seen, Refusal>, MemDisk)
+    requires { IsSettled (files disk) }
+{
+    match Halves::open(alloc, disk) {
+        Ok(opened) => (Ok(seen_by(&opened.survey)), opened.halves.into_disk()),
+        Err(refused) => (Err(refused.refusal), refused.disk),
+    }
+}
+
+// This was told.
+fn is_told(rt: &impl Abort, told: Result<Seen, Refusal>, wanted: Result<Seen, Refusal>) {
+    assert_eq!(rt; told, wanted);
+}
+
+// The disk has so many calls.
+fn has_calls(rt: &impl Abort, disk: &MemDisk, wanted: usize) {
+    assert_eq!(rt; disk.calls().len(), wanted);
 }
 
 // A survey of these bytes finds this, and leaves the disk as it was.
@@ -38,11 +79,8 @@ fn assert_surveyed(
 ) {
     let mut disk = disk_of(rt, zero, one);
     let calls = disk.calls().len();
-    match survey(rt.alloc(), &mut disk) {
-        Ok(survey) => assert_eq!(rt; Ok(seen_by(&survey)), wanted),
-        Err(refusal) => assert_eq!(rt; Err(refusal), wanted),
-    }
-    assert_eq!(rt; disk.calls().len(), calls);
+    is_told(rt, surveyed(rt.alloc(), &mut disk), wanted);
+    has_calls(rt, &disk, calls);
 }
 
 // Both a survey and an opening of these bytes find this, and leave the disk as it was.
@@ -55,30 +93,29 @@ fn assert_found(
     assert_surveyed(rt, zero, one, wanted);
     let disk = disk_of(rt, zero, one);
     let calls = disk.calls().len();
-    let mut disk = match Halves::open(rt.alloc(), disk) {
-        Ok(opened) => {
-            assert_eq!(rt; Ok(seen_by(&opened.survey)), wanted);
-            opened.halves.into_disk()
-        }
-        Err(refused) => {
-            assert_eq!(rt; Err(refused.refusal), wanted);
-            refused.disk
-        }
-    };
-    assert_eq!(rt; disk.calls().len(), calls);
-    assert_eq!(rt; bytes_of(rt, &mut disk, Half::Zero).as_slice(), zero);
-    assert_eq!(rt; bytes_of(rt, &mut disk, Half::One).as_slice(), one);
+    let (told, mut disk) = opened(rt.alloc(), disk);
+    is_told(rt, told, wanted);
+    has_calls(rt, &disk, calls);
+    assert_bytes(rt, &mut disk, Half::Zero, zero);
+    assert_bytes(rt, &mut disk, Half::One, one);
+}
+
+// There are so many bytes.
+fn has_length(rt: &impl Abort, bytes: &[u8], wanted: usize) {
+    assert_eq!(rt; bytes.len(), wanted);
+}
+
+// Another byte stands at this place.
+fn set(rt: &impl Abort, bytes: &mut [u8], at: usize, byte: u8) {
+    *bytes.get_mut(at).expect(rt, "a byte") = byte;
 }
 
 // The bytes of a store with an image, and a log of one batch, of this generation.
-fn store(rt: &(impl AllocGlobal + Abort), generation: u8) -> Result<Vec<u8>, AllocError>
-    ensures { IfOk result (λ bytes. 50 ≤ length bytes.items) }
-{
-    let mut bytes = Vec::new(rt.alloc());
-    bytes.extend_from_slice(NEW_STORE)?;
-    assert!(rt; bytes.len() == 50);
-    bytes[5] = generation;
-    bytes[49] = 1;
+fn store(rt: &(impl AllocGlobal + Abort), generation: u8) -> Result<Vec<u8>, AllocError> {
+    let mut bytes = NEW_STORE.to_vec(rt.alloc())?;
+    has_length(rt, &bytes, 50);
+    set(rt, &mut bytes, 5, generation);
+    set(rt, &mut bytes, 49, 1);
     bytes.extend_from_slice(BATCH)?;
     Ok(bytes)
 }
@@ -163,55 +200,74 @@ fn cut_stores_are_damaged_where_a_field_runs_out(rt: HostRuntime) {
     }
 }
 
+// A store's log is empty where the first gate after its image has this value.
+fn assert_empty(rt: &(impl AllocGlobal + Abort), bytes: &mut [u8], gate: u8) {
+    set(rt, bytes, 49, gate);
+    let empty = Seen {
+        logged: 0,
+        log_end: 49,
+        ..seen_in(Half::Zero, 1)
+    };
+    assert_found(rt, bytes, b"", Ok(empty));
+}
+
 // The gate of a batch that is torn counts where it came out as 1, and only there.
 #[test]
 fn torn_gates_are_closed_but_for_one_byte(rt: HostRuntime) -> Result<(), Fail> {
     let mut bytes = store(&rt, 1)?;
-    assert!(rt; bytes.len() == 123);
+    has_length(&rt, &bytes, 123);
     for gate in [0, 2, 7, 255] {
-        bytes[49] = gate;
-        let empty = Seen {
-            logged: 0,
-            log_end: 49,
-            ..seen_in(Half::Zero, 1)
-        };
-        assert_found(&rt, &bytes, b"", Ok(empty));
+        assert_empty(&rt, &mut bytes, gate);
     }
-    bytes[49] = 1;
+    set(&rt, &mut bytes, 49, 1);
     assert_found(&rt, &bytes, b"", Ok(seen_in(Half::Zero, 1)));
     Ok(())
+}
+
+// The halves that stand on a disk.
+fn halves_on(rt: &(impl AllocGlobal + Abort), disk: MemDisk) -> Halves<MemDisk>
+    requires { IsSettled (files disk) }
+{
+    match Halves::open(rt.alloc(), disk) {
+        Ok(opened) => opened.halves,
+        Err(refused) => panic!(rt; "{}", refused.refusal),
+    }
+}
+
+// The halves have the last generation, take no image, and aren't halted.
+fn are_last(rt: &impl Abort, halves: &mut Halves<MemDisk>) {
+    assert_eq!(rt; halves.generation(), 1 << 40);
+    is_refused(rt, prepare(rt, halves, IMAGE), Refusal::ImageFull);
+    assert!(rt; !halves.is_halted());
 }
 
 // No image comes after the last generation, 2^40, and nothing is written then.
 #[test]
 fn the_last_generation_takes_no_image(rt: HostRuntime) -> Result<(), Fail> {
     let mut bytes = store(&rt, 0)?;
-    bytes[10] = 1;
+    set(&rt, &mut bytes, 10, 1);
     let disk = disk_of(&rt, &bytes, b"");
     let calls = disk.calls().len();
-    let mut halves = match Halves::open(rt.alloc(), disk) {
-        Ok(opened) => opened.halves,
-        Err(refused) => panic!(rt; "{}", refused.refusal),
-    };
-    assert_eq!(rt; halves.generation(), 1 << 40);
-    assert_eq!(rt; halves.prepare_image(image()), Err(Refusal::ImageFull));
-    assert!(rt; !halves.is_halted());
-    assert_eq!(rt; halves.into_disk().calls().len(), calls);
+    let mut halves = halves_on(&rt, disk);
+    are_last(&rt, &mut halves);
+    has_calls(&rt, &halves.into_disk(), calls);
     Ok(())
+}
+
+// A batch, an image with its gate, and another batch are written.
+fn go_on(rt: &impl Abort, halves: &mut Halves<MemDisk>) {
+    is_done(rt, append(rt, halves, BATCH));
+    is_done(rt, prepare(rt, halves, IMAGE));
+    is_done(rt, open_gate(halves));
+    is_done(rt, append(rt, halves, BATCH));
 }
 
 // Halves that were opened go on as those that were made.
 #[test]
 fn opened_halves_go_on(rt: HostRuntime) -> Result<(), Fail> {
-    let disk = disk_of(&rt, NEW_STORE, b"\x07torn");
-    let mut halves = match Halves::open(rt.alloc(), disk) {
-        Ok(opened) => opened.halves,
-        Err(refused) => panic!(rt; "{}", refused.refusal),
-    };
-    assert_eq!(rt; halves.append_batch(batch()), Ok(()));
-    assert_eq!(rt; halves.prepare_image(image()), Ok(()));
-    assert_eq!(rt; halves.open_gate(), Ok(()));
-    assert_eq!(rt; halves.append_batch(batch()), Ok(()));
+    let old = store(&rt, 1)?;
+    let mut halves = halves_on(&rt, disk_of(&rt, NEW_STORE, b"\x07torn"));
+    go_on(&rt, &mut halves);
     let mut disk = halves.into_disk();
     let wanted = Seen {
         half: Half::One,
@@ -220,13 +276,7 @@ fn opened_halves_go_on(rt: HostRuntime) -> Result<(), Fail> {
         logged: 2,
         log_end: 179,
     };
-    match survey(rt.alloc(), &mut disk) {
-        Ok(survey) => assert_eq!(rt; seen_by(&survey), wanted),
-        Err(refusal) => panic!(rt; "{refusal}"),
-    }
-    assert_eq!(rt;
-        bytes_of(&rt, &mut disk, Half::Zero).as_slice(),
-        store(&rt, 1)?.as_slice()
-    );
+    is_told(&rt, surveyed(rt.alloc(), &mut disk), Ok(wanted));
+    assert_bytes(&rt, &mut disk, Half::Zero, &old);
     Ok(())
 }
