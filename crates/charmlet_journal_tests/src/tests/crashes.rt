@@ -58,16 +58,35 @@ fn crash(disk: FuseDisk<MemDisk>, choice: CrashChoice) -> MemDisk {
     disk.inner().crash(choice)
 }
 
+// The device failed.
+fn has_failed(rt: &impl Abort, refusal: Refusal) {
+    assert_eq!(rt; refusal, Refusal::Device);
+}
+
 // A creation that failed leaves no store, or a new one.
 fn leaves_no_event(
     rt: &(impl AllocGlobal + Abort),
     refused: Refused<FuseDisk<MemDisk>>,
     choice: CrashChoice,
 ) {
-    assert_eq!(rt; refused.refusal, Refusal::Device);
+    has_failed(rt, refused.refusal);
     let disk = crash(refused.disk, choice);
     let found = events_found(rt, disk, &STEPS);
     assert!(rt; matches!(found, None | Some(0)));
+}
+
+// A store takes the steps, and is halted where its disk passes too few calls. How many events are durable then, and how many there
+// are.
+fn events_after(
+    rt: &(impl AllocGlobal + Abort),
+    store: &mut Created<FuseDisk<MemDisk>>,
+    calls: u64,
+) -> (u64, u64)
+    requires { IsStanding store.old }
+{
+    take_all(rt, store);
+    assert_eq!(rt; store.history.is_halted(), calls < CALLS);
+    (store.history.durable_count(), store.history.event_count())
 }
 
 // A store takes the steps on a disk that passes so many calls, and a crash leaves it.
@@ -79,11 +98,8 @@ fn leaves_what_was_durable(
 )
     requires { IsStanding store }
 {
-    take_all(rt, &mut store);
-    let Created { history, halves } = store;
-    assert_eq!(rt; history.is_halted(), calls < CALLS);
-    let (durable, events) = (history.durable_count(), history.event_count());
-    let disk = crash(halves.into_disk(), choice);
+    let (durable, events) = events_after(rt, &mut store, calls);
+    let disk = crash(store.halves.into_disk(), choice);
     let found = events_found(rt, disk, &STEPS);
     assert!(rt; matches!(found, Some(found) if durable <= found && found <= events));
 }
@@ -97,11 +113,16 @@ fn crash_after(rt: &(impl AllocGlobal + Abort), calls: u64, choice: CrashChoice)
     }
 }
 
+// The same for each choice of a crash.
+fn crash_by_each_choice(rt: &(impl AllocGlobal + Abort), calls: u64) {
+    for choice in CrashChoice::ALL {
+        crash_after(rt, calls, choice);
+    }
+}
+
 #[test]
 fn each_crash_leaves_what_was_durable(rt: HostRuntime) {
     for calls in 0..=CALLS {
-        for choice in CrashChoice::ALL {
-            crash_after(&rt, calls, choice);
-        }
+        crash_by_each_choice(&rt, calls);
     }
 }

@@ -50,8 +50,8 @@ fn has_durable(rt: &impl Abort, store: &Created<MemDisk>, count: u64)
 // How many bytes a call wrote, and 0 for a sync.
 fn size(call: &Call) -> usize {
     match call {
-        Call::Write(_, _, bytes) => bytes.len(),
-        _ => 0,
+        Call::Write(_, _, bytes) => bytes.as_slice().len(),
+        Call::Sync(_) | Call::Crash(_) => 0,
     }
 }
 
@@ -73,18 +73,28 @@ const SIZES: [usize; 18] = [
     1, 0, 49, 0, 1, 0, FULL, 0, 1, 0, FULL, 0, 1, 0, LAST, 0, 1, 0,
 ];
 
+// The disk of a new store that has taken the steps, of which none is durable before two flushes, and so many are after them.
+fn disk_after(rt: &(impl AllocGlobal + Abort), steps: &[Step], durable: u64) -> MemDisk {
+    let mut store = new_store(rt);
+    take_all(rt, &mut store, steps);
+    has_durable(rt, &store, 0);
+    take_all(rt, &mut store, &[Step::Flush, Step::Flush]);
+    has_durable(rt, &store, durable);
+    store.halves.into_disk()
+}
+
+// After a crash that leaves the old bytes the disk recovers to so many events of the steps.
+fn keeps_events(rt: &(impl AllocGlobal + Abort), disk: MemDisk, steps: &[Step], wanted: u64) {
+    let found = events_found(rt, disk.crash(CrashChoice::Old), steps);
+    assert_eq!(rt; found, Some(wanted));
+}
+
 // A batch has 4,096 events at most. Each is written in one call and synced, and then its gate is. A request takes 37 bytes, and
 // its delivery 27; length, count and the closed gate after them take 9.
 #[test]
 fn ten_thousand_events_take_twelve_calls(rt: HostRuntime) {
     let steps = requests(&rt, 5_000);
-    let mut store = new_store(&rt);
-    take_all(&rt, &mut store, steps.as_slice());
-    has_durable(&rt, &store, 0);
-    take_all(&rt, &mut store, &[Step::Flush, Step::Flush]);
-    has_durable(&rt, &store, 10_000);
-    let disk = store.halves.into_disk();
+    let disk = disk_after(&rt, steps.as_slice(), 10_000);
     have_sizes(&rt, disk.calls(), &SIZES);
-    let found = events_found(&rt, disk.crash(CrashChoice::Old), steps.as_slice());
-    assert_eq!(rt; found, Some(10_000));
+    keeps_events(&rt, disk, steps.as_slice(), 10_000);
 }

@@ -126,19 +126,22 @@ pub fn take<D: Disk>(store: &mut Created<D>, alloc: Global, step: Step) -> Resul
     }
 }
 
+// The event of a client's request that constructs the counter of this index.
+fn accepted(rt: &(impl AllocGlobal + Abort), client: u32, number: u64, index: u64) -> Event {
+    let words = Words::from_slice(rt.alloc(), &[index]).expect(rt, "memory");
+    Event::Accept {
+        client,
+        number,
+        to: counter_at(index),
+        entry: CONSTRUCT,
+        words,
+    }
+}
+
 // The event of a step, if it is one.
 fn event_of(rt: &(impl AllocGlobal + Abort), step: Step) -> Option<Event> {
     match step {
-        Step::Ask(client, number, index) => {
-            let words = Words::from_slice(rt.alloc(), &[index]).expect(rt, "memory");
-            Some(Event::Accept {
-                client,
-                number,
-                to: counter_at(index),
-                entry: CONSTRUCT,
-                words,
-            })
-        }
+        Step::Ask(client, number, index) => Some(accepted(rt, client, number, index)),
         Step::Deliver(client, number) => Some(Event::Deliver(request_of(client, number))),
         Step::Flush => None,
     }
@@ -167,15 +170,20 @@ fn world_after(rt: &(impl AllocGlobal + Abort), steps: &[Step], count: u64) -> P
     world
 }
 
+// The text of a world.
+fn text_of(rt: &(impl AllocGlobal + Abort), world: &PlainWorld) -> String {
+    format!(in rt.alloc(); "{world:?}").expect(rt, "memory")
+}
+
 // Both worlds are the same, as texts.
 fn are_same(rt: &(impl AllocGlobal + Abort), world: &PlainWorld, wanted: &PlainWorld) {
-    let world = format!(in rt.alloc(); "{world:?}").expect(rt, "memory");
-    let wanted = format!(in rt.alloc(); "{wanted:?}").expect(rt, "memory");
+    let world = text_of(rt, world);
+    let wanted = text_of(rt, wanted);
     assert_eq!(rt; world.as_str(), wanted.as_str());
 }
 
 // Writes these bytes to a half, from its beginning on.
-fn put(rt: &impl Abort, disk: &mut impl Disk, half: Half, bytes: &[u8]) {
+fn put(rt: &impl Abort, disk: &mut MemDisk, half: Half, bytes: &[u8]) {
     disk.write_at(half, 0, bytes).expect(rt, "a write");
 }
 
@@ -192,11 +200,10 @@ pub fn disk_of(rt: &(impl AllocGlobal + Abort), zero: &[u8], one: &[u8]) -> MemD
 
 // All bytes of a half.
 fn bytes_of(rt: &(impl AllocGlobal + Abort), disk: &mut MemDisk, half: Half) -> Vec<u8> {
+    let length = disk.len(half).unwrap_or(0);
     let mut bytes = Vec::new(rt.alloc());
-    if let Ok(length) = disk.len(half) {
-        bytes.resize(length as usize, 0).expect(rt, "memory");
-        disk.read_at(half, 0, &mut bytes).expect(rt, "bytes");
-    }
+    bytes.resize(length as usize, 0).expect(rt, "memory");
+    disk.read_at(half, 0, &mut bytes).expect(rt, "bytes");
     bytes
 }
 
