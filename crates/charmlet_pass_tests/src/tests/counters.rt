@@ -1,6 +1,8 @@
 //! An engine of counters on a disk in memory, and blanks for it.
 
 ghost use Rattle.std.specs.Prelude.{IfOk};
+ghost use Rattle.charmlet_model.specs.Fit.{IsFit};
+ghost use Rattle.charmlet_model.specs.Sound.{new_world};
 ghost use Rattle.charmlet_replay.specs.Unused.{IsUnused};
 ghost use Rattle.charmlet_engine.specs.Engine.{IsEngineConsistent};
 
@@ -18,29 +20,59 @@ pub type Counters = Engine<MemDisk, Counter>;
 
 pub const COUNTER: Elem = Elem { array: 0, index: 0 };
 
+// One blank.
+fn one_blank(alloc: Global) -> Result<Vec<Counter>, AllocError> {
+    let mut blanks = Vec::new(alloc);
+    blanks.push(Counter::blank())?;
+    Ok(blanks)
+}
+
 // A stock of one blank, of which none was used.
 pub fn one_unused(alloc: Global) -> Result<Stock<Counter>, AllocError>
     ensures { IfOk result (λ stock. IsUnused stock) }
 {
-    let mut blanks = Vec::new(alloc);
-    blanks.push(Counter::blank())?;
-    stock_of(alloc, blanks).map_err(|_| AllocError)
+    match stock_of(alloc, one_blank(alloc)?) {
+        Ok(stock) => Ok(stock),
+        Err(_) => Err(AllocError),
+    }
+}
+
+// Counters in array 0.
+fn counters(rt: &(impl AllocGlobal + Abort)) -> Manifest
+    ensures { IsFit (new_world result) }
+{
+    match Manifest::of(rt.alloc(), &[(0, Kind::Counter.number())]) {
+        Ok(Some(manifest)) => manifest,
+        _ => panic!(rt; "there is memory for a manifest"),
+    }
+}
+
+// A new engine of one processor.
+fn created(rt: &(impl AllocGlobal + Abort)) -> Counters
+    ensures { IsEngineConsistent result }
+{
+    let alloc = rt.alloc();
+    match Engine::create(alloc, MemDisk::new(alloc), counters(rt), 1) {
+        Ok(engine) => engine,
+        Err(_) => panic!(rt; "no store was created"),
+    }
+}
+
+// The engine takes the blanks.
+fn supply(rt: &impl Abort, engine: &mut Counters, blanks: Vec<Counter>)
+    requires { IsEngineConsistent engine.old }
+    ensures { IsEngineConsistent engine.new }
+{
+    assert!(rt; engine.supply(blanks).is_ok());
 }
 
 // A new engine of one processor, which has one blank.
 pub fn new_engine(rt: &(impl AllocGlobal + Abort)) -> Result<Counters, Fail>
     ensures { IfOk result IsEngineConsistent }
 {
-    let alloc = rt.alloc();
-    let Ok(Some(manifest)) = Manifest::of(alloc, &[(0, Kind::Counter.number())]) else {
-        panic!(rt; "there is memory for a manifest")
-    };
-    let Ok(mut engine) = Engine::create(alloc, MemDisk::new(alloc), manifest, 1) else {
-        panic!(rt; "no store was created")
-    };
-    let mut blanks = Vec::new(alloc);
-    blanks.push(Counter::blank())?;
-    assert!(rt; engine.supply(blanks).is_ok());
+    let blanks = one_blank(rt.alloc())?;
+    let mut engine = created(rt);
+    supply(rt, &mut engine, blanks);
     Ok(engine)
 }
 

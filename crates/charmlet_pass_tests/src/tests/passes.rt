@@ -28,16 +28,21 @@ enum Ask {
     Flush,
 }
 
-// Two handlers of the array of counters.
-fn handlers(alloc: Global) -> Result<Handlers, Refusal> {
-    let mut handlers = Handlers::new(alloc);
+// The handlers that construct a counter and add to it.
+fn register(handlers: &mut Handlers) -> Result<(), Refusal> {
     let make = Handler {
         array: 0,
         entry: CONSTRUCT,
     };
     let bump = Handler { array: 0, entry: 0 };
     handlers.register("make", make)?;
-    handlers.register("bump", bump)?;
+    handlers.register("bump", bump)
+}
+
+// Two handlers of the array of counters.
+fn handlers(alloc: Global) -> Result<Handlers, Refusal> {
+    let mut handlers = Handlers::new(alloc);
+    register(&mut handlers)?;
     Ok(handlers)
 }
 
@@ -89,6 +94,54 @@ fn answered(
     }
 }
 
+// Adds the line of one answer.
+fn add_answer(
+    alloc: Global,
+    engine: &mut Counters,
+    pass: &mut ClientPass,
+    handlers: &Handlers,
+    ask: Ask,
+    text: &mut String,
+) -> Result<(), AllocError>
+    requires { IsEngineConsistent engine.old }
+    ensures { IsEngineConsistent engine.new }
+{
+    let line = answered(alloc, engine, pass, handlers, ask)?;
+    text.push_str(line.as_str())?;
+    text.push_str("\n")
+}
+
+// Adds the lines of all answers.
+fn add_answers(
+    alloc: Global,
+    engine: &mut Counters,
+    pass: &mut ClientPass,
+    handlers: &Handlers,
+    asks: &[Ask],
+    text: &mut String,
+) -> Result<(), AllocError>
+    requires { IsEngineConsistent engine.old }
+    ensures { IsEngineConsistent engine.new }
+{
+    for ask in asks {
+        add_answer(alloc, engine, pass, handlers, *ask, text)?;
+    }
+    Ok(())
+}
+
+// The two handlers, where there is memory.
+fn handlers_in(rt: &(impl AllocGlobal + Abort)) -> Handlers {
+    match handlers(rt.alloc()) {
+        Ok(handlers) => handlers,
+        Err(_) => panic!(rt; "there is memory for two handlers"),
+    }
+}
+
+// The text is this one.
+fn is_text(rt: &impl Abort, text: &str, wanted: &str) {
+    assert_eq!(rt; text, wanted);
+}
+
 // These lines are answered.
 fn answers(
     rt: &(impl AllocGlobal + Abort),
@@ -100,17 +153,10 @@ fn answers(
     requires { IsEngineConsistent engine.old }
     ensures { IsEngineConsistent engine.new }
 {
-    let alloc = rt.alloc();
-    let Ok(handlers) = handlers(alloc) else {
-        panic!(rt; "there is memory for two handlers")
-    };
-    let mut text = String::new(alloc);
-    for ask in asks {
-        let line = answered(alloc, engine, pass, &handlers, *ask)?;
-        text.push_str(line.as_str())?;
-        text.push_str("\n")?;
-    }
-    assert_eq!(rt; text.as_str(), wanted);
+    let handlers = handlers_in(rt);
+    let mut text = String::new(rt.alloc());
+    add_answers(rt.alloc(), engine, pass, &handlers, asks, &mut text)?;
+    is_text(rt, text.as_str(), wanted);
     Ok(())
 }
 
@@ -152,40 +198,70 @@ const SECOND_ANSWERS: &str =
     "told unknown\ntold replied 8\ntold accepted\ndelivered c7.3\nflushed 6\n\
     told replied 12\ntold replied 12\ntold unknown\n";
 
+// The client's pass.
+fn lent(rt: &impl Abort, engine: &Counters, passes: &mut Passes) -> ClientPass
+    requires { IsEngineConsistent engine.now }
+{
+    match engine.lend(passes, CLIENT) {
+        Ok(pass) => pass,
+        Err(_) => panic!(rt; "there is memory for a pass"),
+    }
+}
+
+// The client's pass is out, and isn't lent again.
+fn is_out(rt: &impl Abort, engine: &Counters, passes: &mut Passes)
+    requires { IsEngineConsistent engine.now }
+{
+    let refusal = engine.lend(passes, CLIENT).err();
+    assert_eq!(rt; refusal, Some(Refusal::PassOut));
+}
+
+// The number of the pass's last request, and how many of its requests were accepted, are these.
+fn has_counts(rt: &impl Abort, pass: &ClientPass, last: u64, accepted: u64) {
+    assert_eq!(rt; pass.last(), last);
+    assert_eq!(rt; pass.accept_count(), accepted);
+}
+
 // The client goes by its one pass, which counts its requests. What is left of the engine is its disk.
 fn first_life(rt: &(impl AllocGlobal + Abort), mut engine: Counters) -> Result<Counters, Fail>
     requires { IsEngineConsistent engine }
     ensures { IfOk result IsEngineConsistent }
 {
     let mut passes = Passes::new(rt.alloc());
-    let Ok(mut pass) = engine.lend(&mut passes, CLIENT) else {
-        panic!(rt; "there is memory for a pass")
-    };
-    assert_eq!(rt;
-        engine.lend(&mut passes, CLIENT).err(),
-        Some(Refusal::PassOut)
-    );
+    let mut pass = lent(rt, &engine, &mut passes);
+    is_out(rt, &engine, &mut passes);
     answers(rt, &mut engine, &mut pass, &FIRST, FIRST_ANSWERS)?;
-    assert_eq!(rt; (pass.last(), pass.accept_count()), (3, 3));
+    has_counts(rt, &pass, 3, 3);
     Ok(engine)
 }
 
-// The client goes by a pass that is lent anew.
-fn second_life(rt: &(impl AllocGlobal + Abort), mut engine: Counters) -> Result<(), Fail>
-    requires { IsEngineConsistent engine }
+// The client goes on by a pass of which no request was accepted yet.
+fn goes_on(
+    rt: &(impl AllocGlobal + Abort),
+    engine: &mut Counters,
+    pass: &mut ClientPass,
+) -> Result<(), Fail>
+    requires { IsEngineConsistent engine.old }
 {
-    let Ok(mut pass) = engine.lend(&mut Passes::new(rt.alloc()), CLIENT) else {
-        panic!(rt; "there is memory for a pass")
-    };
-    assert_eq!(rt; (pass.last(), pass.accept_count()), (3, 0));
-    answers(rt, &mut engine, &mut pass, &SECOND, SECOND_ANSWERS)?;
-    assert_eq!(rt; (pass.last(), pass.accept_count()), (4, 1));
+    has_counts(rt, pass, 3, 0);
+    answers(rt, engine, pass, &SECOND, SECOND_ANSWERS)?;
+    has_counts(rt, pass, 4, 1);
     Ok(())
+}
+
+// The client goes by a pass that is lent anew.
+fn second_life(rt: &(impl AllocGlobal + Abort), engine: &mut Counters) -> Result<(), Fail>
+    requires { IsEngineConsistent engine.old }
+{
+    let mut passes = Passes::new(rt.alloc());
+    let mut pass = lent(rt, engine, &mut passes);
+    goes_on(rt, engine, &mut pass)
 }
 
 #[test]
 fn passes_are_told_no_less_over_flushes_and_a_restart(rt: HostRuntime) -> Result<(), Fail> {
     let rt = &rt;
     let engine = first_life(rt, new_engine(rt)?)?;
-    second_life(rt, back(rt, engine.into_disk())?)
+    let mut engine = back(rt, engine.into_disk())?;
+    second_life(rt, &mut engine)
 }
