@@ -25,7 +25,7 @@ use Rattle.charmlet_stock.specs.Stock.{blanks_in, supplied_to}
 use Rattle.charmlet_replay.specs.Unused.{IsUnused}
 use Rattle.charmlet_recover.specs.declared.restarting.NotRestarted.{NotRestarted}
 use Rattle.charmlet_recover.specs.declared.restarting.Recovered.{Recovered}
-use Rattle.charmlet_recover.specs.Restart.{AnswersBy, IsHandedBack, IsOpenedOn, IsTakenFrom, ReadsSame, bytes_on, is_lack, is_restart_refusal}
+use Rattle.charmlet_recover.specs.Restart.{AnswersBy, IsHandedBack, IsOpenedOn, IsTakenFrom, ReadsSame, bytes_on, is_after_sync, is_lack, is_restart_refusal}
 use Rattle.charmlet_script.specs.Script.{RestartContents}
 use Rattle.charmlet_engine.specs.declared.engine.Engine.{Engine}
 use Rattle.charmlet_engine.specs.Advances.{Advances}
@@ -47,16 +47,17 @@ module _ {D C : Type 0} {G : disks.Ghosts D} {H : chares.Ghosts C} where
       supplied_of engine ≡ given →
       (G.honest first → (past : Past) (old new : Core) → Remembers past old → Onward old new → IsSound new → is_lawful_since old new (bytes_on (G.file first)) → ComesBack past old new (core_of engine)) →
       G.faults (disk_in engine) ≡ G.faults first → (G.honest first → G.honest (disk_in engine)) × (G.honest (disk_in engine) → G.honest first) →
-      (G.honest first → IsSettled (G.file (disk_in engine))) → (G.honest first → LeavesOnly G.moment G.since first (disk_in engine) (MayLeave (G.file first))) →
-      IsBack G processors given first (ledger_in engine)
-  is_back processors given first engine opens found taken supplied remembers counted honest settled any_moment = record {
+      (G.honest first → ReadsSame (G.file first) (G.file (disk_in engine))) → (G.honest first → IsSettled (G.file (disk_in engine))) →
+      (G.honest first → LeavesOnly G.moment G.since first (disk_in engine) (MayLeave (G.file first))) → IsBack G processors given first (ledger_in engine)
+  is_back processors given first engine opens found taken supplied remembers counted honest same settled any_moment = record {
     opens = opens;
     found = found;
-    left = λ still. (let half = taken still in (_, half.0, half.1, half.2.left));
+    left = λ still. (let half = taken still in (_, half.0, half.1, half.2.left, half.2.log_end));
     supplied = λ kind. ap (λ (f : Kind → ℕ). f kind) supplied;
     remembers = remembers;
     counted = counted;
     honest = honest;
+    same = same;
     settled = settled;
     any_moment = any_moment;
   }
@@ -113,20 +114,29 @@ answers_any X why refusals.Memory h = tt
 answers_any X why refusals.Device h = tt
 answers_any X why _ h = h
 
+-- and so whether it came after the syncs
+synced_any : (X : Type 0) (refusal : Refusal) → is_after_sync {X = Core} (Err refusal) ≡ true → is_after_sync {X = X} (Err refusal) ≡ true
+synced_any X refusals.BadPes is = is
+synced_any X refusals.Device is = is
+synced_any X _ is = is
+
 module _ {D C : Type 0} {G : disks.Ghosts D} {H : chares.Ghosts C} where
   -- no store came back
   pub was_not_restarted : (processors : ℕ) (given : Blanks) (first : D) (blanks : Stock C H) (refused : NotRestarted D C H) →
       is_restart_refusal refused.refusal ≡ true → (is_processor_count processors ≡ false → IsHandedBack {G = G} first blanks (Err refused)) → (refused.refusal ≡ refusals.BadPes → is_processor_count processors ≡ false) →
       (G.honest first → is_processor_count processors ≡ true → AnswersBy {X = Recovered D C G H} (restart_refusal given (bytes_on (G.file first))) (Err refused.refusal)) →
       (G.honest first → (w : World) (before : ℕ) (history : List Event) (durable : ℕ) → IsLawful w before history durable (bytes_on (G.file first)) → is_lack refused.refusal ≡ true) →
-      (G.honest first → ReadsSame (G.file first) (G.file refused.disk)) → (G.honest first → LeavesOnly G.moment G.since first refused.disk (MayLeave (G.file first))) →
+      (G.honest first → ReadsSame (G.file first) (G.file refused.disk)) →
+      (G.honest first → is_after_sync {X = Recovered D C G H} (Err refused.refusal) ≡ true → IsSettled (G.file refused.disk)) →
+      (G.honest first → LeavesOnly G.moment G.since first refused.disk (MayLeave (G.file first))) →
       G.faults refused.disk ≡ faults_after (is_no_failure {X = Recovered D C G H} (Err refused.refusal)) (G.faults first) → WasNotRestarted G processors given first refused.disk refused.refusal
-  was_not_restarted processors given first blanks refused kind bad only_bad cause lawful same any_moment counted = record {
+  was_not_restarted processors given first blanks refused kind bad only_bad cause lawful same settled any_moment counted = record {
     kind = kind;
     bad = ((λ is. only_bad is), (λ is. (bad is).0));
     cause = λ honest is. answers_any (Recovered D C G H) (restart_refusal given (bytes_on (G.file first))) refused.refusal (cause honest is);
     lawful = lawful;
     same = same;
+    settled = λ honest is. settled honest (synced_any (Recovered D C G H) refused.refusal is);
     any_moment = any_moment;
     counted = counted ∙ ap (λ (b : Bool). faults_after b (G.faults first)) (failure_said (Recovered D C G H) refused.refusal);
   }

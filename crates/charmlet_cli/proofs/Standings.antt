@@ -96,9 +96,10 @@ failure_said X _ = refl
 
 module _ {D : Type 0} (G : disks.Ghosts D) (first last : D) (script : Contents) (manifest : List (ℕ × Kind)) (is : manifest_of (pairs_of script.arrays) ≡ Some manifest) where
   -- a disk on which a store was made
-  pub created : G.faults last ≡ G.faults first → (G.honest first → G.honest last) × (G.honest last → G.honest first) →
-      (G.honest first → LeavesOnly G.moment G.since first last (IsNothingOrNew manifest)) → IsCreated G (kinds_of script) first last
-  created counted honest leaves = record {
+  pub created : (G.honest first → IsClosed (G.file first Zero).now × IsClosed (G.file first One).now) → G.faults last ≡ G.faults first →
+      (G.honest first → G.honest last) × (G.honest last → G.honest first) → (G.honest first → LeavesOnly G.moment G.since first last (IsNothingOrNew manifest)) → IsCreated G (kinds_of script) first last
+  created closed counted honest leaves = record {
+    closed = closed;
     counted = counted;
     honest = honest;
     any_moment = λ still. subst (λ (kinds : List (ℕ × Kind)). LeavesOnly G.moment G.since first last (IsNothingOrNew kinds)) (made_of script manifest is) (leaves still);

@@ -1,5 +1,5 @@
 -- What a restart for a script is, and what it leaves on the disk.
-use Rattle.std.specs.Prelude.{◌≡◌, ◌⊎◌, ◌↔◌, ℕ, ◌+◌, true, false, List, [], ◌∷◌, ◌++◌, IsTrue, Option, Result, Ok, Err, codes}
+use Rattle.std.specs.Prelude.{◌≡◌, ◌⊎◌, ◌↔◌, ℕ, ◌+◌, true, false, List, [], ◌∷◌, ◌++◌, IsTrue, Option, Result, Ok, Err, codes, length}
 use Rattle.std.specs.Fmt.{decimal}
 use Rattle.std.specs.Io.KnownBytes.{Appends}
 use Rattle.charmlet_model.specs.declared.half.Half.{Half}
@@ -16,7 +16,7 @@ use Rattle.charmlet_model.specs.Texts.{Text, answer_text}
 use Rattle.charmlet_model.specs.World.{World}
 use Rattle.charmlet_locate.specs.Locations.{is_processor_count}
 use Rattle.charmlet_image.specs.Halves.{Takes, taken}
-use Rattle.charmlet_image.specs.Images.{Saved}
+use Rattle.charmlet_image.specs.Images.{Saved, spell_half}
 use Rattle.charmlet_model.specs.declared.half.Half.TheVariants.{Zero, One}
 use Rattle.charmlet_recovery.specs.Outcomes.{IsLawful}
 use Rattle.charmlet_recovery.specs.Recovered.{Found, recovered}
@@ -26,7 +26,7 @@ use Rattle.charmlet_disk.specs.Disk.{IsSettled, LeavesOnly, faults_after}
 use Rattle.charmlet_disk.specs.File.{MayLeave, Outcome}
 use Rattle.charmlet_recover.specs.declared.finding.Found as findings
 use Rattle.charmlet_recover.specs.declared.wanted.Wanted.{Wanted}
-use Rattle.charmlet_recover.specs.Restart.{AnswersBy, ReadsSame, bytes_on, is_lack, is_restart_refusal}
+use Rattle.charmlet_recover.specs.Restart.{AnswersBy, ReadsSame, bytes_on, is_after_sync, is_lack, is_restart_refusal}
 use Rattle.charmlet_script.specs.Script.{RestartContents}
 use Rattle.charmlet_engine.specs.Lives.{ComesBack, Past, Remembers}
 use Rattle.charmlet_engine.specs.Outcomes.{Onward, is_lawful_since, not_device}
@@ -89,9 +89,9 @@ module _ {D : Type 0} (G : disks.Ghosts D) where
 
   -- A store came back from the first disk. Nothing has happened since, and each element that is
   -- there stands on its home. Of an honest disk it has the world, the count of events and the
-  -- generation to which the files recover, and of each kind the stock has what the half didn't want
-  -- of the blanks. After a crash in any life of the store all that clients were told is true.
-  -- Nothing is written, and the disk is settled.
+  -- generation to which the files recover; of each kind the stock has what the half that is taken
+  -- didn't want of the blanks, and the log goes on where that half ends. After a crash in any life
+  -- of the store all that clients were told is true. Nothing is written, and the disk is settled.
   pub record IsBack (processors : ℕ) (given : Blanks) (first : D) (back : Ledger D) : Type 0 where
     pub opens : back.store.core ≡ opened processors back.store.core.opening back.store.core.before
         back.store.core.generation back.store.core.log_end
@@ -101,12 +101,14 @@ module _ {D : Type 0} (G : disks.Ghosts D) where
         (half : Half) × (s : Saved) × (taken (G.file first Zero).now (G.file first One).now
         ≡ Takes half s)
         × ((kind : Kind) → back.store.blanks kind + wanted_of s kind ≡ given kind)
+        × (back.store.core.log_end ≡ length (spell_half s))
     pub supplied : (kind : Kind) → back.supplied kind ≡ given kind
     pub remembers : G.honest first → (past : Past) (old new : Core) → Remembers past old →
         Onward old new → IsSound new →
         is_lawful_since old new (bytes_on (G.file first)) → ComesBack past old new back.store.core
     pub counted : G.faults back.disk ≡ G.faults first
     pub honest : (G.honest first → G.honest back.disk) × (G.honest back.disk → G.honest first)
+    pub same : G.honest first → ReadsSame (G.file first) (G.file back.disk)
     pub settled : G.honest first → IsSettled (G.file back.disk)
     pub any_moment : G.honest first → LeavesOnly G.moment G.since first back.disk (is_left_by first)
 
@@ -148,7 +150,7 @@ module _ {D : Type 0} (G : disks.Ghosts D) where
 
   -- No store came back from the first disk, for a cause that is found in its files or its blanks,
   -- the number of processors, lack of memory, or a failure of the device. After a crash of an
-  -- earlier run the files alone are never the cause. Nothing is written.
+  -- earlier run the files alone are never the cause. Nothing is written, and what was read is sure.
   pub record WasNotRestarted (processors : ℕ) (given : Blanks) (first end : D)
       (refusal : Refusal) : Type 0 where
     pub kind : is_restart_refusal refusal ≡ true
@@ -158,6 +160,8 @@ module _ {D : Type 0} (G : disks.Ghosts D) where
     pub lawful : G.honest first → (w : World) (before : ℕ) (history : List Event) (durable : ℕ) →
         IsLawful w before history durable (bytes_on (G.file first)) → is_lack refusal ≡ true
     pub same : G.honest first → ReadsSame (G.file first) (G.file end)
+    pub settled : G.honest first → is_after_sync {X = Core} (Err refusal) ≡ true →
+        IsSettled (G.file end)
     pub any_moment : G.honest first → LeavesOnly G.moment G.since first end (is_left_by first)
     pub counted : G.faults end ≡ faults_after (not_device refusal) (G.faults first)
 

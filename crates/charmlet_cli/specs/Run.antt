@@ -52,9 +52,10 @@ IsEarlierOrLawful earlier core outcome = earlier outcome
     ⊎ IsLawful core.opening core.before core.history 0 outcome
 
 module _ {D : Type 0} (G : disks.Ghosts D) where
-  -- A store was made on the first disk: the device hasn't failed, the disk is as honest as before,
-  -- and each crash leaves nothing or the new store.
+  -- A store was made on the first disk: of an honest one no half was open; the device hasn't
+  -- failed, the disk is as honest as before, and each crash leaves nothing or the new store.
   pub record IsCreated (kinds : Kinds) (first made : D) : Type 0 where
+    pub closed : G.honest first → IsClosed (G.file first Zero).now × IsClosed (G.file first One).now
     pub counted : G.faults made ≡ G.faults first
     pub honest : (G.honest first → G.honest made) × (G.honest made → G.honest first)
     pub any_moment : G.honest first → LeavesOnly G.moment G.since first made (IsNothingOrNew kinds)

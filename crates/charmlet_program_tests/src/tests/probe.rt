@@ -2,10 +2,12 @@
 
 use super::runs::{output_of_transcript, run_anew, script_of, script_of_transcript};
 use charmlet_chare::{Chare, Outbox};
-use charmlet_cli::RunError;
+use charmlet_cli::{RunError, restart_script, run_script};
+use charmlet_disk::MemDisk;
 use charmlet_kinds::Counter;
 use charmlet_model::{Elem, Refusal};
 use charmlet_pup::PupFault;
+use charmlet_script::read_restart_script;
 use std::alloc::AllocError;
 use std::process::Abort;
 use std::sync::Arc;
@@ -261,4 +263,63 @@ fn objects_are_dropped_where_there_is_no_store(rt: HostRuntime) {
     assert_eq!(rt; output.as_slice(), b"refused 17 BadPes\n".as_slice());
     assert_eq!(rt; notes.entries(), 0);
     assert_eq!(rt; notes.drops(), 3);
+}
+
+// The same deliveries as in the transcript of drained ones.
+const LOGGED: &str = "\
+array 0 1
+supply 1 1
+req 7 1 0 0 65535 5
+req 8 1 0 0 65535 9
+req 9 1 0 0 0 3
+drain 9
+flush
+";
+
+// The disk that a script's run over one probe leaves.
+fn disk_after(rt: &(impl AllocGlobal + Abort), text: &str) -> MemDisk {
+    let script = script_of(rt, text);
+    let blanks = probes(rt, &new_notes(rt), 1);
+    let mut output = Vec::new(rt.alloc());
+    let disk = MemDisk::new(rt.alloc());
+    run_script(rt.alloc(), disk, &script, blanks, &mut output).disk
+}
+
+// The store of that disk comes back with one probe, and client 9 is told what the last delivery replied.
+fn comes_back(rt: &(impl AllocGlobal + Abort), disk: MemDisk, notes: &Arc<Notes>) {
+    let text = "status 9 1\n";
+    let script = read_restart_script(rt.alloc(), &mut text.as_bytes()).expect(rt, "a script");
+    let blanks = probes(rt, notes, 1);
+    let supplies = Vec::new(rt.alloc());
+    let mut output = Vec::new(rt.alloc());
+    restart_script(rt.alloc(), disk, 1, &script, blanks, supplies, &mut output);
+    assert!(rt; output.ends_with(b"told replied 8\n"));
+}
+
+// Two of the log's three deliveries enter the object: it reacts again, and gets its state by nothing else.
+#[test]
+fn each_logged_delivery_enters_its_object_once(rt: HostRuntime) {
+    let notes = new_notes(&rt);
+    comes_back(&rt, disk_after(&rt, LOGGED), &notes);
+    assert_eq!(rt; notes.entries(), 2);
+    assert_eq!(rt; notes.unpacked(), 0);
+}
+
+const IMAGED: &str = "\
+array 0 1
+supply 1 1
+req 7 1 0 0 65535 5
+req 8 1 0 0 65535 9
+req 9 1 0 0 0 3
+drain 9
+checkpoint
+";
+
+// The object of an image is unpacked, and enters nothing.
+#[test]
+fn each_object_of_an_image_is_unpacked_once(rt: HostRuntime) {
+    let notes = new_notes(&rt);
+    comes_back(&rt, disk_after(&rt, IMAGED), &notes);
+    assert_eq!(rt; notes.entries(), 0);
+    assert_eq!(rt; notes.unpacked(), 1);
 }

@@ -20,7 +20,7 @@ returns-in-Ok-run_restarted-clause-ran g c =
       counted_processors (is_processor_count c.args.processors) (λ is. made.bad is),
       ledger_in {G = g.D.Disk} {H = g.C.Chare} first,
       is_back {G = g.D.Disk} {H = g.C.Chare} c.args.processors (supplied_to c.args.prepared.given) c.args.disk first made.opens made.found taken made.supplied made.remembers made.counted made.honest
-          (λ honest. made.settled honest refl) made.any_moment,
+          made.same (λ honest. made.settled honest refl) made.any_moment,
       ledger_in {G = g.D.Disk} {H = g.C.Chare} end,
       c.in-Ok-run_restarted.ensures.prints,
       stands_back {G = g.D.Disk} {H = g.C.Chare} c.args.disk c.into_disk.result first end c.run_restarted.ensures.consistent c.run_restarted.ensures.advances made.honest.0 made.any_moment c.into_disk.ensures,
@@ -37,7 +37,7 @@ returns-in-Ok-clause-err g c =
       counted_processors (is_processor_count c.args.processors) (λ is. made.bad is),
       ledger_in {G = g.D.Disk} {H = g.C.Chare} first,
       is_back {G = g.D.Disk} {H = g.C.Chare} c.args.processors (supplied_to c.args.prepared.given) c.args.disk first made.opens made.found taken made.supplied made.remembers made.counted made.honest
-          (λ honest. made.settled honest refl) made.any_moment,
+          made.same (λ honest. made.settled honest refl) made.any_moment,
       ledger_in {G = g.D.Disk} {H = g.C.Chare} end,
       c.in-Err-run_restarted.ensures.breaks_off,
       stands_back {G = g.D.Disk} {H = g.C.Chare} c.args.disk c.into_disk-in-Err-run_restarted.result first end c.run_restarted.ensures.consistent c.run_restarted.ensures.advances made.honest.0 made.any_moment
@@ -50,7 +50,7 @@ returns-in-Ok-write_answer-clause-err g c =
     let why = c.in-Err.ensures in
     let same = all_given {H = g.C.Chare} c.args.prepared.given c.requires.unused in
     let answer = subst (λ (given : Blanks). g.D.Disk.honest c.args.disk → is_processor_count c.args.processors ≡ true → AnswersBy {X = Recovered g.row.D.Denot g.row.C.Denot g.D.Disk g.C.Chare} (restart_refusal given (bytes_on (g.D.Disk.file c.args.disk))) (Err refused.refusal)) same why.answer in (
-      was_not_restarted {G = g.D.Disk} {H = g.C.Chare} c.args.processors (supplied_to c.args.prepared.given) c.args.disk c.args.prepared.given refused why.err why.bad why.only_bad answer why.lawful why.same why.any_moment
+      was_not_restarted {G = g.D.Disk} {H = g.C.Chare} c.args.processors (supplied_to c.args.prepared.given) c.args.disk c.args.prepared.given refused why.err why.bad why.only_bad answer why.lawful why.same why.settled why.any_moment
           why.counted,
       c.in-Ok-write_answer.ensures,
     )
@@ -63,7 +63,7 @@ returns-clause-err g c =
     let answer = subst (λ (given : Blanks). g.D.Disk.honest c.args.disk → is_processor_count c.args.processors ≡ true → AnswersBy {X = Recovered g.row.D.Denot g.row.C.Denot g.D.Disk g.C.Chare} (restart_refusal given (bytes_on (g.D.Disk.file c.args.disk))) (Err refused.refusal)) same why.answer in
     inl (
       refused.refusal,
-      was_not_restarted {G = g.D.Disk} {H = g.C.Chare} c.args.processors (supplied_to c.args.prepared.given) c.args.disk c.args.prepared.given refused why.err why.bad why.only_bad answer why.lawful why.same why.any_moment
+      was_not_restarted {G = g.D.Disk} {H = g.C.Chare} c.args.processors (supplied_to c.args.prepared.given) c.args.disk c.args.prepared.given refused why.err why.bad why.only_bad answer why.lawful why.same why.settled why.any_moment
           why.counted,
       c.in-Err-write_answer.ensures,
     )

@@ -22,7 +22,7 @@ returns-in-Ok-run_lines-clause-ran g c =
     let last = ledger_in {G = g.D.Disk} {H = g.C.Chare} end in (
       sym (ap is_processor_count c.processors.ensures) ∙ made.processors,
       disk_in {G = g.D.Disk} {H = g.C.Chare} first,
-      created g.D.Disk c.args.disk (disk_in {G = g.D.Disk} {H = g.C.Chare} first) script c.args.prepared.manifest c.requires.manifest made.counted made.honest leaves,
+      created g.D.Disk c.args.disk (disk_in {G = g.D.Disk} {H = g.C.Chare} first) script c.args.prepared.manifest c.requires.manifest made.closed made.counted made.honest leaves,
       last,
       subst (λ ledger. AreRun g.D.Disk (named_by script.handlers) last ledger script.lines last old new) opening
           (subst (λ named. AreRun g.D.Disk named last (ledger_in {G = g.D.Disk} {H = g.C.Chare} first) script.lines last old new) (same_names c.args.prepared.desk script.handlers c.requires.named)
@@ -49,7 +49,7 @@ returns-in-Ok-clause-err g c =
     inr (
       sym (ap is_processor_count c.processors.ensures) ∙ made.processors,
       disk_in {G = g.D.Disk} {H = g.C.Chare} first,
-      created g.D.Disk c.args.disk (disk_in {G = g.D.Disk} {H = g.C.Chare} first) script c.args.prepared.manifest c.requires.manifest made.counted made.honest leaves,
+      created g.D.Disk c.args.disk (disk_in {G = g.D.Disk} {H = g.C.Chare} first) script c.args.prepared.manifest c.requires.manifest made.closed made.counted made.honest leaves,
       last,
       subst (λ ledger. BreakOff g.D.Disk (named_by script.handlers) ledger script.lines last old new) opening
           (subst (λ named. BreakOff g.D.Disk named (ledger_in {G = g.D.Disk} {H = g.C.Chare} first) script.lines last old new) (same_names c.args.prepared.desk script.handlers c.requires.named)
