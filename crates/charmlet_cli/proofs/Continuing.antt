@@ -22,7 +22,7 @@ module _ {D C : Type 0} {G : disks.Ghosts D} {H : chares.Ghosts C} where
   -- from now on
   pub continues_now : (engine : Engine D C G H) → IsEngineConsistent engine →
       (G.honest (disk_in engine) → (o : Outcome) → G.since (disk_in engine) (G.moment (disk_in engine)) o → MayLeave (G.file (disk_in engine)) o) → Continues G (ledger_in engine) (ledger_in engine)
-  continues_now engine consistent only_now = continued engine engine (advances_still {G = G} {H = H} engine engine consistent refl refl only_now)
+  continues_now engine consistent only_now = continued engine engine (advances_still {G = G} {H = H} engine engine consistent refl refl refl only_now)
 
 module _ {D : Type 0} (G : disks.Ghosts D) where
   -- one after another

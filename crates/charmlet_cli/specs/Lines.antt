@@ -1,5 +1,5 @@
 -- What the lines of a script do to a store, and what they print.
-use Rattle.std.specs.Prelude.{◌≡◌, ◌⊎◌, ℕ, ◌+◌, ◌≤◌, true, List, [], ◌∷◌, ◌++◌, map, take, if◌then◌else◌, is_some, Option, Some, None, IsSome, Result, unwrap_or}
+use Rattle.std.specs.Prelude.{◌≡◌, ◌⊎◌, ℕ, ◌+◌, ◌≤◌, false, true, List, [], ◌∷◌, ◌++◌, map, take, if◌then◌else◌, is_some, Option, Some, None, IsSome, Result, unwrap_or}
 use Rattle.std.specs.Str.{bytes_eq}
 use Rattle.std.specs.Io.KnownBytes.{Appends}
 use Rattle.std.specs.List.{flat_map}
@@ -36,7 +36,7 @@ use Rattle.charmlet_record.specs.Reading.{Kinds}
 use Rattle.charmlet_journal.specs.NewStores.{new_core}
 use Rattle.charmlet_engine.specs.declared.engine.Engine.{Engine}
 use Rattle.charmlet_engine.specs.Engine.{disk_in, supplied_of, view_of}
-use Rattle.charmlet_engine.specs.Outcomes.{Onward, is_lawful_since, is_no_fault, is_still}
+use Rattle.charmlet_engine.specs.Outcomes.{IsFlushedAnyway, IsOldOrImage, Onward, is_lawful_since, is_no_fault, is_still}
 use Rattle.charmlet_stock.specs.declared.stock.Stock.{Stock}
 use Rattle.charmlet_stock.specs.Stock.{blanks_in, part_of}
 use Rattle.charmlet_cli.specs.Drain.{DrainsUpTo, drain_texts}
@@ -149,9 +149,10 @@ module _ {D : Type 0} (G : disks.Ghosts D) where
         (is_lawful_since old.store.core new.store.core)
     pub honest : (G.honest old.disk → G.honest new.disk) × (G.honest new.disk → G.honest old.disk)
 
-  -- A step is answered: what clients are told is true of the durable events, the device fails once
-  -- if and only if the answer says so, and after an answer to what writes nothing the disk is as it
-  -- was.
+  -- A step is answered: what clients are told is true of the durable events; the device fails once
+  -- if and only if the answer says so; after an answer to what writes nothing the disk is as it
+  -- was; a flush isn't refused when out of memory; and a crash in a checkpoint of a store that isn't
+  -- halted leaves the old store or the image.
   pub record IsAnswered (step : Step) (answer : Answer) (old new : Ledger D) : Type 0 where
     pub does : Does old.store step answer new.store
     pub told : IsToldTrue new.store.core.opening
@@ -159,6 +160,9 @@ module _ {D : Type 0} (G : disks.Ghosts D) where
     pub supplied : new.supplied ≡ old.supplied
     pub counted : G.faults new.disk ≡ faults_after (is_no_fault answer) (G.faults old.disk)
     pub still : is_still answer ≡ true → new.disk ≡ old.disk
+    pub flushed : IsFlushedAnyway step answer
+    pub stored : G.honest old.disk → old.store.core.halted ≡ false → step ≡ steps.Checkpoint →
+        LeavesOnly G.moment G.since old.disk new.disk (IsOldOrImage old.store.core)
 
 module _ {D : Type 0} (G : disks.Ghosts D) (named : Names) where
   -- from one store a line prints these texts and leads to another store

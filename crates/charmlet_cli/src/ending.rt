@@ -1,6 +1,6 @@
 //! How the program ends: its exit status, and what it says on standard error.
 
-ghost use Rattle.std.specs.Prelude.{◌≡◌, IfErr, OnOk};
+ghost use Rattle.std.specs.Prelude.{◌≡◌, IfErr, IsOk, OnOk};
 ghost use Rattle.charmlet_cli.specs.Failure.{Says, exit_status};
 
 use crate::stop::Stop;
@@ -89,7 +89,7 @@ pub fn end_program<W: Write>(ran: &Result<(), Failure>, errors: &mut W) -> (u8, 
     ensures status { result.0 ≡ exit_status ran.now }
     ensures said { OnOk result.1 (IfErr ran.now
         (λ failure. Says failure (W.contents errors.old) (W.contents errors.new))) }
-    ensures silent { OnOk ran.now (errors.new ≡ errors.old) }
+    ensures silent { OnOk ran.now ((errors.new ≡ errors.old) × IsOk result.1) }
 {
     match ran {
         Ok(()) => (0, Ok(())),

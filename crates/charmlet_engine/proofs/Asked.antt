@@ -17,6 +17,7 @@ use Rattle.charmlet_history.specs.declared.history.History.{History}
 use Rattle.charmlet_history.specs.Kept.{IsConsistent, core_in, kept_in, told_or_refused}
 use Rattle.charmlet_journal.specs.Quiet.{Quiet}
 use Rattle.charmlet_migrate.specs.Moving.{records_on}
+use Rattle.charmlet_stock.specs.Stock.{keeping_of}
 use Rattle.charmlet_store.specs.declared.store.Store.{Store}
 use Rattle.charmlet_store.specs.Store.{IsStoreConsistent, store_in, supplied_in}
 use Rattle.charmlet_store.proofs.Showing.{request_shows}
@@ -38,9 +39,9 @@ client_does store next step (Err refusal) goes = goes
 module _ {D C : Type 0} {G : disks.Ghosts D} {H : chares.Ghosts C} (old : Engine D C G H) (consistent : IsEngineConsistent old)
     (only_now : (o : Outcome) → G.honest (disk_in old) → G.since (disk_in old) (G.moment (disk_in old)) o → MayLeave (G.file (disk_in old)) o) where
   -- a step in memory
-  pub takes_quietly : (store : Store C H) → IsStoreConsistent store → supplied_in store ≡ supplied_in old.store → Quiet (core_in old.store.history) (core_in store.history) →
+  pub takes_quietly : (store : Store C H) → IsStoreConsistent store → supplied_in store ≡ supplied_in old.store → keeping_of store.stock ≡ keeping_of old.store.stock → Quiet (core_in old.store.history) (core_in store.history) →
       (step : Step) (answer : Answer) → Does (store_in old.store) step answer (store_in store) → is_no_fault answer ≡ true → Takes {G = G} {H = H} old (record { store = store; halves = old.halves }) step answer
-  takes_quietly store shows supplied quiet step answer does no_fault =
+  takes_quietly store shows supplied keeping quiet step answer does no_fault =
       let before = core_in old.store.history in
       let after = core_in store.history in
       let new = quiet_consistent {G = G} {H = H} old consistent store shows quiet in
@@ -55,6 +56,7 @@ module _ {D C : Type 0} {G : disks.Ghosts D} {H : chares.Ghosts C} (old : Engine
           onward = onward;
           any_moment = λ honest. leaves_still {G = G} before after onward old.halves (consistent.keeps honest) (λ o left. only_now o honest left);
           honest = ((λ h. h), (λ h. h));
+          keeping = keeping;
         };
         now = λ honest o left. lawful_now {G = G} after old.halves (new.keeps honest) o left;
         disk = refl;
@@ -93,7 +95,7 @@ module _ {D C : Type 0} {G : disks.Ghosts D} {H : chares.Ghosts C} (old : Engine
     asked_consistent = quiet_consistent {G = G} {H = H} old consistent asked asked_shows quiet
 
     pub takes_request : Takes {G = G} {H = H} old (record { store = asked; halves = old.halves }) (steps_of.Request client number to entry words) (client_answer result)
-    takes_request = takes_quietly asked asked_shows refl quiet (steps_of.Request client number to entry words) (client_answer result)
+    takes_request = takes_quietly asked asked_shows refl refl quiet (steps_of.Request client number to entry words) (client_answer result)
         (client_does (store_in old.store) (store_in asked) (core.Request client number to entry words) result goes)
         (told_goes_on (store_in old.store) (store_in asked) (core.Request client number to entry words) result tt goes)
 
@@ -103,6 +105,6 @@ module _ {D C : Type 0} {G : disks.Ghosts D} {H : chares.Ghosts C} (old : Engine
       Takes {G = G} {H = H} old (record { store = old.store; halves = old.halves }) (steps_of.Status client number) (client_answer result)
   takes_status client number result steps =
       let goes : Goes (store_in old.store) (core.Status client number) (told_or_refused result) (store_in old.store) = steps (store_in old.store).blanks in
-      takes_quietly old.store consistent.shows refl (goes_quiet (store_in old.store) (store_in old.store) (core.Status client number) (told_or_refused result) tt goes)
+      takes_quietly old.store consistent.shows refl refl (goes_quiet (store_in old.store) (store_in old.store) (core.Status client number) (told_or_refused result) tt goes)
       (steps_of.Status client number) (client_answer result) (client_does (store_in old.store) (store_in old.store) (core.Status client number) result goes)
       (told_goes_on (store_in old.store) (store_in old.store) (core.Status client number) result tt goes)

@@ -7,10 +7,10 @@ use Rattle.charmlet_disk.specs.File.{MayLeave, Outcome}
 use Rattle.charmlet_disk.proofs.Moments.{after_that, started, weaker}
 use Rattle.charmlet_halves.specs.declared.halves.Halves.{Halves}
 use Rattle.charmlet_halves.specs.Halves.{disk_of}
-use Rattle.charmlet_journal.specs.Rest.{IsKept, keeps_durable}
+use Rattle.charmlet_journal.specs.Rest.{HasOldOrSealed, IsKept, keeps_durable}
 use Rattle.charmlet_recovery.proofs.Outcomes.{kept_is_lawful}
-use Rattle.charmlet_engine.specs.Outcomes.{Onward, is_lawful_now, is_lawful_since}
-use Rattle.charmlet_engine.proofs.Onward.{kept_onward, lawful_onward}
+use Rattle.charmlet_engine.specs.Outcomes.{IsOldOrImage, Onward, is_lawful_now, is_lawful_since}
+use Rattle.charmlet_engine.proofs.Onward.{kept_onward, lawful_onward, old_or_image}
 
 module _ {D : Type 0} {G : Ghosts D} where
   -- each crash now is lawful
@@ -28,6 +28,10 @@ module _ {D : Type 0} (G : Ghosts D) where
   -- where a write kept what was durable
   pub leaves_lawful : (old new : Core) → Onward old new → (first last : D) → LeavesOnly G.moment G.since first last (keeps_durable old) → LeavesOnly G.moment G.since first last (is_lawful_since old new)
   leaves_lawful old new on first last leaves = weaker G.moment G.since first last (keeps_durable old) (is_lawful_since old new) leaves (kept_onward old new on)
+
+  -- where a checkpoint was written
+  pub leaves_image : (core : Core) (first last : D) → LeavesOnly G.moment G.since first last (HasOldOrSealed core) → LeavesOnly G.moment G.since first last (IsOldOrImage core)
+  leaves_image core first last leaves = weaker G.moment G.since first last (HasOldOrSealed core) (IsOldOrImage core) leaves (old_or_image core)
 
   -- one step more
   pub leaves_more : (old mid new : Core) → Onward old mid → Onward mid new → (first second third : D) →

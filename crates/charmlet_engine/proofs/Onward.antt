@@ -1,20 +1,22 @@
 -- Later cores of one store.
-use Rattle.std.proofs.Common.{◌≡◌, ◌≢◌, ℕ, ◌≤◌, List, [], ◌∷◌, ◌++◌, length, refl, sym, ap, subst, ◌∙◌, arith, append_assoc, true, false}
+use Rattle.std.proofs.Common.{◌≡◌, ◌≢◌, inl, inr, ⊎_elim, ℕ, ◌+◌, ◌≤◌, List, [], ◌∷◌, ◌++◌, length, refl, sym, ap, subst, ◌∙◌, arith, append_assoc, true, false}
 use Rattle.std.proofs.lemmas.List.{append-nil}
 use Rattle.charmlet_model.specs.declared.event.Event.{Event}
 use Rattle.charmlet_model.specs.declared.refusal.Refusal.{Refusal}
 use Rattle.charmlet_model.specs.declared.refusal.Refusal.TheVariants as refusals
+use Rattle.charmlet_model.specs.declared.step.Step.{Step}
 use Rattle.charmlet_model.specs.declared.step.Answer.{Answer}
-use Rattle.charmlet_model.specs.Core.{Core, Flush, Checkpoint, Blanks, Stepped, Steps, halted_core, next_core}
+use Rattle.charmlet_model.specs.Core.{Core, Flush, Checkpoint, Blanks, Stepped, Steps, durable_world, halted_core, next_core, present}
 use Rattle.charmlet_model.specs.World.{World}
 use Rattle.charmlet_journal.specs.Quiet.{Quiet}
 use Rattle.charmlet_recovery.specs.Outcomes.{IsLawful}
 use Rattle.charmlet_recovery.proofs.Outcomes.{kept_is_lawful, lawful_grows}
 use Rattle.charmlet_disk.specs.Disk.{faults_after}
 use Rattle.charmlet_disk.specs.File.{Outcome}
-use Rattle.charmlet_journal.specs.Rest.{keeps_durable}
+use Rattle.charmlet_recovery.proofs.Stored.{stored_is_recovered}
+use Rattle.charmlet_journal.specs.Rest.{HasOldOrSealed, keeps_durable}
 use Rattle.charmlet_store.proofs.Places.{stepped_core}
-use Rattle.charmlet_engine.specs.Outcomes.{Onward, ends_with_image, faults_through, is_image, is_lawful_since, is_no_fault, not_device}
+use Rattle.charmlet_engine.specs.Outcomes.{AreFlushedAnyway, IsOldOrImage, Onward, ends_with_image, faults_through, is_image, is_lawful_since, is_no_fault, not_device}
 
 pub onward_self : (core : Core) → Onward core core
 onward_self core = record { more = []; grows = sym (append-nil core.history); opening = refl; before = refl; no_fewer = omega arith }
@@ -52,6 +54,19 @@ lawful_onward old new on durable fewer less o lawful =
 -- and what is kept becomes it
 pub kept_onward : (old new : Core) → Onward old new → (o : Outcome) → keeps_durable old o → is_lawful_since old new o
 kept_onward old new on o keeps = lawful_onward old new on old.durable old.durable (omega arith) o (kept_is_lawful old.opening old.before old.history old.durable o keeps)
+
+-- what a checkpoint stores is recovered
+pub old_or_image : (core : Core) (o : Outcome) → HasOldOrSealed core o → IsOldOrImage core o
+old_or_image core o stored =
+    ⊎_elim (λ old. inl (stored_is_recovered o (durable_world core) (core.before + core.durable) core.generation old))
+    (λ new. inr (stored_is_recovered o (present core) (core.before + length core.history) (core.generation + 1) new)) stored
+
+-- no flush of steps lacks memory, and none of others after them
+pub flushed_join : (steps more : List Step) (answers others : List Answer) → AreFlushedAnyway steps answers → AreFlushedAnyway more others → AreFlushedAnyway (steps ++ more) (answers ++ others)
+flushed_join [] more [] others so rest = rest
+flushed_join [] more (answer ∷ answers) others so rest = absurd so
+flushed_join (step ∷ steps) more [] others so rest = absurd so
+flushed_join (step ∷ steps) more (answer ∷ answers) others so rest = (so.0, flushed_join steps more answers others so.1 rest)
 
 -- one answer more
 pub faults_more : (answers : List Answer) (answer : Answer) (faults : ℕ) → faults_through (answers ++ answer ∷ []) faults ≡ faults_after (is_no_fault answer) (faults_through answers faults)

@@ -1,5 +1,9 @@
 -- Engines whose history was written to the disk.
-use Rattle.std.proofs.Common.{◌≡◌, refl, sym, ap, subst, ◌∙◌}
+use Rattle.std.proofs.Common.{Vec, ◌≡◌, List, length, refl, sym, ap, subst, ◌∙◌}
+use Rattle.std.specs.Vec.{with_items}
+use Rattle.std.proofs.Math.Nat.{ℕ_set}
+use Rattle.std.proofs.Math.Path.{path_j}
+use Rattle.std.proofs.lemmas.List.{with_items_is}
 use Rattle.charmlet_model.specs.Core.{Core, CoreAnswer, Flush, Steps}
 use Rattle.charmlet_chare.specs.declared.chare.Chare as chares
 use Rattle.charmlet_disk.specs.declared.disk.Disk as disks
@@ -71,3 +75,14 @@ module _ {D C : Type 0} {G : disks.Ghosts D} {H : chares.Ghosts C} (old : Engine
         agrees = still_agrees {G = G} before after quiet old.halves consistent.agrees;
         keeps = λ honest. still_kept {G = G} before after quiet consistent.shows.history.sound.durable old.halves (consistent.keeps honest);
       }
+
+-- items that are written back as they were
+module _ {X Z : Type 0} (v : Vec X Z) where
+  abbrev refilled : (items : List X) (fits : v.len ≡ length items) → Vec X Z
+  refilled items fits = record { ptr = v.ptr; len = v.len; cap = v.cap; alloc = v.alloc; items = items; ok = (fits, v.ok.1); small = v.small }
+
+  refilled_same : {items : List X} → v.items ≡ items → (fits : v.len ≡ length items) → refilled items fits ≡ v
+  refilled_same = path_j (λ items _. (fits : v.len ≡ length items) → refilled items fits ≡ v) (λ fits j. record { ptr = v.ptr; len = v.len; cap = v.cap; alloc = v.alloc; items = v.items; ok = (ℕ_set _ _ fits v.ok.0 j, v.ok.1); small = v.small })
+
+  pub same_items : (items : List X) → items ≡ v.items → with_items v items ≡ v
+  same_items items same = refilled_same (sym (with_items_is v items (ap (length {A = X}) same ∙ sym v.ok.0) ∙ same)) (with_items v items).ok.0

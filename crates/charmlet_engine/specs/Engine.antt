@@ -1,6 +1,7 @@
 -- What is seen of an engine.
-use Rattle.std.specs.Prelude.{◌≡◌, ℕ, ◌+◌, [], length, Result, Ok, Err}
+use Rattle.std.specs.Prelude.{◌≡◌, ℕ, ◌+◌, Bool, [], length, Result, Ok, Err}
 use Rattle.charmlet_model.specs.declared.refusal.Refusal.{Refusal}
+use Rattle.charmlet_model.specs.declared.half.Half.{Half}
 use Rattle.charmlet_model.specs.declared.kind.Kind.{Kind}
 use Rattle.charmlet_model.specs.declared.told.Told.{Told}
 use Rattle.charmlet_model.specs.declared.step.Answer.{Answer}
@@ -11,9 +12,11 @@ use Rattle.charmlet_model.specs.Run.{StoreView}
 use Rattle.charmlet_chare.specs.declared.chare.Chare as chares
 use Rattle.charmlet_disk.specs.declared.disk.Disk as disks
 use Rattle.charmlet_halves.specs.declared.opening.Refused.{Refused}
-use Rattle.charmlet_halves.specs.Halves.{disk_of, text_of}
+use Rattle.charmlet_halves.specs.Halves.{disk_of, taken_half, text_of}
 use Rattle.charmlet_history.specs.Kept.{core_in}
 use Rattle.charmlet_journal.specs.Rest.{Agrees, IsKept}
+use Rattle.charmlet_stock.specs.declared.by_kind.ByKind.{ByKind}
+use Rattle.charmlet_stock.specs.Stock.{keeping_of}
 use Rattle.charmlet_store.specs.Store.{IsStoreConsistent, store_in, supplied_in}
 use Rattle.charmlet_image.specs.Images.{spell_half}
 use Rattle.charmlet_recovery.specs.Stores.{saved_of}
@@ -43,9 +46,17 @@ module _ {D C : Type 0} {G : disks.Ghosts D} {H : chares.Ghosts C} where
   abbrev pub supplied_of : Engine D C G H → Kind → ℕ
   supplied_of engine = supplied_in engine.store
 
+  -- whether its stock keeps retired objects, for each kind
+  abbrev pub keeping_in : Engine D C G H → ByKind Bool
+  keeping_in engine = keeping_of engine.store.stock
+
   -- the disk that it owns
   abbrev pub disk_in : Engine D C G H → D
   disk_in engine = disk_of engine.halves
+
+  -- the half in which it stands
+  abbrev pub half_of : Engine D C G H → Half
+  half_of engine = taken_half engine.halves
 
   -- Its shelves show the present world; its halves go on where the store does; and on an honest
   -- disk each crash keeps what is durable.

@@ -1,11 +1,13 @@
 -- What a crash of an engine's disk may leave.
-use Rattle.std.specs.Prelude.{◌≡◌, ◌⊎◌, ◌≤◌, ◌++◌, ℕ, Bool, true, false, List, [], ◌∷◌}
+use Rattle.std.specs.Prelude.{◌≡◌, ◌≢◌, ◌⊎◌, ◌≤◌, ◌+◌, ◌++◌, ℕ, Bool, true, false, List, [], ◌∷◌, length}
 use Rattle.charmlet_model.specs.declared.event.Event.{Event}
 use Rattle.charmlet_model.specs.declared.refusal.Refusal.{Refusal}
-use Rattle.charmlet_model.specs.declared.refusal.Refusal.TheVariants.{Device}
+use Rattle.charmlet_model.specs.declared.refusal.Refusal.TheVariants.{Device, Memory}
+use Rattle.charmlet_model.specs.declared.step.Step.{Step}
+use Rattle.charmlet_model.specs.declared.step.Step.TheVariants.{Flush}
 use Rattle.charmlet_model.specs.declared.step.Answer.{Answer}
 use Rattle.charmlet_model.specs.declared.step.Answer.TheVariants.{Checkpointed, Flushed, Refused}
-use Rattle.charmlet_model.specs.Core.{Core}
+use Rattle.charmlet_model.specs.Core.{Core, durable_world, present}
 use Rattle.charmlet_model.specs.Sound.{new_world}
 use Rattle.charmlet_record.specs.Reading.{Kinds}
 use Rattle.charmlet_recovery.specs.Outcomes.{IsLawful}
@@ -36,6 +38,25 @@ is_lawful_now core = is_lawful_since core core
 abbrev pub IsNothingOrNew : Kinds → Outcome → Type 0
 IsNothingOrNew kinds outcome = (recovered outcome ≡ Nothing)
     ⊎ (recovered outcome ≡ Found (new_world kinds) 0 1)
+
+-- the files recover to the world after the durable events, at its generation, or to the present
+-- world, at the next
+abbrev pub IsOldOrImage : Core → Outcome → Type 0
+IsOldOrImage core outcome =
+    (recovered outcome ≡ Found (durable_world core) (core.before + core.durable) core.generation)
+    ⊎ (recovered outcome
+    ≡ Found (present core) (core.before + length core.history) (core.generation + 1))
+
+-- a flush isn't refused when out of memory
+abbrev pub IsFlushedAnyway : Step → Answer → Type 0
+IsFlushedAnyway step answer = step ≡ Flush → answer ≢ Refused Memory
+
+-- none of these steps, which were answered so, is a flush that was
+abbrev pub AreFlushedAnyway : List Step → List Answer → Type 0
+AreFlushedAnyway [] [] = Unit {0}
+AreFlushedAnyway (step ∷ steps) (answer ∷ answers) = IsFlushedAnyway step answer
+    × AreFlushedAnyway steps answers
+AreFlushedAnyway _ _ = ⊥
 
 -- the refusal doesn't say that the device failed
 abbrev pub not_device : Refusal → Bool

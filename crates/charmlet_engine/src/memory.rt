@@ -1,10 +1,11 @@
 //! The steps that write nothing to the disk.
 
-ghost use Rattle.std.specs.Prelude.{◌≡◌, ◌⊎◌, None, false, true, IfSome};
+ghost use Rattle.std.specs.Prelude.{◌≡◌, ◌≢◌, ◌⊎◌, None, false, true, IfSome};
 ghost use Rattle.charmlet_model.specs.declared.step.Step.TheVariants as steps;
 ghost use Rattle.charmlet_model.specs.Run.{Does};
 ghost use Rattle.charmlet_history.specs.Kept.{core_in};
 ghost use Rattle.charmlet_journal.specs.Quiet.{Quiet};
+ghost use Rattle.charmlet_stock.specs.Stock.{keeping_of};
 ghost use Rattle.charmlet_store.specs.Store.{IsStoreConsistent, store_in, supplied_in};
 ghost use Rattle.charmlet_engine.specs.Engine.{client_answer};
 ghost use Rattle.charmlet_engine.specs.Outcomes.{is_image, is_no_fault, is_still};
@@ -26,8 +27,11 @@ pub(crate) fn answer_in_memory<C: Chare>(store: &mut Store<C>, step: &Step) -> O
     ensures still { IfSome result (λ answer. is_still answer ≡ true) }
     ensures no_image { IfSome result (λ answer. is_image answer ≡ false) }
     ensures writes { result ≡ None → (step.now ≡ steps.Flush) ⊎ (step.now ≡ steps.Checkpoint) }
+    ensures quietly { IfSome result (λ _. (step.now ≢ steps.Flush)
+        × (step.now ≢ steps.Checkpoint)) }
     ensures none { result ≡ None → store.new ≡ store.old }
     ensures supplied { supplied_in store.new ≡ supplied_in store.old }
+    ensures keeping { keeping_of store.new.stock ≡ keeping_of store.old.stock }
 {
     match step {
         Step::Request {

@@ -13,10 +13,11 @@ ghost use Rattle.charmlet_locate.specs.Locations.{is_processor_count};
 ghost use Rattle.charmlet_recovery.specs.Outcomes.{IsLawful};
 ghost use Rattle.charmlet_recovery.specs.Recovered as files;
 ghost use Rattle.charmlet_recovery.specs.Restarts.{restart_refusal};
+ghost use Rattle.charmlet_stock.specs.ByKind.{for_all};
 ghost use Rattle.charmlet_stock.specs.Stock.{blanks_in, supplied_to};
 ghost use Rattle.charmlet_replay.specs.Unused.{IsUnused};
 ghost use Rattle.charmlet_recover.specs.Restart.{AnswersAfterCrash, AnswersBy, IsHandedBack, IsOpenedOn, IsReadFrom, IsSameStock, IsShortOfSome, IsTakenFrom, ReadsSame, bytes_on, disk_after, is_after_sync, is_restart_refusal, restarted_or_refused};
-ghost use Rattle.charmlet_engine.specs.Engine.{IsEngineConsistent, core_of, disk_in, recovered_in, recovered_or_not, supplied_of};
+ghost use Rattle.charmlet_engine.specs.Engine.{IsEngineConsistent, core_of, disk_in, keeping_in, recovered_in, recovered_or_not, supplied_of};
 ghost use Rattle.charmlet_engine.specs.Lives.{ComesBack, Past, Remembers};
 ghost use Rattle.charmlet_engine.specs.Outcomes.{Onward, is_lawful_now, is_lawful_since};
 
@@ -30,8 +31,8 @@ use std::alloc::Global;
 impl<D: Disk, C: Chare> Engine<D, C> {
     /// Goes on with the store that stands on a disk, whatever a crash left there, on so many processors:
     /// each element on its home, nothing happened since, no event that isn't durable. Its objects are made
-    /// of these blanks, of which none may have been used yet; those that it doesn't need are its stock. Both
-    /// halves are synced before they are read, and nothing is written.
+    /// of these blanks, of which none may have been used yet; those that it doesn't need are its stock, which
+    /// drops what is retired. Both halves are synced before they are read, and nothing is written.
     ///
     /// After a crash at any moment of an earlier engine on this disk, the store opens with the world after
     /// some of what had happened, with all that was durable among it. What clients were told before the
@@ -57,6 +58,7 @@ impl<D: Disk, C: Chare> Engine<D, C> {
         ensures read { IfOk result (λ engine.
             IsReadFrom (blanks_in blanks) (recovered_in engine)) }
         ensures supplied { IfOk result (λ engine. supplied_of engine ≡ supplied_to blanks) }
+        ensures keeping { IfOk result (λ engine. keeping_in engine ≡ for_all false) }
         ensures now { D.honest disk → IfOk result (λ engine. (outcome : Outcome) →
             MayLeave (D.file (disk_in engine)) outcome → is_lawful_now (core_of engine) outcome) }
         ensures remembers { D.honest disk → (past : Past) (old new : Core) →

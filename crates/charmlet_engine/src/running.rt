@@ -1,16 +1,18 @@
 //! Steps and runs.
 
-ghost use Rattle.std.specs.Prelude.{◌≡◌, [], ◌∷◌, take, true, IfOk, OnErr};
+ghost use Rattle.std.specs.Prelude.{◌≡◌, ◌≢◌, [], ◌∷◌, take, false, true, IfOk, OnErr};
+ghost use Rattle.charmlet_model.specs.declared.refusal.Refusal.TheVariants as refusals;
+ghost use Rattle.charmlet_model.specs.declared.step.Answer.TheVariants as answers;
 ghost use Rattle.charmlet_model.specs.declared.step.Step.TheVariants as steps;
 ghost use Rattle.charmlet_model.specs.Run.{Does, Runs};
 ghost use Rattle.charmlet_model.specs.RunLaws.{AllTold, IsToldTrue};
-ghost use Rattle.charmlet_disk.specs.Disk.{faults_after};
+ghost use Rattle.charmlet_disk.specs.Disk.{LeavesOnly, faults_after};
 ghost use Rattle.charmlet_disk.specs.File.{MayLeave, Outcome};
 ghost use Rattle.charmlet_migrate.specs.Moving.{ShowsPresent};
 ghost use Rattle.charmlet_engine.specs.Advances.{Advances};
 ghost use Rattle.charmlet_engine.specs.Engine.{HasImage, IsEngineConsistent, core_of, disk_in, supplied_of, view_of};
 ghost use Rattle.charmlet_engine.specs.Lives.{Past, Remembers, with_run};
-ghost use Rattle.charmlet_engine.specs.Outcomes.{ends_with_image, faults_through, is_image, is_lawful_now, is_no_fault, is_still};
+ghost use Rattle.charmlet_engine.specs.Outcomes.{AreFlushedAnyway, IsFlushedAnyway, IsOldOrImage, ends_with_image, faults_through, is_image, is_lawful_now, is_no_fault, is_still};
 
 use crate::engine::Engine;
 use crate::memory::answer_in_memory;
@@ -23,7 +25,9 @@ use std::alloc::AllocError;
 
 impl<D: Disk, C: Chare> Engine<D, C> {
     /// Runs one step. A refusal is an answer, and leaves all as it was, but for `Device`: then the engine is
-    /// halted. After a checkpoint the half that is taken has an image of all events and a log without a batch.
+    /// halted. After a checkpoint the half that is taken has an image of all events and a log without a batch;
+    /// and a crash in it leaves the world after the durable events, as it was, or the present one at the next
+    /// generation. A flush takes no memory.
     ///
     /// On an honest disk a crash at any moment of the call leaves files that recover to the world after some
     /// of the history, with all events among it that were durable before; and from then on with all that are
@@ -41,6 +45,10 @@ impl<D: Disk, C: Chare> Engine<D, C> {
             MayLeave (D.file (disk_in self.new)) outcome →
             is_lawful_now (core_of self.new) outcome }
         ensures image { D.honest (disk_in self.old) → is_image result ≡ true → HasImage self.new }
+        ensures stored { D.honest (disk_in self.old) → (core_of self.old).halted ≡ false →
+            step.now ≡ steps.Checkpoint → LeavesOnly D.moment D.since (disk_in self.old)
+            (disk_in self.new) (IsOldOrImage (core_of self.old)) }
+        ensures flushed { IsFlushedAnyway step.now result }
         ensures still { is_still result ≡ true → disk_in self.new ≡ disk_in self.old }
         ensures supplied { supplied_of self.new ≡ supplied_of self.old }
         ensures counted { D.faults (disk_in self.new) ≡ faults_after (is_no_fault result)
@@ -58,11 +66,12 @@ impl<D: Disk, C: Chare> Engine<D, C> {
         }
     }
 
-    /// Makes all events durable.
+    /// Makes all events durable, for which it takes no memory.
     fn flush(&mut self) -> Answer
         requires { IsEngineConsistent self.old }
         ensures consistent { IsEngineConsistent self.new }
         ensures does { Does (view_of self.old) steps.Flush result (view_of self.new) }
+        ensures memory { result ≢ answers.Refused refusals.Memory }
         ensures advances { Advances self.old self.new }
         ensures still { is_still result ≡ true → disk_in self.new ≡ disk_in self.old }
         ensures supplied { supplied_of self.new ≡ supplied_of self.old }
@@ -82,6 +91,9 @@ impl<D: Disk, C: Chare> Engine<D, C> {
         ensures does { Does (view_of self.old) steps.Checkpoint result (view_of self.new) }
         ensures advances { Advances self.old self.new }
         ensures image { D.honest (disk_in self.old) → is_image result ≡ true → HasImage self.new }
+        ensures stored { D.honest (disk_in self.old) → (core_of self.old).halted ≡ false →
+            LeavesOnly D.moment D.since (disk_in self.old) (disk_in self.new)
+            (IsOldOrImage (core_of self.old)) }
         ensures still { is_still result ≡ true → disk_in self.new ≡ disk_in self.old }
         ensures supplied { supplied_of self.new ≡ supplied_of self.old }
         ensures counted { D.faults (disk_in self.new) ≡ faults_after (is_no_fault result)
@@ -122,6 +134,7 @@ impl<D: Disk, C: Chare> Engine<D, C> {
             is_lawful_now (core_of self.new) outcome }
         ensures image { D.honest (disk_in self.old) → IfOk result (λ answers.
             ends_with_image answers.items ≡ true → HasImage self.new) }
+        ensures flushed { IfOk result (λ answers. AreFlushedAnyway steps.now answers.items) }
         ensures shows { ShowsPresent self.new.store.shelves.items self.new.store.history }
         ensures supplied { supplied_of self.new ≡ supplied_of self.old }
         ensures counted { IfOk result (λ answers. D.faults (disk_in self.new)

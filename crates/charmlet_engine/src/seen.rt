@@ -9,11 +9,11 @@ ghost use Rattle.charmlet_history.specs.Kept.{next_in};
 ghost use Rattle.charmlet_checkpoint.specs.Showing.{IsImageOf, IsRefusal, IsWithinLimits};
 ghost use Rattle.charmlet_stock.specs.ByKind.{with_at};
 ghost use Rattle.charmlet_stock.specs.Pile.{with_out};
-ghost use Rattle.charmlet_stock.specs.Stock.{blanks_in, census_of, part_of, tally_in};
+ghost use Rattle.charmlet_stock.specs.Stock.{blanks_in, census_of, keeping_of, part_of, tally_in};
 ghost use Rattle.charmlet_store.specs.Census.{census_in};
 ghost use Rattle.charmlet_store.specs.Look.{IsLook};
 ghost use Rattle.charmlet_engine.specs.Advances.{Advances};
-ghost use Rattle.charmlet_engine.specs.Engine.{IsEngineConsistent, core_of, disk_in, supplied_of, view_of, world_of};
+ghost use Rattle.charmlet_engine.specs.Engine.{IsEngineConsistent, core_of, disk_in, keeping_in, supplied_of, view_of, world_of};
 
 use crate::engine::Engine;
 use charmlet_chare::Chare;
@@ -67,6 +67,7 @@ impl<D: Disk, C: Chare> Engine<D, C> {
         ensures err { OnErr result ((view_of self.new ≡ view_of self.old)
             × (supplied_of self.new ≡ supplied_of self.old)
             × (census_of source.new ≡ census_of source.old)) }
+        ensures source_keeping { keeping_of source.new ≡ keeping_of source.old }
         ensures disk { disk_in self.new ≡ disk_in self.old }
         ensures advances { Advances self.old self.new }
     {
@@ -138,6 +139,7 @@ impl<D: Disk, C: Chare> Engine<D, C> {
         ensures core { core_of self.new ≡ core_of self.old }
         ensures blanks { (view_of self.new).blanks ≡ (view_of self.old).blanks }
         ensures supplied { supplied_of self.new ≡ supplied_of self.old }
+        ensures keeping { keeping_in self.new ≡ keeping_in self.old }
         ensures disk { disk_in self.new ≡ disk_in self.old }
     {
         self.store.history.note_events();
@@ -157,10 +159,7 @@ impl<D: Disk, C: Chare> Engine<D, C> {
     /// the file past 2^31 bytes.
     pub fn image(&mut self) -> Result<Vec<u8>, Refusal>
         requires { IsEngineConsistent self.old }
-        ensures consistent { IsEngineConsistent self.new }
-        ensures core { view_of self.new ≡ view_of self.old }
-        ensures supplied { supplied_of self.new ≡ supplied_of self.old }
-        ensures disk { disk_in self.new ≡ disk_in self.old }
+        ensures same { self.new ≡ self.old }
         ensures advances { Advances self.old self.new }
         ensures ok { IfOk result (λ bytes. IsImageOf (core_of self.old) bytes.items) }
         ensures within { IfOk result (λ _. IsWithinLimits (core_of self.old)) }

@@ -19,15 +19,17 @@ use Rattle.charmlet_recovery.specs.Stores.{Stores, saved_of}
 use Rattle.charmlet_recovery.specs.Outcomes.{Keeps}
 use Rattle.charmlet_recovery.proofs.Writing.{halves_have_size, standing_is_stored, images_stand, checkpoints_are_stored}
 use Rattle.charmlet_disk.specs.declared.disk.Disk.{Ghosts}
-use Rattle.charmlet_disk.specs.File.{Outcome}
+use Rattle.charmlet_disk.specs.Disk.{LeavesOnly}
+use Rattle.charmlet_disk.specs.File.{Outcome, MayLeave}
+use Rattle.charmlet_disk.proofs.Moments.{weaker}
 use Rattle.charmlet_halves.specs.declared.halves.Halves.{Halves}
 use Rattle.charmlet_halves.specs.Answers.{image_refusal, gate_refusal}
 use Rattle.charmlet_halves.specs.Bytes.{EndsClosed, before_gate}
 use Rattle.charmlet_halves.specs.Halves.{disk_of, is_halted, spare_of, taken_of, taken_half, text_of, image_to, KeepsTaken, HasOldOrImage}
 use Rattle.charmlet_history.specs.Kept.{plenty}
-use Rattle.charmlet_journal.specs.Rest.{Rests, IsAtRest, IsKept, GoesOn, Turned, IsNextImage, sealed_saved, sealed_bytes}
+use Rattle.charmlet_journal.specs.Rest.{Rests, IsAtRest, IsKept, GoesOn, Turned, IsNextImage, HasOldOrSealed, StoresOldOrImage, keeps_durable, sealed_saved, sealed_bytes}
 use Rattle.charmlet_journal.proofs.Resting.{spells_text, rest_stores, stores_keep}
-use Rattle.charmlet_journal.proofs.FlushLemmas.{fresh, fresh_legal}
+use Rattle.charmlet_journal.proofs.FlushLemmas.{fresh, fresh_legal, leaves_durable}
 
 -- ---- bytes
 
@@ -102,19 +104,9 @@ module _ {D : Type 0} {G : Ghosts D} (old : Halves D G) (bytes : List ℕ) (w : 
   said = spells_text old w count generation honest going next.rests
 
   -- what is stored before the gate is opened
-  old_keeps : (o : Outcome) → Stores o w count generation → Keeps w count history 0 o
-  old_keeps o stores =
-      let none : count ≡ count + 0 = omega arith in
-      stores_keep w count generation history 0 o (omega arith) (subst (λ (n : ℕ). Stores o w n generation) none stores)
-
-  new_keeps : (o : Outcome) → Stores o (world w history) (count + length history) (generation + 1) → Keeps w count history 0 o
-  new_keeps o stores =
-      stores_keep w count (generation + 1) history (length history) o (omega arith)
-      (subst (λ (es : List Event). Stores o (world w es) (count + length history) (generation + 1)) (sym (take_all (length history) history (omega arith))) stores)
-
-  pub prepared_keeps : (o : Outcome) → KeepsTaken old o → Keeps w count history 0 o
-  prepared_keeps o has =
-      old_keeps o (standing_is_stored o (taken_half old) next.rests.saved (spare_of old) w count generation next.rests.stands
+  pub prepared_stores : (o : Outcome) → KeepsTaken old o → StoresOldOrImage w count generation history o
+  prepared_stores o has =
+      inl (standing_is_stored o (taken_half old) next.rests.saved (spare_of old) w count generation next.rests.stands
       (subst (λ (l : List ℕ). Spells l (spell_half next.rests.saved)) (sym has.0) said) has.1)
 
   module _ (mid : Halves D G) (same : taken_of mid ≡ taken_of old) (at : ℕ) (image : image_to mid at ≡ before_gate bytes) where
@@ -122,12 +114,11 @@ module _ {D : Type 0} {G : Ghosts D} (old : Halves D G) (bytes : List ℕ) (w : 
     text = ap (λ (l : List ℕ). 1 ∷ l) image ∙ next.text
 
     -- and while it is
-    pub opened_keeps : (o : Outcome) → HasOldOrImage mid (image_to mid at) o → Keeps w count history 0 o
-    opened_keeps o has =
-        ⊎_elim (old_keeps o) (new_keeps o)
-        (checkpoints_are_stored o (taken_half mid) next.rests.saved (spare_of old) w count generation history next.rests.stands
+    pub opened_stores : (o : Outcome) → HasOldOrImage mid (image_to mid at) o → StoresOldOrImage w count generation history o
+    opened_stores o has =
+        checkpoints_are_stored o (taken_half mid) next.rests.saved (spare_of old) w count generation history next.rests.stands
         (subst (λ (l : List ℕ). Spells l (spell_half next.rests.saved)) (sym (has.0 ∙ same)) said) next.legal next.low next.short
-        (⊎_elim (λ closed. inl closed) (λ new. inr (subst (Spells (o (other (taken_half mid)))) text new)) has.1))
+        (⊎_elim (λ closed. inl closed) (λ new. inr (subst (Spells (o (other (taken_half mid)))) text new)) has.1)
 
     -- then the halves rest on the image
     pub opened_rests : (new : Halves D G) → text_of new ≡ 1 ∷ image_to mid at → spare_of new ≡ taken_of mid → Rests new (world w history) (count + length history) (generation + 1)
@@ -138,6 +129,16 @@ module _ {D : Type 0} {G : Ghosts D} (old : Halves D G) (bytes : List ℕ) (w : 
           (subst (λ (l : List ℕ). Spells l (spell_half next.rests.saved)) (sym (spare ∙ same)) said) next.legal next.low next.short;
     }
 
+-- either of the two keeps what was there
+image_keeps : (w : World) (count generation : ℕ) (history : List Event) (o : Outcome) → StoresOldOrImage w count generation history o → Keeps w count history 0 o
+image_keeps w count generation history o stored =
+    let none : count ≡ count + 0 = omega arith in
+    ⊎_elim
+    (λ old. stores_keep w count generation history 0 o (omega arith) (subst (λ (n : ℕ). Stores o w n generation) none old))
+    (λ new. stores_keep w count (generation + 1) history (length history) o (omega arith)
+    (subst (λ (es : List Event). Stores o (world w es) (count + length history) (generation + 1)) (sym (take_all (length history) history (omega arith))) new))
+    stored
+
 -- ---- the core
 
 -- the events that aren't durable lead to the present world
@@ -146,6 +147,18 @@ all_world core = sym (world-append core.opening (take core.durable core.history)
 
 all_count : (core : Core) → core.durable ≤ length core.history → core.before + core.durable + length (fresh core) ≡ core.before + length core.history
 all_count core within = omega (arith, length-drop core.durable core.history)
+
+-- what is stored while the image is written
+abbrev pub stores_fresh : Core → Outcome → Type 0
+stores_fresh core = StoresOldOrImage (durable_world core) (core.before + core.durable) core.generation (fresh core)
+
+has_sealed : (core : Core) → core.durable ≤ length core.history → (o : Outcome) → stores_fresh core o → HasOldOrSealed core o
+has_sealed core within o stored =
+    ⊎_elim (λ old. inl old)
+    (λ new. inr
+    (subst (λ (n : ℕ). Stores o (present core) n (core.generation + 1)) (all_count core within)
+    (subst (λ (v : World). Stores o v (core.before + core.durable + length (fresh core)) (core.generation + 1)) (all_world core) new)))
+    stored
 
 module _ {D : Type 0} {G : Ghosts D} (core : Core) (legal : IsLegal core.opening core.before core.history) (within : core.durable ≤ length core.history) where
   -- the image of the present world is one of what is durable and the events that aren't
@@ -159,6 +172,21 @@ module _ {D : Type 0} {G : Ghosts D} (core : Core) (legal : IsLegal core.opening
     low = low;
     short = subst (λ (v : World). image_size v < 2 ^ 32) (sym (all_world core)) (omega (arith, fits));
   }
+
+  -- once it is, the old store is there or the new one
+  pub leaves_sealed : (old new : Halves D G) → LeavesOnly G.moment G.since (disk_of old) (disk_of new) (stores_fresh core) → LeavesOnly G.moment G.since (disk_of old) (disk_of new) (HasOldOrSealed core)
+  leaves_sealed old new leaves = weaker G.moment G.since (disk_of old) (disk_of new) (stores_fresh core) (HasOldOrSealed core) leaves (has_sealed core within)
+
+  -- and so the durable events are kept
+  pub seal_keeps : (old new : Halves D G) → LeavesOnly G.moment G.since (disk_of old) (disk_of new) (stores_fresh core) → LeavesOnly G.moment G.since (disk_of old) (disk_of new) (keeps_durable core)
+  seal_keeps old new leaves =
+      leaves_durable {G = G} core legal within old new
+      (weaker G.moment G.since (disk_of old) (disk_of new) (stores_fresh core) (Keeps (durable_world core) (core.before + core.durable) (fresh core) 0) leaves
+      (image_keeps (durable_world core) (core.before + core.durable) core.generation (fresh core)))
+
+  -- where nothing is written, the store is as it was
+  pub rests_sealed : (halves : Halves D G) → G.honest (disk_of halves) → is_halted halves ≡ false → IsAtRest core halves → (o : Outcome) → MayLeave (G.file (disk_of halves)) o → HasOldOrSealed core o
+  rests_sealed halves honest going rest o left = inl (rest_stores halves (durable_world core) (core.before + core.durable) core.generation honest going rest o left)
 
   -- afterwards the halves are at rest with all events
   pub sealed_rest : (halves : Halves D G) → Rests halves (world (durable_world core) (fresh core)) (core.before + core.durable + length (fresh core)) (core.generation + 1) → IsAtRest (next_core core cores.Checkpoint) halves

@@ -1,5 +1,5 @@
 -- What two halves keep of a store, between two calls and at each moment of one.
-use Rattle.std.specs.Prelude.{◌≡◌, ℕ, ◌+◌, ◌<◌, ◌^◌, false, List, [], ◌∷◌, ◌++◌, length}
+use Rattle.std.specs.Prelude.{◌≡◌, ◌⊎◌, ℕ, ◌+◌, ◌<◌, ◌^◌, false, List, [], ◌∷◌, ◌++◌, length}
 use Rattle.charmlet_model.specs.declared.event.Event.{Event}
 use Rattle.charmlet_model.specs.Core.{Core, durable_world, present}
 use Rattle.charmlet_model.specs.Logging.{logged_all}
@@ -10,7 +10,7 @@ use Rattle.charmlet_image.specs.declared.header.Mark.TheVariants.{Second}
 use Rattle.charmlet_image.specs.Images.{Saved, spell_half, spell_header, spell_image}
 use Rattle.charmlet_image.specs.FitImages.{image_of}
 use Rattle.charmlet_recovery.specs.Outcomes.{Keeps}
-use Rattle.charmlet_recovery.specs.Stores.{saved_of}
+use Rattle.charmlet_recovery.specs.Stores.{Stores, saved_of}
 use Rattle.charmlet_recovery.specs.WritingLaws.{StandsFor}
 use Rattle.charmlet_disk.specs.declared.disk.Disk.{Ghosts}
 use Rattle.charmlet_disk.specs.File.{Outcome, MayLeave}
@@ -75,6 +75,19 @@ pub record Turned {D : Type 0} {G : Ghosts D} (old new : Halves D G) (log_end : 
 abbrev pub sealed_saved : Core → Saved
 sealed_saved core = saved_of (present core) (core.before + length core.history)
     (core.generation + 1) []
+
+-- the files store this world, which came after so many events, at this generation, or the one
+-- after these events too, at the next
+abbrev pub StoresOldOrImage : World → (count generation : ℕ) → List Event → Outcome → Type 0
+StoresOldOrImage w count generation history outcome = Stores outcome w count generation
+    ⊎ Stores outcome (world w history) (count + length history) (generation + 1)
+
+-- the files store the world after the durable events, at its generation, or the present world, at
+-- the next
+abbrev pub HasOldOrSealed : Core → Outcome → Type 0
+HasOldOrSealed core outcome =
+    Stores outcome (durable_world core) (core.before + core.durable) core.generation
+    ⊎ Stores outcome (present core) (core.before + length core.history) (core.generation + 1)
 
 -- what is written of it after the gate of the spare half: a header, the image, and the closed gate
 -- of an empty log

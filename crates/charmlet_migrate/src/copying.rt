@@ -33,6 +33,8 @@ pub fn place_copy<C: Chare>(
     requires absent { lookup (is_at (elem_cmp elem)) (shelf_at shelves.old destination).records
         ≡ None }
     ensures ok { OnOk result (PlacesCopy elem source destination shelves.old shelves.new) }
+    ensures idle { OnOk result ((is_idle (shelf_at shelves.old source).phase ≡ true)
+        × (is_idle (shelf_at shelves.old destination).phase ≡ true)) }
     ensures err { IfErr result (λ back.
         (back.0 ≡ copy_refusal (shelf_at shelves.old source) (shelf_at shelves.old destination))
         × (kind_of (C.state back.1) ≡ kind_of (C.state blank))) }

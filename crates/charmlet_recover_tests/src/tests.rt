@@ -1,5 +1,6 @@
 // The tests, by what they are of.
 
+mod entered;
 mod manifests;
 mod restarts;
 mod stores;

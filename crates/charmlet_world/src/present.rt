@@ -310,6 +310,8 @@ impl PresentWorld {
         ensures seen { OnOk result (seen self.new
             ≡ record (seen self.old) { elements = with_entry (seen self.old).elements elem }) }
         ensures promised { self.new.promised ≡ self.old.promised }
+        ensures slots { (i : ℕ) (x : AnElem) (e : AnElement) →
+            slice_get self.old.rows i ≡ Some (x, e) → slice_get self.new.rows i ≡ Some (x, e) }
         ensures there { is_some (lookup (is_at (elem_cmp elem)) (seen self.old).elements) ≡ true →
             IsOk result }
         ensures err { OnErr result (self.new ≡ self.old) }

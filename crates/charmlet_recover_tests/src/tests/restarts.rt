@@ -20,7 +20,7 @@ use std::process::Abort;
 use std::test::Fail;
 
 // A stock of these blanks. Of what is known of it no more is told here than a restart asks for.
-fn unused<C: Chare>(alloc: Global, blanks: Vec<C>) -> Result<Stock<C>, AllocError>
+pub(super) fn unused<C: Chare>(alloc: Global, blanks: Vec<C>) -> Result<Stock<C>, AllocError>
     ensures { IfOk result (λ stock. IsUnused stock) }
 {
     match stock_of(alloc, blanks) {
@@ -71,7 +71,7 @@ fn restarted<C: Chare>(
 }
 
 // The store that comes back from these bytes, which end up as they were: of all calls that change something, the restart makes two syncs alone.
-fn back<C: Chare>(
+pub(super) fn back<C: Chare>(
     rt: &(impl AllocGlobal + Abort),
     zero: &[u8],
     one: &[u8],

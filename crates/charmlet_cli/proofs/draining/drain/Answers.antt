@@ -8,7 +8,7 @@ pub loop-delivered-init : goal.loop-delivered-init
 loop-delivered-init g c =
     let laws = g.met.D.Disk g.world.𝓛 g.world.𝓜 g.world.𝓡 ((λ s x. x), (λ x. x), (λ x. x), (λ x. x)) in
     let engine = c.args.engine.now in
-    (c.requires, refl, refl, refl, advances_still {G = g.D.Disk} {H = g.C.Chare} engine engine c.requires refl refl (λ honest o left. laws.only_now (disk_in engine) o honest left))
+    (c.requires, refl, refl, refl, advances_still {G = g.D.Disk} {H = g.C.Chare} engine engine c.requires refl refl refl (λ honest o left. laws.only_now (disk_in engine) o honest left))
 
 pub returns-in-Err-clause-advances : goal.returns-in-Err-clause-advances
 returns-in-Err-clause-advances g c =

@@ -20,7 +20,7 @@ pub returns-in_err-write_line-clause-advances : goal.returns-in_err-write_line-c
 returns-in_err-write_line-clause-advances g c =
     let laws = g.met.D.Disk g.world.𝓛 g.world.𝓜 g.world.𝓡 ((λ s x. x), (λ x. x), (λ x. x), (λ x. x)) in
     let engine = c.args.engine.now in
-    advances_still {G = g.D.Disk} {H = g.C.Chare} engine engine c.requires.consistent refl refl (λ honest o left. laws.only_now (disk_in engine) o honest left)
+    advances_still {G = g.D.Disk} {H = g.C.Chare} engine engine c.requires.consistent refl refl refl (λ honest o left. laws.only_now (disk_in engine) o honest left)
 
 pub returns-clause-prints : goal.returns-clause-prints
 returns-clause-prints g c =

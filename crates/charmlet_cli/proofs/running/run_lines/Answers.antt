@@ -86,5 +86,5 @@ loop-line-init g c =
       search rules,
       refl,
       c.requires.enough,
-      advances_still {G = g.D.Disk} {H = g.C.Chare} engine engine c.requires.consistent refl refl (λ honest o left. laws.only_now (disk_in engine) o honest left),
+      advances_still {G = g.D.Disk} {H = g.C.Chare} engine engine c.requires.consistent refl refl refl (λ honest o left. laws.only_now (disk_in engine) o honest left),
     )

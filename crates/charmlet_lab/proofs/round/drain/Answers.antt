@@ -7,7 +7,7 @@ pub loop-init : goal.loop-init
 loop-init g c =
     let laws = g.met.D.Disk g.world.𝓛 g.world.𝓜 g.world.𝓡 ((λ s x. x), (λ x. x), (λ x. x), (λ x. x)) in
     let engine = c.args.engine.now in
-    (c.requires, advances_still {G = g.D.Disk} {H = g.C.Chare} engine engine c.requires refl refl (λ honest o left. laws.only_now (disk_in engine) o honest left))
+    (c.requires, advances_still {G = g.D.Disk} {H = g.C.Chare} engine engine c.requires refl refl refl (λ honest o left. laws.only_now (disk_in engine) o honest left))
 
 pub returns-then-not-deliver_next-clause-advances : goal.returns-then-not-deliver_next-clause-advances
 returns-then-not-deliver_next-clause-advances g c =

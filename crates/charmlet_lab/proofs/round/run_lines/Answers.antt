@@ -11,7 +11,7 @@ pub loop-line-init : goal.loop-line-init
 loop-line-init g c =
     let laws = g.met.D.Disk g.world.𝓛 g.world.𝓜 g.world.𝓡 ((λ s x. x), (λ x. x), (λ x. x), (λ x. x)) in
     let engine = c.args.engine.now in
-    (c.requires.consistent, advances_still {G = g.D.Disk} {H = g.C.Chare} engine engine c.requires.consistent refl refl (λ honest o left. laws.only_now (disk_in engine) o honest left), c.requires.enough)
+    (c.requires.consistent, advances_still {G = g.D.Disk} {H = g.C.Chare} engine engine c.requires.consistent refl refl refl (λ honest o left. laws.only_now (disk_in engine) o honest left), c.requires.enough)
 
 pub run_line-requires-clause-enough : goal.run_line-requires-clause-enough
 run_line-requires-clause-enough g c κs within = λ kind.

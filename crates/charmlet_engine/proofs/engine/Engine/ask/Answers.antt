@@ -21,6 +21,6 @@ returns-clause-takes g c =
     let old = store_in c.args.self.now.store in
     let new = store_in c.request.new.self in
     let step = core.Request r.client r.number r.to r.entry r.words.now in
-    takes_quietly {G = g.D.Disk} {H = g.C.Chare} c.args.self.now c.requires.consistent (laws.only_now (disk_in c.args.self.now)) c.request.new.self c.request.ensures.consistent c.request.ensures.supplied
+    takes_quietly {G = g.D.Disk} {H = g.C.Chare} c.args.self.now c.requires.consistent (laws.only_now (disk_in c.args.self.now)) c.request.new.self c.request.ensures.consistent c.request.ensures.supplied c.request.ensures.keeping
     (goes_quiet old new step (told_or_refused c.request.result) tt c.request.ensures.goes) (steps.Request r.client r.number r.to r.entry r.words.now) (client_answer c.request.result)
     (client_does old new step c.request.result c.request.ensures.goes) (told_goes_on old new step c.request.result tt c.request.ensures.goes)

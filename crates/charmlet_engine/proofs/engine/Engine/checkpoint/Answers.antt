@@ -1,12 +1,12 @@
 use Rattle.charmlet_history.specs.Kept.{core_in}
 use Rattle.charmlet_engine.specs.Engine.{disk_in}
-use Rattle.std.proofs.Common.{ap, ◌≡◌, ◌+◌, [], length, subst, sym}
+use Rattle.std.proofs.Common.{ap, refl, ◌≡◌, ◌+◌, [], length, subst, sym}
 use Rattle.charmlet_model.specs.Core.{Core, present}
 use Rattle.charmlet_image.specs.Images.{spell_half}
 use Rattle.charmlet_recovery.specs.Stores.{saved_of}
 use Rattle.charmlet_halves.specs.Halves.{disk_of, text_of}
 use Rattle.charmlet_engine.proofs.Onward.{apart, onward_checkpoint}
-use Rattle.charmlet_engine.proofs.Lawful.{leaves_lawful}
+use Rattle.charmlet_engine.proofs.Lawful.{leaves_image, leaves_lawful}
 use Rattle.charmlet_engine.proofs.engine.Engine.checkpoint.Goals as goal
 
 pub returns-in-Ok-clause-image : goal.returns-in-Ok-clause-image
@@ -21,6 +21,7 @@ returns-in-Ok-clause-advances g c =
       onward = on;
       any_moment = λ honest. leaves_lawful g.D.Disk old (core_in c.checkpoint.new.history) on (disk_in c.args.self.now) (disk_of c.checkpoint.new.halves) (c.checkpoint.ensures.any_moment honest);
       honest = c.checkpoint.ensures.honest;
+      keeping = refl;
     }
 
 pub returns-in-Err-clause-advances : goal.returns-in-Err-clause-advances
@@ -31,7 +32,14 @@ returns-in-Err-clause-advances g c =
       onward = on;
       any_moment = λ honest. leaves_lawful g.D.Disk old (core_in c.checkpoint.new.history) on (disk_in c.args.self.now) (disk_of c.checkpoint.new.halves) (c.checkpoint.ensures.any_moment honest);
       honest = c.checkpoint.ensures.honest;
+      keeping = refl;
     }
 
 pub returns-in-Err-clause-still : goal.returns-in-Err-clause-still
 returns-in-Err-clause-still g c = λ other. ap (disk_of {G = g.D.Disk}) (c.in-Err.ensures.refused (apart c.in-Err.refusal other)).1
+
+pub returns-in-Ok-clause-stored : goal.returns-in-Ok-clause-stored
+returns-in-Ok-clause-stored g c = λ honest going. leaves_image g.D.Disk (core_in c.args.self.now.store.history) (disk_in c.args.self.now) (disk_of c.checkpoint.new.halves) (c.checkpoint.ensures.stored honest going)
+
+pub returns-in-Err-clause-stored : goal.returns-in-Err-clause-stored
+returns-in-Err-clause-stored g c = λ honest going. leaves_image g.D.Disk (core_in c.args.self.now.store.history) (disk_in c.args.self.now) (disk_of c.checkpoint.new.halves) (c.checkpoint.ensures.stored honest going)

@@ -1,4 +1,4 @@
-use Rattle.std.proofs.Common.{ap}
+use Rattle.std.proofs.Common.{ap, refl}
 use Rattle.charmlet_history.specs.Kept.{core_in, counts_or_refused}
 use Rattle.charmlet_engine.specs.Engine.{disk_in}
 use Rattle.charmlet_halves.specs.Halves.{disk_of}
@@ -25,6 +25,7 @@ returns-in-Ok-clause-advances g c =
       onward = on;
       any_moment = λ honest. leaves_lawful g.D.Disk old (core_in c.flush.new.history) on (disk_in c.args.self.now) (disk_of c.flush.new.halves) (c.flush.ensures.any_moment honest);
       honest = c.flush.ensures.honest;
+      keeping = refl;
     }
 
 pub returns-in-Err-clause-advances : goal.returns-in-Err-clause-advances
@@ -35,6 +36,7 @@ returns-in-Err-clause-advances g c =
       onward = on;
       any_moment = λ honest. leaves_lawful g.D.Disk old (core_in c.flush.new.history) on (disk_in c.args.self.now) (disk_of c.flush.new.halves) (c.flush.ensures.any_moment honest);
       honest = c.flush.ensures.honest;
+      keeping = refl;
     }
 
 pub returns-in-Err-clause-still : goal.returns-in-Err-clause-still

@@ -9,18 +9,18 @@ use Rattle.charmlet_model.proofs.RunLemmas.{runs_join}
 use Rattle.charmlet_model.proofs.RunTruths.{all_told_join, all_told_later, does_between, sure}
 use Rattle.charmlet_disk.specs.Disk.{faults_after}
 use Rattle.charmlet_engine.specs.Engine.{core_of, disk_in, view_of}
-use Rattle.charmlet_engine.specs.Outcomes.{ends_with_image, faults_through, is_no_fault}
+use Rattle.charmlet_engine.specs.Outcomes.{AreFlushedAnyway, ends_with_image, faults_through, is_no_fault}
 use Rattle.charmlet_engine.proofs.Advancing.{advances_after, advances_still}
 use Rattle.charmlet_engine.proofs.Lives.{remembers_run}
 use Rattle.charmlet_engine.proofs.Lawful.{lawful_now}
-use Rattle.charmlet_engine.proofs.Onward.{ends_more, faults_more}
+use Rattle.charmlet_engine.proofs.Onward.{ends_more, faults_more, flushed_join}
 use Rattle.charmlet_engine.proofs.engine.Engine.run.Goals as goal
 
 pub returns-in_err-answers-clause-advances : goal.returns-in_err-answers-clause-advances
 returns-in_err-answers-clause-advances g c =
     let laws = g.met.D.Disk g.world.𝓛 g.world.𝓜 g.world.𝓡 ((λ s x. x), (λ x. x), (λ x. x), (λ x. x)) in
     let old = c.args.self.now in
-    advances_still {G = g.D.Disk} {H = g.C.Chare} old old c.requires refl refl (λ honest o left. laws.only_now (disk_in old) o honest left)
+    advances_still {G = g.D.Disk} {H = g.C.Chare} old old c.requires refl refl refl (λ honest o left. laws.only_now (disk_in old) o honest left)
 
 pub returns-in_err-answers-clause-now : goal.returns-in_err-answers-clause-now
 returns-in_err-answers-clause-now g c = λ honest o left.
@@ -36,7 +36,8 @@ loop-step-init g c =
       consistent = c.requires;
       runs = search rules;
       told = search rules;
-      advances = advances_still {G = g.D.Disk} {H = g.C.Chare} old old c.requires refl refl (λ honest o left. laws.only_now (disk_in old) o honest left);
+      flushed = search rules;
+      advances = advances_still {G = g.D.Disk} {H = g.C.Chare} old old c.requires refl refl refl (λ honest o left. laws.only_now (disk_in old) o honest left);
       image = λ honest is. (let none : false ≡ true = ap ends_with_image (sym empty) ∙ is in absurd cc);
       supplied = refl;
       counted = search rules;
@@ -65,12 +66,14 @@ loop-step-preserved g c =
     let pushed : c.push_reserved.new.self.items ≡ answers ++ answer ∷ [] = c.push_reserved.ensures.items in
     let reached = does_between before next step answer so_far.consistent.shows.history.sound done.consistent.shows.history.sound done.does in
     let runs = runs_join first before next (take c.loop-step.step-index steps) (step ∷ []) answers (answer ∷ []) so_far.runs (next, done.does, refl) in
+    let flushed = flushed_join (take c.loop-step.step-index steps) (step ∷ []) answers (answer ∷ []) so_far.flushed (done.flushed, tt) in
     let told = all_told_join next.core.opening (sure next.core) (take c.loop-step.step-index steps) (step ∷ []) answers (answer ∷ [])
     (all_told_later before.core next.core (take c.loop-step.step-index steps) answers reached so_far.told) (done.told, tt) in
     record {
       consistent = done.consistent;
       runs = subst (λ (l : List Step). Runs first l c.push_reserved.new.self.items next) (sym more) (subst (λ (l : List Answer). Runs first (take c.loop-step.step-index steps ++ step ∷ []) l next) (sym pushed) runs);
       told = subst (λ (l : List Step). AllTold next.core.opening (sure next.core) l c.push_reserved.new.self.items) (sym more) (subst (λ (l : List Answer). AllTold next.core.opening (sure next.core) (take c.loop-step.step-index steps ++ step ∷ []) l) (sym pushed) told);
+      flushed = subst (λ (l : List Step). AreFlushedAnyway l c.push_reserved.new.self.items) (sym more) (subst (AreFlushedAnyway (take c.loop-step.step-index steps ++ step ∷ [])) (sym pushed) flushed);
       advances = advances_after {G = g.D.Disk} {H = g.C.Chare} old mid new so_far.advances done.advances;
       image = λ honest is. done.image (so_far.advances.honest.0 honest) (sym (ends_more answers answer) ∙ ap ends_with_image (sym pushed) ∙ is);
       supplied = done.supplied ∙ so_far.supplied;
@@ -93,3 +96,7 @@ returns-clause-remembers g c = λ past r.
     let told : AllTold (core_of new).opening (take (core_of new).durable (core_of new).history) c.args.steps.now c.loop-step.answers.items =
     subst (λ (l : List Step). AllTold (core_of new).opening (take (core_of new).durable (core_of new).history) l c.loop-step.answers.items) (take_all c.loop-step.step-index c.args.steps.now c.loop-step-test.false) so_far.told in
     remembers_run past (core_of old) (core_of new) c.args.steps.now c.loop-step.answers.items so_far.advances.onward so_far.consistent.shows.history.sound told r
+
+pub returns-clause-flushed : goal.returns-clause-flushed
+returns-clause-flushed g c =
+    subst (λ (l : List Step). AreFlushedAnyway l c.loop-step.answers.items) (take_all c.loop-step.step-index c.args.steps.now c.loop-step-test.false) c.loop-step.invariant.flushed

@@ -4,7 +4,7 @@ use Rattle.charmlet_model.specs.Run.{Runs}
 use Rattle.charmlet_model.specs.RunLaws.{AllTold}
 use Rattle.charmlet_engine.specs.Advances.{Advances}
 use Rattle.charmlet_engine.specs.Engine.{HasImage, IsEngineConsistent, core_of, disk_in, supplied_of, view_of}
-use Rattle.charmlet_engine.specs.Outcomes.{ends_with_image, faults_through}
+use Rattle.charmlet_engine.specs.Outcomes.{AreFlushedAnyway, ends_with_image, faults_through}
 use Rattle.charmlet_engine.proofs.engine.Engine.run.Given as goal
 
 -- the steps so far are run, and there is room for the answers to come
@@ -14,6 +14,7 @@ invariant-loop-step g l =
       consistent : IsEngineConsistent {G = g.D.Disk} {H = g.C.Chare} l.self;
       runs : Runs (view_of l.fn.self) (take l.step-index l.steps) l.answers.items (view_of l.self);
       told : AllTold (core_of l.self).opening (take (core_of l.self).durable (core_of l.self).history) (take l.step-index l.steps) l.answers.items;
+      flushed : AreFlushedAnyway (take l.step-index l.steps) l.answers.items;
       advances : Advances {G = g.D.Disk} {H = g.C.Chare} l.fn.self l.self;
       image : g.D.Disk.honest (disk_in l.fn.self) → ends_with_image l.answers.items ≡ true → HasImage {G = g.D.Disk} {H = g.C.Chare} l.self;
       supplied : supplied_of l.self ≡ supplied_of l.fn.self;

@@ -28,6 +28,7 @@ returns-in-Some g c =
     let after = core_in store.history in
     let quiet = c.answer_in_memory.ensures.quiet in
     let done = c.in-Some.ensures in
+    let done_keeping = c.answer_in_memory.ensures.keeping in
     let consistent = quiet_consistent {G = g.D.Disk} {H = g.C.Chare} old c.requires store done.consistent quiet in
     let reached = does_between (store_in old.store) (store_in store) c.args.step.now c.in-Some.answer c.requires.shows.history.sound done.consistent.history.sound done.does in
     let told = told_true (store_in old.store) (store_in store) (store_in store) c.args.step.now c.in-Some.answer reached done.does in
@@ -40,9 +41,12 @@ returns-in-Some g c =
         onward = onward_quiet before after quiet;
         any_moment = λ honest. leaves_still {G = g.D.Disk} before after (onward_quiet before after quiet) old.halves (c.requires.keeps honest) (λ o left. laws.only_now (disk_in old) o honest left);
         honest = ((λ h. h), (λ h. h));
+        keeping = done_keeping;
       };
       now = λ honest o left. lawful_now {G = g.D.Disk} after old.halves (consistent.keeps honest) o left;
       image = λ honest is. (let no = sym done.no_image ∙ is in absurd cc);
+      stored = λ honest going is. absurd (done.quietly.1 is);
+      flushed = λ is. absurd (done.quietly.0 is);
       still = λ _. refl;
       supplied = done.supplied;
       counted = ap (λ b. faults_after b (g.D.Disk.faults (disk_in old))) (sym done.no_fault);

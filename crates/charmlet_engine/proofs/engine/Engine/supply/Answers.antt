@@ -7,4 +7,4 @@ pub returns-clause-advances : goal.returns-clause-advances
 returns-clause-advances g c =
     let laws = g.met.D.Disk g.world.𝓛 g.world.𝓜 g.world.𝓡 ((λ s x. x), (λ x. x), (λ x. x), (λ x. x)) in
     let old = c.args.self.now in
-    advances_still {G = g.D.Disk} {H = g.C.Chare} old (record { store = c.supply.new.self; halves = old.halves }) c.requires (c.supply.ensures.core) refl (λ honest o left. laws.only_now (disk_in old) o honest left)
+    advances_still {G = g.D.Disk} {H = g.C.Chare} old (record { store = c.supply.new.self; halves = old.halves }) c.requires (c.supply.ensures.core) refl c.supply.ensures.keeping (λ honest o left. laws.only_now (disk_in old) o honest left)

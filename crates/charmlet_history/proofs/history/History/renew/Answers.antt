@@ -1,10 +1,14 @@
-use Rattle.std.proofs.Common.{ℕ, List, rules, ◌≡◌, ◌+◌, [], ap, length, sym, subst, ◌∙◌}
+use Rattle.std.proofs.Common.{ℕ, List, rules, ◌≡◌, ◌+◌, [], ap, length, sym, subst, ◌∙◌, arith}
+use Rattle.std.specs.Ordering.{nat_cmp}
+use Rattle.std.specs.BTreeMap.{is_at}
+use Rattle.std.specs.Map.{lookup}
 use Rattle.charmlet_model.specs.declared.event.Event.{Event}
 use Rattle.charmlet_model.specs.Core.{present}
 use Rattle.charmlet_model.specs.World.{World}
 use Rattle.charmlet_history.specs.Flushed.{all_durable}
 use Rattle.charmlet_history.specs.Opened.{with_arrays}
-use Rattle.charmlet_history.specs.Kept.{Kept, IsConsistent, core_of, kept_in}
+use Rattle.charmlet_model.proofs.Fits.{IfSome-map}
+use Rattle.charmlet_history.specs.Kept.{HasRoomFor, Kept, IsConsistent, core_of, kept_in}
 use Rattle.charmlet_history.proofs.Consistency.{manifest_is}
 use Rattle.charmlet_history.proofs.Openings.{renewed_consistent}
 use Rattle.charmlet_history.proofs.history.History.renew.Goals as goal
@@ -36,3 +40,14 @@ returns-clause-renewed c =
     let settled : c.clear.new.self.durable ≡ 0 = c.clear.ensures.durable in
     let next : Kept → World → ℕ → List Event → ℕ → Kept = λ j w n es m. record j { opening = w; before = j.before + n; events = es; durable = m } in
     λ i. core_of (next (made i) (world i) (count i) (none i) (settled i))
+
+pub returns-clause-room : goal.returns-clause-room
+returns-clause-room c = λ processor room.
+    let mid = c.make_durable.new.self in
+    let new = record mid { opening = c.of-seen.result; before = mid.before + c.len.result; events = c.clear.new.self } in
+    IfSome-map (HasRoomFor mid) (HasRoomFor new) (lookup (is_at (nat_cmp processor)) mid.assigned.entries)
+    (λ id r. record {
+      space = (omega (arith, r.space.0, c.clear.ensures.room), r.space.1);
+      receiver = r.receiver;
+    })
+    (c.make_durable.ensures.room processor room)

@@ -1,5 +1,5 @@
-use Rattle.std.proofs.Common.{sym, ap, ◌∙◌}
-use Rattle.std.specs.Prelude.{Result, Ok, Err, IfOk, OnOk, Some, is_some}
+use Rattle.std.proofs.Common.{sym, ap, ◌∙◌, slice_get}
+use Rattle.std.specs.Prelude.{Result, Ok, Err, IfOk, OnErr, OnOk, Some, is_some}
 use Rattle.std.specs.BTreeMap.{insert_entry, is_at}
 use Rattle.std.specs.Map.{lookup}
 use Rattle.charmlet_model.specs.Names.{elem_cmp}
@@ -7,7 +7,7 @@ use Rattle.charmlet_world.specs.Changed.{with_entry}
 use Rattle.charmlet_world.specs.Seen.{Held, seen}
 use Rattle.charmlet_world.specs.Standing.{risen}
 use Rattle.charmlet_world.proofs.Risen.{found_risen}
-use Rattle.charmlet_world.proofs.Showing.{element_risen, row_unseen}
+use Rattle.charmlet_world.proofs.Showing.{element_risen, row_unseen, slot_stays}
 use Rattle.charmlet_world.proofs.present.PresentWorld.slot_for.Goals as goal
 
 -- what follows where it is done, follows of what holds where it is done
@@ -18,6 +18,11 @@ when_ok (Err e) p f = tt
 if_ok : {T E : Type 0} {P Q : T → Type 0} {R : Type 0} (result : Result T E) → IfOk result P → OnOk result R → ((x : T) → P x → R → Q x) → IfOk result Q
 if_ok (Ok x) p r f = f x p r
 if_ok (Err e) p r f = tt
+
+-- what follows either way
+each_way : {T E : Type 0} {P Q R : Type 0} (result : Result T E) → OnOk result P → OnErr result Q → (P → R) → (Q → R) → R
+each_way (Ok x) p q done failed = done p
+each_way (Err e) p q done failed = failed q
 
 pub returns-clause-slot : goal.returns-clause-slot
 returns-clause-slot c =
@@ -34,6 +39,14 @@ returns-clause-seen c =
     when_ok c.slot_for.result c.slot_for.ensures.risen (λ more.
     (λ i. record { manifest = own.manifest; processors = own.processors; elements = (more ∙ ap (insert_entry elem_cmp (risen rows) x) (sym (element_risen x rows))) i; pending = own.pending.messages; clients = own.clients.entries })
     ∙ ap (λ (h : Held). record (seen h) { elements = with_entry (risen h.rows) x }) c.self.view_is)
+
+pub returns-clause-slots : goal.returns-clause-slots
+returns-clause-slots c = λ i x e at.
+    let rows = c.self.inside.elements.entries in
+    let here = ap (λ (h : Held). slice_get h.rows i) c.self.view_is ∙ at in
+    each_way c.slot_for.result c.slot_for.ensures.entries c.slot_for.ensures.err
+    (λ more. ap (λ es. slice_get es i) more ∙ slot_stays rows c.args.elem i (x, e) here)
+    (λ same. ap (λ es. slice_get es i) same ∙ here)
 
 pub returns-clause-there : goal.returns-clause-there
 returns-clause-there c = λ there.
