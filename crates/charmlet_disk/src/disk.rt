@@ -26,8 +26,8 @@ impl From<DeviceFault> for Refusal {
 /// leaves of each file its bytes at the last sync, but for any bytes in the ranges that were written since, and any length from the
 /// one at that sync to the greatest since. What they say of `failures` holds of every disk.
 ///
-/// Each call answers [`DeviceFault`] where the device fails, and nothing else makes it fail on an honest disk. On any other disk a
-/// read past the end, or a write that begins past it, is a fault as well.
+/// Any call may answer [`DeviceFault`]: no clause says when, and `failures` counts it. Nothing is said of a read past the end, nor of a
+/// write that begins past it, on a disk that isn't honest.
 pub trait Disk: Send + Drop {
     /// The disk behaves as a disk should.
     ghost honest: { Self → Type 0 };

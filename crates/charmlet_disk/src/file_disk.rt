@@ -42,7 +42,7 @@ use std::io;
 /// - A read isn't inside the file, or a write begins past its end.
 /// - The system refuses a call. There is no right to it, say, the device is full or broken, or the file
 ///   has the greatest length that it may have.
-/// - A sync of this disk failed before.
+/// - The sync of an open file failed before, or that of a file that was just found.
 ///
 /// A read that fails may have changed the buffer. A write that fails may have made the file, and
 /// written some of its bytes.
@@ -57,10 +57,10 @@ use std::io;
 /// After a sync that failed a system may take the pages that it lost for clean. The next sync would
 /// then succeed without them, so no call succeeds after one that failed: the disk is to be dropped.
 /// A file that is there is synced (`fsync`) when it is opened, before anything is read from it, so that
-/// an earlier failure that nobody was told of yet is a fault now. But a failure that a sync did tell
-/// isn't told again, and as long as the system keeps the lost pages, it shows them to whoever opens the
-/// file next. It can be asked to drop them (`posix_fadvise`), but not by what `std` has. So after a sync
-/// that failed restart the machine before the folder is opened again.
+/// an earlier failure that nobody was told of yet is a fault now, and so is each call after it. But a
+/// failure that a sync did tell isn't told again, and as long as the system keeps the lost pages, it shows
+/// them to whoever opens the file next. It can be asked to drop them (`posix_fadvise`), but not by what
+/// `std` has. So after a sync that failed restart the machine before the folder is opened again.
 ///
 /// A file that is opened for reading alone is synced too. A file system that is mounted for reading
 /// alone mostly takes a sync; one that knows none gives faults.

@@ -28,7 +28,7 @@ pub fn halves_are_lawful()
     ensures appended { BatchesAreAppended }
 {}
 
-/// A fault is named by a place among the bytes that are read, so that its offset is in the file.
+/// A fault is named by a place among the bytes that are read, or by their end, so that its offset is at most the file's length.
 pub fn faults_are_within()
     ensures images { (mark : Mark) → Within (read_image mark) }
     ensures headers { Within read_header }

@@ -5,8 +5,8 @@ use std::alloc::{AllocError, Global};
 use std::collections::BTreeMap;
 use std::marker::Model;
 
-/// Where elements stand: the processor of each element that is there. It is what a restart begins with, and
-/// doesn't change afterwards. A contract sees the entries, in rising order.
+/// Where elements stand: the processor of each element that is there, as after a restart. It doesn't change.
+/// A contract sees the entries, in rising order.
 #[derive(Drop)]
 pub struct Locations {
     places: BTreeMap<Elem, u16>,

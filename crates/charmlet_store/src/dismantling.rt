@@ -32,8 +32,8 @@ pub struct Dismantled<C: Chare> {
 
 impl<C: Chare> Store<C> {
     /// Takes the store apart, also a halted one. Each object that was supplied is then among the
-    /// residents, in the stock, or retired. It fails only when out of memory, which the list of the
-    /// residents takes, and so not where no element is there; then the store comes back as it was.
+    /// residents, in the stock, or retired. It fails only when out of memory, which the lists of
+    /// the places and of the residents take, and so not where no element is there; then the store comes back as it was.
     pub fn dismantle(self) -> Result<Dismantled<C>, Store<C>>
         requires { IsStoreConsistent self }
         ensures shows { IfOk result (λ parts.

@@ -9,7 +9,8 @@ use std::io::{self, ErrorKind};
 use std::os::unix::fs::MetadataExt;
 
 /// A folder with the files `half0` and `half1`. Each call looks for the folder first, and locks it where
-/// none before could. After a sync that failed each call is an error.
+/// none before could; then it opens its half, if that is there. After a sync that failed each call is an
+/// error, and so it is after the sync of a half that was found.
 #[derive(Drop)]
 pub struct Folder {
     rt: HostRuntime,
@@ -47,33 +48,33 @@ impl Folder {
     /// The length of a half.
     pub fn len(&mut self, half: Half) -> io::Result<u64>
         ensures lost { IsTrue self.old.is_lost → IsErr result }
-        ensures kept { self.new.is_lost ≡ self.old.is_lost }
+        ensures kept { IsTrue self.old.is_lost → IsTrue self.new.is_lost }
     {
-        self.enter()?;
+        self.enter(half)?;
         match half {
-            Half::Zero => self.zero.len(&self.rt),
-            Half::One => self.one.len(&self.rt),
+            Half::Zero => self.zero.len(),
+            Half::One => self.one.len(),
         }
     }
 
     /// Reads inside a half.
     pub fn read_at(&mut self, half: Half, offset: u64, into: &mut [u8]) -> io::Result<()>
         ensures lost { IsTrue self.old.is_lost → IsErr result }
-        ensures kept { self.new.is_lost ≡ self.old.is_lost }
+        ensures kept { IsTrue self.old.is_lost → IsTrue self.new.is_lost }
     {
-        self.enter()?;
+        self.enter(half)?;
         match half {
-            Half::Zero => self.zero.read_at(&self.rt, offset, into),
-            Half::One => self.one.read_at(&self.rt, offset, into),
+            Half::Zero => self.zero.read_at(offset, into),
+            Half::One => self.one.read_at(offset, into),
         }
     }
 
     /// Writes to a half, from an offset on that isn't past its end.
     pub fn write_at(&mut self, half: Half, offset: u64, bytes: &[u8]) -> io::Result<()>
         ensures lost { IsTrue self.old.is_lost → IsErr result }
-        ensures kept { self.new.is_lost ≡ self.old.is_lost }
+        ensures kept { IsTrue self.old.is_lost → IsTrue self.new.is_lost }
     {
-        self.enter()?;
+        self.enter(half)?;
         match half {
             Half::Zero => self.zero.write_at(&self.rt, offset, bytes),
             Half::One => self.one.write_at(&self.rt, offset, bytes),
@@ -85,11 +86,7 @@ impl Folder {
         ensures lost { IsTrue self.old.is_lost → IsErr result }
         ensures kept { IsTrue self.old.is_lost → IsTrue self.new.is_lost }
     {
-        self.enter()?;
-        match half {
-            Half::Zero => self.zero.find(&self.rt)?,
-            Half::One => self.one.find(&self.rt)?,
-        }
+        self.enter(half)?;
         self.write_out(half)
     }
 
@@ -106,15 +103,25 @@ impl Folder {
         synced
     }
 
-    // Makes sure that the path names the folder that is locked, or locks the one that it names. An error
-    // after a sync that failed.
-    fn enter(&mut self) -> io::Result<()>
+    // Holds the folder, and opens the half if it is there. An error after a sync that failed.
+    fn enter(&mut self, half: Half) -> io::Result<()>
         ensures lost { IsTrue self.old.is_lost → IsErr result }
-        ensures kept { self.new.is_lost ≡ self.old.is_lost }
+        ensures kept { IsTrue self.old.is_lost → IsTrue self.new.is_lost }
     {
         if self.is_lost {
             return Err(ErrorKind::Other.into());
         }
+        self.hold()?;
+        match half {
+            Half::Zero => self.zero.find(&self.rt, &mut self.is_lost),
+            Half::One => self.one.find(&self.rt, &mut self.is_lost),
+        }
+    }
+
+    // Makes sure that the path names the folder that is locked, or locks the one that it names.
+    fn hold(&mut self) -> io::Result<()>
+        ensures { self.new.is_lost ≡ self.old.is_lost }
+    {
         let named = fs::metadata(&self.rt, self.path.as_str())?;
         if let Some(locked) = &self.locked {
             return locked.check(&named);

@@ -1,13 +1,12 @@
 //! One half as a file, which may be missing.
-ghost use Rattle.std.specs.Prelude.{◌+◌, ◌≤◌, ◌↔◌, IsTrue};
+ghost use Rattle.std.specs.Prelude.{◌+◌, ◌≤◌, ◌↔◌, IsErr, IsTrue};
 
 use std::fs::{self, File, OpenOptions};
 use std::io::{self, ErrorKind};
 use std::os::fd::AsRawFd;
 use std::os::unix::fs::{FileExt, MetadataExt};
 
-/// A file of a folder. The first call that finds it opens it, and the first write makes it where it is
-/// missing.
+/// A file of a folder. It is opened where it is found, and the first write makes it where it is missing.
 #[derive(Drop)]
 pub struct HalfFile {
     path: String,
@@ -26,17 +25,18 @@ impl HalfFile {
         }
     }
 
-    /// Opens the file, settled, if it is there and not open yet.
-    pub fn find(&mut self, rt: &HostRuntime) -> io::Result<()> {
+    /// Opens the file, settled, if it is there and not open yet. Where its sync fails, the disk is lost.
+    pub fn find(&mut self, rt: &HostRuntime, is_lost: &mut bool) -> io::Result<()>
+        ensures kept { IsTrue is_lost.old → IsTrue is_lost.new }
+    {
         if self.file.is_none() {
-            self.file = open(rt, self.path.as_str())?;
+            self.file = open(rt, self.path.as_str(), is_lost)?;
         }
         Ok(())
     }
 
     /// The length in bytes, which is 0 where the file is missing.
-    pub fn len(&mut self, rt: &HostRuntime) -> io::Result<u64> {
-        self.find(rt)?;
+    pub fn len(&self) -> io::Result<u64> {
         match &self.file {
             Some(file) => len_of(file),
             None => Ok(0),
@@ -44,8 +44,8 @@ impl HalfFile {
     }
 
     /// Reads the bytes from an offset on. An error where some of them are past the end.
-    pub fn read_at(&mut self, rt: &HostRuntime, offset: u64, into: &mut [u8]) -> io::Result<()> {
-        let len = self.len(rt)?;
+    pub fn read_at(&self, offset: u64, into: &mut [u8]) -> io::Result<()> {
+        let len = self.len()?;
         if !is_inside(offset, into.len(), len) {
             return Err(ErrorKind::UnexpectedEof.into());
         }
@@ -58,7 +58,7 @@ impl HalfFile {
     /// Writes bytes from an offset on, and makes the file first where it is missing. An error where the
     /// offset is past the end.
     pub fn write_at(&mut self, rt: &HostRuntime, offset: u64, bytes: &[u8]) -> io::Result<()> {
-        let len = self.len(rt)?;
+        let len = self.len()?;
         if !is_inside(offset, 0, len) {
             return Err(ErrorKind::InvalidInput.into());
         }
@@ -95,7 +95,9 @@ fn is_inside(offset: u64, count: usize, len: u64) -> bool
 
 // The file, synced, if it is there. It must be a regular file, and no link, and have no second name,
 // since the lock of another folder would not keep others from it. A pipe is not opened, since that waits.
-fn open(rt: &HostRuntime, path: &str) -> io::Result<Option<File>> {
+fn open(rt: &HostRuntime, path: &str, is_lost: &mut bool) -> io::Result<Option<File>>
+    ensures kept { IsTrue is_lost.old → IsTrue is_lost.new }
+{
     match fs::symlink_metadata(rt, path) {
         Ok(found) if found.is_file() && found.nlink() == 1 => {}
         Ok(_) => return Err(ErrorKind::Unsupported.into()),
@@ -103,9 +105,21 @@ fn open(rt: &HostRuntime, path: &str) -> io::Result<Option<File>> {
         Err(error) => return Err(error),
     }
     let file = above_streams(open_for_all(rt, path)?)?;
-    // If an earlier write failed and nobody was told yet, the system tells it now.
-    file.sync_all()?;
+    sync_found(&file, is_lost)?;
     Ok(Some(file))
+}
+
+// Syncs a file that was found. If an earlier write failed and nobody was told yet, the system tells it now,
+// and not again: so the disk is lost then.
+fn sync_found(file: &File, is_lost: &mut bool) -> io::Result<()>
+    ensures failed { IsErr result → IsTrue is_lost.new }
+    ensures kept { IsTrue is_lost.old → IsTrue is_lost.new }
+{
+    let synced = file.sync_all();
+    if synced.is_err() {
+        *is_lost = true;
+    }
+    synced
 }
 
 // The file, for reading alone where it may not be written.

@@ -328,6 +328,38 @@ fn a_failed_read_is_told(rt: HostRuntime) {
     assert!(rt; is_denied(failure_of_restart(&rt, ErrorKind::PermissionDenied)));
 }
 
+// A reader that is interrupted before each read that gives something.
+#[derive(Drop)]
+struct Interrupted {
+    bytes: &'static [u8],
+    is_interrupted: bool,
+}
+
+impl Read for Interrupted {
+    fn read(&mut self, buf: &mut [u8]) -> io::Result<usize> {
+        self.is_interrupted = !self.is_interrupted;
+        if self.is_interrupted {
+            return Err(io::Error::from(ErrorKind::Interrupted));
+        }
+        self.bytes.read(buf)
+    }
+}
+
+// A script of an array and a flush, of which each read is interrupted at first.
+fn interrupted() -> Interrupted {
+    Interrupted {
+        bytes: b"array 0 1\nflush\n",
+        is_interrupted: false,
+    }
+}
+
+#[test]
+fn an_interrupted_read_is_tried_again(rt: HostRuntime) {
+    let read = read_script(rt.alloc(), &mut interrupted());
+    let lines = read.map(|script| script.lines().len());
+    assert!(rt; matches!(lines, Ok(1)));
+}
+
 // A reader that never ends: after its first bytes it gives the letter x for ever. It counts the bytes that it gave.
 #[derive(Drop)]
 struct Endless {
