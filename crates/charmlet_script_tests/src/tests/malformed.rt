@@ -346,7 +346,7 @@ impl Read for Interrupted {
 }
 
 // A script of an array and a flush, of which each read is interrupted at first.
-fn interrupted() -> Interrupted {
+fn interrupted_script() -> Interrupted {
     Interrupted {
         bytes: b"array 0 1\nflush\n",
         is_interrupted: false,
@@ -355,7 +355,7 @@ fn interrupted() -> Interrupted {
 
 #[test]
 fn an_interrupted_read_is_tried_again(rt: HostRuntime) {
-    let read = read_script(rt.alloc(), &mut interrupted());
+    let read = read_script(rt.alloc(), &mut interrupted_script());
     let lines = read.map(|script| script.lines().len());
     assert!(rt; matches!(lines, Ok(1)));
 }
