@@ -27,7 +27,7 @@ impl<D: Disk, C: Chare> Engine<D, C> {
     /// Runs one step. A refusal is an answer, and leaves all as it was, but for `Device`: then the engine is
     /// halted. After a checkpoint the half that is taken has an image of all events and a log without a batch;
     /// and a crash in it leaves the world after the durable events, as it was, or the present one at the next
-    /// generation. A flush takes no memory.
+    /// generation, if the engine wasn't halted. A flush takes no memory.
     ///
     /// On an honest disk a crash at any moment of the call leaves files that recover to the world after some
     /// of the history, with all events among it that were durable before; and from then on with all that are
