@@ -1,0 +1,110 @@
+# What the scripts that run and build the programs share. It is sourced, with `top` set to the folder of the tree.
+
+# The crates that a program stands on, itself last, each after those below it.
+crates_of() {
+  awk -v program="$1" '
+    /^[a-z]/ { name = $1; sub(/:$/, "", name); below[name] = $0; sub(/^[^:]*:/, "", below[name]) }
+    function visit(name, count, deps, i) {
+      if (!(name in below) || (name in seen)) return
+      seen[name] = 1
+      count = split(below[name], deps, " ")
+      for (i = 1; i <= count; i++) visit(deps[i])
+      print name
+    }
+    END { visit(program) }
+  ' "$top/crates.txt"
+}
+
+# The folders of what a program is made from.
+folders_of() {
+  local crate folder
+  for crate in $(crates_of "$1"); do
+    for folder in src specs proofs; do
+      [ ! -d "$top/crates/$crate/$folder" ] || echo "crates/$crate/$folder"
+    done
+  done
+}
+
+# A sum of the names and the bytes of all that a program is made from.
+sources_of() {
+  (
+    cd "$top" || exit
+    {
+      for crate in $(crates_of "$1"); do
+        grep "^$crate:" crates.txt
+      done
+      folders_of "$1" | xargs sh -c 'find "$@" -type f -print0' - | LC_ALL=C sort -z | xargs -0 sha256sum
+    } | sha256sum | cut -d' ' -f1
+  )
+}
+
+# Where a program is built, and where its seal is: the sums of its sources and of itself, and the kit that proved it.
+program_file() { echo "$top/crates/$1/out/$1"; }
+seal_file() { echo "$(program_file "$1").seal"; }
+
+# The seal that fits the sources and the program as they are now, with this line of the kit.
+seal_of() {
+  printf 'sources %s\nprogram %s\nkit %s\n' "$(sources_of "$1")" "$(sha256sum <"$(program_file "$1")" | cut -d' ' -f1)" "$2"
+}
+
+# Whether the proved program is there, of what its sources are now. Where nothing was touched since it was sealed that is
+# known at once, and else by the sums, as in a copy of the tree.
+is_proved() {
+  local program seal newer
+  program=$(program_file "$1")
+  seal=$(seal_file "$1")
+  [ -x "$program" ] && [ -f "$seal" ] || return 1
+  newer=$(
+    cd "$top" && folders_of "$1" | xargs sh -c 'find crates.txt "$@" -cnewer "$0" -print -quit' "$seal"
+    find "$program" -cnewer "$seal"
+  )
+  [ -n "$newer" ] || return 0
+  [ "$(seal_of "$1" "$(sed -n 's/^kit //p' "$seal")")" = "$(cat "$seal")" ] || return 1
+  touch "$seal" 2>/dev/null || true
+}
+
+# Says on standard error, where that is a terminal, how long a quick build has taken, until it is stopped.
+tell_compiling() {
+  local seconds=0
+  [ -t 2 ] || return 0
+  while sleep 1; do
+    seconds=$((seconds + 1))
+    printf '\r%s: compiling and running, %d s' "$1" "$seconds" >&2
+  done
+}
+
+# How long a quick build lets a program run, in seconds.
+quick_seconds=3600
+
+# Runs a program by the toolchain's quick build, which proves nothing: `run_quick PROGRAM [NAME=FILE..] -- WORD..`. The program
+# runs in a folder of its own, into which each FILE is copied as NAME. Its output comes when it has ended.
+run_quick() {
+  local program=$1 options=() said status telling
+  shift
+  while [ "$1" != -- ]; do
+    options+=(--data "$1")
+    shift
+  done
+  shift
+  said=$(mktemp)
+  echo "$program: this build isn't proved, and is compiled for this run, in a minute or two; ./build makes the proved one" >&2
+  tell_compiling "$program" &
+  telling=$!
+  (cd "$top/crates/$program" && rt try --steps 1 --seconds "$quick_seconds" ${options[@]+"${options[@]}"} -- "$@" 2>"$said")
+  status=$?
+  kill "$telling" 2>/dev/null && wait "$telling" 2>/dev/null
+  [ ! -t 2 ] || printf '\r\033[K' >&2
+  if tail -n 1 "$said" | grep -q '^run=ended '; then
+    # What the toolchain says of the run isn't the program's.
+    sed -e '/^interpreter: no-answer: /d' -e '/^checked: ended status=/d' -e '/^run=ended .* proved=no$/d' "$said" >&2
+  elif grep -q '^checked: no-answer: the program did not end within the time limit' "$said"; then
+    grep '^the end of the program\|^| ' "$said" >&2
+    echo "$program: the quick build stopped this run after $quick_seconds seconds" >&2
+  elif grep -q '^checked: no-answer: the program wrote more than' "$said"; then
+    echo "$program: the quick build stopped this run, since it wrote more than 1048576 bytes" >&2
+  else
+    cat "$said" >&2
+  fi
+  rm -f "$said"
+  return "$status"
+}
