@@ -285,7 +285,7 @@ fn tell_found(rt: HostRuntime, found: Result<LabLine, Refusal>) -> Result<(), St
         }
         Err(Refusal::BadPes) => {
             write_line(alloc, &mut writer, &Answer::Refused(Refusal::BadPes))?;
-            Err(Stop::NotCreated)
+            Err(Stop::NotCreated(Refusal::BadPes))
         }
         Err(_) => Err(Stop::CannotGoOn),
     };

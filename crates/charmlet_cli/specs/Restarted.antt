@@ -212,12 +212,12 @@ module _ {D : Type 0} (G : disks.Ghosts D) where
 
 -- why the program stops after it
 abbrev pub stop_restarted : {C : Type 0} → RestartError C → Stop
-stop_restarted (NotRestarted refusal) = stops.NotRestarted
+stop_restarted (NotRestarted refusal) = stops.NotRestarted refusal
 stop_restarted (TooFewBlanks blanks supplies) = stops.CannotGoOn
 stop_restarted Memory = stops.CannotGoOn
 stop_restarted (Output error) = stops.CannotGoOn
 
 -- and where no store is found
 abbrev pub stop_found : FindError → Stop
-stop_found (finds.Refused refusal) = stops.NotRestarted
+stop_found (finds.Refused refusal) = stops.NotRestarted refusal
 stop_found (finds.Output error) = stops.CannotGoOn

@@ -56,7 +56,7 @@ Lacks state objects script (Output error) = ⊥
 
 -- why the program stops after it
 abbrev pub stop_after : {C : Type 0} → RunError C → Stop
-stop_after (NotCreated refusal) = stops.NotCreated
+stop_after (NotCreated refusal) = stops.NotCreated refusal
 stop_after (TooFewBlanks back) = stops.CannotGoOn
 stop_after Memory = stops.CannotGoOn
 stop_after (Output error) = stops.CannotGoOn

@@ -37,5 +37,5 @@ IsSaid answer (Err (Output error)) before after =
 
 -- why the program stops after it
 abbrev pub stop_shown : ShowError → Stop
-stop_shown (Refused refusal) = stops.NotShown
+stop_shown (Refused refusal) = stops.NotShown refusal
 stop_shown (Output error) = stops.CannotGoOn

@@ -1,9 +1,13 @@
 //! Why the program stops before its work is done.
 
+ghost use Rattle.std.specs.Prelude.{◌≡◌};
+ghost use Rattle.charmlet_cli.specs.Stop.{advice_of};
+
 use crate::restarting::{FindError, RestartError};
 use crate::running::RunError;
 use crate::show::ShowError;
 use charmlet_chare::Chare;
+use charmlet_model::Refusal;
 use charmlet_script::ReadError;
 use std::alloc::{AllocError, AllocFailed};
 use std::error::Error;
@@ -14,12 +18,12 @@ use std::{fmt, io};
 pub enum Stop {
     /// Memory or the output failed outside a step.
     CannotGoOn,
-    /// The store wasn't created, and no line was run. The output says why.
-    NotCreated,
-    /// No store came back, and no line was run. The output says why.
-    NotRestarted,
-    /// No store was shown. The output says why.
-    NotShown,
+    /// The store wasn't created, for this reason, and no line was run. The output says why.
+    NotCreated(Refusal),
+    /// No store came back, for this reason, and no line was run. The output says why.
+    NotRestarted(Refusal),
+    /// No store was shown, for this reason. The output says why.
+    NotShown(Refusal),
     /// The laboratory found bad outcomes. The output says how many.
     NotSurvived,
     /// The script isn't there, is a folder, or a read of it failed.
@@ -39,16 +43,34 @@ impl Stop {
     {
         match self {
             Stop::CannotGoOn
-            | Stop::NotCreated
-            | Stop::NotRestarted
-            | Stop::NotShown
+            | Stop::NotCreated(_)
+            | Stop::NotRestarted(_)
+            | Stop::NotShown(_)
             | Stop::NotSurvived => 1,
             Stop::UnreadableScript | Stop::MalformedLine(_) => 2,
         }
     }
 }
 
-/// Writes what is said on standard error, without a line feed.
+/// What to do where there is no store for this reason, to follow `cannot create store` and its like. It is
+/// empty where the refusal's own line says it all.
+fn advice(refusal: &Refusal) -> &'static str
+    ensures { result.now ≡ advice_of refusal.now }
+{
+    match refusal {
+        Refusal::AlreadyHere => { ": the folder has one; go on with 'charmlet restart DIR SCRIPT'" }
+        Refusal::NothingHere => {
+            ": the folder has none; 'charmlet run SCRIPT --dir DIR' makes one"
+        }
+        Refusal::Device => {
+            ": is the folder there, may you read and write it, and does no other program use it?"
+        }
+        Refusal::Damaged { .. } => ": see 'Damaged' in docs/OPERATING.md",
+        _ => "",
+    }
+}
+
+/// Writes what is said on standard error, without a line feed: why the program stops, and what to do.
 impl fmt::Display for Stop {
     ghost use Rattle.std.specs.Prelude.{Some};
     ghost use Rattle.charmlet_cli.specs.Stop.{stop_text};
@@ -58,9 +80,18 @@ impl fmt::Display for Stop {
     fn fmt<W: fmt::Write>(&self, f: &mut fmt::Formatter<W>) -> fmt::Result {
         match self {
             Stop::CannotGoOn => write!(f, "cannot go on"),
-            Stop::NotCreated => write!(f, "cannot create store"),
-            Stop::NotRestarted => write!(f, "cannot restart store"),
-            Stop::NotShown => write!(f, "cannot show store"),
+            Stop::NotCreated(refusal) => {
+                let advice = advice(refusal);
+                write!(f, "cannot create store{advice}")
+            }
+            Stop::NotRestarted(refusal) => {
+                let advice = advice(refusal);
+                write!(f, "cannot restart store{advice}")
+            }
+            Stop::NotShown(refusal) => {
+                let advice = advice(refusal);
+                write!(f, "cannot show store{advice}")
+            }
             Stop::NotSurvived => write!(f, "cannot survive each crash"),
             Stop::UnreadableScript => write!(f, "cannot read script"),
             Stop::MalformedLine(line) => write!(f, "script line {line}"),
@@ -93,7 +124,7 @@ impl<C: Chare> From<RunError<C>> for Stop {
 
     fn from(error: RunError<C>) -> Stop {
         match error {
-            RunError::NotCreated(_) => Stop::NotCreated,
+            RunError::NotCreated(refusal) => Stop::NotCreated(refusal),
             RunError::TooFewBlanks(_) | RunError::Memory | RunError::Output(_) => Stop::CannotGoOn,
         }
     }
@@ -107,7 +138,7 @@ impl<C: Chare> From<RestartError<C>> for Stop {
 
     fn from(error: RestartError<C>) -> Stop {
         match error {
-            RestartError::NotRestarted(_) => Stop::NotRestarted,
+            RestartError::NotRestarted(refusal) => Stop::NotRestarted(refusal),
             RestartError::TooFewBlanks(_, _) | RestartError::Memory | RestartError::Output(_) => {
                 Stop::CannotGoOn
             }
@@ -123,7 +154,7 @@ impl From<FindError> for Stop {
 
     fn from(error: FindError) -> Stop {
         match error {
-            FindError::Refused(_) => Stop::NotRestarted,
+            FindError::Refused(refusal) => Stop::NotRestarted(refusal),
             FindError::Output(_) => Stop::CannotGoOn,
         }
     }
@@ -137,7 +168,7 @@ impl From<ShowError> for Stop {
 
     fn from(error: ShowError) -> Stop {
         match error {
-            ShowError::Refused(_) => Stop::NotShown,
+            ShowError::Refused(refusal) => Stop::NotShown(refusal),
             ShowError::Output(_) => Stop::CannotGoOn,
         }
     }

@@ -196,7 +196,7 @@ fn engine_for<C: Chare>(alloc: Global, script: &Script) -> Result<Engine<RoomyDi
     let disk = RoomyDisk::new(alloc)?;
     match Engine::create(alloc, disk, manifest, script.processors()) {
         Ok(engine) => Ok(engine),
-        Err(_) => Err(Stop::NotCreated),
+        Err(refused) => Err(Stop::NotCreated(refused.refusal)),
     }
 }
 

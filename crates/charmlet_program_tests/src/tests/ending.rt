@@ -4,7 +4,7 @@ use super::runs::run_anew;
 use charmlet_cli::{Failure, RunError, Stop, end_program};
 use charmlet_command::{CommandError, command_of};
 use charmlet_kinds::Counter;
-use charmlet_model::Kind;
+use charmlet_model::{Kind, Refusal};
 use charmlet_program_testing::{FullOutput, blank_counters};
 use charmlet_script::{ReadError, read_script};
 use std::alloc::{AllocError, Global};
@@ -63,8 +63,8 @@ fn stops_with(rt: &(impl AllocGlobal + Abort), stop: Stop, wanted: u8, says: &st
 #[test]
 fn stops_end_with_1_or_2(rt: HostRuntime) {
     stops_with(&rt, Stop::CannotGoOn, 1, "cannot go on\n");
-    stops_with(&rt, Stop::NotCreated, 1, "cannot create store\n");
-    stops_with(&rt, Stop::NotShown, 1, "cannot show store\n");
+    stops_with(&rt, Stop::NotCreated(Refusal::BadPes), 1, "cannot create store\n");
+    stops_with(&rt, Stop::NotShown(Refusal::Memory), 1, "cannot show store\n");
     stops_with(&rt, Stop::NotSurvived, 1, "cannot survive each crash\n");
     stops_with(&rt, Stop::UnreadableScript, 2, "cannot read script\n");
     let last = Stop::MalformedLine(u64::MAX);

@@ -124,10 +124,10 @@ fn finds_nothing(rt: &(impl AllocGlobal + Abort), processors: u16, line: &str) {
     assert!(rt; matches!(&error, FindError::Refused(_)));
     assert_eq!(rt; output.as_slice(), line.as_bytes());
     let stop = Stop::from(error);
-    assert_eq!(rt; stop, Stop::NotRestarted);
+    assert!(rt; matches!(&stop, Stop::NotRestarted(_)));
     assert_eq!(rt; stop.status(), 1);
     let said = format!(in rt.alloc(); "{stop}").expect(rt, "a text");
-    assert_eq!(rt; said.as_str(), "cannot restart store");
+    assert!(rt; said.as_str().starts_with("cannot restart store"));
 }
 
 // The number of processors is looked at before the disk is, and the program ends with the same status for each refusal.
