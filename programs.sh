@@ -90,7 +90,7 @@ run_quick() {
   echo "$program: this build isn't proved, and is compiled for this run, in a minute or two; ./build makes the proved one" >&2
   tell_compiling "$program" &
   telling=$!
-  (cd "$top/crates/$program" && rt try --steps 1 --seconds "$quick_seconds" ${options[@]+"${options[@]}"} -- "$@" 2>"$said")
+  (cd "$top/crates/$program" && rt try --steps 1 --seconds "$quick_seconds" ${options[@]+"${options[@]}"} -- "$@" </dev/null 2>"$said")
   status=$?
   kill "$telling" 2>/dev/null && wait "$telling" 2>/dev/null
   [ ! -t 2 ] || printf '\r\033[K' >&2
