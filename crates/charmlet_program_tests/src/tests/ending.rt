@@ -63,8 +63,18 @@ fn stops_with(rt: &(impl AllocGlobal + Abort), stop: Stop, wanted: u8, says: &st
 #[test]
 fn stops_end_with_1_or_2(rt: HostRuntime) {
     stops_with(&rt, Stop::CannotGoOn, 1, "cannot go on\n");
-    stops_with(&rt, Stop::NotCreated(Refusal::BadPes), 1, "cannot create store\n");
-    stops_with(&rt, Stop::NotShown(Refusal::Memory), 1, "cannot show store\n");
+    stops_with(
+        &rt,
+        Stop::NotCreated(Refusal::BadPes),
+        1,
+        "cannot create store\n",
+    );
+    stops_with(
+        &rt,
+        Stop::NotShown(Refusal::Memory),
+        1,
+        "cannot show store\n",
+    );
     stops_with(&rt, Stop::NotSurvived, 1, "cannot survive each crash\n");
     stops_with(&rt, Stop::UnreadableScript, 2, "cannot read script\n");
     let last = Stop::MalformedLine(u64::MAX);
