@@ -1,0 +1,60 @@
+//! Embeds the engine: a store of objects of our own ends, and comes back from its disk.
+#![tactic(auto)]
+
+ghost use Rattle.charmlet_disk.specs.Disk.{IsSettled};
+
+mod noisy;
+
+use anyhow::{Context, Result, bail};
+use charmlet_disk::{Disk, FileDisk, MemDisk};
+use charmlet_engine::Engine;
+use charmlet_model::{CONSTRUCT, Elem, Kind, Manifest, Step};
+use charmlet_recover::{manifest, stock_of};
+use charmlet_requests::Passes;
+use noisy::{ADD, blanks};
+
+/// Client 7 makes a counter with 5 and adds 3, and asks again after a restart from the disk.
+fn live_twice<D: Disk>(rt: HostRuntime, disk: D) -> Result<()>
+    requires { D.honest disk → IsSettled (D.file disk) }
+{
+    let alloc = rt.alloc();
+    let arrays = Manifest::of(alloc, &[(0, Kind::Counter.number())])?.context("no such arrays")?;
+    let mut engine = match Engine::create(alloc, disk, arrays, 1) {
+        Ok(engine) => engine,
+        Err(refused) => bail!("no new store: {}", refused.refusal),
+    };
+    engine.supply(blanks(rt, 1)?).ok().context("no memory")?;
+    let mut pass = engine.lend(&mut Passes::new(alloc), 7)?;
+    let counter = Elem { array: 0, index: 0 };
+    engine.request(&mut pass, 1, counter, CONSTRUCT, &[5])?;
+    let told = engine.request(&mut pass, 2, counter, ADD, &[3])?;
+    println!(rt; "request 2: {told}")?;
+    let mut steps = Vec::new(alloc);
+    for id in engine.pending()? {
+        steps.push(Step::Deliver { processor: 0, id })?;
+    }
+    steps.push(Step::Flush)?;
+    for answer in engine.run(&steps)? {
+        println!(rt; "{answer}")?;
+    }
+    println!(rt; "request 2: {}", engine.status(&mut pass, 2)?)?;
+    let mut disk = engine.into_disk();
+    let wanted = manifest(alloc, &mut disk)?.wanted.of(Kind::Counter);
+    let Ok(stock) = stock_of(alloc, blanks(rt, wanted)?) else {
+        bail!("no memory");
+    };
+    match Engine::restart(alloc, disk, stock, 1) {
+        Ok(mut engine) => println!(rt; "request 2, restarted: {}", engine.tell(7, 2)?)?,
+        Err(refused) => bail!("no store comes back: {}", refused.refusal),
+    }
+    Ok(())
+}
+
+fn main(rt: HostRuntime) -> Result<()> {
+    let words: Vec<String> = std::env::args(&rt)?.collect(rt.alloc())?;
+    match words.as_slice() {
+        [_] => live_twice(rt, MemDisk::new(rt.alloc())),
+        [_, folder] => live_twice(rt, FileDisk::new(rt, folder.as_str())?),
+        _ => bail!("name one folder, or none"),
+    }
+}
