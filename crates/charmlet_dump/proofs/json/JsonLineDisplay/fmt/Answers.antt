@@ -1,0 +1,7 @@
+use Rattle.std.proofs.Common.{append_assoc}
+use Rattle.std.proofs.Output.{has_written_of_eq}
+use Rattle.charmlet_dump.proofs.json.JsonLineDisplay.fmt.Goals as goal
+
+pub returns-in-Array-clause-writes : goal.returns-in-Array-clause-writes
+returns-in-Array-clause-writes g c plain ok =
+    rw c.in-Array.is (has_written_of_eq _ _ _ _ _ (simp append_assoc) (c.write-in-Array.ensures.writes plain ok))

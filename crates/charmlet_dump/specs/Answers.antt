@@ -1,0 +1,42 @@
+-- What is found in two halves, or why nothing is.
+use Rattle.std.specs.Prelude.{◌≡◌, ℕ, true, false, Result, Ok, Err}
+use Rattle.charmlet_model.specs.declared.half.Half.{Half}
+use Rattle.charmlet_model.specs.declared.refusal.Refusal.{Refusal}
+use Rattle.charmlet_model.specs.declared.refusal.Refusal.TheVariants as refusals
+use Rattle.charmlet_disk.specs.File.{File, Outcome}
+use Rattle.charmlet_halves.specs.Answers.{is_finding_refusal}
+use Rattle.charmlet_locate.specs.Locations.{is_processor_count}
+use Rattle.charmlet_recovery.specs.Recovered as files
+use Rattle.charmlet_recovery.specs.Recovered.{Recovered, recovered}
+use Rattle.charmlet_dump.specs.declared.finding.Found.{Found}
+
+-- what a read of each half gives
+abbrev pub read_of : (Half → File) → Outcome
+read_of files half = (files half).now
+
+-- a world is found, or a refusal is answered, as two halves recover to it, unless memory is refused
+-- or the device fails
+abbrev pub Comes : Recovered → Result Found Refusal → Type 0
+Comes r (Ok found) = r ≡ files.Found found.world found.events found.generation
+Comes r (Err (refusals.Damaged half offset)) = r ≡ files.Damaged half offset
+Comes r (Err refusals.NothingHere) = r ≡ files.Nothing
+Comes r (Err refusals.Memory) = Unit {0}
+Comes r (Err refusals.Device) = Unit {0}
+Comes r (Err refusal) = ⊥
+
+-- the number of processors is refused, where and only where there aren't 1 to 64; else what these
+-- bytes recover to is answered
+abbrev pub IsAnswer : ℕ → Outcome → Result Found Refusal → Type 0
+IsAnswer processors outcome (Err refusals.BadPes) = is_processor_count processors ≡ false
+IsAnswer processors outcome answer = (is_processor_count processors ≡ true)
+    × Comes (recovered outcome) answer
+
+-- on any disk, what is found is what the bytes of some halves recover to
+abbrev pub IsRecovered : Found → Type 0
+IsRecovered found = (outcome : Outcome)
+    × (recovered outcome ≡ files.Found found.world found.events found.generation)
+
+-- on any disk, it is refused for the number of processors, or else for a fault
+abbrev pub IsRefusal : ℕ → Refusal → Type 0
+IsRefusal processors refusals.BadPes = is_processor_count processors ≡ false
+IsRefusal processors refusal = (is_processor_count processors ≡ true) × (is_finding_refusal refusal ≡ true)

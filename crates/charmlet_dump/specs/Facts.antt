@@ -1,0 +1,66 @@
+-- What a dump says of a world, fact by fact.
+use Rattle.std.specs.Prelude.{ℕ, ◌+◌, List, [], ◌∷◌, ◌++◌, Option, option_copied}
+use Rattle.std.specs.List.{flat_map}
+use Rattle.charmlet_model.specs.declared.client.ClientRow.{ClientRow}
+use Rattle.charmlet_model.specs.declared.kind.Kind.{Kind}
+use Rattle.charmlet_model.specs.declared.message.Message.{Message}
+use Rattle.charmlet_model.specs.declared.names.Elem.{Elem}
+use Rattle.charmlet_model.specs.declared.refusal.Refusal.{Refusal}
+use Rattle.charmlet_model.specs.declared.state.Record.{Record}
+use Rattle.charmlet_model.specs.Core.{home}
+use Rattle.charmlet_model.specs.Row.{Item, below}
+use Rattle.charmlet_model.specs.World.{World}
+use Rattle.charmlet_dump.specs.declared.lines.Fact as lines
+
+-- a generation and how many events there were; an array and its kind; an element, its home and what
+-- is kept of it; a pending message; a client and the number of its last request; a request of its
+-- window and the reply, if there is one; why nothing is dumped
+pub data Fact : Type 0 where
+  Store : (generation events : ℕ) → Fact
+  Array : ℕ → Kind → Fact
+  Element : Elem → (home : ℕ) → Record → Fact
+  Pending : Message → Fact
+  Client : (client last : ℕ) → Fact
+  Request : (client number : ℕ) → Item → Fact
+  Refused : Refusal → Fact
+
+-- the fact that the code's value says
+abbrev pub fact_in : lines.Fact → Fact
+fact_in (lines.TheVariants.Store generation events) = Store generation events
+fact_in (lines.TheVariants.Array array kind) = Array array kind
+fact_in (lines.TheVariants.Element elem home kept) = Element elem home kept.now
+fact_in (lines.TheVariants.Pending message) = Pending message.now
+fact_in (lines.TheVariants.Client client last) = Client client last
+fact_in (lines.TheVariants.Request client number reply) =
+    Request client number (option_copied reply)
+fact_in (lines.TheVariants.Refused refusal) = Refused refusal
+
+-- the requests of a window after these many
+abbrev pub window_facts : (client below : ℕ) → List Item → List Fact
+window_facts client below [] = []
+window_facts client below (item ∷ items) =
+    Request client (below + 1) item ∷ window_facts client (below + 1) items
+
+-- an array
+abbrev pub array_facts : ℕ × Kind → List Fact
+array_facts e = Array e.0 e.1 ∷ []
+
+-- an element, on so many processors
+abbrev pub element_facts : ℕ → Elem × Record → List Fact
+element_facts processors e = Element e.0 (home e.0 processors) e.1 ∷ []
+
+-- a pending message
+abbrev pub pending_facts : Message → List Fact
+pending_facts m = Pending m ∷ []
+
+-- a client, and the requests of its window
+abbrev pub client_facts : ℕ × ClientRow → List Fact
+client_facts e = Client e.0 e.1.last ∷ window_facts e.0 (below e.1) e.1.window
+
+-- all of a world that came of so many events, from an image of this generation
+abbrev pub world_facts : (processors generation events : ℕ) → World → List Fact
+world_facts processors generation events w =
+    Store generation events ∷ []
+    ++ (flat_map array_facts w.manifest
+    ++ (flat_map (element_facts processors) w.records
+    ++ (flat_map pending_facts w.pending ++ flat_map client_facts w.clients)))

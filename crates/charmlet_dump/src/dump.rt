@@ -1,0 +1,63 @@
+//! The dump of a store that is in two halves.
+
+ghost use Rattle.std.specs.Prelude.{◌≡◌, IfErr, IfOk, Result};
+ghost use Rattle.charmlet_disk.specs.Disk.{LeavesOnly, SameFiles, faults_after};
+ghost use Rattle.charmlet_disk.specs.File.{MayLeave};
+ghost use Rattle.charmlet_halves.specs.Answers.{is_no_failure};
+ghost use Rattle.charmlet_model.specs.declared.refusal.Refusal as refusals;
+ghost use Rattle.charmlet_dump.specs.Answers.{IsAnswer, IsRecovered, IsRefusal, read_of};
+ghost use Rattle.charmlet_dump.specs.Dump.{IsSaid};
+ghost use Rattle.charmlet_dump.specs.declared.finding.Found as findings;
+
+use crate::dumping::write_world;
+use crate::finding::find;
+use crate::writing::{Form, write_refusal};
+use charmlet_disk::Disk;
+use charmlet_model::Refusal;
+use std::alloc::Global;
+use std::io;
+use std::io::Write;
+
+/// Why a store isn't dumped.
+#[derive(Debug, Drop)]
+pub enum DumpError {
+    /// Nothing is found, for this reason, whose line is all that was written.
+    Refused(Refusal),
+    /// A line couldn't be written: the output failed, or memory for the line's text was refused. A beginning of what is
+    /// dumped was written.
+    Output(io::Error),
+}
+
+/// Dumps the store that is in the two halves of a disk, in this form: what `find` finds, each element at its home on so
+/// many processors. It only reads the disk.
+///
+/// Where nothing is found the refusal's line is written, as `find` has it. `DumpError` says what each error means.
+pub fn dump_store<D: Disk, W: Write>(
+    alloc: Global,
+    disk: &mut D,
+    processors: u16,
+    form: Form,
+    writer: &mut W,
+) -> Result<(), DumpError>
+    ensures dumped { (answer : Result findings.Found refusals.Refusal) × IfOk answer IsRecovered
+        × IfErr answer (IsRefusal processors)
+        × (D.honest disk.old → IsAnswer processors (read_of (D.file disk.old)) answer)
+        × (D.faults disk.new ≡ faults_after (is_no_failure answer) (D.faults disk.old))
+        × IsSaid form processors answer result (W.contents writer.old) (W.contents writer.new) }
+    ensures same { D.honest disk.old → SameFiles (D.file disk.old) (D.file disk.new) }
+    ensures any_moment { D.honest disk.old →
+        LeavesOnly D.moment D.since disk.old disk.new (MayLeave (D.file disk.old)) }
+    ensures honest { (D.honest disk.old → D.honest disk.new)
+        × (D.honest disk.new → D.honest disk.old) }
+{
+    match find(alloc, disk, processors) {
+        Ok(found) => match write_world(alloc, writer, form, processors, &found) {
+            Ok(()) => Ok(()),
+            Err(error) => Err(DumpError::Output(error)),
+        },
+        Err(refusal) => match write_refusal(alloc, writer, form, refusal) {
+            Ok(()) => Err(DumpError::Refused(refusal)),
+            Err(error) => Err(DumpError::Output(error)),
+        },
+    }
+}
