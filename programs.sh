@@ -63,6 +63,14 @@ is_proved() {
   touch "$seal" 2>/dev/null || true
 }
 
+# A folder's path from the root on.
+from_root() {
+  case $1 in
+    /*) echo "$1" ;;
+    *) echo "$PWD/$1" ;;
+  esac
+}
+
 # Says on standard error, where that is a terminal, how long a quick build has taken, until it is stopped.
 tell_compiling() {
   local seconds=0
