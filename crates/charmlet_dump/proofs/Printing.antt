@@ -87,8 +87,7 @@ module _ {X : Type 0} (line : X → Text) where
   breaks_off a b c all rest these next so_far is here =
       let done = flat_map line so_far.done in
       let whole : flat_map line all ≡ done ++ (flat_map line these ++ flat_map line next) =
-      ap (flat_map line) (so_far.split ∙ ap (λ xs. so_far.done ++ xs) is) ∙ flat_map-append line so_far.done (these ++ next) ∙ ap (λ text. done ++ text) (flat_map-append line these next) in
-      (
+      ap (flat_map line) (so_far.split ∙ ap (λ xs. so_far.done ++ xs) is) ∙ flat_map-append line so_far.done (these ++ next) ∙ ap (λ text. done ++ text) (flat_map-append line these next) in (
         done ++ here.0,
         here.1 ++ flat_map line next,
         whole ∙ ap (λ text. done ++ (text ++ flat_map line next)) here.2 ∙ ap (λ text. done ++ text) (append_assoc here.0 here.1 (flat_map line next)) ∙ sym (append_assoc done here.0 (here.1 ++ flat_map line next)),

@@ -161,11 +161,7 @@ fn await_number<'a>(asked: Asked<'a>, word: &'a str) -> Result<Asked<'a>, BadLin
 }
 
 /// These digits are the number of processors.
-fn read_number<'a>(
-    asked: Asked<'a>,
-    word: &'a str,
-    digits: &[u8],
-) -> Result<Asked<'a>, BadLine<'a>>
+fn read_number<'a>(asked: Asked<'a>, word: &'a str, digits: &[u8]) -> Result<Asked<'a>, BadLine<'a>>
     ensures { asked_or_bad result
         ≡ with_number (asked_in asked.entry) word.entry.now (number_of digits.now) }
 {

@@ -130,7 +130,10 @@ impl<'a> fmt::Display for JsonState<'a> {
                 "\"kind\":\"ring\",\"state\":{{\"next\":{next},\"seen\":{seen}}}"
             ),
             State::Account { balance } => {
-                write!(f, "\"kind\":\"account\",\"state\":{{\"balance\":{balance}}}")
+                write!(
+                    f,
+                    "\"kind\":\"account\",\"state\":{{\"balance\":{balance}}}"
+                )
             }
             State::Sum {
                 want,

@@ -7,9 +7,15 @@ use std::fmt;
 #[derive(Clone, Copy)]
 pub enum Fact<'a> {
     /// The generation of the image that is taken, and how many events led to the world.
-    Store { generation: u64, events: u64 },
+    Store {
+        generation: u64,
+        events: u64,
+    },
     /// An array, and its kind.
-    Array { array: u16, kind: Kind },
+    Array {
+        array: u16,
+        kind: Kind,
+    },
     /// What is kept of an element, and its home.
     Element {
         elem: Elem,
@@ -17,9 +23,14 @@ pub enum Fact<'a> {
         kept: &'a Record,
     },
     /// A pending message.
-    Pending { message: &'a Message },
+    Pending {
+        message: &'a Message,
+    },
     /// A client, and the number of its last request.
-    Client { client: u32, last: u64 },
+    Client {
+        client: u32,
+        last: u64,
+    },
     /// A request of a client's window, and the reply to it, if there is one.
     Request {
         client: u32,
@@ -27,7 +38,9 @@ pub enum Fact<'a> {
         reply: Option<&'a Words>,
     },
     /// Why nothing is dumped.
-    Refused { refusal: Refusal },
+    Refused {
+        refusal: Refusal,
+    },
 }
 
 /// A kind by its name.

@@ -67,11 +67,7 @@ fn write_memory_refused<W: Write>(writer: &mut W, form: Form) -> io::Result<()>
 }
 
 /// Writes a line and its line feed.
-fn write_line<T: fmt::Display, W: Write>(
-    alloc: Global,
-    writer: &mut W,
-    line: &T,
-) -> io::Result<()>
+fn write_line<T: fmt::Display, W: Write>(alloc: Global, writer: &mut W, line: &T) -> io::Result<()>
     ensures { IfSome (T.output line.now)
         (λ text. Writes result (W.contents writer.old) (W.contents writer.new)
         (text ++ 10 ∷ [])) }
