@@ -1,7 +1,6 @@
 -- What one half recovers to, and why nothing is found.
-use Rattle.std.proofs.Common.{◌≡◌, ℕ, Bool, true, false, List, [], refl, sym, ap, subst, ◌∙◌, length}
+use Rattle.std.proofs.Common.{◌≡◌, ℕ, true, List, [], ap, length}
 use Rattle.std.specs.Prelude.{Result, Ok, Err, IfErr}
-use Rattle.charmlet_model.specs.declared.half.Half.{Half}
 use Rattle.charmlet_model.specs.declared.half.Half.TheVariants.{Zero, One}
 use Rattle.charmlet_model.specs.declared.refusal.Refusal.{Refusal}
 use Rattle.charmlet_model.specs.declared.refusal.Refusal.TheVariants as refusals
@@ -9,7 +8,7 @@ use Rattle.charmlet_disk.specs.File.{Outcome}
 use Rattle.charmlet_image.specs.Images.{Saved}
 use Rattle.charmlet_image.specs.Halves.{Top, Shut, Begun, Broken, Taken, Takes, Open, choice, found, found_from, taken, taken_half, top}
 use Rattle.charmlet_halves.specs.Answers.{is_finding_refusal}
-use Rattle.charmlet_halves.specs.Found.{Refuses, Finds}
+use Rattle.charmlet_halves.specs.Found.{Finds}
 use Rattle.charmlet_locate.specs.Locations.{is_processor_count}
 use Rattle.charmlet_plain_recovery.specs.Views.{files}
 use Rattle.charmlet_recovery.specs.Recovered.{recovered, recovered_from}

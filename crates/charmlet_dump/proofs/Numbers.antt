@@ -1,5 +1,5 @@
 -- Numbers, digit after digit.
-use Rattle.std.proofs.Common.{◌≡◌, ◌+◌, ◌<◌, ◌∙◌, ℕ, List, [], ◌∷◌, drop, get_or, length, refl, ap}
+use Rattle.std.proofs.Common.{◌≡◌, ◌+◌, ◌<◌, ℕ, List, [], ◌∷◌, drop, get_or, length, refl, ap}
 use Rattle.std.specs.Prelude.{None, Some}
 use Rattle.std.proofs.lemmas.List.{drop_more}
 use Rattle.charmlet_dump.specs.Arguments.{next_number, number_after}

@@ -39,4 +39,5 @@ IsRecovered found = (outcome : Outcome)
 -- on any disk, it is refused for the number of processors, or else for a fault
 abbrev pub IsRefusal : ℕ → Refusal → Type 0
 IsRefusal processors refusals.BadPes = is_processor_count processors ≡ false
-IsRefusal processors refusal = (is_processor_count processors ≡ true) × (is_finding_refusal refusal ≡ true)
+IsRefusal processors refusal =
+    (is_processor_count processors ≡ true) × (is_finding_refusal refusal ≡ true)

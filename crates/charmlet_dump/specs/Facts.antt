@@ -1,5 +1,5 @@
 -- What a dump says of a world, fact by fact.
-use Rattle.std.specs.Prelude.{ℕ, ◌+◌, List, [], ◌∷◌, ◌++◌, Option, option_copied}
+use Rattle.std.specs.Prelude.{ℕ, ◌+◌, List, [], ◌∷◌, ◌++◌, option_copied}
 use Rattle.std.specs.List.{flat_map}
 use Rattle.charmlet_model.specs.declared.client.ClientRow.{ClientRow}
 use Rattle.charmlet_model.specs.declared.kind.Kind.{Kind}

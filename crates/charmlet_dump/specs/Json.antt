@@ -50,8 +50,9 @@ json_state (Ring next seen) =
 json_state (Account balance) =
     codes "\"kind\":\"account\",\"state\":{\"balance\":" ++ decimal balance ++ codes "}"
 json_state (Sum want got total up) =
-    codes "\"kind\":\"sum\",\"state\":{\"want\":" ++ decimal want ++ codes ",\"got\":" ++ decimal got
-    ++ codes ",\"total\":" ++ decimal total ++ codes ",\"up\":" ++ decimal up ++ codes "}"
+    codes "\"kind\":\"sum\",\"state\":{\"want\":" ++ decimal want
+    ++ codes ",\"got\":" ++ decimal got ++ codes ",\"total\":" ++ decimal total
+    ++ codes ",\"up\":" ++ decimal up ++ codes "}"
 json_state (Tree depth) =
     codes "\"kind\":\"tree\",\"state\":{\"depth\":" ++ decimal depth ++ codes "}"
 json_state (Tape items) =

@@ -32,7 +32,8 @@ plain_state (Tape items) = codes "tape items" ++ words_text items
 
 -- how many messages an element sent and received
 abbrev pub plain_counts : (sent received : ℕ) → Text
-plain_counts sent received = codes " sent " ++ decimal sent ++ codes " received " ++ decimal received
+plain_counts sent received =
+    codes " sent " ++ decimal sent ++ codes " received " ++ decimal received
 
 -- element A.I pe P sent S received R K F.., or element A.I none sent S received R of one that isn't
 -- there
@@ -53,12 +54,15 @@ abbrev pub plain_text : Fact → Text
 plain_text (Store generation events) =
     codes "store generation " ++ decimal generation ++ codes " events " ++ decimal events
 plain_text (Array array kind) =
-    codes "array " ++ decimal array ++ codes " kind " ++ kind_text kind ++ codes " " ++ kind_name kind
+    codes "array " ++ decimal array ++ codes " kind " ++ kind_text kind ++ codes " "
+    ++ kind_name kind
 plain_text (Element elem home kept) = plain_element elem home kept.state kept.sent kept.received
 plain_text (Pending m) =
     codes "pending " ++ id_text m.id ++ codes " to " ++ elem_text m.to
     ++ codes " entry " ++ decimal m.entry ++ codes " words" ++ words_text m.words
-plain_text (Client client last) = codes "client " ++ decimal client ++ codes " last " ++ decimal last
+plain_text (Client client last) =
+    codes "client " ++ decimal client ++ codes " last " ++ decimal last
 plain_text (Request client number item) =
-    codes "request " ++ decimal client ++ codes " " ++ decimal number ++ codes " " ++ plain_item item
+    codes "request " ++ decimal client ++ codes " " ++ decimal number ++ codes " "
+    ++ plain_item item
 plain_text (Refused refusal) = answer_text (answers.Refused refusal)

@@ -42,7 +42,8 @@ Exit status:
   1  the store could not be dumped, or memory or the output failed
   2  a bad command line, or a call for help";
 
-/// What a command line asks for: a dump of the store in this folder, each element at its home on so many processors.
+/// What a command line asks for: a dump of the store in this folder, each element at its home on so
+/// many processors.
 #[derive(Clone, Copy)]
 pub struct Request<'a> {
     pub folder: &'a str,
@@ -79,8 +80,9 @@ struct Asked<'a> {
     awaits_number: bool,
 }
 
-/// What the words ask for, of which the first is the program's name: `DIR [--pes N] [--json]`, in any order; `--pes=N` is
-/// the same as `--pes N`. Without `--pes` there is one processor. The first word that doesn't belong there is named.
+/// What the words ask for, of which the first is the program's name: `DIR [--pes N] [--json]`, in
+/// any order; `--pes=N` is the same as `--pes N`. Without `--pes` there is one processor. The first
+/// word that doesn't belong there is named.
 pub fn arguments_of<'a, S: AsStr>(words: &'a [S]) -> Result<Request<'a>, BadLine<'a>>
     ensures { request_or_bad result ≡ arguments_of (map S.text words.entry.now) }
 {

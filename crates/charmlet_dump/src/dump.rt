@@ -23,15 +23,16 @@ use std::io::Write;
 pub enum DumpError {
     /// Nothing is found, for this reason, whose line is all that was written.
     Refused(Refusal),
-    /// A line couldn't be written: the output failed, or memory for the line's text was refused. A beginning of what is
-    /// dumped was written.
+    /// A line couldn't be written: the output failed, or memory for the line's text was refused. A
+    /// beginning of what is dumped was written.
     Output(io::Error),
 }
 
-/// Dumps the store that is in the two halves of a disk, in this form: what `find` finds, each element at its home on so
-/// many processors. It only reads the disk.
+/// Dumps the store that is in the two halves of a disk, in this form: what `find` finds, each
+/// element at its home on so many processors. It only reads the disk.
 ///
-/// Where nothing is found the refusal's line is written, as `find` has it. `DumpError` says what each error means.
+/// Where nothing is found the refusal's line is written, as `find` has it. `DumpError` says what
+/// each error means.
 pub fn dump_store<D: Disk, W: Write>(
     alloc: Global,
     disk: &mut D,

@@ -18,9 +18,10 @@ use std::collections::BTreeMap;
 use std::io;
 use std::io::Write;
 
-/// Writes all that is found: the generation and the count of events, then the arrays, the elements, the pending messages
-/// and the clients with their windows. Each element that is there is shown at its home on so many processors. An
-/// error is as `write_fact` has it, and the lines before that one stay written.
+/// Writes all that is found: the generation and the count of events, then the arrays, the elements,
+/// the pending messages and the clients with their windows. Each element that is there is shown at
+/// its home on so many processors. An error is as `write_fact` has it, and the lines before that
+/// one stay written.
 pub fn write_world<W: Write>(
     alloc: Global,
     writer: &mut W,

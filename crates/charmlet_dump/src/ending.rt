@@ -98,9 +98,9 @@ impl<'a> From<io::Error> for Failure<'a> {
     }
 }
 
-/// Says on `errors`, the program's standard error, why there is no dump, if there is none. Gives the exit status, and whether
-/// that could be said: 0 where the store was dumped, and else that of the failure. The status is the same where
-/// `errors` fails.
+/// Says on `errors`, the program's standard error, why there is no dump, if there is none. Gives
+/// the exit status, and whether that could be said: 0 where the store was dumped, and else that of
+/// the failure. The status is the same where `errors` fails.
 pub fn end_program<W: Write>(ran: &Result<(), Failure<'_>>, errors: &mut W) -> (u8, io::Result<()>)
     ensures status { result.0 ≡ exit_status ran.now }
     ensures said { OnOk result.1 (IfErr ran.now

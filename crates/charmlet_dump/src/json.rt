@@ -142,7 +142,8 @@ impl<'a> fmt::Display for JsonState<'a> {
                 up,
             } => write!(
                 f,
-                "\"kind\":\"sum\",\"state\":{{\"want\":{want},\"got\":{got},\"total\":{total},\"up\":{up}}}"
+                "\"kind\":\"sum\",\"state\":{{\"want\":{want},\"got\":{got},\
+                 \"total\":{total},\"up\":{up}}}"
             ),
             State::Tree { depth } => {
                 write!(f, "\"kind\":\"tree\",\"state\":{{\"depth\":{depth}}}")
@@ -155,7 +156,8 @@ impl<'a> fmt::Display for JsonState<'a> {
     }
 }
 
-/// Writes the keys from the place on. An element that isn't there has no place, no kind and no state.
+/// Writes the keys from the place on. An element that isn't there has no place, no kind and no
+/// state.
 impl<'a> fmt::Display for JsonRecord<'a> {
     ghost use Rattle.std.specs.Prelude.{Some};
     ghost use Rattle.charmlet_dump.specs.Json.{json_record};
@@ -220,7 +222,8 @@ impl<'a> fmt::Display for JsonReply<'a> {
     }
 }
 
-/// Writes the keys: the refusal's number and its name, and where a half is damaged that half and the offset.
+/// Writes the keys: the refusal's number and its name, and where a half is damaged that half and
+/// the offset.
 impl fmt::Display for JsonRefusal {
     ghost use Rattle.std.specs.Prelude.{Some};
     ghost use Rattle.charmlet_dump.specs.Json.{json_refusal};

@@ -1,8 +1,8 @@
-use Rattle.std.proofs.Common.{◌≡◌, ◌+◌, ◌∙◌, ap, drop, sym, subst, arith}
-use Rattle.std.specs.Prelude.{Result, Ok, Err, map}
+use Rattle.std.proofs.Common.{◌≡◌, ◌+◌, ◌∙◌, ap, drop, sym, arith}
+use Rattle.std.specs.Prelude.{Result, Err, map}
 use Rattle.charmlet_dump.specs.declared.arguments.Asked as askings
 use Rattle.charmlet_dump.specs.declared.arguments.BadLine as lines
-use Rattle.charmlet_dump.specs.Arguments.{Asked, Bad, Request, asked_all, asked_in, asked_or_bad, bad_in, finished, nothing_asked, request_or_bad, then_so}
+use Rattle.charmlet_dump.specs.Arguments.{Asked, Bad, asked_all, asked_in, asked_or_bad, bad_in, finished, nothing_asked, then_so}
 use Rattle.charmlet_dump.proofs.Wording.{bad_word, next_word}
 use Rattle.charmlet_dump.proofs.arguments.arguments_of.Goals as goal
 

@@ -1,4 +1,4 @@
-use Rattle.std.proofs.Common.{◌+◌, ◌≡◌, ◌++◌, ◌∙◌, ap, drop, get_or, subst, sym}
+use Rattle.std.proofs.Common.{◌+◌, ◌++◌, ◌∙◌, ap, drop, sym}
 use Rattle.std.specs.List.{flat_map}
 use Rattle.charmlet_model.specs.declared.message.Message.{Message}
 use Rattle.charmlet_dump.specs.Facts.{pending_facts}

@@ -1,7 +1,7 @@
-use Rattle.std.proofs.Common.{◌+◌, ◌≡◌, ◌++◌, ◌∙◌, ℕ, List, [], ◌∷◌, ap, drop, sym, arith}
+use Rattle.std.proofs.Common.{◌+◌, ◌≡◌, ◌∙◌, ℕ, [], ◌∷◌, ap, drop, sym, arith}
 use Rattle.std.specs.Prelude.{None, option_copied, slice_index_or}
 use Rattle.charmlet_model.specs.Row.{Item, below}
-use Rattle.charmlet_dump.specs.Facts.{Fact, Request, window_facts}
+use Rattle.charmlet_dump.specs.Facts.{Request, window_facts}
 use Rattle.charmlet_dump.specs.Lines.{fact_line, lines_of}
 use Rattle.charmlet_dump.proofs.Printing.{beginning_written, breaks_off, goes_on, window_left}
 use Rattle.charmlet_dump.proofs.dumping.write_window.Goals as goal

@@ -9,7 +9,7 @@ use Rattle.charmlet_model.specs.declared.state.Record.{Record}
 use Rattle.charmlet_dump.specs.Facts.{Fact, Store, array_facts, client_facts, element_facts, pending_facts}
 use Rattle.charmlet_dump.specs.Lines.{fact_line, lines_of}
 use Rattle.charmlet_dump.specs.Writing.{AppendsBeginning, Writes}
-use Rattle.charmlet_dump.proofs.Printing.{IsUnderWay, beginning_written, begun, breaks_off, ends_so, goes_on}
+use Rattle.charmlet_dump.proofs.Printing.{beginning_written, begun, breaks_off, ends_so, goes_on}
 use Rattle.charmlet_dump.proofs.dumping.write_world.Goals as goal
 
 pub returns-in_err-write_fact : goal.returns-in_err-write_fact

@@ -1,8 +1,7 @@
-use Rattle.std.proofs.Common.{◌≡◌, sym, ap, subst, ◌∙◌, [], List, ℕ}
+use Rattle.std.proofs.Common.{◌≡◌, ap, subst, ◌∙◌, [], List, ℕ}
 use Rattle.std.specs.Prelude.{IfOk}
-use Rattle.charmlet_image.specs.Halves.{Open, Takes, found}
 use Rattle.charmlet_plain_recovery.specs.Views.{files, seen}
-use Rattle.charmlet_recovery.specs.Recovered.{recovered, recovered_from}
+use Rattle.charmlet_recovery.specs.Recovered.{recovered}
 use Rattle.charmlet_dump.proofs.Findings.{alone_one, alone_zero}
 use Rattle.charmlet_dump.proofs.finding.recover_taken.Goals as goal
 
