@@ -24,8 +24,8 @@ impl AnyDisk {
     ghost use Rattle.charmlet_disk.specs.Disk.{IsSettled};
     ghost use Rattle.charmlet_disk.specs.File.{MayLeave, clean};
 
-    /// A disk over the two files of the folder at this path, with no failure counted. The error is that there is no memory for
-    /// the path.
+    /// A disk over the two files of the folder at this path, with no failure counted. The error is
+    /// that there is no memory for the path.
     pub fn folder(rt: HostRuntime, path: &str) -> Result<AnyDisk, AllocError>
         ensures folder { IfOk result IsFolder }
         ensures faults { IfOk result (λ disk. faults_of disk ≡ 0) }
@@ -43,7 +43,8 @@ impl AnyDisk {
         AnyDisk::Memory(MemDisk::new(alloc))
     }
 
-    /// An empty disk in memory that passes so many writes and syncs, and then fails each, with no failure counted.
+    /// An empty disk in memory that passes so many writes and syncs, and then fails each, with no
+    /// failure counted.
     pub fn failing(alloc: Global, calls: u64) -> AnyDisk
         ensures honest { is_honest result }
         ensures files { (half : _) → files_of result half ≡ clean [] }
@@ -53,8 +54,8 @@ impl AnyDisk {
         AnyDisk::Failing(FuseDisk::new(MemDisk::new(alloc), calls))
     }
 
-    /// What a crash leaves of a disk in memory, by its choice: a disk in memory that doesn't fail by itself, of which all is sure. A
-    /// folder's disk stays as it is.
+    /// What a crash leaves of a disk in memory, by its choice: a disk in memory that doesn't fail
+    /// by itself, of which all is sure. A folder's disk stays as it is.
     pub fn crash(self, choice: CrashChoice) -> AnyDisk
         ensures left { is_honest self → (half : _) →
             files_of result half ≡ clean (left_by choice (files_of self half)) }

@@ -1,4 +1,5 @@
-//! One type for each disk that the program runs its engine over: a folder's files, memory, or memory that fails from some call on.
+//! One type for the disks that the program runs its engine over: a folder's files, memory, or
+//! memory that fails from some call on.
 #![tactic(auto)]
 
 mod any_disk;

@@ -1,4 +1,4 @@
--- What a run over a disk that fails leaves.
+-- What a run over a disk that may fail leaves.
 use Rattle.std.specs.Prelude.{◌≡◌, ◌⊎◌, ◌≤◌, ⊤, ℕ, false, List, [], length, Option, Some, None, IfSome, IsSome, unwrap_or}
 use Rattle.charmlet_model.specs.declared.event.Event.{Event}
 use Rattle.charmlet_model.specs.declared.half.Half.TheVariants.{Zero, One}

@@ -1,4 +1,4 @@
-//! A run of a script over a disk that fails from some call on.
+//! A run of a script over a disk that may fail.
 
 ghost use Rattle.std.specs.Prelude.{◌≡◌, ◌≤◌, ◌+◌, true, IfErr, IfOk};
 ghost use Rattle.charmlet_model.specs.declared.kind.Kind as kinds;
@@ -16,7 +16,7 @@ ghost use Rattle.charmlet_engine.specs.Engine.{IsEngineConsistent};
 ghost use Rattle.charmlet_lab.specs.Rounds.{IsNotRun, IsRound, arrays_of, needed_by};
 
 use charmlet_chare::Chare;
-use charmlet_disk::{Disk, FuseDisk};
+use charmlet_disk::Disk;
 use charmlet_engine::Engine;
 use charmlet_halves::Refused;
 use charmlet_history::Request;
@@ -27,10 +27,10 @@ use charmlet_script::{HandlerLine, Line, Script};
 use charmlet_stock::Stock;
 use std::alloc::{AllocError, Global};
 
-/// What a run leaves whose disk failed from some call on.
+/// What a run leaves.
 #[derive(Drop)]
 pub struct Round<D: Disk> {
-    /// The disk, which from that call on nothing was written to.
+    /// The disk, as the run left it.
     pub disk: D,
     /// The events of the run, in order.
     pub events: Vec<Event>,
@@ -40,19 +40,20 @@ pub struct Round<D: Disk> {
     pub is_stopped: bool,
 }
 
-/// Runs a script over a disk that fails from some call on: it passes so many writes and syncs. `blanks` are the objects that the
-/// script's lines supply. Nothing is printed, and the lines after the failure aren't run. The disk has to be settled.
+/// Runs a script over a disk, which may fail at some call: each step after that is refused.
+/// `blanks` are the objects that the script's lines supply. Nothing is printed. The disk has to be
+/// settled.
 ///
-/// On an honest disk on which no store was, each crash after the run leaves files that recover to the world after some of
-/// the events, with all that were durable among them; where the store wasn't said to be made, to nothing or to the new store.
+/// On an honest disk on which no store was, each crash after the run leaves files that recover to
+/// the world after some of the events, with all that were durable among them; where the store
+/// wasn't said to be made, to nothing or to the new store.
 ///
-/// `BlanksWanted` where the script's lines supply more blanks of a kind than there are, with the least such kind and all that they
-/// supply of it; `BadPes` where the script's number of processors isn't 1 to 64; `AlreadyHere` where a half of the disk is open;
-/// `Memory`.
+/// `BlanksWanted` where the script's lines supply more blanks of a kind than there are, with the
+/// least such kind and all that they supply of it; `BadPes` where the script's number of processors
+/// isn't 1 to 64; `AlreadyHere` where a half of the disk is open; `Memory`.
 pub fn lab_round<D: Disk, C: Chare>(
     alloc: Global,
     script: &Script,
-    calls: u64,
     blanks: Vec<C>,
     disk: D,
 ) -> Result<Round<D>, Refusal>
@@ -71,8 +72,7 @@ pub fn lab_round<D: Disk, C: Chare>(
     if let Some(lack) = lacking(&source, &supplied_by(script)) {
         return Err(lack);
     }
-    let fuse = FuseDisk::new(disk, calls);
-    match Engine::create(alloc, fuse, manifest, script.processors()) {
+    match Engine::create(alloc, disk, manifest, script.processors()) {
         Ok(mut engine) => {
             engine.note_events();
             run_lines(&mut engine, &handlers, &mut source, script.lines());
@@ -83,7 +83,7 @@ pub fn lab_round<D: Disk, C: Chare>(
             let durable = Some(engine.durable());
             let is_stopped = engine.is_halted();
             Ok(Round {
-                disk: engine.into_disk().inner(),
+                disk: engine.into_disk(),
                 events,
                 durable,
                 is_stopped,
@@ -95,7 +95,7 @@ pub fn lab_round<D: Disk, C: Chare>(
                 disk,
             },
         ) => Ok(Round {
-            disk: disk.inner(),
+            disk,
             events: Vec::new(alloc),
             durable: None,
             is_stopped: true,

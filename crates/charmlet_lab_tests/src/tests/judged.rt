@@ -1,7 +1,8 @@
 //! Restarts that are held against other events than those of their run.
 
 use super::trials::{blanks, is_bad};
-use charmlet_disk::{CrashChoice, MemDisk};
+use charmlet_any_disk::AnyDisk;
+use charmlet_disk::CrashChoice;
 use charmlet_lab::{Round, lab_round};
 use charmlet_script::{Script, read_script};
 use std::alloc::AllocGlobal;
@@ -23,7 +24,8 @@ fn held_against(
     let alloc = rt.alloc();
     let script: Script = read_script(alloc, &mut SCRIPT.as_bytes())?;
     let supplied = blanks(alloc, 1)?;
-    let round: Round<MemDisk> = lab_round(alloc, &script, calls, supplied, MemDisk::new(alloc))?;
+    let disk = AnyDisk::failing(alloc, calls);
+    let round: Round<AnyDisk> = lab_round(alloc, &script, supplied, disk)?;
     let mut made = round.events;
     made.truncate(events);
     is_bad(

@@ -1,7 +1,7 @@
 //! Scripts whose crashes are all survived, and what a disk that forgets makes of them.
 
 use super::trials::{blanks, found_forgetful, found_in_memory};
-use charmlet_disk::MemDisk;
+use charmlet_any_disk::AnyDisk;
 use charmlet_lab::{LabLine, lab_round};
 use charmlet_model::{Kind, Refusal};
 use charmlet_script::{Script, read_script};
@@ -49,13 +49,8 @@ fn each_crash_is_survived(rt: HostRuntime) -> Result<(), Fail> {
 fn durable_after(rt: &impl AllocGlobal, calls: u64) -> Result<Option<u64>, Fail> {
     let alloc = rt.alloc();
     let flushes = script(rt, FLUSHES)?;
-    let round = lab_round(
-        alloc,
-        &flushes,
-        calls,
-        blanks(alloc, 1)?,
-        MemDisk::new(alloc),
-    )?;
+    let disk = AnyDisk::failing(alloc, calls);
+    let round = lab_round(alloc, &flushes, blanks(alloc, 1)?, disk)?;
     Ok(round.durable)
 }
 
@@ -89,7 +84,7 @@ fn a_disk_that_forgets_is_found_out(rt: HostRuntime) -> Result<(), Fail> {
 fn a_trial_that_cannot_begin_says_why(rt: HostRuntime) -> Result<(), Fail> {
     let alloc = rt.alloc();
     let few = script(&rt, FLUSHES)?;
-    let round = lab_round(alloc, &few, 9, blanks(alloc, 0)?, MemDisk::new(alloc));
+    let round = lab_round(alloc, &few, blanks(alloc, 0)?, AnyDisk::memory(alloc));
     let lacks = Refusal::BlanksWanted {
         kind: Kind::Counter,
         count: 1,
@@ -97,14 +92,14 @@ fn a_trial_that_cannot_begin_says_why(rt: HostRuntime) -> Result<(), Fail> {
     assert_eq!(rt; round.err(), Some(lacks));
     // Of two kinds of which there are too few blanks the lesser one is told, with all that its lines supply.
     let fewer = script(&rt, "array 0 1\nsupply 6 9\nsupply 2 3\nsupply 2 4\n")?;
-    let round = lab_round(alloc, &fewer, 9, blanks(alloc, 5)?, MemDisk::new(alloc));
+    let round = lab_round(alloc, &fewer, blanks(alloc, 5)?, AnyDisk::memory(alloc));
     let lacks = Refusal::BlanksWanted {
         kind: Kind::Ring,
         count: 7,
     };
     assert_eq!(rt; round.err(), Some(lacks));
     let wide = script(&rt, "array 0 1\npes 65\n")?;
-    let round = lab_round(alloc, &wide, 9, blanks(alloc, 0)?, MemDisk::new(alloc));
+    let round = lab_round(alloc, &wide, blanks(alloc, 0)?, AnyDisk::memory(alloc));
     assert_eq!(rt; round.err(), Some(Refusal::BadPes));
     Ok(())
 }

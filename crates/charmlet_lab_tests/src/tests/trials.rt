@@ -7,7 +7,8 @@ ghost use Rattle.charmlet_replay.specs.Unused.{IsUnused};
 ghost use Rattle.charmlet_lab.specs.Rounds.{arrays_of};
 
 use super::forgetful::ForgetfulDisk;
-use charmlet_disk::{CrashChoice, Disk, MemDisk};
+use charmlet_any_disk::AnyDisk;
+use charmlet_disk::{CrashChoice, Disk, FuseDisk};
 use charmlet_engine::Engine;
 use charmlet_kinds::Counter;
 use charmlet_lab::{LabLine, Round, lab_bad, lab_outcome, lab_round};
@@ -107,7 +108,7 @@ pub(super) fn found_in_memory(rt: &impl AllocGlobal, script: &Script) -> Result<
                 events,
                 durable,
                 is_stopped,
-            } = lab_round(alloc, script, calls, supplied, MemDisk::new(alloc))?;
+            } = lab_round(alloc, script, supplied, AnyDisk::failing(alloc, calls))?;
             if !is_stopped {
                 return Ok(line);
             }
@@ -131,16 +132,17 @@ pub(super) fn found_forgetful(rt: &impl AllocGlobal, script: &Script) -> Result<
     for calls in 0..64 {
         for choice in &CrashChoice::ALL {
             let supplied = blanks(alloc, script.blanks(Kind::Counter))?;
+            let fuse = FuseDisk::new(ForgetfulDisk::new(alloc), calls);
             let Round {
                 disk,
                 events,
                 durable,
                 is_stopped,
-            } = lab_round(alloc, script, calls, supplied, ForgetfulDisk::new(alloc))?;
+            } = lab_round(alloc, script, supplied, fuse)?;
             if !is_stopped {
                 return Ok(line);
             }
-            let crashed = disk.crash(*choice);
+            let crashed = disk.inner().crash(*choice);
             let bad = is_bad_outcome(alloc, script, crashed, &events, durable)?;
             count(&mut line, bad);
         }

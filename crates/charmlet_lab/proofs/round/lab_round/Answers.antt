@@ -1,10 +1,8 @@
-use Rattle.std.proofs.Common.{◌≡◌, ◌≤◌, List, true, Some, None, refl, sym, ap, subst, ◌∙◌, arith}
-use Rattle.charmlet_model.specs.declared.half.Half.TheVariants.{Zero, One}
+use Rattle.std.proofs.Common.{◌≡◌, ◌≤◌, List, true, Some, None, refl, sym, subst, ◌∙◌, arith}
 use Rattle.charmlet_model.specs.declared.kind.Kind.{Kind}
 use Rattle.charmlet_model.specs.Sound.{new_world}
 use Rattle.charmlet_model.specs.World.{IsLegal}
 use Rattle.charmlet_record.specs.Reading.{Kinds}
-use Rattle.charmlet_image.specs.Spelled.{IsClosed}
 use Rattle.charmlet_disk.specs.File.{MayLeave}
 use Rattle.charmlet_history.specs.Kept.{core_in}
 use Rattle.charmlet_stock.specs.Stock.{blanks_in}
@@ -28,23 +26,20 @@ returns-in-Ok-create-clause-ok g c =
     let events = c.in_ok-events-in-Ok-create.events.items in
     let are : events ≡ last.history = c.in_ok-events-in-Ok-create.ensures ∙ rw c.in-Some-events.is at c.events.ensures in
     let durable = c.durable.result in
-    let fuse : c.new-fuse.result.disk ≡ c.args.disk = c.new-fuse.ensures.disk in
-    let inner : c.inner.result ≡ c.run_lines.new.engine.halves.disk.disk = c.inner.ensures ∙ ap (λ fuse. fuse.disk) c.into_disk.ensures in
-    let forth = λ (h : g.D.Disk.honest c.args.disk). c.run_lines.ensures.advances.honest.0 (subst (λ fuse. g.D.Disk.honest fuse.disk) (sym disk) (c.in-Ok-create.ensures.honest.0 (subst g.D.Disk.honest (sym fuse) h))) in
-    subst (λ (k : Kinds). IsRound g.D.Disk k c.args.disk (record { disk = c.inner.result; events = c.in_ok-events-in-Ok-create.events; durable = Some durable; is_stopped = c.is_halted-is_stopped.result })) (sym arrays) (record {
+    let end = c.into_disk.ensures in
+    let forth = λ (h : g.D.Disk.honest c.args.disk). c.run_lines.ensures.advances.honest.0 (subst g.D.Disk.honest (sym disk) (c.in-Ok-create.ensures.honest.0 h)) in
+    subst (λ (k : Kinds). IsRound g.D.Disk k c.args.disk (record { disk = c.into_disk.result; events = c.in_ok-events-in-Ok-create.events; durable = Some durable; is_stopped = c.is_halted-is_stopped.result })) (sym arrays) (record {
       legal = legal_events kinds c.processors.result first last opens on events are durable c.durable.ensures sound;
       within = durable_within kinds c.processors.result first last opens on events are durable c.durable.ensures sound;
       made = λ _. refl;
       honest = (
-        (λ h. subst g.D.Disk.honest (sym inner) (forth h)),
-        (λ h. subst g.D.Disk.honest fuse (c.in-Ok-create.ensures.honest.1 (subst (λ fuse. g.D.Disk.honest fuse.disk) disk (c.run_lines.ensures.advances.honest.1 (subst g.D.Disk.honest inner h))))),
+        (λ h. subst g.D.Disk.honest (sym end) (forth h)),
+        (λ h. c.in-Ok-create.ensures.honest.1 (subst g.D.Disk.honest disk (c.run_lines.ensures.advances.honest.1 (subst g.D.Disk.honest end h)))),
       );
-      closed = λ honest made.
-          let were = c.in-Ok-create.ensures.closed (subst g.D.Disk.honest (sym fuse) honest) in
-          (subst (λ d. IsClosed (g.D.Disk.file d Zero).now) fuse were.0, subst (λ d. IsClosed (g.D.Disk.file d One).now) fuse were.1);
+      closed = λ honest made. c.in-Ok-create.ensures.closed honest;
       now = λ honest _ _ o left.
           lawful_events kinds c.processors.result first last opens on events are durable c.durable.ensures o
-          (lawful_now last c.run_lines.new.engine.halves (c.run_lines.ensures.consistent.keeps (forth honest)) o (subst (λ d. MayLeave (g.D.Disk.file d) o) inner left));
+          (lawful_now last c.run_lines.new.engine.halves (c.run_lines.ensures.consistent.keeps (forth honest)) o (subst (λ d. MayLeave (g.D.Disk.file d) o) end left));
     })
 
 pub returns-in-Err-Device-clause-ok : goal.returns-in-Err-Device-clause-ok
@@ -52,23 +47,16 @@ returns-in-Err-Device-clause-ok g c =
     let laws = g.met.D.Disk g.world.𝓛 g.world.𝓜 g.world.𝓡 ((λ s x. x), (λ x. x), (λ x. x), (λ x. x)) in
     let kinds = c.in_ok-manifest.manifest in
     let arrays = same_arrays c.args.script.now kinds c.in_ok-manifest.ensures.manifest in
-    let fuse : c.new-fuse.result.disk ≡ c.args.disk = c.new-fuse.ensures.disk in
     let end = c.in-Err-Device.field-0.disk in
-    let inner : c.inner-in-Err-Device.result ≡ end.disk = c.inner-in-Err-Device.ensures in
-    let forth = λ (h : g.D.Disk.honest c.args.disk). c.in-Err-Device.ensures.honest.0 (subst g.D.Disk.honest (sym fuse) h) in
-    subst (λ (k : Kinds). IsRound g.D.Disk k c.args.disk (record { disk = c.inner-in-Err-Device.result; events = c.new.result; durable = None; is_stopped = true })) (sym arrays) (record {
+    subst (λ (k : Kinds). IsRound g.D.Disk k c.args.disk (record { disk = end; events = c.new.result; durable = None; is_stopped = true })) (sym arrays) (record {
       legal = subst (IsLegal (new_world kinds) 0) (sym c.new.ensures.items) (record { events = tt; each_can = refl; in_limit = omega arith });
       within = tt;
       made = λ h. absurd (let no : ⊥ = cc in no);
-      honest = (
-        (λ h. subst g.D.Disk.honest (sym inner) (forth h)),
-        (λ h. subst g.D.Disk.honest fuse (c.in-Err-Device.ensures.honest.1 (subst g.D.Disk.honest inner h))),
-      );
+      honest = c.in-Err-Device.ensures.honest;
       closed = λ honest made. absurd (let no : ⊥ = cc in no);
       now = λ honest zero one o left.
-          let here = subst g.D.Disk.honest (sym fuse) honest in
-          let any = c.in-Err-Device.ensures.any_moment here (subst (λ d. IsClosed (g.D.Disk.file d Zero).now) (sym fuse) zero) (subst (λ d. IsClosed (g.D.Disk.file d One).now) (sym fuse) one) in
-          any.each o (laws.counts_now end.disk (g.D.Disk.moment c.new-fuse.result.disk) o (forth honest) any.later (subst (λ d. MayLeave (g.D.Disk.file d) o) inner left));
+          let any = c.in-Err-Device.ensures.any_moment honest zero one in
+          any.each o (laws.counts_now end (g.D.Disk.moment c.args.disk) o (c.in-Err-Device.ensures.honest.0 honest) any.later left);
     })
 
 -- ---- blanks that lack, or don't

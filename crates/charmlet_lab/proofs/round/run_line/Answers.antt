@@ -2,7 +2,6 @@ use Rattle.std.proofs.Common.{◌≡◌, ◌≤◌, cond, refl, ap, subst, ◌�
 use Rattle.std.specs.Cmp.{nat_eq_equiv}
 use Rattle.charmlet_model.specs.Kind.{kind_number}
 use Rattle.charmlet_stock.specs.Stock as stocks
-use Rattle.charmlet_script.specs.declared.script.Line.TheVariants.{Supply}
 use Rattle.charmlet_script.specs.Script.{blanks_in}
 use Rattle.charmlet_engine.specs.Engine.{disk_in}
 use Rattle.charmlet_engine.proofs.Advancing.{advances_still}

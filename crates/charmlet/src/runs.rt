@@ -1,0 +1,134 @@
+//! Runs of scripts over a store, a new one or one that comes back.
+
+ghost use Rattle.charmlet_any_disk.specs.AnyDisk.{files_of, is_honest};
+ghost use Rattle.charmlet_disk.specs.Disk.{IsSettled};
+
+use crate::blanks::{Object, Task, with_blanks};
+use crate::scripts::{restart_script_in, script_in};
+use charmlet_any_disk::AnyDisk;
+use charmlet_cli::{
+    Ran, RestartError, Restarted, RunError, Stop, find_blanks, restart_script, run_script,
+};
+use charmlet_model::Kind;
+use charmlet_recover::Wanted;
+use charmlet_script::{RestartScript, Script};
+use std::alloc::Global;
+use std::io;
+use std::io::{BufWriter, Write};
+
+/// A run of a script over a new store on this disk, with its lines written.
+#[derive(Drop)]
+struct ScriptRun<'a, W: Write> {
+    alloc: Global,
+    disk: AnyDisk,
+    script: &'a Script,
+    writer: &'a mut W,
+}
+
+impl<W: Write> Task for ScriptRun<'_, W> {
+    type Answer = Result<(), Stop>;
+
+    ghost may_begin = { λ run. is_honest run.disk → IsSettled (files_of run.disk) };
+
+    fn blanks(&self, _kind: Kind) -> u64 {
+        0
+    }
+
+    fn supplies(&self, kind: Kind) -> u64 {
+        self.script.blanks(kind)
+    }
+
+    fn begin(self, _blanks: Vec<Object>, supplies: Vec<Object>) -> Result<(), Stop> {
+        let ScriptRun {
+            alloc,
+            disk,
+            script,
+            writer,
+        } = self;
+        let Ran { result, .. } = run_script(alloc, disk, script, supplies, writer);
+        Ok(result?)
+    }
+}
+
+/// Reads a script, and then runs it over a new store in the two files of a folder, or in memory
+/// without one.
+pub(crate) fn run(rt: HostRuntime, path: &str, dir: Option<&str>) -> Result<(), Stop> {
+    let alloc = rt.alloc();
+    let script = script_in(rt, path)?;
+    let mut writer = BufWriter::new(alloc, io::writer(&rt))?;
+    let disk = match dir {
+        Some(dir) => AnyDisk::folder(rt, dir)?,
+        None => AnyDisk::memory(alloc),
+    };
+    let run = ScriptRun {
+        alloc,
+        disk,
+        script: &script,
+        writer: &mut writer,
+    };
+    with_blanks(alloc, run)??;
+    writer.flush()?;
+    Ok(())
+}
+
+/// A run of a script over the store on this disk, which comes back on so many processors, with so
+/// many blanks.
+#[derive(Drop)]
+struct ScriptRestart<'a, W: Write> {
+    alloc: Global,
+    disk: AnyDisk,
+    processors: u16,
+    script: &'a RestartScript,
+    wanted: Wanted,
+    writer: &'a mut W,
+}
+
+impl<W: Write> Task for ScriptRestart<'_, W> {
+    type Answer = Result<(), Stop>;
+
+    ghost may_begin = { λ _. Unit {0} };
+
+    fn blanks(&self, kind: Kind) -> u64 {
+        self.wanted.of(kind)
+    }
+
+    fn supplies(&self, kind: Kind) -> u64 {
+        self.script.blanks(kind)
+    }
+
+    fn begin(self, blanks: Vec<Object>, supplies: Vec<Object>) -> Result<(), Stop> {
+        let ScriptRestart {
+            alloc,
+            disk,
+            processors,
+            script,
+            writer,
+            ..
+        } = self;
+        let Restarted { result, .. } = restart_script(
+            alloc, disk, processors, script, blanks, supplies, writer,
+        );
+        Ok(result?)
+    }
+}
+
+/// Reads a script, and then runs it over the store in the two files of a folder, which comes back
+/// on so many processors.
+pub(crate) fn restart(rt: HostRuntime, dir: &str, path: &str, processors: u16) -> Result<(), Stop> {
+    let alloc = rt.alloc();
+    let script = restart_script_in(rt, path)?;
+    let mut writer = BufWriter::new(alloc, io::writer(&rt))?;
+    let mut disk = AnyDisk::folder(rt, dir)?;
+    let wanted = find_blanks(alloc, &mut disk, processors, &mut writer)?;
+    let restart = ScriptRestart {
+        alloc,
+        disk,
+        processors,
+        script: &script,
+        wanted,
+        writer: &mut writer,
+    };
+    with_blanks(alloc, restart)??;
+    writer.flush()?;
+    Ok(())
+}

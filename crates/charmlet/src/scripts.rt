@@ -1,0 +1,16 @@
+//! Scripts in files.
+
+use charmlet_cli::{Stop, open_script};
+use charmlet_script::{RestartScript, Script, read_restart_script, read_script};
+
+/// The script in a file.
+pub(crate) fn script_in(rt: HostRuntime, path: &str) -> Result<Script, Stop> {
+    let mut file = open_script(&rt, path)?;
+    Ok(read_script(rt.alloc(), &mut file)?)
+}
+
+/// The script of a restart in a file.
+pub(crate) fn restart_script_in(rt: HostRuntime, path: &str) -> Result<RestartScript, Stop> {
+    let mut file = open_script(&rt, path)?;
+    Ok(read_restart_script(rt.alloc(), &mut file)?)
+}
