@@ -47,20 +47,22 @@ seal_of() {
   printf 'sources %s\nprogram %s\nkit %s\n' "$(sources_of "$1")" "$(sha256sum <"$(program_file "$1")" | cut -d' ' -f1)" "$2"
 }
 
-# Whether the proved program is there, of what its sources are now. Where nothing was touched since it was sealed that is
-# known at once, and else by the sums, as in a copy of the tree.
+# Whether the proved program is there, of what its sources are now. Where nothing was touched since it was last held against
+# its seal that is known at once, and else by the sums, as in a copy of the tree. The time of the seal is a second before
+# the sums are taken, so that no later change is missed.
 is_proved() {
-  local program seal newer
+  local program seal since newer
   program=$(program_file "$1")
   seal=$(seal_file "$1")
   [ -x "$program" ] && [ -f "$seal" ] || return 1
+  since=$(date -d '1 second ago' +%s.%N)
   newer=$(
     cd "$top" && folders_of "$1" | xargs sh -c 'find crates.txt "$@" -cnewer "$0" -print -quit' "$seal"
     find "$program" -cnewer "$seal"
   )
   [ -n "$newer" ] || return 0
   [ "$(seal_of "$1" "$(sed -n 's/^kit //p' "$seal")")" = "$(cat "$seal")" ] || return 1
-  touch "$seal" 2>/dev/null || true
+  touch -d "@$since" "$seal" 2>/dev/null || true
 }
 
 # A folder's path from the root on.
