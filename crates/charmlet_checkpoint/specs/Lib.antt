@@ -1,2 +1,16 @@
 -- The definitions that contracts cite.
 pub mod Showing
+pub use Rattle.charmlet_pup.specs.Fields
+pub use Rattle.charmlet_model.specs.Core
+pub use Rattle.charmlet_model.specs.Packed
+pub use Rattle.charmlet_model.specs.Spelling
+pub use Rattle.charmlet_record.specs.Limits
+pub use Rattle.charmlet_image.specs.Images
+pub use Rattle.charmlet_disk.specs.Disk
+pub use Rattle.charmlet_halves.specs.Answers
+pub use Rattle.charmlet_halves.specs.Halves
+pub use Rattle.charmlet_world.specs.Seen
+pub use Rattle.charmlet_world.specs.Waiting
+pub use Rattle.charmlet_history.specs.Kept
+pub use Rattle.charmlet_history.specs.Records
+pub use Rattle.charmlet_journal.specs.Rest

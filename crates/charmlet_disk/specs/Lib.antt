@@ -14,3 +14,4 @@ pub mod Places
 pub mod Ends
 pub mod MemDiskLaws
 pub mod Laws
+pub use Rattle.charmlet_model.specs.Half

@@ -8,3 +8,16 @@ pub mod Records
 pub mod Delivered
 pub mod Opened
 pub mod Parts
+pub use Rattle.charmlet_model.specs.Core
+pub use Rattle.charmlet_model.specs.Fit
+pub use Rattle.charmlet_model.specs.Reaction
+pub use Rattle.charmlet_model.specs.Row
+pub use Rattle.charmlet_model.specs.Sound
+pub use Rattle.charmlet_model.specs.Told
+pub use Rattle.charmlet_model.specs.World
+pub use Rattle.charmlet_record.specs.Backlog
+pub use Rattle.charmlet_record.specs.Limits
+pub use Rattle.charmlet_locate.specs.Locations
+pub use Rattle.charmlet_world.specs.Changed
+pub use Rattle.charmlet_world.specs.Seen
+pub use Rattle.charmlet_world.specs.Waiting

@@ -13,3 +13,11 @@ pub mod Placed
 pub mod Views
 pub mod NewStores
 pub mod Spelled
+pub use Rattle.charmlet_model.specs.Names
+pub use Rattle.charmlet_model.specs.Packed
+pub use Rattle.charmlet_model.specs.Spelling
+pub use Rattle.charmlet_model.specs.Unpacked
+pub use Rattle.charmlet_record.specs.Gives
+pub use Rattle.charmlet_record.specs.Lawful
+pub use Rattle.charmlet_record.specs.Limits
+pub use Rattle.charmlet_record.specs.Reading as RecordReading

@@ -3,3 +3,6 @@ pub mod Script
 pub mod Printed
 pub mod Line
 pub mod Reading
+pub use Rattle.charmlet_model.specs.Fit
+pub use Rattle.charmlet_model.specs.Manifest
+pub use Rattle.charmlet_model.specs.Sound

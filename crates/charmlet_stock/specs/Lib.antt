@@ -4,3 +4,6 @@ pub mod Pile
 pub mod Retired
 pub mod Sorted
 pub mod Stock
+pub use Rattle.charmlet_model.specs.Kind
+pub use Rattle.charmlet_model.specs.Reaction
+pub use Rattle.charmlet_model.specs.Shelves
