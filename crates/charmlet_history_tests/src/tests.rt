@@ -1,3 +1,4 @@
+mod knowing;
 mod opening;
 mod steps;
 mod stories;

@@ -1,3 +1,4 @@
+mod reading;
 mod worlds;
 
 use charmlet_model::{

@@ -1,2 +1,4 @@
+mod copies;
+mod objects;
 mod packing;
 mod shelf;

@@ -1,0 +1,102 @@
+//! Copies that are refused while a delivery is under way, which no run comes to.
+
+ghost use Rattle.std.specs.Prelude.{◌≡◌, ◌∷◌, []};
+ghost use Rattle.charmlet_kinds.specs.Ring.{state_of};
+ghost use Rattle.charmlet_model.specs.Packed.{IsState};
+ghost use Rattle.charmlet_model.specs.Reaction.{kind_of};
+
+use super::shelf::{ME, message, resident};
+use charmlet_chare::Chare;
+use charmlet_kinds::Ring;
+use charmlet_migrate::place_copy;
+use charmlet_model::{Elem, Refusal};
+use charmlet_shelf::Shelf;
+use std::process::Abort;
+
+const OTHER: Elem = Elem { array: 2, index: 8 };
+
+// A ring's element whose next one has index 9, and that has seen 2 tokens.
+const RING: [u8; 16] = [9, 0, 0, 0, 0, 0, 0, 0, 2, 0, 0, 0, 0, 0, 0, 0];
+
+// An object of this packed form.
+fn unpacked<C: Chare>(rt: &impl Abort, mut blank: C, packed: &[u8]) -> C
+    ensures state { IsState (C.state result) }
+    ensures kind { kind_of (C.state result) ≡ kind_of (C.state blank) }
+{
+    assert!(rt; blank.unpack(packed).is_ok());
+    blank
+}
+
+// The shelf of processor 2 with an element, to which a token is assigned.
+fn busy_shelf_with(rt: &(impl AllocGlobal + Abort), ring: Ring) -> Shelf<Ring>
+    ensures { result.records ≡ (ME, record { state = Some (state_of ring); sent = 4; received = 5 })
+        ∷ [] }
+{
+    let mut shelf = Shelf::new(rt.alloc(), 2);
+    assert!(rt; shelf.place(ME, resident(ring, 4, 5)).is_ok());
+    assert!(rt; shelf.assign(message(rt, ME, 0, &[])).is_ok());
+    shelf
+}
+
+// The shelf of processor 1, with another element.
+fn other_shelf_with(rt: &(impl AllocGlobal + Abort), ring: Ring) -> Shelf<Ring>
+    ensures { result.records ≡ (
+      OTHER,
+      record {
+        state = Some (state_of ring);
+        sent = 4;
+        received = 5;
+      },
+    ) ∷ [] }
+{
+    let mut shelf = Shelf::new(rt.alloc(), 1);
+    assert!(rt; shelf.place(OTHER, resident(ring, 4, 5)).is_ok());
+    shelf
+}
+
+// The element isn't on the shelf, and no delivery is under way.
+fn lacks<C: Chare>(rt: &impl Abort, shelf: &mut Shelf<C>, elem: Elem) {
+    assert!(rt; matches!(shelf.lift(elem), Err(Refusal::Absent)));
+}
+
+// The element is on the shelf. Afterwards it isn't there any more.
+fn lifts<C: Chare>(rt: &impl Abort, shelf: &mut Shelf<C>, elem: Elem) {
+    assert!(rt; shelf.lift(elem).is_ok());
+}
+
+// The assignment is taken back, and no object comes out.
+fn releases<C: Chare>(rt: &impl Abort, shelf: &mut Shelf<C>) {
+    assert!(rt; shelf.release().is_none());
+}
+
+// The copy is refused so, since a delivery is under way.
+fn is_uncommitted<C>(rt: &impl Abort, copied: Result<(), (Refusal, C)>) {
+    let (refusal, _) = copied.err().expect(rt, "it is refused");
+    assert_eq!(rt; refusal, Refusal::Uncommitted);
+}
+
+#[test]
+fn nothing_is_copied_during_a_delivery(rt: HostRuntime) {
+    let ring = unpacked(&rt, Ring::blank(), &RING);
+    let source = busy_shelf_with(&rt, ring);
+    let mut shelves = [Shelf::new(rt.alloc(), 0), source];
+    let copied = place_copy(&mut shelves, 1, 0, ME, Ring::blank());
+    is_uncommitted(&rt, copied);
+    releases(&rt, &mut shelves[1]);
+    lifts(&rt, &mut shelves[1], ME);
+    lacks(&rt, &mut shelves[0], ME);
+}
+
+#[test]
+fn nothing_is_copied_to_a_shelf_during_its_delivery(rt: HostRuntime) {
+    let assigned = unpacked(&rt, Ring::blank(), &RING);
+    let busy = busy_shelf_with(&rt, assigned);
+    let ring = unpacked(&rt, Ring::blank(), &RING);
+    let source = other_shelf_with(&rt, ring);
+    let mut shelves = [busy, source];
+    let copied = place_copy(&mut shelves, 1, 0, OTHER, Ring::blank());
+    is_uncommitted(&rt, copied);
+    releases(&rt, &mut shelves[0]);
+    lacks(&rt, &mut shelves[0], OTHER);
+    lifts(&rt, &mut shelves[1], OTHER);
+}

@@ -1,0 +1,126 @@
+//! What no run shows of an object of each kind: bytes that are none of its own, and a construction
+//! of one that was used.
+
+ghost use Rattle.std.specs.Prelude.{◌≤◌, length};
+
+use super::shelf::ME;
+use charmlet_chare::{Chare, Outbox};
+use charmlet_kinds::{Account, Counter, Ring, Sum, Tape, Tree};
+use charmlet_model::CONSTRUCT;
+use charmlet_pup::PupFault;
+use std::alloc::{AllocError, Global};
+use std::process::Abort;
+use std::test::Fail;
+
+// The items 1 and 2 of a tape, and one byte more.
+const ITEMS: [u8; 21] = [
+    2, 0, 0, 0, 1, 0, 0, 0, 0, 0, 0, 0, 2, 0, 0, 0, 0, 0, 0, 0, 0,
+];
+
+// The packed form.
+fn packed_form<C: Chare>(alloc: Global, object: &mut C) -> Result<Vec<u8>, AllocError> {
+    let mut bytes = Vec::new(alloc);
+    object.pack(&mut bytes)?;
+    Ok(bytes)
+}
+
+// The bytes are these.
+fn are_bytes(rt: &impl Abort, found: &[u8], wanted: &[u8]) {
+    assert_eq!(rt; found, wanted);
+}
+
+// The object is sized so.
+fn has_size<C: Chare>(rt: &impl Abort, object: &mut C, size: usize) {
+    assert_eq!(rt; object.size(), size);
+}
+
+// The object packs to these bytes, and is sized so.
+fn packs_to<C: Chare>(
+    rt: &(impl AllocGlobal + Abort),
+    object: &mut C,
+    bytes: &[u8],
+) -> Result<(), Fail> {
+    has_size(rt, object, bytes.len());
+    let packed = packed_form(rt.alloc(), object)?;
+    are_bytes(rt, &packed, bytes);
+    Ok(())
+}
+
+// The bytes have this fault.
+fn has_fault<C: Chare>(rt: &impl Abort, object: &mut C, bytes: &[u8], fault: PupFault) {
+    let found = object.unpack(bytes).err().expect(rt, "a fault");
+    assert_eq!(rt; found, fault);
+}
+
+// The bytes have this fault, which leaves the object with its packed form.
+fn refuses<C: Chare>(
+    rt: &(impl AllocGlobal + Abort),
+    object: &mut C,
+    bytes: &[u8],
+    fault: PupFault,
+    packed: &[u8],
+) -> Result<(), Fail> {
+    has_fault(rt, object, bytes, fault);
+    packs_to(rt, object, packed)
+}
+
+// The bytes are those of an object of this kind and one more. With their faults they leave the
+// object, which has this packed form; without the last one they make it that other object.
+fn unpacks<C: Chare>(
+    rt: &(impl AllocGlobal + Abort),
+    object: &mut C,
+    bytes: &[u8],
+    packed: &[u8],
+) -> Result<(), Fail>
+    requires { 2 ≤ length bytes.now }
+{
+    refuses(rt, object, &[], PupFault::Short, packed)?;
+    let short = &bytes[..bytes.len() - 2];
+    refuses(rt, object, short, PupFault::Short, packed)?;
+    refuses(rt, object, bytes, PupFault::Trailing, packed)?;
+    let whole = &bytes[..bytes.len() - 1];
+    object.unpack(whole)?;
+    packs_to(rt, object, whole)
+}
+
+#[test]
+fn faults_leave_each_object(rt: HostRuntime) -> Result<(), Fail> {
+    unpacks(&rt, &mut Counter::blank(), &[1; 9], &[0; 8])?;
+    unpacks(&rt, &mut Ring::blank(), &[1; 17], &[0; 16])?;
+    unpacks(&rt, &mut Account::blank(), &[1; 9], &[0; 8])?;
+    unpacks(&rt, &mut Sum::blank(), &[1; 33], &[0; 32])?;
+    unpacks(&rt, &mut Tree::blank(), &[1; 9], &[0; 8])?;
+    unpacks(&rt, &mut Tape::blank(rt.alloc()), &ITEMS, &[0; 4])
+}
+
+#[test]
+fn faults_leave_the_tape(rt: HostRuntime) -> Result<(), Fail> {
+    let mut tape = Tape::blank(rt.alloc());
+    tape.unpack(&ITEMS[..20])?;
+    refuses(&rt, &mut tape, &ITEMS[..3], PupFault::Short, &ITEMS[..20])?;
+    let many = [65, 0, 0, 0];
+    refuses(&rt, &mut tape, &many, PupFault::TooMany, &ITEMS[..20])
+}
+
+// An object that has these bytes is constructed by no word, and then has the bytes of a blank.
+fn begins_anew<C: Chare>(
+    rt: &(impl AllocGlobal + Abort),
+    object: &mut C,
+    bytes: &[u8],
+    blank: &[u8],
+) -> Result<(), Fail> {
+    object.unpack(bytes)?;
+    object.enter(ME, CONSTRUCT, &[], &mut Outbox::new(rt.alloc()))?;
+    packs_to(rt, object, blank)
+}
+
+#[test]
+fn used_objects_are_constructed_anew(rt: HostRuntime) -> Result<(), Fail> {
+    begins_anew(&rt, &mut Counter::blank(), &[1; 8], &[0; 8])?;
+    begins_anew(&rt, &mut Ring::blank(), &[1; 16], &[0; 16])?;
+    begins_anew(&rt, &mut Account::blank(), &[1; 8], &[0; 8])?;
+    begins_anew(&rt, &mut Sum::blank(), &[1; 32], &[0; 32])?;
+    begins_anew(&rt, &mut Tree::blank(), &[1; 8], &[0; 8])?;
+    let mut tape = Tape::blank(rt.alloc());
+    begins_anew(&rt, &mut tape, &ITEMS[..20], &[0; 4])
+}
