@@ -68,7 +68,7 @@ is_proved() {
 # A folder's path from the root on.
 from_root() {
   case $1 in
-    /*) echo "$1" ;;
+    /* | "") echo "$1" ;;
     *) echo "$PWD/$1" ;;
   esac
 }
