@@ -5,7 +5,7 @@ ghost use Rattle.charmlet_kinds.specs.Ring.{state_of};
 ghost use Rattle.charmlet_model.specs.Packed.{IsState};
 ghost use Rattle.charmlet_model.specs.Reaction.{kind_of};
 
-use super::shelf::{ME, message, resident};
+use super::shelf::{ME, message, resident, shelf_with};
 use charmlet_chare::Chare;
 use charmlet_kinds::Ring;
 use charmlet_migrate::place_copy;
@@ -27,18 +27,17 @@ fn unpacked<C: Chare>(rt: &impl Abort, mut blank: C, packed: &[u8]) -> C
     blank
 }
 
-// The shelf of processor 2 with an element, to which a token is assigned.
+// A shelf with an element, to which a message is assigned.
 fn busy_shelf_with(rt: &(impl AllocGlobal + Abort), ring: Ring) -> Shelf<Ring>
     ensures { result.records ≡ (ME, record { state = Some (state_of ring); sent = 4; received = 5 })
         ∷ [] }
 {
-    let mut shelf = Shelf::new(rt.alloc(), 2);
-    assert!(rt; shelf.place(ME, resident(ring, 4, 5)).is_ok());
+    let mut shelf = shelf_with(rt, ME, resident(ring, 4, 5));
     assert!(rt; shelf.assign(message(rt, ME, 0, &[])).is_ok());
     shelf
 }
 
-// The shelf of processor 1, with another element.
+// A shelf with another element.
 fn other_shelf_with(rt: &(impl AllocGlobal + Abort), ring: Ring) -> Shelf<Ring>
     ensures { result.records ≡ (
       OTHER,
@@ -49,9 +48,7 @@ fn other_shelf_with(rt: &(impl AllocGlobal + Abort), ring: Ring) -> Shelf<Ring>
       },
     ) ∷ [] }
 {
-    let mut shelf = Shelf::new(rt.alloc(), 1);
-    assert!(rt; shelf.place(OTHER, resident(ring, 4, 5)).is_ok());
-    shelf
+    shelf_with(rt, OTHER, resident(ring, 4, 5))
 }
 
 // The element isn't on the shelf, and no delivery is under way.
