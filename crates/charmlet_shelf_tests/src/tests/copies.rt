@@ -67,7 +67,7 @@ fn releases<C: Chare>(rt: &impl Abort, shelf: &mut Shelf<C>) {
 }
 
 // The copy is refused so, since a delivery is under way.
-fn is_uncommitted<C>(rt: &impl Abort, copied: Result<(), (Refusal, C)>) {
+fn is_uncommitted(rt: &impl Abort, copied: Result<(), (Refusal, Ring)>) {
     let (refusal, _) = copied.err().expect(rt, "it is refused");
     assert_eq!(rt; refusal, Refusal::Uncommitted);
 }
