@@ -1,6 +1,7 @@
-mod beginnings;
-mod destruction;
+mod dropping;
 mod ending;
 mod flushing;
-mod probe;
+mod lacking;
+mod noting;
+mod outputs;
 mod runs;

@@ -1,6 +1,6 @@
 //! When what is printed reaches its reader.
 
-use super::probe::{Notes, new_notes, probes};
+use super::noting::{Notes, new_notes, noted_counters};
 use super::runs::{run_anew, script_of};
 use charmlet_cli::RunError;
 use std::io;
@@ -8,8 +8,8 @@ use std::io::{BufWriter, ErrorKind, Write};
 use std::process::Abort;
 use std::sync::Arc;
 
-// An output that notes, at each flush, how many bytes it took and how many entries were run. Past so many
-// flushes it fails.
+// An output that notes, at each flush, how many bytes it took and how many entries were run. Past
+// so many flushes it fails.
 #[derive(Drop)]
 struct Flushed {
     taken: Vec<u8>,
@@ -75,11 +75,11 @@ fn output_with(rt: &(impl AllocGlobal + Abort), notes: &Arc<Notes>, most: usize)
 #[test]
 fn each_line_is_flushed_before_the_next_one_runs(rt: HostRuntime) {
     let notes = new_notes(&rt);
-    let blanks = probes(&rt, &notes, 1);
+    let blanks = noted_counters(&rt, &notes, 1);
     let output = output_with(&rt, &notes, 100);
     let mut writer = BufWriter::new(rt.alloc(), output).expect(&rt, "a buffer");
     let ran = run_anew(rt.alloc(), &script_of(&rt, ENTERED), blanks, &mut writer);
-    assert!(rt; ran.is_ok());
+    assert!(rt; ran.result.is_ok());
     let output = writer.get_ref();
     assert_eq!(rt; output.at.as_slice(), REACHED.as_slice());
 }
@@ -87,10 +87,10 @@ fn each_line_is_flushed_before_the_next_one_runs(rt: HostRuntime) {
 #[test]
 fn failed_flush_ends_the_run(rt: HostRuntime) {
     let notes = new_notes(&rt);
-    let blanks = probes(&rt, &notes, 1);
+    let blanks = noted_counters(&rt, &notes, 1);
     let mut output = output_with(&rt, &notes, 1);
     let ran = run_anew(rt.alloc(), &script_of(&rt, ENTERED), blanks, &mut output);
-    assert!(rt; matches!(&ran, Err(RunError::Output(_))));
+    assert!(rt; matches!(&ran.result, Err(RunError::Output(_))));
     assert_eq!(rt;
         output.taken.as_slice(),
         b"supplied 1 1\ntold unknown\n".as_slice()

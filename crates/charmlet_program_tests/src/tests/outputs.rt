@@ -1,14 +1,44 @@
 //! What is printed where the output fails.
 
-use super::runs::{counters_for, output_of_transcript, run_anew, script_of_transcript};
+use super::runs::{counters, run_anew, script_of};
 use charmlet_cli::RunError;
-use charmlet_program_testing::FIRST_RUN;
 use charmlet_script::Script;
 use std::io;
 use std::io::{ErrorKind, Write};
 use std::process::Abort;
 
-// An output that takes at most three bytes at a time, is interrupted before each time, and has room for so many.
+// A client is told of its requests what is durable.
+const FIRST_RUN: &str = "\
+array 0 1
+supply 1 1
+req 7 1 0 0 65535 5
+deliver 0 c7.1
+flush
+status 7 1
+req 7 2 0 0 0 3
+deliver 0 c7.2
+status 7 2
+flush
+status 7 2
+status 7 1
+";
+
+const PRINTED: &str = "\
+supplied 1 1
+told unknown
+delivered c7.1
+flushed 2
+told replied
+told unknown
+delivered c7.2
+told unknown
+flushed 4
+told replied 8
+told replied
+";
+
+// An output that takes at most three bytes at a time, is interrupted before each time, and has
+// room for so many.
 #[derive(Drop)]
 struct Trickle {
     taken: Vec<u8>,
@@ -33,27 +63,26 @@ impl Write for Trickle {
     }
 }
 
-// With room for so many bytes of what the script prints, these alone are written, and the run goes to its end where that
-// is all.
+// With room for so many bytes of what the script prints, these alone are written, and the run goes
+// to its end where that is all.
 fn fills(rt: &(impl AllocGlobal + Abort), script: &Script, wanted: &[u8], room: usize) {
     let mut output = Trickle {
         taken: Vec::new(rt.alloc()),
         room,
         is_ready: true,
     };
-    let ran = run_anew(rt.alloc(), script, counters_for(rt, script), &mut output);
+    let ran = run_anew(rt.alloc(), script, counters(rt, 1), &mut output);
     assert!(rt; room <= wanted.len());
     assert_eq!(rt; output.taken.as_slice(), &wanted[..room]);
     let is_whole = room == wanted.len();
-    assert!(rt; ran.is_ok() == is_whole);
-    assert!(rt; is_whole || matches!(&ran, Err(RunError::Output(_))));
+    assert!(rt; ran.result.is_ok() == is_whole);
+    assert!(rt; is_whole || matches!(&ran.result, Err(RunError::Output(_))));
 }
 
 #[test]
 fn all_is_written_that_there_is_room_for(rt: HostRuntime) {
-    let script = script_of_transcript(&rt, FIRST_RUN);
-    let wanted = output_of_transcript(&rt, FIRST_RUN);
-    for room in 0..=wanted.len() {
-        fills(&rt, &script, wanted.as_bytes(), room);
+    let script = script_of(&rt, FIRST_RUN);
+    for room in 0..=PRINTED.len() {
+        fills(&rt, &script, PRINTED.as_bytes(), room);
     }
 }

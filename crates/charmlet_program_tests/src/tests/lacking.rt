@@ -1,0 +1,101 @@
+//! Objects that are fewer than a run or a restart needs.
+
+use super::runs::{counters, run_anew, script_of};
+use charmlet_cli::{RestartError, Restarted, RunError, find_blanks, restart_script};
+use charmlet_disk::MemDisk;
+use charmlet_kinds::Counter;
+use charmlet_model::{Kind, Refusal};
+use charmlet_script::read_restart_script;
+use std::process::Abort;
+
+// Of three objects that a script supplies there are two: they come back, nothing is written, and no
+// call of the disk is made.
+fn lacks_one(rt: &(impl AllocGlobal + Abort), text: &str) {
+    let script = script_of(rt, text);
+    assert_eq!(rt; script.blanks(Kind::Counter), 3);
+    let mut output = Vec::new(rt.alloc());
+    let ran = run_anew(rt.alloc(), &script, counters(rt, 2), &mut output);
+    match &ran.result {
+        Err(RunError::TooFewBlanks(blanks)) => assert_eq!(rt; blanks.len(), 2),
+        _ => panic!(rt; "three blanks are wanted"),
+    }
+    assert!(rt; output.is_empty());
+    assert!(rt; ran.disk.calls().is_empty());
+}
+
+// So it is also where there could be no store.
+#[test]
+fn too_few_objects_come_back(rt: HostRuntime) {
+    lacks_one(&rt, "array 0 1\nsupply 1 2\nsupply 1 1\n");
+    lacks_one(&rt, "pes 65\narray 0 1\nsupply 1 3\n");
+}
+
+// A disk in memory with a store of one counter.
+fn stored_counter(rt: &(impl AllocGlobal + Abort)) -> MemDisk {
+    let text = "array 0 1\nsupply 1 1\nreq 7 1 0 0 65535 5\ndeliver 0 c7.1\nflush\n";
+    let script = script_of(rt, text);
+    let mut output = Vec::new(rt.alloc());
+    let ran = run_anew(rt.alloc(), &script, counters(rt, 1), &mut output);
+    assert!(rt; ran.result.is_ok());
+    ran.disk
+}
+
+// That store comes back with so many counters for a script, which may supply two.
+fn restart_with(
+    rt: &(impl AllocGlobal + Abort),
+    count: usize,
+    text: &str,
+    output: &mut Vec<u8>,
+) -> Restarted<MemDisk, Counter> {
+    let script = read_restart_script(rt.alloc(), &mut text.as_bytes()).expect(rt, "a script");
+    let disk = stored_counter(rt);
+    let blanks = counters(rt, count);
+    let supplies = counters(rt, 2);
+    restart_script(rt.alloc(), disk, 1, &script, blanks, supplies, output)
+}
+
+// Objects that are fewer than the script supplies come back, with those for the restart, and
+// nothing is written.
+#[test]
+fn too_few_supplies_come_back(rt: HostRuntime) {
+    let mut output = Vec::new(rt.alloc());
+    let ended = restart_with(&rt, 1, "supply 1 2\nsupply 1 1\n", &mut output);
+    match &ended.result {
+        Err(RestartError::TooFewBlanks(blanks, supplies)) => {
+            assert_eq!(rt; (blanks.len(), supplies.len()), (1, 2));
+        }
+        _ => panic!(rt; "three blanks are wanted"),
+    }
+    assert!(rt; output.is_empty());
+}
+
+// Why no store came back.
+fn refusal_of(ended: &Restarted<MemDisk, Counter>) -> Option<Refusal> {
+    match &ended.result {
+        Err(RestartError::NotRestarted(refusal)) => Some(*refusal),
+        _ => None,
+    }
+}
+
+// A restart from this disk needs one counter.
+fn wants_one(rt: &(impl AllocGlobal + Abort), disk: MemDisk) {
+    let mut disk = disk;
+    let mut output = Vec::new(rt.alloc());
+    let found = find_blanks(rt.alloc(), &mut disk, 1, &mut output);
+    let wanted = found.ok().expect(rt, "there is a store");
+    assert_eq!(rt; wanted.of(Kind::Counter), 1);
+    assert!(rt; output.is_empty());
+}
+
+// The store that lacks its blank can be had again.
+#[test]
+fn blanks_that_lack_are_named(rt: HostRuntime) {
+    let mut output = Vec::new(rt.alloc());
+    let ended = restart_with(&rt, 0, "status 7 1\n", &mut output);
+    let kind = Kind::Counter;
+    let wanted = Refusal::BlanksWanted { kind, count: 1 };
+    assert_eq!(rt; refusal_of(&ended), Some(wanted));
+    let line = b"refused 16 BlanksWanted 1 1\n".as_slice();
+    assert_eq!(rt; output.as_slice(), line);
+    wants_one(&rt, ended.disk);
+}
