@@ -1,2 +1,0 @@
--- Lemmas on the steps of a store of counters.
-pub mod Counters

@@ -1,5 +1,0 @@
-use Rattle.charmlet_journal_tests.specs.Standing.{IsStanding}
-use Rattle.charmlet_journal_tests.proofs.tests.flushes.take_all.Given as goal
-
-abbrev pub invariant-loop-step : goal.invariant-loop-step
-invariant-loop-step g l = IsStanding l.store

@@ -1,4 +1,0 @@
-mod crashes;
-mod flushes;
-mod refusals;
-mod stores;

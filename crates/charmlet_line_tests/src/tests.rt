@@ -1,4 +1,0 @@
-mod engines;
-mod roomy;
-mod steps;
-mod transcripts;

@@ -1,4 +1,0 @@
-mod disks;
-mod halting;
-mod restarts;
-mod stores;
