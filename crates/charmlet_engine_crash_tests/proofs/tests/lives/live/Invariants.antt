@@ -1,6 +1,0 @@
-use Rattle.charmlet_engine.specs.Engine.{IsEngineConsistent}
-use Rattle.charmlet_engine_crash_tests.proofs.tests.lives.live.Given as goal
-
--- the engine stays consistent
-abbrev pub invariant-loop : goal.invariant-loop
-invariant-loop g l = IsEngineConsistent l.engine

@@ -1,3 +1,0 @@
-mod faults;
-mod lives;
-mod past;

@@ -1,5 +1,0 @@
-mod close;
-mod full;
-mod looks;
-mod rows;
-mod steps;

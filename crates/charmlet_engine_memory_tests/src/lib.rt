@@ -1,5 +1,0 @@
-//! Tests of engines on refused memory.
-#![tactic(auto)]
-
-#[cfg(test)]
-mod tests;

@@ -1,5 +1,0 @@
-mod faults;
-mod homes;
-mod old;
-mod refused;
-mod stores;

@@ -1,1 +1,0 @@
--- Loop invariants alone.

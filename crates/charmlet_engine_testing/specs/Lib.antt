@@ -1,1 +1,0 @@
--- The helpers cite no definition of their own.

@@ -1,4 +1,0 @@
-mod forgetful;
-mod judged;
-mod rows;
-mod trials;

@@ -1,2 +1,0 @@
-mod counters;
-mod passes;

@@ -1,3 +1,0 @@
-mod dismantle;
-mod migrate;
-mod stock;

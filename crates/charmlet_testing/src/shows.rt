@@ -1,0 +1,130 @@
+//! What is seen of a store and on a disk.
+
+use crate::bench::Bench;
+use crate::failed::Failed;
+use crate::saying::say_bytes;
+use charmlet_cli::{ShowError, show_store};
+use charmlet_disk::Call;
+use charmlet_halves::survey;
+use charmlet_model::Half;
+use charmlet_plain_recovery::{Recovered, recover};
+use std::io::Write;
+
+impl Bench {
+    /// What the store counts.
+    pub fn look(&self, out: &mut Vec<u8>) -> Result<(), Failed> {
+        let Some(engine) = &self.engine else {
+            return Err(Failed::Lacks("store"));
+        };
+        let (generation, durable) = (engine.generation(), engine.durable());
+        let (events, pending) = (engine.event_count(), engine.pending_count());
+        let halted = if engine.is_halted() { "yes" } else { "no" };
+        write!(out, "store generation {generation} durable {durable} ")?;
+        Ok(writeln!(out, "events {events} pending {pending} halted {halted}")?)
+    }
+
+    /// Which message comes next, and where.
+    pub fn next(&self, out: &mut Vec<u8>) -> Result<(), Failed> {
+        let Some(engine) = &self.engine else {
+            return Err(Failed::Lacks("store"));
+        };
+        match engine.next() {
+            Some((processor, id)) => Ok(writeln!(out, "next {processor} {id}")?),
+            None => Ok(writeln!(out, "next none")?),
+        }
+    }
+
+    /// The bytes of an image of the store.
+    pub fn image(&mut self, out: &mut Vec<u8>) -> Result<(), Failed> {
+        let Some(engine) = &mut self.engine else {
+            return Err(Failed::Lacks("store"));
+        };
+        let bytes = engine.image()?;
+        let length = bytes.len();
+        writeln!(out, "image length {length}")?;
+        say_bytes(out, &bytes)
+    }
+
+    /// Writes bytes to a half of the free disk.
+    pub fn write(&mut self, half: Half, offset: u64, bytes: &[u8]) -> Result<(), Failed> {
+        Ok(self.disk()?.put(half, offset, bytes)?)
+    }
+
+    /// Keeps the first bytes of a half of the free disk.
+    pub fn cut(&mut self, half: Half, length: u64) -> Result<(), Failed> {
+        let alloc = self.alloc;
+        Ok(self.disk()?.cut(alloc, half, length)?)
+    }
+
+    /// The bytes of a half of the free disk, from an offset on.
+    pub fn half(&mut self, half: Half, offset: usize, out: &mut Vec<u8>) -> Result<(), Failed> {
+        let alloc = self.alloc;
+        let bytes = self.disk()?.bytes(alloc, half)?;
+        let length = bytes.len();
+        writeln!(out, "half {half} length {length}")?;
+        say_bytes(out, &bytes[offset.min(length)..])
+    }
+
+    /// The calls that changed the free disk, in order.
+    pub fn trace(&mut self, out: &mut Vec<u8>) -> Result<(), Failed> {
+        for call in self.disk()?.inner().calls() {
+            match call {
+                Call::Write(half, offset, bytes) => {
+                    let length = bytes.as_slice().len();
+                    writeln!(out, "write {half} {offset} {length}")?;
+                }
+                Call::Sync(half) => writeln!(out, "sync {half}")?,
+                Call::Crash(_) => writeln!(out, "crash")?,
+            }
+        }
+        Ok(())
+    }
+
+    /// What is found on the free disk, as the program shows it.
+    pub fn manifest(&mut self, out: &mut Vec<u8>) -> Result<(), Failed> {
+        let alloc = self.alloc;
+        match show_store(alloc, self.disk()?, out) {
+            Ok(()) => Ok(()),
+            Err(ShowError::Refused(refusal)) => {
+                out.clear();
+                Err(Failed::Refused(refusal))
+            }
+            Err(ShowError::Output(_)) => Err(Failed::MEMORY),
+        }
+    }
+
+    /// Which half of the free disk is taken, and what it has.
+    pub fn survey(&mut self, out: &mut Vec<u8>) -> Result<(), Failed> {
+        let alloc = self.alloc;
+        let found = survey(alloc, self.disk()?)?;
+        let (half, log) = (found.half, found.contents.logged);
+        let header = found.contents.header;
+        let (generation, base, image) = (header.generation, header.events, header.size);
+        write!(out, "half {half} generation {generation} ")?;
+        Ok(writeln!(out, "base {base} image {image} log {log}")?)
+    }
+
+    /// What the halves of the free disk recover to, by the plain program.
+    pub fn recover(&mut self, out: &mut Vec<u8>) -> Result<(), Failed> {
+        let alloc = self.alloc;
+        let disk = self.disk()?;
+        let zero = disk.bytes(alloc, Half::Zero)?;
+        let one = disk.bytes(alloc, Half::One)?;
+        match recover(alloc, &zero, &one)? {
+            Recovered::Nothing => writeln!(out, "nothing")?,
+            Recovered::Damaged { half, offset } => writeln!(out, "damaged {half} {offset}")?,
+            Recovered::Found {
+                world,
+                events,
+                generation,
+            } => {
+                let pending = world.pending().len();
+                writeln!(
+                    out,
+                    "events {events} generation {generation} pending {pending}"
+                )?;
+            }
+        }
+        Ok(())
+    }
+}
