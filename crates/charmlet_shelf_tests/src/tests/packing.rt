@@ -2,9 +2,8 @@
 ghost use Rattle.std.specs.Prelude.{◌≡◌, true};
 ghost use Rattle.charmlet_shelf.specs.Shelf.{is_assigned};
 
-use super::shelf::{ME, assigned, constructing, resident, ring};
+use super::shelf::{ME, assigned, resident, ring};
 use charmlet_chare::{Chare, Outbox};
-use charmlet_kinds::Tree;
 use charmlet_model::{Elem, Resident};
 use charmlet_pup::PupFault;
 use charmlet_shelf::Shelf;
@@ -93,11 +92,6 @@ fn keeps_object<C: Chare>(rt: &impl Abort, shelf: &mut Shelf<C>) {
     assert!(rt; shelf.settle().is_none());
 }
 
-// The delivery is settled, and the object comes out.
-fn gives_object<C: Chare>(rt: &impl Abort, shelf: &mut Shelf<C>) {
-    assert!(rt; shelf.settle().is_some());
-}
-
 // The message is taken back, and no object comes out.
 fn releases<C: Chare>(rt: &impl Abort, shelf: &mut Shelf<C>) {
     assert!(rt; shelf.release().is_none());
@@ -117,26 +111,6 @@ fn deliveries_pack_nothing(rt: HostRuntime) {
     has_packed(&rt, &packings, 0);
     has_image(&rt, &mut shelf);
     has_packed(&rt, &packings, 1);
-}
-
-#[test]
-fn constructions_pack_nothing(rt: HostRuntime) {
-    let packings = no_packings(&rt);
-    let blank = resident(Tree::blank(), 40, 7);
-    let mut shelf = constructing(&rt, counted(&rt, blank, &packings), &[5]);
-    performs_at_once(&rt, &mut shelf);
-    keeps_object(&rt, &mut shelf);
-    has_packed(&rt, &packings, 0);
-}
-
-#[test]
-fn destructions_pack_nothing(rt: HostRuntime) {
-    let packings = no_packings(&rt);
-    let tree = resident(Tree::blank(), 40, 7);
-    let mut shelf = assigned(&rt, counted(&rt, tree, &packings), 0, &[]);
-    performs_at_once(&rt, &mut shelf);
-    gives_object(&rt, &mut shelf);
-    has_packed(&rt, &packings, 0);
 }
 
 #[test]
