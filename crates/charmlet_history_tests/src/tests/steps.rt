@@ -7,7 +7,7 @@ ghost use Rattle.charmlet_history.specs.Kept.{IsOutcome, IsConsistent, core_in, 
 use super::opening::counter_at;
 use charmlet_chare::Output;
 use charmlet_history::{History, RefusedCommit, Request};
-use charmlet_model::{CONSTRUCT, Elem, Kind, MsgId, Origin, Refusal, Sends, Told, Words};
+use charmlet_model::{Elem, Kind, MsgId, Origin, Refusal, Sends, Told, Words};
 use charmlet_world::Element;
 use std::alloc::{AllocError, Global};
 use std::process::Abort;
@@ -17,13 +17,9 @@ use std::process::Abort;
 pub enum Step {
     // This client's request of this number, to the counter of index 0 at an entry that it lacks.
     Ask(u32, u64),
-    // The same to this element, which it constructs, with so many words.
-    Construct(u32, u64, Elem, usize),
     Status(u32, u64),
     // Whether this client's request of this number can be assigned to the processor.
     Test(u16, u32, u64),
-    // Whether this element's message of this number can be.
-    TestSent(u16, Elem, u64),
     // The client's request, which is to a counter at an entry that it lacks, is assigned to the processor and committed.
     Deliver(u16, u32, u64),
     // The same, but it isn't committed.
@@ -42,21 +38,6 @@ pub enum Step {
     Counts(Elem),
     Next,
     Pending,
-    // Where a client's message of this number is due.
-    Due(u32, u64),
-    // Where an element's is.
-    DueSent(Elem, u64),
-    // The kind of an array.
-    Kind(u16),
-    // How many clients, elements and places are kept.
-    Rows,
-    Generation,
-    // How many events there are, and how many of them are durable.
-    Events,
-    // How many bytes wait to be written, and where the log ends after them.
-    Waiting,
-    // The present world becomes the opening one.
-    Renew,
     // The same as `Assign`, and then the store is halted and the message committed. Nothing may come back but a refusal.
     HaltAssigned(u16, u32, u64),
 }
@@ -75,11 +56,6 @@ pub enum Answer {
     Assigned(Option<MsgId>),
     Next(Option<(u16, MsgId)>),
     Pending(usize),
-    Kind(Option<Kind>),
-    Rows(usize, usize, usize),
-    Generation(u64),
-    Events(u64, u64),
-    Waiting(usize, bool, u64),
     // Something came back beside a refusal.
     CameBack,
 }
@@ -87,13 +63,6 @@ pub enum Answer {
 fn of_client(client: u32, number: u64) -> MsgId {
     MsgId {
         origin: Origin::Client(client),
-        number,
-    }
-}
-
-fn of_element(elem: Elem, number: u64) -> MsgId {
-    MsgId {
-        origin: Origin::Element(elem),
         number,
     }
 }
@@ -109,27 +78,6 @@ fn ask(history: &mut History, client: u32, number: u64) -> Result<Told, Refusal>
         to: counter_at(0),
         entry: 2,
         words: &[4],
-    };
-    history.request(&request)
-}
-
-// Asks for a construction with so many words, at most 513.
-fn construct(
-    history: &mut History,
-    client: u32,
-    number: u64,
-    to: Elem,
-    words: usize,
-) -> Result<Told, Refusal>
-    requires { IsConsistent (kept_in history.old) }
-    ensures { IsConsistent (kept_in history.new) }
-{
-    let request = Request {
-        client,
-        number,
-        to,
-        entry: CONSTRUCT,
-        words: &[0; 513][..words.min(513)],
     };
     history.request(&request)
 }
@@ -162,31 +110,6 @@ fn durable(answered: Result<u64, Refusal>) -> Answer {
     }
 }
 
-// How many clients, elements and places are kept.
-fn rows(history: &History) -> Answer
-    requires { IsConsistent (kept_in history.now) }
-{
-    let clients = history.clients().len();
-    let Ok(elements) = history.elements() else {
-        return Answer::Refused(Refusal::Memory);
-    };
-    let Ok(places) = history.places() else {
-        return Answer::Refused(Refusal::Memory);
-    };
-    Answer::Rows(clients, elements.len(), places.len())
-}
-
-// How many bytes wait to be written, whether there is none, and where the log ends after them.
-fn waiting(history: &History) -> Answer
-    requires { IsConsistent (kept_in history.now) }
-{
-    let backlog = history.backlog();
-    match history.test_flush() {
-        Ok(end) => Answer::Waiting(backlog.size(), backlog.is_empty(), end),
-        Err(refusal) => Answer::Refused(refusal),
-    }
-}
-
 // The answer to a step that changes nothing, if it is one.
 fn looked_up(history: &History, step: Step) -> Option<Answer>
     requires { IsConsistent (kept_in history.now) }
@@ -196,9 +119,6 @@ fn looked_up(history: &History, step: Step) -> Option<Answer>
         Step::Test(processor, client, number) => {
             blank(history.test_delivery(processor, of_client(client, number)))
         }
-        Step::TestSent(processor, elem, number) => {
-            blank(history.test_delivery(processor, of_element(elem, number)))
-        }
         Step::Move(elem, processor) => blank(history.test_move(elem, processor)),
         Step::Assigned(processor) => Answer::Assigned(assigned(history, processor)),
         Step::IsHalted => Answer::Halted(history.is_halted()),
@@ -206,13 +126,6 @@ fn looked_up(history: &History, step: Step) -> Option<Answer>
         Step::Counts(elem) => Answer::Counted(history.element(elem)),
         Step::Next => Answer::Next(history.next()),
         Step::Pending => Answer::Pending(history.pending_count()),
-        Step::Due(client, number) => Answer::Place(history.due_on(of_client(client, number))),
-        Step::DueSent(elem, number) => Answer::Place(history.due_on(of_element(elem, number))),
-        Step::Kind(array) => Answer::Kind(history.manifest().kind_of(array)),
-        Step::Rows => rows(history),
-        Step::Generation => Answer::Generation(history.generation()),
-        Step::Events => Answer::Events(history.event_count(), history.durable_count()),
-        Step::Waiting => waiting(history),
         _ => return None,
     };
     Some(found)
@@ -246,9 +159,6 @@ fn answer_to(history: &mut History, alloc: Global, step: Step) -> Answer
 {
     match step {
         Step::Ask(client, number) => told(ask(history, client, number)),
-        Step::Construct(client, number, to, words) => {
-            told(construct(history, client, number, to, words))
-        }
         Step::Flush => durable(history.flush()),
         Step::Deliver(processor, client, number) => {
             done(deliver(history, alloc, processor, of_client(client, number)))
@@ -263,10 +173,6 @@ fn answer_to(history: &mut History, alloc: Global, step: Step) -> Answer
         }
         Step::Halt => {
             history.halt();
-            Answer::Done
-        }
-        Step::Renew => {
-            history.renew();
             Answer::Done
         }
         Step::HaltAssigned(processor, client, number) => {
@@ -356,22 +262,6 @@ fn came_back(refused: RefusedCommit) -> Answer {
     }
 }
 
-fn lacks_memory(answer: &Answer) -> bool {
-    matches!(answer, Answer::Refused(Refusal::Memory))
-}
-
-// Takes a step, once more where memory is refused.
-fn taken(history: &mut History, alloc: Global, step: Step) -> Answer
-    requires { IsConsistent (kept_in history.old) }
-    ensures { IsConsistent (kept_in history.new) }
-{
-    let first = answer_to(history, alloc, step);
-    if lacks_memory(&first) {
-        return answer_to(history, alloc, step);
-    }
-    first
-}
-
 fn write_next(text: &mut String, next: Option<(u16, MsgId)>) -> Result<(), AllocError> {
     match next {
         Some((processor, id)) => writeln!(text, "next {processor} {id}"),
@@ -415,27 +305,7 @@ fn write_answer(text: &mut String, answer: &Answer) -> Result<(), AllocError> {
         Answer::Assigned(id) => write_assigned(text, *id),
         Answer::Next(next) => write_next(text, *next),
         Answer::Pending(count) => writeln!(text, "pending {count}"),
-        Answer::Kind(kind) => writeln!(text, "{kind:?}"),
-        Answer::Rows(clients, elements, places) => {
-            writeln!(
-                text,
-                "clients {clients} elements {elements} places {places}"
-            )
-        }
-        Answer::Generation(generation) => writeln!(text, "generation {generation}"),
-        Answer::Events(all, durable) => writeln!(text, "events {all} durable {durable}"),
-        Answer::Waiting(bytes, is_empty, end) => {
-            writeln!(text, "waiting {bytes} none {is_empty} end {end}")
-        }
         Answer::CameBack => writeln!(text, "came back"),
-    }
-}
-
-// A text with room for each run here.
-fn text_with_room(rt: &(impl AllocGlobal + Abort)) -> String {
-    match String::with_capacity(rt.alloc(), 4096) {
-        Ok(text) => text,
-        Err(_) => String::with_capacity(rt.alloc(), 4096).expect(rt, "memory"),
     }
 }
 
@@ -444,10 +314,10 @@ pub fn run(rt: &(impl AllocGlobal + Abort), history: &mut History, steps: &[Step
     requires { IsConsistent (kept_in history.old) }
     ensures { IsConsistent (kept_in history.new) }
 {
-    let mut text = text_with_room(rt);
+    let mut text = String::new(rt.alloc());
     for step in steps {
-        let answer = taken(history, rt.alloc(), *step);
-        write_answer(&mut text, &answer).expect(rt, "there is room");
+        let answer = answer_to(history, rt.alloc(), *step);
+        write_answer(&mut text, &answer).expect(rt, "memory");
     }
     assert_eq!(rt; text.as_str(), wanted);
 }
