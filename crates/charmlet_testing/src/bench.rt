@@ -3,7 +3,7 @@
 ghost use Rattle.charmlet_replay.specs.Unused.{IsUnused};
 
 use crate::failed::Failed;
-use crate::objects::{Object, Tally, Task, with_blanks};
+use crate::objects::{Object, Tally, blanks};
 use crate::probe_disk::{ProbeDisk, Switches};
 use crate::saying::say;
 use charmlet_cli::RestartedLine;
@@ -44,13 +44,13 @@ pub struct Bench {
 }
 
 impl Model for Bench {
-    ghost use Rattle.std.specs.Prelude.{Unit, IfSome};
+    ghost use Rattle.std.specs.Prelude.{Bool, IfSome};
     ghost use Rattle.charmlet_engine.specs.Engine.{IsEngineConsistent};
     ghost use Rattle.charmlet_replay.specs.Unused.{IsUnused};
 
-    ghost Value = { Unit {0} };
+    ghost Value = { Bool };
 
-    ghost view = { λ _. unit };
+    ghost view = { λ bench. bench.again };
 
     ghost invariant = { λ bench. IfSome bench.engine IsEngineConsistent
         × IfSome bench.back IsUnused };
@@ -64,35 +64,6 @@ fn blanks_in(stock: &Stock<Object>) -> u64 {
         count = count.saturating_add(census.get(*kind).in_stock);
     }
     count
-}
-
-/// A store comes back on so many processors.
-#[derive(Drop)]
-struct Restart<'a>(&'a mut Bench, u16, &'a mut Vec<u8>);
-
-impl Task for Restart<'_> {
-    type Answer = Result<(), Failed>;
-
-    fn begin(self, blanks: Vec<Object>) -> Result<(), Failed> {
-        let Restart(bench, processors, out) = self;
-        let mut blanks = blanks;
-        if let Some(stock) = &bench.back {
-            blanks.reserve(blanks_in(stock) as usize)?;
-        }
-        if let Some(mut stock) = bench.back.take() {
-            for kind in &Kind::ALL {
-                for _ in 0..stock.census().get(*kind).in_stock {
-                    if let Some(object) = stock.take(*kind) {
-                        blanks.push(object)?;
-                    }
-                }
-            }
-        }
-        match stock_of(bench.alloc, blanks) {
-            Ok(stock) => bench.come_back(stock, processors, out),
-            Err(_) => Err(Failed::MEMORY),
-        }
-    }
 }
 
 impl Bench {
@@ -224,8 +195,23 @@ impl Bench {
         for (kind, count) in &self.laid {
             wanted.push((*kind, *count))?;
         }
-        let tally = self.tally.clone()?;
-        with_blanks(alloc, &tally, &wanted, Restart(self, processors, out))?
+        let mut brought = blanks(alloc, &self.tally, &wanted)?;
+        if let Some(stock) = &self.back {
+            brought.reserve(blanks_in(stock) as usize)?;
+        }
+        if let Some(mut stock) = self.back.take() {
+            for kind in &Kind::ALL {
+                for _ in 0..stock.census().get(*kind).in_stock {
+                    if let Some(object) = stock.take(*kind) {
+                        brought.push(object)?;
+                    }
+                }
+            }
+        }
+        match stock_of(alloc, brought) {
+            Ok(stock) => self.come_back(stock, processors, out),
+            Err(_) => Err(Failed::MEMORY),
+        }
     }
 
     /// The store comes back with these blanks.

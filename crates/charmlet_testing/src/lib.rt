@@ -13,6 +13,6 @@ mod shows;
 
 pub use crate::bench::Bench;
 pub use crate::failed::Failed;
-pub use crate::objects::{Object, Tally, Task, Watched, with_blanks};
+pub use crate::objects::{AnyObject, Object, Tally, blanks};
 pub use crate::probe_disk::{ProbeDisk, Switches};
 pub use crate::saying::say;

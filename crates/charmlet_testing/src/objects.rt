@@ -9,7 +9,61 @@ use std::sync::Arc;
 use std::sync::atomic::{AtomicU64, Ordering};
 
 /// An object of any kind.
-pub type Object = Box<dyn Chare + Send>;
+#[derive(Drop)]
+pub enum AnyObject {
+    Counter(Counter),
+    Ring(Ring),
+    Account(Account),
+    Sum(Sum),
+    Tree(Tree),
+    Tape(Tape),
+}
+
+/// What any object does.
+macro_rules! by_kind {
+    ($any:expr, $object:ident => $done:expr) => {
+        match $any {
+            AnyObject::Counter($object) => $done,
+            AnyObject::Ring($object) => $done,
+            AnyObject::Account($object) => $done,
+            AnyObject::Sum($object) => $done,
+            AnyObject::Tree($object) => $done,
+            AnyObject::Tape($object) => $done,
+        }
+    };
+}
+
+impl Chare for AnyObject {
+    ghost use Rattle.charmlet_testing.specs.Objects.{state_of};
+
+    ghost state = { state_of };
+
+    fn kind(&self) -> u16 {
+        by_kind!(self, object => object.kind())
+    }
+
+    fn size(&mut self) -> usize {
+        by_kind!(self, object => object.size())
+    }
+
+    fn pack(&mut self, into: &mut Vec<u8>) -> Result<(), AllocError> {
+        by_kind!(self, object => object.pack(into))
+    }
+
+    fn unpack(&mut self, bytes: &[u8]) -> Result<(), PupFault> {
+        by_kind!(self, object => object.unpack(bytes))
+    }
+
+    fn enter(
+        &mut self,
+        me: Elem,
+        entry: u16,
+        payload: &[u64],
+        out: &mut Outbox,
+    ) -> Result<(), AllocError> {
+        by_kind!(self, object => object.enter(me, entry, payload, out))
+    }
+}
 
 /// What was done with all objects.
 #[derive(Drop)]
@@ -43,20 +97,22 @@ impl Tally {
 }
 
 /// An object that counts what is done with it.
-pub struct Watched<C: Chare> {
-    object: C,
+pub struct Object {
+    object: AnyObject,
     tally: Arc<Tally>,
 }
 
-impl<C: Chare> Drop for Watched<C> {
+impl Drop for Object {
     fn drop(self) {
-        let Watched { object: _, tally } = self;
+        let Object { object: _, tally } = self;
         tally.drops.fetch_add(1, Ordering::SeqCst);
     }
 }
 
-impl<C: Chare> Chare for Watched<C> {
-    ghost state = { λ watched. C.state watched.object };
+impl Chare for Object {
+    ghost use Rattle.charmlet_testing.specs.Objects.{state_of};
+
+    ghost state = { λ watched. state_of watched.object };
 
     fn kind(&self) -> u16 {
         self.object.kind()
@@ -88,51 +144,26 @@ impl<C: Chare> Chare for Watched<C> {
     }
 }
 
-/// What is done with blank objects.
-pub trait Task: Drop {
-    /// What it answers.
-    type Answer: Drop;
-
-    /// Does it.
-    fn begin(self, blanks: Vec<Object>) -> Self::Answer;
-}
-
-/// An object that counts, boxed, or none where memory is refused.
-macro_rules! watched {
-    ($alloc:expr, $tally:expr, $object:expr) => {
-        match $tally.clone() {
-            Ok(tally) => {
-                let object = $object;
-                match Box::new($alloc, Watched { object, tally }) {
-                    Ok(object) => Some(object),
-                    Err(_) => None,
-                }
-            }
-            Err(_) => None,
-        }
-    };
-}
-
-/// Makes so many blanks of each of these kinds, and has a task begin with them. The error is that there is no memory for them.
-pub fn with_blanks<T: Task>(
+/// So many blanks of each of these kinds. It fails only when out of memory.
+pub fn blanks(
     alloc: Global,
     tally: &Arc<Tally>,
     wanted: &[(Kind, u64)],
-    task: T,
-) -> Result<T::Answer, AllocError> {
+) -> Result<Vec<Object>, AllocError> {
     let mut blanks = Vec::new(alloc);
     for (kind, count) in wanted {
         for _ in 0..*count {
-            let blank: Option<Object> = match kind {
-                Kind::Counter => watched!(alloc, tally, Counter::blank()),
-                Kind::Ring => watched!(alloc, tally, Ring::blank()),
-                Kind::Account => watched!(alloc, tally, Account::blank()),
-                Kind::Sum => watched!(alloc, tally, Sum::blank()),
-                Kind::Tree => watched!(alloc, tally, Tree::blank()),
-                Kind::Tape => watched!(alloc, tally, Tape::blank(alloc)),
+            let object = match kind {
+                Kind::Counter => AnyObject::Counter(Counter::blank()),
+                Kind::Ring => AnyObject::Ring(Ring::blank()),
+                Kind::Account => AnyObject::Account(Account::blank()),
+                Kind::Sum => AnyObject::Sum(Sum::blank()),
+                Kind::Tree => AnyObject::Tree(Tree::blank()),
+                Kind::Tape => AnyObject::Tape(Tape::blank(alloc)),
             };
-            blanks.push(blank.ok_or(AllocError)?)?;
+            let tally = tally.clone()?;
+            blanks.push(Object { object, tally })?;
         }
     }
-    Ok(task.begin(blanks))
+    Ok(blanks)
 }

@@ -2,26 +2,11 @@
 
 use crate::bench::Bench;
 use crate::failed::Failed;
-use crate::objects::{Object, Task, with_blanks};
+use crate::objects::blanks;
 use crate::saying::say;
 use charmlet_cli::{census_line, pending_line, state_line};
 use charmlet_model::{Answer, Step};
 use charmlet_script::{Drained, Line, Supplied, read_restart_script};
-
-/// Blanks come to the store.
-#[derive(Drop)]
-struct Supply<'a>(&'a mut Bench);
-
-impl Task for Supply<'_> {
-    type Answer = Result<(), Failed>;
-
-    fn begin(self, blanks: Vec<Object>) -> Result<(), Failed> {
-        match &mut self.0.engine {
-            Some(engine) => engine.supply(blanks).map_err(|_| Failed::MEMORY),
-            None => Err(Failed::Lacks("store")),
-        }
-    }
-}
 
 impl Bench {
     /// Runs a line of a script.
@@ -31,18 +16,6 @@ impl Bench {
         let Some(line) = script.lines().first() else {
             return Ok(());
         };
-        if let Line::Supply { kind, count } = line {
-            let tally = self.tally.clone()?;
-            with_blanks(alloc, &tally, &[(*kind, u64::from(*count))], Supply(self))??;
-            return say(
-                alloc,
-                out,
-                &Supplied {
-                    kind: *kind,
-                    count: *count,
-                },
-            );
-        }
         let Some(engine) = &mut self.engine else {
             return Err(Failed::Lacks("store"));
         };
@@ -74,7 +47,17 @@ impl Bench {
                 )?;
                 say(alloc, out, &Answer::Told(told))
             }
-            Line::Supply { .. } => Ok(()),
+            Line::Supply { kind, count } => {
+                let brought = blanks(alloc, &self.tally, &[(*kind, u64::from(*count))])?;
+                if engine.supply(brought).is_err() {
+                    return Err(Failed::MEMORY);
+                }
+                let line = Supplied {
+                    kind: *kind,
+                    count: *count,
+                };
+                say(alloc, out, &line)
+            }
         }
     }
 
@@ -110,31 +93,49 @@ impl Bench {
         }
     }
 
-    /// Delivers the oldest message that can be delivered, up to so many times. A delivery that is refused memory is
-    /// tried once more, if that is asked for.
-    fn drain(&mut self, most: u32, out: &mut Vec<u8>) -> Result<(), Failed> {
-        let mut delivered = 0u32;
-        let mut refused = None;
-        for _ in 0..most {
-            let Some((processor, id)) = self.engine.as_ref().and_then(|engine| engine.next()) else {
-                break;
-            };
-            let step = Step::Deliver { processor, id };
-            let mut answer = self.step(&step);
-            if self.again && matches!(&answer, Err(failed) if failed.is_memory()) {
-                answer = self.step(&step);
-            }
-            if let Err(failed) = answer {
-                refused = Some(failed);
-                break;
-            }
-            delivered = delivered.saturating_add(1);
+    /// Delivers the oldest message that can be delivered. Whether there was one.
+    fn deliver_next(&mut self) -> Result<bool, Failed> {
+        let Some(engine) = &mut self.engine else {
+            return Err(Failed::Lacks("store"));
+        };
+        let Some((processor, id)) = engine.next() else {
+            return Ok(false);
+        };
+        match engine.step(&Step::Deliver { processor, id }) {
+            Answer::Refused(refusal) => Err(Failed::Refused(refusal)),
+            _ => Ok(true),
         }
-        let left = self
-            .engine
-            .as_ref()
-            .map_or(0, |engine| engine.pending_count() as u64);
+    }
+
+    /// The same, once more where it is refused memory, if that is asked for.
+    fn deliver_again(&mut self) -> Result<bool, Failed> {
+        let result = self.deliver_next();
+        match &result {
+            Err(failed) if self.again && failed.is_memory() => self.deliver_next(),
+            _ => result,
+        }
+    }
+
+    /// Delivers the oldest message that can be delivered, up to so many times: how often, and why it ended, where a
+    /// delivery was refused.
+    fn deliver(&mut self, most: u32) -> (u32, Result<(), Failed>) {
+        for delivered in 0..most {
+            match self.deliver_again() {
+                Ok(true) => {}
+                Ok(false) => return (delivered, Ok(())),
+                Err(failed) => return (delivered, Err(failed)),
+            }
+        }
+        (most, Ok(()))
+    }
+
+    fn drain(&mut self, most: u32, out: &mut Vec<u8>) -> Result<(), Failed> {
+        let (delivered, result) = self.deliver(most);
+        let left = match &self.engine {
+            Some(engine) => engine.pending_count() as u64,
+            None => 0,
+        };
         say(self.alloc, out, &Drained { delivered, left })?;
-        refused.map_or(Ok(()), Err)
+        result
     }
 }
