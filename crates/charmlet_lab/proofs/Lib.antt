@@ -1,5 +1,9 @@
+pub mod Causes
+pub mod Counting
 pub mod Folded
+pub mod Lines
 pub mod Maps
 pub mod Read
+pub mod Restarts
 pub mod Rounds
 pub mod Tried

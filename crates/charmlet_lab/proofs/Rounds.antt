@@ -77,11 +77,11 @@ by_kind P counter ring account sum tree tape kinds.Sum = sum
 by_kind P counter ring account sum tree tape kinds.Tree = tree
 by_kind P counter ring account sum tree tape kinds.Tape = tape
 
-module _ {D C : Type 0} (G : disks.Ghosts D) (state : C → State) (blanks : List C) (script : Contents) (first : D) where
+module _ {D : Type 0} (G : disks.Ghosts D) (given : Blanks) (script : Contents) (first : D) where
   -- blanks lack
-  pub blanks_lack : (found : Option (Kind × ℕ)) → Lacks (count_of state blanks) (needed_by script) found → (refusal : Refusal) →
-      option_map (λ (lack : Kind × ℕ). refusals.BlanksWanted lack.0 lack.1) found ≡ Some refusal → IsNotRun G state blanks script first refusal
-  blanks_lack (Some lack) lacks refusal told = subst (IsNotRun G state blanks script first) (let same : refusals.BlanksWanted lack.0 lack.1 ≡ refusal = cc in same) lacks
+  pub blanks_lack : (found : Option (Kind × ℕ)) → Lacks given (needed_by script) found → (refusal : Refusal) →
+      option_map (λ (lack : Kind × ℕ). refusals.BlanksWanted lack.0 lack.1) found ≡ Some refusal → IsNotRun G given script first refusal
+  blanks_lack (Some lack) lacks refusal told = subst (IsNotRun G given script first) (let same : refusals.BlanksWanted lack.0 lack.1 ≡ refusal = cc in same) lacks
   blanks_lack None enough refusal told = absurd cc
 
   -- the store can't be made
@@ -89,31 +89,31 @@ module _ {D C : Type 0} (G : disks.Ghosts D) (state : C → State) (blanks : Lis
       ((refusal ≡ refusals.BadPes) ⊎ ((refusal ≡ refusals.AlreadyHere) ⊎ ((refusal ≡ refusals.Memory) ⊎ (refusal ≡ refusals.Device)))) →
       (refusal ≡ refusals.BadPes → is_processor_count (processors_of script) ≡ false) →
       (refusal ≡ refusals.AlreadyHere → G.honest first → IsOpen (G.file first Zero).now ⊎ IsOpen (G.file first One).now) →
-      IsNotRun G state blanks script first refusal
-  not_made refusal other (inl is) bad here = subst (IsNotRun G state blanks script first) (sym is) (bad is)
-  not_made refusal other (inr (inl is)) bad here = subst (IsNotRun G state blanks script first) (sym is) (here is)
-  not_made refusal other (inr (inr (inl is))) bad here = subst (IsNotRun G state blanks script first) (sym is) tt
+      IsNotRun G given script first refusal
+  not_made refusal other (inl is) bad here = subst (IsNotRun G given script first) (sym is) (bad is)
+  not_made refusal other (inr (inl is)) bad here = subst (IsNotRun G given script first) (sym is) (here is)
+  not_made refusal other (inr (inr (inl is))) bad here = subst (IsNotRun G given script first) (sym is) tt
   not_made refusal other (inr (inr (inr is))) bad here = absurd (other is)
 
   -- memory is lacking
-  pub memory_lacks : {T : Type 0} (result : Result T Refusal) → IsErrAnd result (λ told. told ≡ refusals.Memory) → IfErr result (IsNotRun G state blanks script first)
+  pub memory_lacks : {T : Type 0} (result : Result T Refusal) → IsErrAnd result (λ told. told ≡ refusals.Memory) → IfErr result (IsNotRun G given script first)
   memory_lacks (Ok x) is = tt
-  memory_lacks (Err told) is = subst (IsNotRun G state blanks script first) (sym is) tt
+  memory_lacks (Err told) is = subst (IsNotRun G given script first) (sym is) tt
 
   -- as the stock of these blanks and the count of the lines say
-  module _ (given needed : Blanks) (given_are : (kind : Kind) → given kind ≡ count_of state blanks kind) (needed_are : (kind : Kind) → needed kind ≡ blanks_of kind script.lines) where
-    lacks : Lacks (count_of state blanks) (needed_by script) (least_short given needed)
+  module _ (stock needed : Blanks) (stock_has : (kind : Kind) → stock kind ≡ given kind) (needed_are : (kind : Kind) → needed kind ≡ blanks_of kind script.lines) where
+    lacks : Lacks given (needed_by script) (least_short stock needed)
     lacks =
-        subst (λ (g : Blanks). Lacks g (needed_by script) (least_short given needed)) (λ i kind. given_are kind i)
-        (subst (λ (n : Blanks). Lacks given n (least_short given needed)) (λ i kind. needed_are kind i) (least_short_is_found given needed))
+        subst (λ (g : Blanks). Lacks g (needed_by script) (least_short stock needed)) (λ i kind. stock_has kind i)
+        (subst (λ (n : Blanks). Lacks stock n (least_short stock needed)) (λ i kind. needed_are kind i) (least_short_is_found stock needed))
 
-    pub told_lack : (refusal : Refusal) → option_map (λ (lack : Kind × ℕ). refusals.BlanksWanted lack.0 lack.1) (least_short given needed) ≡ Some refusal → IsNotRun G state blanks script first refusal
-    told_lack refusal told = blanks_lack (least_short given needed) lacks refusal told
+    pub told_lack : (refusal : Refusal) → option_map (λ (lack : Kind × ℕ). refusals.BlanksWanted lack.0 lack.1) (least_short stock needed) ≡ Some refusal → IsNotRun G given script first refusal
+    told_lack refusal told = blanks_lack (least_short stock needed) lacks refusal told
 
-    pub told_enough : option_map (λ (lack : Kind × ℕ). refusals.BlanksWanted lack.0 lack.1) (least_short given needed) ≡ None → IsEnough (count_of state blanks) (needed_by script)
-    told_enough none = all (least_short given needed) lacks none
+    pub told_enough : option_map (λ (lack : Kind × ℕ). refusals.BlanksWanted lack.0 lack.1) (least_short stock needed) ≡ None → IsEnough given (needed_by script)
+    told_enough none = all (least_short stock needed) lacks none
       where
-        all : (found : Option (Kind × ℕ)) → Lacks (count_of state blanks) (needed_by script) found → option_map (λ (lack : Kind × ℕ). refusals.BlanksWanted lack.0 lack.1) found ≡ None → IsEnough (count_of state blanks) (needed_by script)
+        all : (found : Option (Kind × ℕ)) → Lacks given (needed_by script) found → option_map (λ (lack : Kind × ℕ). refusals.BlanksWanted lack.0 lack.1) found ≡ None → IsEnough given (needed_by script)
         all None enough none = enough
         all (Some lack) short none = absurd cc
 

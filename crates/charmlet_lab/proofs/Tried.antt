@@ -29,7 +29,7 @@ use Rattle.charmlet_recover.specs.declared.restarting.Recovered as stores
 use Rattle.charmlet_recover.specs.Restart.{AnswersBy, IsHandedBack, IsOpenedOn, restarted_or_refused}
 use Rattle.charmlet_engine.specs.declared.engine.Engine.{Engine}
 use Rattle.charmlet_engine.specs.Engine.{core_of, recovered_in, recovered_or_not}
-use Rattle.charmlet_lab.specs.Judged.{HasFirst, IsGood, IsNotJudged, IsNothingOrLawful, count_of}
+use Rattle.charmlet_lab.specs.Judged.{HasFirst, IsGood, IsNotJudged, IsNothingOrLawful, came_to, count_of}
 
 -- a store in which nothing has happened since it opened, and which has the first events of a run, was recovered from lawful files
 opened_is_lawful : (kinds : Kinds) (events : List Event) (n processors : ℕ) (core : Core) (outcome : Outcome) →
@@ -70,7 +70,7 @@ module _ {D C : Type 0} {G : disks.Ghosts D} {H : chares.Ghosts C} where
   pub good_is_lawful : (kinds : Kinds) (events : List Event) (durable : Option ℕ) (n processors : ℕ) (outcome : Outcome) (r : Result (Engine D C G H) (NotRestarted D C H)) → durable ≡ Some n →
       IfOk r (λ engine. IsOpenedOn processors (recovered_in engine)) →
       IfOk r (λ engine. recovered outcome ≡ Found (core_of engine).opening (core_of engine).before (core_of engine).generation) →
-      IsGood kinds events durable r → IsLawful (new_world kinds) 0 events n outcome
+      IsGood kinds events durable (came_to r) → IsLawful (new_world kinds) 0 events n outcome
   good_is_lawful kinds events durable n processors outcome (Ok engine) is opens found good =
       opened_is_lawful kinds events n processors (core_of engine) outcome opens found (subst (λ (d : Option ℕ). HasFirst kinds events (unwrap_or d 0) (core_of engine)) is good)
   good_is_lawful kinds events durable n processors outcome (Err refused) is opens found good =
@@ -82,7 +82,7 @@ module _ {D C : Type 0} {G : disks.Ghosts D} {H : chares.Ghosts C} where
       IfOk r (λ engine. recovered outcome ≡ Found (core_of engine).opening (core_of engine).before (core_of engine).generation) →
       (is_processor_count processors ≡ false → IsHandedBack {G = G} disk blanks (recovered_or_not r)) →
       (is_processor_count processors ≡ true → AnswersBy (restart_refusal given outcome) (restarted_or_refused (recovered_or_not r))) →
-      IsGood kinds events durable r → IsNothingOrLawful kinds events outcome
+      IsGood kinds events durable (came_to r) → IsNothingOrLawful kinds events outcome
   good_is_nothing_or_lawful kinds events durable processors given outcome disk blanks (Ok engine) is opens found bad answer good =
       inr (opened_is_lawful kinds events 0 processors (core_of engine) outcome opens found (subst (λ (d : Option ℕ). HasFirst kinds events (unwrap_or d 0) (core_of engine)) is good))
   good_is_nothing_or_lawful kinds events durable processors given outcome disk blanks (Err refused) is opens found bad answer good =
@@ -93,13 +93,3 @@ module _ {D C : Type 0} {G : disks.Ghosts D} {H : chares.Ghosts C} where
         | false ↦ λ bad answer. absurd (let both : refusals.BadPes ≡ refusals.NothingHere = sym (bad refl) ∙ good.0 in let never : ⊥ = cc in never)
       ] (λ no. (bad no).0) answer in
       inl (nothing_is_here given outcome why)
-
-  -- what isn't judged is so for memory, or since the store is too large for an image
-  why : (r : Result (Engine D C G H) (NotRestarted D C H)) (refusal : Refusal) → IsNotJudged r refusal → (refusal ≡ refusals.Memory) ⊎ (refusal ≡ refusals.ImageFull)
-  why (Ok engine) refusal (inl is) = inl is
-  why (Ok engine) refusal (inr full) = inr full.0
-  why (Err refused) refusal h = absurd h
-
-  pub all_why : (judged : Result Bool Refusal) (r : Result (Engine D C G H) (NotRestarted D C H)) → IfErr judged (IsNotJudged r) → IfErr judged (λ refusal. (refusal ≡ refusals.Memory) ⊎ (refusal ≡ refusals.ImageFull))
-  all_why (Ok bad) r h = tt
-  all_why (Err refusal) r h = why r refusal h

@@ -28,19 +28,22 @@ pub record HasFirst (kinds : Kinds) (events : List Event) (durable : ℕ) (core 
   pub no_more : count_of core ≤ length events
   pub is : present core ≡ world (new_world kinds) (take (count_of core) events)
 
+-- what a restart came to: the core of the store that came back, or the refusal
+abbrev pub came_to : {D C : Type 0} {G : disks.Ghosts D} {H : chares.Ghosts C} →
+    Result (Engine D C G H) (NotRestarted D C H) → Result Core Refusal
+came_to (Ok engine) = Ok (core_of engine)
+came_to (Err refused) = Err refused.refusal
+
 -- a store came back that has the first events of the run; or there is none, and it wasn't said to
 -- be made
-abbrev pub IsGood : {D C : Type 0} {G : disks.Ghosts D} {H : chares.Ghosts C} → Kinds → List Event →
-    (durable : Option ℕ) → Result (Engine D C G H) (NotRestarted D C H) → Type 0
-IsGood kinds events durable (Ok engine) = HasFirst kinds events (unwrap_or durable 0)
-    (core_of engine)
-IsGood kinds events durable (Err refused) = (refused.refusal ≡ NothingHere) × (durable ≡ None)
+abbrev pub IsGood : Kinds → List Event → (durable : Option ℕ) → Result Core Refusal → Type 0
+IsGood kinds events durable (Ok core) = HasFirst kinds events (unwrap_or durable 0) core
+IsGood kinds events durable (Err refusal) = (refusal ≡ NothingHere) × (durable ≡ None)
 
 -- why a restart isn't judged, where a store came back: memory is lacking, or an image of it would
 -- pass a limit; a refused restart always is
-abbrev pub IsNotJudged : {D C : Type 0} {G : disks.Ghosts D} {H : chares.Ghosts C} →
-    Result (Engine D C G H) (NotRestarted D C H) → Refusal → Type 0
-IsNotJudged (Ok engine) refusal = IsRefusal (core_of engine) refusal
+abbrev pub IsNotJudged : Result Core Refusal → Refusal → Type 0
+IsNotJudged (Ok core) refusal = IsRefusal core refusal
 IsNotJudged (Err refused) refusal = ⊥
 
 -- the same store with the same blanks, and the same disk

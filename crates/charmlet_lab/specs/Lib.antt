@@ -1,8 +1,12 @@
 -- The definitions that contracts cite.
 pub mod Judged
+pub mod Lines
 pub mod Printed
+pub mod Restarts
 pub mod Rounds
 pub mod Same
+pub mod Trials
+pub use Rattle.charmlet_model.specs.Core
 pub use Rattle.charmlet_model.specs.Fit
 pub use Rattle.charmlet_model.specs.Names
 pub use Rattle.charmlet_model.specs.Shelves
@@ -10,9 +14,13 @@ pub use Rattle.charmlet_model.specs.Sound
 pub use Rattle.charmlet_model.specs.World
 pub use Rattle.charmlet_recovery.specs.Outcomes
 pub use Rattle.charmlet_recovery.specs.RestartLaws
+pub use Rattle.charmlet_disk.specs.Crash
 pub use Rattle.charmlet_disk.specs.Disk
+pub use Rattle.charmlet_disk.specs.File
+pub use Rattle.charmlet_any_disk.specs.AnyDisk
 pub use Rattle.charmlet_stock.specs.Stock
 pub use Rattle.charmlet_locate.specs.Locations
+pub use Rattle.charmlet_requests.specs.Handlers
 pub use Rattle.charmlet_checkpoint.specs.Showing
 pub use Rattle.charmlet_recover.specs.Restart
 pub use Rattle.charmlet_recover.specs.Wanted

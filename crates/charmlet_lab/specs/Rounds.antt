@@ -4,10 +4,8 @@ use Rattle.charmlet_model.specs.declared.event.Event.{Event}
 use Rattle.charmlet_model.specs.declared.half.Half.TheVariants.{Zero, One}
 use Rattle.charmlet_model.specs.declared.refusal.Refusal.{Refusal}
 use Rattle.charmlet_model.specs.declared.refusal.Refusal.TheVariants.{AlreadyHere, BadPes, BlanksWanted, Memory}
-use Rattle.charmlet_model.specs.declared.state.State.{State}
 use Rattle.charmlet_model.specs.Core.{Blanks}
 use Rattle.charmlet_model.specs.Manifest.{manifest_of}
-use Rattle.charmlet_model.specs.Shelves.{count_of}
 use Rattle.charmlet_model.specs.Sound.{new_world}
 use Rattle.charmlet_model.specs.World.{IsLegal}
 use Rattle.charmlet_record.specs.Reading.{Kinds}
@@ -55,12 +53,11 @@ module _ {D : Type 0} (G : disks.Ghosts D) where
   -- why there is no round: there can't be so many processors; a half of an honest disk is open;
   -- this is the least kind of which the lines supply more than there is, so many; or memory is
   -- lacking
-  abbrev pub IsNotRun : {C : Type 0} → (C → State) → List C → Contents → (first : D) → Refusal →
-      Type 0
-  IsNotRun state blanks script first BadPes = is_processor_count (processors_of script) ≡ false
-  IsNotRun state blanks script first AlreadyHere = G.honest first →
+  abbrev pub IsNotRun : (given : Blanks) → Contents → (first : D) → Refusal → Type 0
+  IsNotRun given script first BadPes = is_processor_count (processors_of script) ≡ false
+  IsNotRun given script first AlreadyHere = G.honest first →
       IsOpen (G.file first Zero).now ⊎ IsOpen (G.file first One).now
-  IsNotRun state blanks script first (BlanksWanted kind count) =
-      IsLeastShort (count_of state blanks) (needed_by script) kind count
-  IsNotRun state blanks script first Memory = ⊤
-  IsNotRun state blanks script first _ = ⊥
+  IsNotRun given script first (BlanksWanted kind count) =
+      IsLeastShort given (needed_by script) kind count
+  IsNotRun given script first Memory = ⊤
+  IsNotRun given script first _ = ⊥

@@ -6,7 +6,7 @@ ghost use Rattle.charmlet_model.specs.Sound.{new_world};
 ghost use Rattle.charmlet_model.specs.World.{IsLegal, world};
 ghost use Rattle.charmlet_checkpoint.specs.Showing.{IsRefusal};
 ghost use Rattle.charmlet_engine.specs.Engine.{IsEngineConsistent, core_of, world_of};
-ghost use Rattle.charmlet_lab.specs.Judged.{HasFirst, IsAsBefore, IsGood, IsNotJudged, IsSameEngine};
+ghost use Rattle.charmlet_lab.specs.Judged.{HasFirst, IsAsBefore, IsGood, IsNotJudged, IsSameEngine, came_to};
 ghost use Rattle.charmlet_lab.specs.Rounds.{arrays_of};
 
 use crate::same::is_same_world;
@@ -38,8 +38,8 @@ pub fn lab_bad<D: Disk, C: Chare>(
     requires consistent { IfOk answer.old IsEngineConsistent }
     requires legal { IsLegal (new_world (arrays_of script.now)) 0 events.now }
     ensures ok { IfOk result (λ bad.
-        (bad ≡ false) ↔ IsGood (arrays_of script.now) events.now durable answer.old) }
-    ensures err { IfErr result (IsNotJudged answer.old) }
+        (bad ≡ false) ↔ IsGood (arrays_of script.now) events.now durable (came_to answer.old)) }
+    ensures err { IfErr result (IsNotJudged (came_to answer.old)) }
     ensures same { IsAsBefore answer.old answer.new }
     ensures consistent { IfOk answer.new IsEngineConsistent }
 {

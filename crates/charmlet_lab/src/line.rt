@@ -10,6 +10,24 @@ pub struct LabLine {
     pub bad: u64,
 }
 
+impl LabLine {
+    ghost use Rattle.std.specs.Prelude.{◌≡◌, ◌<◌, ◌+◌, ◌^◌, if◌then◌else◌};
+
+    /// Counts a restart.
+    pub(crate) fn count(&mut self, is_bad: bool)
+        requires outcomes { self.old.outcomes + 1 < 2 ^ 64 }
+        requires bad { self.old.bad + 1 < 2 ^ 64 }
+        ensures stops { self.new.stops ≡ self.old.stops }
+        ensures outcomes { self.new.outcomes ≡ self.old.outcomes + 1 }
+        ensures bad { self.new.bad ≡ self.old.bad + (if is_bad then 1 else 0) }
+    {
+        self.outcomes += 1;
+        if is_bad {
+            self.bad += 1;
+        }
+    }
+}
+
 /// Writes `lab stops S outcomes O bad B`, without a line feed.
 impl fmt::Display for LabLine {
     ghost use Rattle.std.specs.Prelude.{Some};

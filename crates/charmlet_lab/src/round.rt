@@ -1,6 +1,6 @@
 //! A run of a script over a disk that may fail.
 
-ghost use Rattle.std.specs.Prelude.{◌≡◌, ◌≤◌, ◌+◌, true, IfErr, IfOk};
+ghost use Rattle.std.specs.Prelude.{◌≡◌, ◌⊎◌, ◌≤◌, ◌+◌, ℕ, List, false, true, IfErr, IfOk};
 ghost use Rattle.charmlet_model.specs.declared.kind.Kind as kinds;
 ghost use Rattle.charmlet_model.specs.declared.refusal.Refusal.TheVariants as refusals;
 ghost use Rattle.charmlet_model.specs.Shelves.{count_of};
@@ -12,7 +12,9 @@ ghost use Rattle.charmlet_stock.specs.Stock.{part_of};
 ghost use Rattle.charmlet_recover.specs.Wanted as wants;
 ghost use Rattle.charmlet_script.specs.Script.{blanks_in, blanks_of, processors_of};
 ghost use Rattle.charmlet_engine.specs.Advances.{Advances};
-ghost use Rattle.charmlet_engine.specs.Engine.{IsEngineConsistent};
+ghost use Rattle.charmlet_engine.specs.Engine.{IsEngineConsistent, view_of};
+ghost use Rattle.charmlet_requests.specs.Handlers.{handler_of};
+ghost use Rattle.charmlet_lab.specs.Lines.{AreRun, DeliversNext, DeliversNone, Drains, Follows, IsRunOf, IsSupplied, named_by};
 ghost use Rattle.charmlet_lab.specs.Rounds.{IsNotRun, IsRound, arrays_of, needed_by};
 
 use charmlet_chare::Chare;
@@ -40,9 +42,12 @@ pub struct Round<D: Disk> {
     pub is_stopped: bool,
 }
 
-/// Runs a script over a disk, which may fail at some call: each step after that is refused.
+/// Runs a script over a disk, which may fail at some call: then no further line is run.
 /// `blanks` are the objects that the script's lines supply. Nothing is printed. The disk has to be
 /// settled.
+///
+/// The events are those of a run of the script's lines up to that failure, one after another, and as many of
+/// them are durable as the store says.
 ///
 /// On an honest disk on which no store was, each crash after the run leaves files that recover to
 /// the world after some of the events, with all that were durable among them; where the store
@@ -59,10 +64,11 @@ pub fn lab_round<D: Disk, C: Chare>(
 ) -> Result<Round<D>, Refusal>
     requires settled { D.honest disk → IsSettled (D.file disk) }
     ensures ok { IfOk result (IsRound D.Disk (arrays_of script.now) disk) }
+    ensures ran { IfOk result (IsRunOf script.now) }
     ensures processors { IfOk result (λ _. is_processor_count (processors_of script.now) ≡ true) }
     ensures enough { IfOk result (λ _.
         IsEnough (count_of C.state blanks.items) (needed_by script.now)) }
-    ensures err { IfErr result (IsNotRun D.Disk C.state blanks.items script.now disk) }
+    ensures err { IfErr result (IsNotRun D.Disk (count_of C.state blanks.items) script.now disk) }
 {
     let manifest = script.manifest(alloc)?;
     let handlers = handlers_of(alloc, script.handlers())?;
@@ -120,7 +126,9 @@ fn supplied_by(script: &Script) -> Wanted
 
 /// The handlers of these lines, of which the last one of a name counts. `Memory` alone.
 fn handlers_of(alloc: Global, lines: &[HandlerLine]) -> Result<Handlers, Refusal>
-    ensures { IfErr result (λ refusal. refusal ≡ refusals.Memory) }
+    ensures named { IfOk result (λ handlers. (name : List ℕ) →
+        handler_of handlers name ≡ named_by lines.now name) }
+    ensures err { IfErr result (λ refusal. refusal ≡ refusals.Memory) }
 {
     let mut handlers = Handlers::new(alloc);
     for line in lines {
@@ -128,7 +136,9 @@ fn handlers_of(alloc: Global, lines: &[HandlerLine]) -> Result<Handlers, Refusal
             array: line.array,
             entry: line.entry,
         };
-        handlers.register(line.name.as_str(), handler)?;
+        if handlers.register(line.name.as_str(), handler).is_err() {
+            return Err(Refusal::Memory);
+        }
     }
     Ok(handlers)
 }
@@ -177,6 +187,8 @@ fn run_lines<D: Disk, C: Chare>(
     requires enough { (kind : kinds.Kind) →
         blanks_of kind lines.now ≤ stocks.blanks_in source.old kind }
     ensures consistent { IsEngineConsistent engine.new }
+    ensures ran { AreRun (handler_of handlers.now) (view_of engine.old) lines.now
+        (view_of engine.new) }
     ensures advances { Advances engine.old engine.new }
 {
     for line in lines {
@@ -198,6 +210,8 @@ fn run_line<D: Disk, C: Chare>(
     requires enough { (kind : kinds.Kind) →
         blanks_in kind line.now ≤ stocks.blanks_in source.old kind }
     ensures consistent { IsEngineConsistent engine.new }
+    ensures follows { Follows (handler_of handlers.now) (view_of engine.old) line.now
+        (view_of engine.new) }
     ensures left { (kind : kinds.Kind) → stocks.blanks_in source.old kind
         ≤ stocks.blanks_in source.new kind + blanks_in kind line.now }
     ensures advances { Advances engine.old engine.new }
@@ -244,17 +258,24 @@ fn supply<D: Disk, C: Chare>(
     requires consistent { IsEngineConsistent engine.old }
     requires enough { count ≤ stocks.blanks_in source.old kind }
     ensures consistent { IsEngineConsistent engine.new }
+    ensures supplied { IsSupplied kind count (view_of engine.old) (view_of engine.new)
+        ⊎ (view_of engine.new ≡ view_of engine.old) }
     ensures left { (other : kinds.Kind) → stocks.blanks_in source.old other
         ≤ stocks.blanks_in source.new other + part_of kind count other }
     ensures advances { Advances engine.old engine.new }
 {
-    let _ = engine.draw(source, kind, count as usize);
+    match engine.draw(source, kind, count as usize) {
+        Ok(()) => {}
+        // Memory was refused, and the run goes on.
+        Err(AllocError) => {}
+    }
 }
 
 /// Delivers the oldest message that can be delivered, up to so many times, or up to a refusal.
 fn drain<D: Disk, C: Chare>(engine: &mut Engine<D, C>, most: u32)
     requires { IsEngineConsistent engine.old }
     ensures consistent { IsEngineConsistent engine.new }
+    ensures drains { Drains most (view_of engine.old) (view_of engine.new) }
     ensures advances { Advances engine.old engine.new }
 {
     for _ in 0..most {
@@ -268,6 +289,8 @@ fn drain<D: Disk, C: Chare>(engine: &mut Engine<D, C>, most: u32)
 fn deliver_next<D: Disk, C: Chare>(engine: &mut Engine<D, C>) -> bool
     requires { IsEngineConsistent engine.old }
     ensures consistent { IsEngineConsistent engine.new }
+    ensures delivers { result ≡ true → DeliversNext (view_of engine.old) (view_of engine.new) }
+    ensures none { result ≡ false → DeliversNone (view_of engine.old) (view_of engine.new) }
     ensures advances { Advances engine.old engine.new }
 {
     let Some((processor, id)) = engine.next() else {

@@ -1,12 +1,15 @@
 //! A restart after a crash, and whether it was bad.
 
-ghost use Rattle.std.specs.Prelude.{◌≡◌, ◌⊎◌, ℕ, Some, None, false, IfErr, IfOk};
-ghost use Rattle.charmlet_model.specs.declared.refusal.Refusal.TheVariants as refusals;
+ghost use Rattle.std.specs.Prelude.{◌≡◌, ℕ, Some, None, false, IfErr, IfOk};
+ghost use Rattle.charmlet_model.specs.Shelves.{count_of};
 ghost use Rattle.charmlet_model.specs.Sound.{new_world};
 ghost use Rattle.charmlet_model.specs.World.{IsLegal};
 ghost use Rattle.charmlet_recovery.specs.Outcomes.{IsLawful};
+ghost use Rattle.charmlet_recovery.specs.RestartLaws.{IsEnough};
 ghost use Rattle.charmlet_recover.specs.Restart.{bytes_on};
+ghost use Rattle.charmlet_recover.specs.Wanted.{blanks_in};
 ghost use Rattle.charmlet_lab.specs.Judged.{IsNothingOrLawful};
+ghost use Rattle.charmlet_lab.specs.Restarts.{IsJudged, IsNotTried};
 ghost use Rattle.charmlet_lab.specs.Rounds.{arrays_of};
 
 use crate::judging::lab_bad;
@@ -14,7 +17,7 @@ use charmlet_chare::Chare;
 use charmlet_disk::Disk;
 use charmlet_engine::Engine;
 use charmlet_model::{Event, Refusal};
-use charmlet_recover::stock_of;
+use charmlet_recover::{Wanted, lacking, stock_of};
 use charmlet_script::Script;
 use std::alloc::Global;
 
@@ -22,26 +25,37 @@ use std::alloc::Global;
 /// that was bad, as [`lab_bad`] has it. Disk and objects are dropped.
 ///
 /// Where it wasn't, the files of an honest disk recover to the world after some of the events, with all that were durable
-/// among them; and where no store was said to be made, to that or to nothing. `Memory` and `ImageFull` as [`lab_bad`] has them.
+/// among them; and where no store was said to be made, to that or to nothing.
+///
+/// `BlanksWanted` where there are fewer blanks of a kind than are wanted, with the least such kind and all that are wanted of
+/// it: so blanks that weren't brought are never what makes a restart bad. `Memory` and `ImageFull` as [`lab_bad`] has them.
 pub fn lab_outcome<D: Disk, C: Chare>(
     alloc: Global,
     script: &Script,
     disk: D,
+    wanted: &Wanted,
     blanks: Vec<C>,
     events: &[Event],
     durable: Option<u64>,
 ) -> Result<bool, Refusal>
     requires legal { IsLegal (new_world (arrays_of script.now)) 0 events.now }
+    ensures ok { IfOk result (IsJudged D.Disk script.now (count_of C.state blanks.items) disk
+        events.now durable) }
+    ensures enough { IfOk result (λ _.
+        IsEnough (count_of C.state blanks.items) (blanks_in wanted.now)) }
     ensures sound { D.honest disk → IfOk result (λ bad. bad ≡ false → (n : ℕ) → durable ≡ Some n
         → IsLawful (new_world (arrays_of script.now)) 0 events.now n (bytes_on (D.file disk))) }
     ensures unmade { D.honest disk → IfOk result (λ bad. bad ≡ false → durable ≡ None →
         IsNothingOrLawful (arrays_of script.now) events.now (bytes_on (D.file disk))) }
-    ensures err { IfErr result (λ refusal.
-        (refusal ≡ refusals.Memory) ⊎ (refusal ≡ refusals.ImageFull)) }
+    ensures err { IfErr result (IsNotTried D.Disk script.now (count_of C.state blanks.items)
+        (blanks_in wanted.now) disk) }
 {
     let Ok(stock) = stock_of(alloc, blanks) else {
         return Err(Refusal::Memory);
     };
+    if let Some(lack) = lacking(&stock, wanted) {
+        return Err(lack);
+    }
     let mut answer = Engine::restart(alloc, disk, stock, script.processors());
     lab_bad(alloc, script, &mut answer, events, durable)
 }

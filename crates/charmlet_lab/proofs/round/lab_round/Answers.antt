@@ -1,5 +1,7 @@
-use Rattle.std.proofs.Common.{◌≡◌, ◌≤◌, List, true, Some, None, refl, sym, subst, ◌∙◌, arith}
+use Rattle.std.proofs.Common.{◌≡◌, ◌≤◌, List, true, Some, None, refl, sym, ap, subst, ◌∙◌, arith}
 use Rattle.charmlet_model.specs.declared.kind.Kind.{Kind}
+use Rattle.charmlet_model.specs.Core.{Blanks, Core}
+use Rattle.charmlet_model.specs.Shelves.{count_of}
 use Rattle.charmlet_model.specs.Sound.{new_world}
 use Rattle.charmlet_model.specs.World.{IsLegal}
 use Rattle.charmlet_record.specs.Reading.{Kinds}
@@ -8,8 +10,12 @@ use Rattle.charmlet_history.specs.Kept.{core_in}
 use Rattle.charmlet_stock.specs.Stock.{blanks_in}
 use Rattle.charmlet_script.specs.declared.script.Line.{Line}
 use Rattle.charmlet_script.specs.Script.{blanks_of}
+use Rattle.charmlet_requests.specs.Handlers.{handler_of}
+use Rattle.charmlet_engine.specs.Engine.{view_of}
 use Rattle.charmlet_engine.proofs.Lawful.{lawful_now}
+use Rattle.charmlet_lab.specs.Lines.{AreRun, named_by}
 use Rattle.charmlet_lab.specs.Rounds.{IsRound}
+use Rattle.charmlet_lab.proofs.Lines.{opens, run_by}
 use Rattle.charmlet_lab.proofs.Rounds.{all_blanks, durable_within, lawful_events, legal_events, memory_lacks, same_arrays, told_enough, told_lack}
 use Rattle.charmlet_lab.proofs.round.lab_round.Goals as goal
 
@@ -65,29 +71,50 @@ pub returns-in-Some-clause-err : goal.returns-in-Some-clause-err
 returns-in-Some-clause-err g c =
     let source = c.in-Ok.source in
     let given_are = λ (kind : Kind). all_blanks source c.in-Ok.ensures.unused kind ∙ c.in-Ok.ensures.supplied kind in
-    told_lack g.D.Disk g.C.Chare.state c.args.blanks.items c.args.script.now c.args.disk (blanks_in source) _ given_are c.supplied_by.ensures c.in-Some.lack (sym c.lacking.ensures ∙ c.in-Some.is)
+    told_lack g.D.Disk (count_of g.C.Chare.state c.args.blanks.items) c.args.script.now c.args.disk (blanks_in source) _ given_are c.supplied_by.ensures c.in-Some.lack (sym c.lacking.ensures ∙ c.in-Some.is)
 
 pub run_lines-requires-clause-enough : goal.run_lines-requires-clause-enough
 run_lines-requires-clause-enough g c κs within = λ kind.
     let source = c.in-Ok.source in
     let given_are = λ (kind : Kind). all_blanks source c.in-Ok.ensures.unused kind ∙ c.in-Ok.ensures.supplied kind in
-    let enough = told_enough g.D.Disk g.C.Chare.state c.args.blanks.items c.args.script.now c.args.disk (blanks_in source) _ given_are c.supplied_by.ensures (sym c.lacking.ensures ∙ c.in_default-lacking.is) in
+    let enough = told_enough g.D.Disk (count_of g.C.Chare.state c.args.blanks.items) c.args.script.now c.args.disk (blanks_in source) _ given_are c.supplied_by.ensures (sym c.lacking.ensures ∙ c.in_default-lacking.is) in
     subst (λ (lines : List Line). blanks_of kind lines ≤ blanks_in source kind) (sym c.lines.ensures) (subst (λ n. blanks_of kind c.args.script.now.lines ≤ n) (sym (given_are kind)) (enough kind))
 
 pub returns-in-Ok-create-clause-enough : goal.returns-in-Ok-create-clause-enough
 returns-in-Ok-create-clause-enough g c =
     let source = c.in-Ok.source in
     let given_are = λ (kind : Kind). all_blanks source c.in-Ok.ensures.unused kind ∙ c.in-Ok.ensures.supplied kind in
-    told_enough g.D.Disk g.C.Chare.state c.args.blanks.items c.args.script.now c.args.disk (blanks_in source) _ given_are c.supplied_by.ensures (sym c.lacking.ensures ∙ c.in_default-lacking.is)
+    told_enough g.D.Disk (count_of g.C.Chare.state c.args.blanks.items) c.args.script.now c.args.disk (blanks_in source) _ given_are c.supplied_by.ensures (sym c.lacking.ensures ∙ c.in_default-lacking.is)
 
 pub returns-in-Err-Device-clause-enough : goal.returns-in-Err-Device-clause-enough
 returns-in-Err-Device-clause-enough g c =
     let source = c.in-Ok.source in
     let given_are = λ (kind : Kind). all_blanks source c.in-Ok.ensures.unused kind ∙ c.in-Ok.ensures.supplied kind in
-    told_enough g.D.Disk g.C.Chare.state c.args.blanks.items c.args.script.now c.args.disk (blanks_in source) _ given_are c.supplied_by.ensures (sym c.lacking.ensures ∙ c.in_default-lacking.is)
+    told_enough g.D.Disk (count_of g.C.Chare.state c.args.blanks.items) c.args.script.now c.args.disk (blanks_in source) _ given_are c.supplied_by.ensures (sym c.lacking.ensures ∙ c.in_default-lacking.is)
 
 -- ---- memory that lacks
 
 pub returns-in_err-events-in-Ok-create-clause-err : goal.returns-in_err-events-in-Ok-create-clause-err
 returns-in_err-events-in-Ok-create-clause-err g c =
-    memory_lacks g.D.Disk g.C.Chare.state c.args.blanks.items c.args.script.now c.args.disk c.from_residual-in_err-events-in-Ok-create.result c.from_residual-in_err-events-in-Ok-create.ensures.1
+    memory_lacks g.D.Disk (count_of g.C.Chare.state c.args.blanks.items) c.args.script.now c.args.disk c.from_residual-in_err-events-in-Ok-create.result c.from_residual-in_err-events-in-Ok-create.ensures.1
+
+-- ---- the lines
+
+pub returns-in-Ok-create-clause-ran : goal.returns-in-Ok-create-clause-ran
+returns-in-Ok-create-clause-ran g c =
+    let script = c.args.script.now in
+    let kinds = c.in_ok-manifest.manifest in
+    let first = view_of {G = g.D.Disk} {H = g.C.Chare} c.note_events.new.self in
+    let last = view_of {G = g.D.Disk} {H = g.C.Chare} c.run_lines.new.engine in
+    let on = c.run_lines.ensures.advances.onward in
+    let core = c.note_events.ensures.core ∙ c.in-Ok-create.ensures.opens in
+    let none = λ (kind : Kind). ap (λ (blanks : Blanks). blanks kind) c.note_events.ensures.blanks ∙ c.in-Ok-create.ensures.blanks kind in
+    let opening = opens script kinds c.processors.result first c.in_ok-manifest.ensures.manifest c.processors.ensures core none in
+    let ran = subst (λ ls. AreRun (handler_of c.in_ok-handlers.handlers) first ls last) c.lines.ensures c.run_lines.ensures.ran in
+    let before = on.before ∙ ap (λ (k : Core). k.before) core in (
+      last,
+      subst (λ store. AreRun (named_by script.handlers) store script.lines last) opening (run_by c.in_ok-handlers.handlers script first last (λ name. c.in_ok-handlers.ensures.named name ∙ ap (λ ls. named_by ls name) c.handlers.ensures) ran),
+      c.in_ok-events-in-Ok-create.ensures ∙ rw c.in-Some-events.is at c.events.ensures,
+      omega (arith, c.durable.ensures, before),
+      c.is_halted-is_stopped.ensures,
+    )

@@ -1,18 +1,49 @@
+use Rattle.std.proofs.Common.{◌≡◌, sym, subst, ◌∙◌}
 use Rattle.std.proofs.lemmas.Result.{IfOk-weaker}
-use Rattle.charmlet_recover.specs.Restart.{bytes_on}
+use Rattle.charmlet_model.specs.declared.kind.Kind.{Kind}
+use Rattle.charmlet_model.specs.Shelves.{count_of}
+use Rattle.charmlet_recovery.specs.Restarts.{restart_refusal}
+use Rattle.charmlet_stock.specs.Stock.{blanks_in}
+use Rattle.charmlet_engine.specs.Engine.{recovered_or_not}
+use Rattle.charmlet_recover.specs.Restart.{AnswersBy, bytes_on, restarted_or_refused}
+use Rattle.charmlet_recover.specs.Wanted as wants
+use Rattle.charmlet_lab.specs.Judged.{came_to}
+use Rattle.charmlet_lab.specs.Restarts.{IsRestart}
 use Rattle.charmlet_lab.specs.Rounds.{arrays_of}
-use Rattle.charmlet_lab.proofs.Tried.{all_why, good_is_lawful, good_is_nothing_or_lawful}
+use Rattle.charmlet_lab.proofs.Restarts.{all_why, is_restart, told_enough, told_lack}
+use Rattle.charmlet_lab.proofs.Rounds.{all_blanks}
+use Rattle.charmlet_lab.proofs.Tried.{good_is_lawful, good_is_nothing_or_lawful}
 use Rattle.charmlet_lab.proofs.trying.lab_outcome.Goals as goal
 
 pub returns : goal.returns
-returns g c = record {
-  sound = λ honest.
-      IfOk-weaker c.lab_bad.result _ _ (λ bad judged no n is.
-      good_is_lawful {G = g.D.Disk} {H = g.C.Chare} (arrays_of c.args.script.now) c.args.events.now c.args.durable n c.processors.result (bytes_on (g.D.Disk.file c.args.disk)) c.restart-answer.result is
-      c.restart-answer.ensures.opens (c.restart-answer.ensures.found honest) (judged.0 no)) c.lab_bad.ensures.ok;
-  unmade = λ honest.
-      IfOk-weaker c.lab_bad.result _ _ (λ bad judged no is.
-      good_is_nothing_or_lawful {G = g.D.Disk} {H = g.C.Chare} (arrays_of c.args.script.now) c.args.events.now c.args.durable c.processors.result _ (bytes_on (g.D.Disk.file c.args.disk)) _ _ c.restart-answer.result is
-      c.restart-answer.ensures.opens (c.restart-answer.ensures.found honest) c.restart-answer.ensures.bad (c.restart-answer.ensures.answer honest) (judged.0 no)) c.lab_bad.ensures.ok;
-  err = all_why c.lab_bad.result c.restart-answer.result c.lab_bad.ensures.err;
-}
+returns g c =
+    let script = c.args.script.now in
+    let disk = c.args.disk in
+    let given = count_of g.C.Chare.state c.args.blanks.items in
+    let wanted = wants.blanks_in c.args.wanted.now in
+    let stock = c.in-Ok.stock in
+    let has = λ (kind : Kind). all_blanks stock c.in-Ok.ensures.unused kind ∙ c.in-Ok.ensures.supplied kind in
+    let answer = c.restart-answer.result in
+    let answers = c.restart-answer.ensures in
+    let restart = subst (λ processors. IsRestart g.D.Disk processors given disk (came_to answer)) c.processors.ensures
+    (is_restart {G = g.D.Disk} {H = g.C.Chare} c.processors.result given disk stock answer answers.opens answers.found answers.bad answers.only_bad
+      (λ honest good. subst (λ blanks. AnswersBy (restart_refusal blanks (bytes_on (g.D.Disk.file disk))) (restarted_or_refused (recovered_or_not answer))) (λ i kind. has kind i) (answers.answer honest good)) answers.err) in
+    record {
+      ok = IfOk-weaker c.lab_bad.result _ _ (λ bad judged. record { back = came_to answer; restart = restart; judged = judged }) c.lab_bad.ensures.ok;
+      enough = IfOk-weaker c.lab_bad.result _ _ (λ bad judged. told_enough g.D.Disk script disk given wanted (blanks_in stock) has (sym c.lacking.ensures ∙ c.in_default-lacking.is)) c.lab_bad.ensures.ok;
+      sound = λ honest.
+          IfOk-weaker c.lab_bad.result _ _ (λ bad judged no n is.
+          good_is_lawful {G = g.D.Disk} {H = g.C.Chare} (arrays_of script) c.args.events.now c.args.durable n c.processors.result (bytes_on (g.D.Disk.file disk)) answer is
+          answers.opens (answers.found honest) (judged.0 no)) c.lab_bad.ensures.ok;
+      unmade = λ honest.
+          IfOk-weaker c.lab_bad.result _ _ (λ bad judged no is.
+          good_is_nothing_or_lawful {G = g.D.Disk} {H = g.C.Chare} (arrays_of script) c.args.events.now c.args.durable c.processors.result _ (bytes_on (g.D.Disk.file disk)) _ _ answer is
+          answers.opens (answers.found honest) answers.bad (answers.answer honest) (judged.0 no)) c.lab_bad.ensures.ok;
+      err = all_why g.D.Disk script disk given wanted c.lab_bad.result (came_to answer) restart c.lab_bad.ensures.err;
+    }
+
+pub returns-in-Some-clause-err : goal.returns-in-Some-clause-err
+returns-in-Some-clause-err g c =
+    let stock = c.in-Ok.stock in
+    let has = λ (kind : Kind). all_blanks stock c.in-Ok.ensures.unused kind ∙ c.in-Ok.ensures.supplied kind in
+    told_lack g.D.Disk c.args.script.now c.args.disk (count_of g.C.Chare.state c.args.blanks.items) (wants.blanks_in c.args.wanted.now) (blanks_in stock) has c.in-Some.lack (sym c.lacking.ensures ∙ c.in-Some.is)

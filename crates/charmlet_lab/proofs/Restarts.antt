@@ -1,0 +1,112 @@
+-- Restarts of the laboratory, as the engine answers them.
+use Rattle.std.proofs.Common.{◌≡◌, ◌⊎◌, inl, inr, Bool, ℕ, true, false, List, Option, Some, None, Result, Ok, Err, refl, sym, ap, subst, ◌∙◌}
+use Rattle.std.specs.Prelude.{IfErr, IfOk, option_map}
+use Rattle.charmlet_model.specs.declared.event.Event.{Event}
+use Rattle.charmlet_model.specs.declared.half.Half.{Half}
+use Rattle.charmlet_model.specs.declared.kind.Kind.{Kind}
+use Rattle.charmlet_model.specs.declared.refusal.Refusal.{Refusal}
+use Rattle.charmlet_model.specs.declared.refusal.Refusal.TheVariants as refusals
+use Rattle.charmlet_model.specs.Core.{Blanks, Core}
+use Rattle.charmlet_chare.specs.declared.chare.Chare as chares
+use Rattle.charmlet_disk.specs.declared.disk.Disk as disks
+use Rattle.charmlet_disk.specs.Disk.{SameFiles}
+use Rattle.charmlet_disk.specs.File.{File}
+use Rattle.charmlet_locate.specs.Locations.{is_processor_count}
+use Rattle.charmlet_recovery.specs.Blanks.{least_short}
+use Rattle.charmlet_recovery.specs.Recovered.{Found, recovered}
+use Rattle.charmlet_recovery.specs.RestartLaws.{IsEnough, Lacks}
+use Rattle.charmlet_recovery.specs.Restarts.{restart_refusal}
+use Rattle.charmlet_recovery.proofs.Restarting.{least_short_is_found}
+use Rattle.charmlet_stock.specs.declared.stock.Stock.{Stock}
+use Rattle.charmlet_recover.specs.declared.restarting.NotRestarted.{NotRestarted}
+use Rattle.charmlet_recover.specs.declared.restarting.Recovered as stores
+use Rattle.charmlet_recover.specs.Restart.{AnswersBy, IsHandedBack, IsOpenedOn, bytes_on, is_restart_refusal, restarted_or_refused}
+use Rattle.charmlet_script.specs.Script.{Contents, processors_of}
+use Rattle.charmlet_engine.specs.declared.engine.Engine.{Engine}
+use Rattle.charmlet_engine.specs.Engine.{core_of, recovered_in, recovered_or_not}
+use Rattle.charmlet_checkpoint.specs.Showing.{IsRefusal, PassesLimit}
+use Rattle.charmlet_lab.specs.Judged.{IsNotJudged, came_to}
+use Rattle.charmlet_lab.specs.Restarts.{IsNotTried, IsRestart}
+
+-- a restart that is refused
+abbrev no_store : Refusal → Result Core Refusal
+no_store refusal = Err refusal
+
+-- a refusal by a cause is one, whatever would have been answered
+refused_alike : (X Y : Type 0) (why : Option Refusal) (refusal : Refusal) → AnswersBy {X = X} why (Err refusal) → AnswersBy {X = Y} why (Err refusal)
+refused_alike X Y why refusals.Memory by = by
+refused_alike X Y why refusals.Device by = by
+refused_alike X Y why _ by = by
+
+module _ {D C : Type 0} {G : disks.Ghosts D} {H : chares.Ghosts C} where
+  -- what the engine answers to a restart is a restart
+  pub is_restart : (processors : ℕ) (given : Blanks) (disk : D) (blanks : Stock C H) (r : Result (Engine D C G H) (NotRestarted D C H)) →
+      IfOk r (λ engine. IsOpenedOn processors (recovered_in engine)) →
+      (G.honest disk → IfOk r (λ engine. recovered (bytes_on (G.file disk)) ≡ Found (core_of engine).opening (core_of engine).before (core_of engine).generation)) →
+      (is_processor_count processors ≡ false → IsHandedBack {G = G} disk blanks (recovered_or_not r)) →
+      IfErr r (λ refused. refused.refusal ≡ refusals.BadPes → is_processor_count processors ≡ false) →
+      (G.honest disk → is_processor_count processors ≡ true → AnswersBy (restart_refusal given (bytes_on (G.file disk))) (restarted_or_refused (recovered_or_not r))) →
+      IfErr r (λ refused. is_restart_refusal refused.refusal ≡ true) → IsRestart G processors given disk (came_to r)
+  is_restart processors given disk blanks (Ok engine) opens found bad only answer refused = record {
+    opens = opens;
+    found = found;
+    bad = λ no. absurd (bad no);
+    only_bad = λ told. absurd (let no : ⊥ = cc in no);
+    cause = answer;
+    refusals = tt;
+  }
+  is_restart processors given disk blanks (Err refused) opens found bad only answer told = record {
+    opens = tt;
+    found = λ honest. tt;
+    bad = λ no. ap no_store (bad no).0;
+    only_bad = λ is. only (let same : refused.refusal ≡ refusals.BadPes = cc in same);
+    cause = λ honest good. refused_alike (stores.Recovered D C G H) Core (restart_refusal given (bytes_on (G.file disk))) refused.refusal (answer honest good);
+    refusals = told;
+  }
+
+-- of the same files it is the same restart
+pub same_restart : {D : Type 0} (G : disks.Ghosts D) (processors : ℕ) (given : Blanks) (old new : D) (back : Result Core Refusal) →
+    (G.honest old → G.honest new) → (G.honest old → SameFiles (G.file old) (G.file new)) → IsRestart G processors given new back → IsRestart G processors given old back
+same_restart G processors given old new back honest same restart =
+    let bytes : G.honest old → bytes_on (G.file new) ≡ bytes_on (G.file old) = λ h. λ i half. ap (λ (file : File). file.now) (same h half) i in
+    record {
+      opens = restart.opens;
+      found = λ h. subst (λ o. IfOk back (λ core. recovered o ≡ Found core.opening core.before core.generation)) (bytes h) (restart.found (honest h));
+      bad = restart.bad;
+      only_bad = restart.only_bad;
+      cause = λ h good. subst (λ o. AnswersBy (restart_refusal given o) back) (bytes h) (restart.cause (honest h) good);
+      refusals = restart.refusals;
+    }
+
+-- ---- why none is tried
+
+module _ {D : Type 0} (G : disks.Ghosts D) (script : Contents) (disk : D) (given wanted : Blanks) where
+  -- memory is lacking, or an image would pass a limit
+  why : (back : Result Core Refusal) (refusal : Refusal) → IsRestart G (processors_of script) given disk back → IsNotJudged back refusal → IsNotTried G script given wanted disk refusal
+  why (Ok core) refusal restart (inl is) = subst (IsNotTried G script given wanted disk) (sym is) tt
+  why (Ok core) refusal restart (inr full) = subst (IsNotTried G script given wanted disk) (sym full.0) (core, restart, full.1)
+  why (Err refused) refusal restart never = absurd never
+
+  pub all_why : (judged : Result Bool Refusal) (back : Result Core Refusal) → IsRestart G (processors_of script) given disk back → IfErr judged (IsNotJudged back) → IfErr judged (IsNotTried G script given wanted disk)
+  all_why (Ok bad) back restart h = tt
+  all_why (Err refusal) back restart h = why back refusal restart h
+
+  -- blanks lack, or don't, as a stock of these says
+  module _ (stock : Blanks) (has : (kind : Kind) → stock kind ≡ given kind) where
+    lacks : Lacks given wanted (least_short stock wanted)
+    lacks = subst (λ (g : Blanks). Lacks g wanted (least_short stock wanted)) (λ i kind. has kind i) (least_short_is_found stock wanted)
+
+    told : (found : Option (Kind × ℕ)) → Lacks given wanted found → (refusal : Refusal) →
+        option_map (λ (lack : Kind × ℕ). refusals.BlanksWanted lack.0 lack.1) found ≡ Some refusal → IsNotTried G script given wanted disk refusal
+    told (Some lack) lacks refusal is = subst (IsNotTried G script given wanted disk) (let same : refusals.BlanksWanted lack.0 lack.1 ≡ refusal = cc in same) lacks
+    told None enough refusal is = absurd cc
+
+    all : (found : Option (Kind × ℕ)) → Lacks given wanted found → option_map (λ (lack : Kind × ℕ). refusals.BlanksWanted lack.0 lack.1) found ≡ None → IsEnough given wanted
+    all None enough none = enough
+    all (Some lack) short none = absurd cc
+
+    pub told_lack : (refusal : Refusal) → option_map (λ (lack : Kind × ℕ). refusals.BlanksWanted lack.0 lack.1) (least_short stock wanted) ≡ Some refusal → IsNotTried G script given wanted disk refusal
+    told_lack = told (least_short stock wanted) lacks
+
+    pub told_enough : option_map (λ (lack : Kind × ℕ). refusals.BlanksWanted lack.0 lack.1) (least_short stock wanted) ≡ None → IsEnough given wanted
+    told_enough = all (least_short stock wanted) lacks

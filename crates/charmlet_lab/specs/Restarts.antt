@@ -1,0 +1,87 @@
+-- Restarts of the laboratory, and the blanks for them.
+use Rattle.std.specs.Prelude.{◌≡◌, ◌≢◌, ◌↔◌, ⊤, ℕ, Bool, true, false, List, Option, Result, Ok, Err, IfErr, IfOk}
+use Rattle.charmlet_model.specs.declared.event.Event.{Event}
+use Rattle.charmlet_model.specs.declared.half.Half.{Half}
+use Rattle.charmlet_model.specs.declared.half.Half.TheVariants.{Zero, One}
+use Rattle.charmlet_model.specs.declared.kind.Kind.{Kind}
+use Rattle.charmlet_model.specs.declared.refusal.Refusal.{Refusal}
+use Rattle.charmlet_model.specs.declared.refusal.Refusal.TheVariants.{BadPes, BlanksWanted, Device, ImageFull, Memory}
+use Rattle.charmlet_model.specs.Core.{Blanks, Core}
+use Rattle.charmlet_model.specs.Sound.{opened}
+use Rattle.charmlet_checkpoint.specs.Showing.{PassesLimit}
+use Rattle.charmlet_disk.specs.declared.crash.CrashChoice.{CrashChoice}
+use Rattle.charmlet_disk.specs.declared.disk.Disk as disks
+use Rattle.charmlet_disk.specs.Crash.{left_by}
+use Rattle.charmlet_disk.specs.File.{MayLeave, clean}
+use Rattle.charmlet_locate.specs.Locations.{is_processor_count}
+use Rattle.charmlet_recovery.specs.Recovered.{Found, recovered}
+use Rattle.charmlet_recovery.specs.RestartLaws.{IsEnough, IsLeastShort}
+use Rattle.charmlet_recovery.specs.Restarts.{restart_refusal}
+use Rattle.charmlet_recover.specs.declared.finding.Found as finding
+use Rattle.charmlet_recover.specs.Found.{IsFoundIn, IsRead}
+use Rattle.charmlet_recover.specs.Restart.{AnswersBy, bytes_on, is_restart_refusal}
+use Rattle.charmlet_recover.specs.Wanted.{blanks_in}
+use Rattle.charmlet_script.specs.Script.{Contents, processors_of}
+use Rattle.charmlet_lab.specs.Judged.{IsGood}
+use Rattle.charmlet_lab.specs.Rounds.{arrays_of}
+
+-- the blanks that the store wants which was found, and none where none was
+abbrev pub wanted_by : Result finding.Found Refusal → Blanks
+wanted_by (Ok found) = blanks_in found.wanted
+wanted_by (Err refusal) = λ _. 0
+
+-- what was found is known: memory wasn't lacking, and the device hasn't failed
+abbrev pub IsKnown : Result finding.Found Refusal → Type 0
+IsKnown found = IfErr found (λ refusal. (refusal ≢ Memory) × (refusal ≢ Device))
+
+module _ {D : Type 0} (G : disks.Ghosts D) where
+  -- Of an honest disk the crash leaves what its choice says, which is one of what a crash may leave,
+  -- and all of it is sure. The disk is as honest as before.
+  pub record IsCrash (choice : CrashChoice) (old new : D) : Type 0 where
+    pub left : G.honest old → (half : Half) →
+        G.file new half ≡ clean (left_by choice (G.file old half))
+    pub lawful : G.honest old →
+        MayLeave (G.file old) (λ half. left_by choice (G.file old half))
+    pub honest : (G.honest old → G.honest new) × (G.honest new → G.honest old)
+
+  -- so many blanks of each kind are wanted by what a reading of this disk finds
+  pub record AreWanted (disk : D) (wanted : Blanks) : Type 0 where
+    pub found : Result finding.Found Refusal
+    pub known : IsKnown found
+    pub read : IfOk found IsRead
+    pub honest : G.honest disk →
+        IsFoundIn (G.file disk Zero).now (G.file disk One).now found
+    pub are : (kind : Kind) → wanted kind ≡ wanted_by found kind
+
+  -- A restart from this disk on so many processors, with these blanks, came to this store or this
+  -- refusal. Nothing has happened in the store since it opened, and of an honest disk it has the
+  -- world that the files recover to; and a refusal has the cause that they give.
+  pub record IsRestart (processors : ℕ) (given : Blanks) (disk : D)
+      (back : Result Core Refusal) : Type 0 where
+    pub opens : IfOk back (λ core. core
+        ≡ opened processors core.opening core.before core.generation core.log_end)
+    pub found : G.honest disk → IfOk back (λ core. recovered (bytes_on (G.file disk))
+        ≡ Found core.opening core.before core.generation)
+    pub bad : is_processor_count processors ≡ false → back ≡ Err BadPes
+    pub only_bad : back ≡ Err BadPes → is_processor_count processors ≡ false
+    pub cause : G.honest disk → is_processor_count processors ≡ true →
+        AnswersBy (restart_refusal given (bytes_on (G.file disk))) back
+    pub refusals : IfErr back (λ refusal. is_restart_refusal refusal ≡ true)
+
+  -- a restart from this disk, with these blanks and on the script's processors, is called bad if and
+  -- only if it is
+  pub record IsJudged (script : Contents) (given : Blanks) (disk : D) (events : List Event)
+      (durable : Option ℕ) (bad : Bool) : Type 0 where
+    pub back : Result Core Refusal
+    pub restart : IsRestart (processors_of script) given disk back
+    pub judged : (bad ≡ false) ↔ IsGood (arrays_of script) events durable back
+
+  -- why there is no such restart, or none that is judged: there are too few blanks, of this kind and
+  -- no lesser one; an image of the store that came back would pass a limit; or memory is lacking
+  abbrev pub IsNotTried : Contents → (given wanted : Blanks) → D → Refusal → Type 0
+  IsNotTried script given wanted disk (BlanksWanted kind count) =
+      IsLeastShort given wanted kind count
+  IsNotTried script given wanted disk ImageFull = (core : Core)
+      × IsRestart (processors_of script) given disk (Ok core) × PassesLimit core
+  IsNotTried script given wanted disk Memory = ⊤
+  IsNotTried script given wanted disk _ = ⊥
