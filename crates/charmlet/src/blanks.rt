@@ -1,8 +1,27 @@
 //! Blank objects of all kinds, for whatever is done with them.
 
+ghost use Rattle.std.specs.Prelude.{◌≡◌, true, IfErr, IfOk};
+ghost use Rattle.charmlet_model.specs.Core.{Blanks};
+ghost use Rattle.charmlet_model.specs.Sound.{new_world};
+ghost use Rattle.charmlet_model.specs.World.{IsLegal};
+ghost use Rattle.charmlet_any_disk.specs.AnyDisk.{files_of, is_honest};
+ghost use Rattle.charmlet_disk.specs.Disk.{IsSettled};
+ghost use Rattle.charmlet_locate.specs.Locations.{is_processor_count};
+ghost use Rattle.charmlet_recovery.specs.RestartLaws.{IsEnough};
+ghost use Rattle.charmlet_recover.specs.Wanted.{blanks_in};
+ghost use Rattle.charmlet_script.specs.Script.{processors_of};
+ghost use Rattle.charmlet_lab.specs.Lines.{IsRunOf};
+ghost use Rattle.charmlet_lab.specs.Restarts.{IsJudged, IsNotTried};
+ghost use Rattle.charmlet_lab.specs.Rounds.{IsNotRun, IsRound, arrays_of};
+
+use charmlet_any_disk::AnyDisk;
 use charmlet_chare::Chare;
+use charmlet_disk::Disk;
 use charmlet_kinds::{Account, Counter, Ring, Sum, Tape, Tree};
-use charmlet_model::Kind;
+use charmlet_lab::{Round, Supplier, lab_outcome, lab_round};
+use charmlet_model::{Event, Kind, Refusal};
+use charmlet_recover::Wanted;
+use charmlet_script::Script;
 use std::alloc::{AllocError, Global};
 
 /// An object of any kind.
@@ -70,4 +89,99 @@ pub(crate) fn with_blanks<T: Task>(alloc: Global, task: T) -> Result<T::Answer, 
         }
     }
     Ok(task.begin(blanks, supplies))
+}
+
+/// A run of a script with these blanks.
+fn run_with<C: Chare>(
+    alloc: Global,
+    script: &Script,
+    blanks: Vec<C>,
+    disk: AnyDisk,
+) -> Result<Round<AnyDisk>, Refusal>
+    requires settled { is_honest disk → IsSettled (files_of disk) }
+    ensures ok { IfOk result (IsRound ⟦<AnyDisk as Disk>⟧ (arrays_of script.now) disk) }
+    ensures ran { IfOk result (IsRunOf script.now) }
+    ensures processors { IfOk result (λ _.
+        is_processor_count (processors_of script.now) ≡ true) }
+    ensures err { IfErr result (λ refusal. (given : Blanks)
+        × IsNotRun ⟦<AnyDisk as Disk>⟧ given script.now disk refusal) }
+{
+    lab_round(alloc, script, blanks, disk)
+}
+
+/// Whether a restart after a run's crash is bad, with these blanks.
+fn restart_with<C: Chare>(
+    alloc: Global,
+    script: &Script,
+    disk: AnyDisk,
+    wanted: &Wanted,
+    blanks: Vec<C>,
+    events: &[Event],
+    durable: Option<u64>,
+) -> Result<bool, Refusal>
+    requires legal { IsLegal (new_world (arrays_of script.now)) 0 events.now }
+    ensures ok { IfOk result (λ bad. (given : Blanks) × IsEnough given (blanks_in wanted.now)
+        × IsJudged ⟦<AnyDisk as Disk>⟧ script.now given disk events.now durable bad) }
+    ensures err { IfErr result (λ refusal. (given : Blanks)
+        × IsNotTried ⟦<AnyDisk as Disk>⟧ script.now given (blanks_in wanted.now) disk refusal) }
+{
+    lab_outcome(alloc, script, disk, wanted, blanks, events, durable)
+}
+
+/// Objects of all kinds, for the runs and the restarts of the laboratory.
+#[derive(Drop)]
+pub(crate) struct AllKinds;
+
+impl Supplier<AnyDisk> for AllKinds {
+    fn run(&self, alloc: Global, script: &Script, disk: AnyDisk) -> Result<Round<AnyDisk>, Refusal>
+        requires settled { is_honest disk → IsSettled (files_of disk) }
+        ensures ok { IfOk result (IsRound ⟦<AnyDisk as Disk>⟧ (arrays_of script.now) disk) }
+        ensures ran { IfOk result (IsRunOf script.now) }
+        ensures processors { IfOk result (λ _.
+            is_processor_count (processors_of script.now) ≡ true) }
+        ensures err { IfErr result (λ refusal. (given : Blanks)
+            × IsNotRun ⟦<AnyDisk as Disk>⟧ given script.now disk refusal) }
+    {
+        let mut blanks = Vec::new(alloc);
+        for kind in &Kind::ALL {
+            for _ in 0..script.blanks(*kind) {
+                let Ok(blank) = blank!(alloc, kind) else {
+                    return Err(Refusal::Memory);
+                };
+                if blanks.push(blank).is_err() {
+                    return Err(Refusal::Memory);
+                }
+            }
+        }
+        run_with(alloc, script, blanks, disk)
+    }
+
+    fn restart(
+        &self,
+        alloc: Global,
+        script: &Script,
+        disk: AnyDisk,
+        wanted: &Wanted,
+        events: &[Event],
+        durable: Option<u64>,
+    ) -> Result<bool, Refusal>
+        requires legal { IsLegal (new_world (arrays_of script.now)) 0 events.now }
+        ensures ok { IfOk result (λ bad. (given : Blanks) × IsEnough given (blanks_in wanted.now)
+            × IsJudged ⟦<AnyDisk as Disk>⟧ script.now given disk events.now durable bad) }
+        ensures err { IfErr result (λ refusal. (given : Blanks)
+            × IsNotTried ⟦<AnyDisk as Disk>⟧ script.now given (blanks_in wanted.now) disk refusal) }
+    {
+        let mut blanks = Vec::new(alloc);
+        for kind in &Kind::ALL {
+            for _ in 0..wanted.of(*kind) {
+                let Ok(blank) = blank!(alloc, kind) else {
+                    return Err(Refusal::Memory);
+                };
+                if blanks.push(blank).is_err() {
+                    return Err(Refusal::Memory);
+                }
+            }
+        }
+        restart_with(alloc, script, disk, wanted, blanks, events, durable)
+    }
 }
