@@ -27,7 +27,7 @@ returns g c =
     let answers = c.restart-answer.ensures in
     let restart = subst (λ processors. IsRestart g.D.Disk processors given disk (came_to answer)) c.processors.ensures
     (is_restart {G = g.D.Disk} {H = g.C.Chare} c.processors.result given disk stock answer answers.opens answers.found answers.bad answers.only_bad
-      (λ honest good. subst (λ blanks. AnswersBy (restart_refusal blanks (bytes_on (g.D.Disk.file disk))) (restarted_or_refused (recovered_or_not answer))) (λ i kind. has kind i) (answers.answer honest good)) answers.err) in
+    (λ honest good. subst (λ blanks. AnswersBy (restart_refusal blanks (bytes_on (g.D.Disk.file disk))) (restarted_or_refused (recovered_or_not answer))) (λ i kind. has kind i) (answers.answer honest good)) answers.err) in
     record {
       ok = IfOk-weaker c.lab_bad.result _ _ (λ bad judged. record { back = came_to answer; restart = restart; judged = judged }) c.lab_bad.ensures.ok;
       enough = IfOk-weaker c.lab_bad.result _ _ (λ bad judged. told_enough g.D.Disk script disk given wanted (blanks_in stock) has (sym c.lacking.ensures ∙ c.in_default-lacking.is)) c.lab_bad.ensures.ok;
