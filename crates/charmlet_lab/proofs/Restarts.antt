@@ -1,8 +1,6 @@
 -- Restarts of the laboratory, as the engine answers them.
-use Rattle.std.proofs.Common.{◌≡◌, ◌⊎◌, inl, inr, Bool, ℕ, true, false, List, Option, Some, None, Result, Ok, Err, refl, sym, ap, subst, ◌∙◌}
+use Rattle.std.proofs.Common.{◌≡◌, inl, inr, Bool, ℕ, true, false, Option, Some, None, Result, Ok, Err, sym, ap, subst}
 use Rattle.std.specs.Prelude.{IfErr, IfOk, option_map}
-use Rattle.charmlet_model.specs.declared.event.Event.{Event}
-use Rattle.charmlet_model.specs.declared.half.Half.{Half}
 use Rattle.charmlet_model.specs.declared.kind.Kind.{Kind}
 use Rattle.charmlet_model.specs.declared.refusal.Refusal.{Refusal}
 use Rattle.charmlet_model.specs.declared.refusal.Refusal.TheVariants as refusals
@@ -24,7 +22,6 @@ use Rattle.charmlet_recover.specs.Restart.{AnswersBy, IsHandedBack, IsOpenedOn, 
 use Rattle.charmlet_script.specs.Script.{Contents, processors_of}
 use Rattle.charmlet_engine.specs.declared.engine.Engine.{Engine}
 use Rattle.charmlet_engine.specs.Engine.{core_of, recovered_in, recovered_or_not}
-use Rattle.charmlet_checkpoint.specs.Showing.{IsRefusal, PassesLimit}
 use Rattle.charmlet_lab.specs.Judged.{IsNotJudged, came_to}
 use Rattle.charmlet_lab.specs.Restarts.{IsNotTried, IsRestart}
 

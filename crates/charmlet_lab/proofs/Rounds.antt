@@ -8,10 +8,8 @@ use Rattle.charmlet_model.specs.declared.kind.Kind.{Kind}
 use Rattle.charmlet_model.specs.declared.kind.Kind.TheVariants as kinds
 use Rattle.charmlet_model.specs.declared.refusal.Refusal.{Refusal}
 use Rattle.charmlet_model.specs.declared.refusal.Refusal.TheVariants as refusals
-use Rattle.charmlet_model.specs.declared.state.State.{State}
 use Rattle.charmlet_model.specs.Core.{Blanks, Core}
 use Rattle.charmlet_model.specs.Manifest.{manifest_of}
-use Rattle.charmlet_model.specs.Shelves.{count_of}
 use Rattle.charmlet_model.specs.Sound.{IsSound, new_world}
 use Rattle.charmlet_model.specs.World.{IsLegal, World}
 use Rattle.charmlet_record.specs.Reading.{Kinds}

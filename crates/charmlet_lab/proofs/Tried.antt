@@ -1,6 +1,6 @@
 -- Restarts that aren't bad.
-use Rattle.std.proofs.Common.{◌≡◌, ◌⊎◌, inl, inr, Bool, ℕ, ◌+◌, arith, true, false, List, [], Option, Some, None, Result, Ok, Err, length, take, refl, sym, ap, subst, ◌∙◌}
-use Rattle.std.specs.Prelude.{IfErr, IfOk, unwrap_or}
+use Rattle.std.proofs.Common.{◌≡◌, inl, inr, ℕ, ◌+◌, arith, true, false, List, [], Option, Some, None, Result, Ok, Err, length, take, refl, sym, ap, subst, ◌∙◌}
+use Rattle.std.specs.Prelude.{IfOk, unwrap_or}
 use Rattle.charmlet_model.specs.declared.event.Event.{Event}
 use Rattle.charmlet_model.specs.declared.half.Half.{Half}
 use Rattle.charmlet_model.specs.declared.kind.Kind.{Kind}
@@ -29,7 +29,7 @@ use Rattle.charmlet_recover.specs.declared.restarting.Recovered as stores
 use Rattle.charmlet_recover.specs.Restart.{AnswersBy, IsHandedBack, IsOpenedOn, restarted_or_refused}
 use Rattle.charmlet_engine.specs.declared.engine.Engine.{Engine}
 use Rattle.charmlet_engine.specs.Engine.{core_of, recovered_in, recovered_or_not}
-use Rattle.charmlet_lab.specs.Judged.{HasFirst, IsGood, IsNotJudged, IsNothingOrLawful, came_to, count_of}
+use Rattle.charmlet_lab.specs.Judged.{HasFirst, IsGood, IsNothingOrLawful, came_to, count_of}
 
 -- a store in which nothing has happened since it opened, and which has the first events of a run, was recovered from lawful files
 opened_is_lawful : (kinds : Kinds) (events : List Event) (n processors : ℕ) (core : Core) (outcome : Outcome) →

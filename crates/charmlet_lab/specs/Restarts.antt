@@ -15,7 +15,7 @@ use Rattle.charmlet_disk.specs.Crash.{left_by}
 use Rattle.charmlet_disk.specs.File.{MayLeave, clean}
 use Rattle.charmlet_locate.specs.Locations.{is_processor_count}
 use Rattle.charmlet_recovery.specs.Recovered.{Found, recovered}
-use Rattle.charmlet_recovery.specs.RestartLaws.{IsEnough, IsLeastShort}
+use Rattle.charmlet_recovery.specs.RestartLaws.{IsLeastShort}
 use Rattle.charmlet_recovery.specs.Restarts.{restart_refusal}
 use Rattle.charmlet_recover.specs.declared.finding.Found as finding
 use Rattle.charmlet_recover.specs.Found.{IsFoundIn, IsRead}

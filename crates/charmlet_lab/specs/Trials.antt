@@ -17,7 +17,7 @@ use Rattle.charmlet_lab.specs.declared.line.LabLine.{LabLine}
 use Rattle.charmlet_lab.specs.declared.round.Round.{Round}
 use Rattle.charmlet_lab.specs.Judged.{IsGood}
 use Rattle.charmlet_lab.specs.Lines.{IsRunOf}
-use Rattle.charmlet_lab.specs.Restarts.{AreWanted, IsCrash, IsJudged, IsRestart}
+use Rattle.charmlet_lab.specs.Restarts.{AreWanted, IsCrash, IsRestart}
 use Rattle.charmlet_lab.specs.Rounds.{IsRound, arrays_of}
 
 -- a crash: after how many calls the disk of its run failed, and what it left of the disk

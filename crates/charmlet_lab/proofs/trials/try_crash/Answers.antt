@@ -1,13 +1,10 @@
-use Rattle.std.proofs.Common.{◌≡◌, false, refl, sym, subst}
-use Rattle.charmlet_model.specs.declared.event.Event.{Event}
-use Rattle.charmlet_model.specs.Sound.{new_world}
-use Rattle.charmlet_model.specs.World.{IsLegal}
+use Rattle.std.proofs.Common.{◌≡◌, false, refl, subst}
 use Rattle.charmlet_recover.specs.Wanted.{blanks_in}
 use Rattle.charmlet_script.specs.Script.{processors_of}
 use Rattle.charmlet_lab.specs.Judged.{IsGood}
 use Rattle.charmlet_lab.specs.Rounds.{arrays_of}
 use Rattle.charmlet_lab.proofs.Restarts.{same_restart}
-use Rattle.charmlet_lab.proofs.Causes.{empty_is_settled, not_read, not_run, not_tried}
+use Rattle.charmlet_lab.proofs.Causes.{empty_is_settled}
 use Rattle.charmlet_lab.proofs.trials.try_crash.Goals as goal
 
 pub run-requires : goal.run-requires

@@ -1,4 +1,4 @@
-use Rattle.std.proofs.Common.{◌≡◌, inr, sym, ap, subst, ◌∙◌, arith}
+use Rattle.std.proofs.Common.{inr, sym, ap, subst, ◌∙◌, arith}
 use Rattle.charmlet_lab.specs.Trials.{AreTried, places}
 use Rattle.charmlet_lab.proofs.Counting.{none_taken}
 use Rattle.charmlet_lab.proofs.trials.try_crashes.Goals as goal

@@ -1,7 +1,7 @@
-use Rattle.std.proofs.Common.{◌≡◌, ◌+◌, ◌++◌, take, refl, sym, ap, subst, ◌∙◌, arith, append_assoc}
+use Rattle.std.proofs.Common.{◌+◌, ◌++◌, take, refl, sym, ap, subst, ◌∙◌, arith, append_assoc}
 use Rattle.charmlet_disk.specs.declared.crash.CrashChoice.TheVariants.{Old}
 use Rattle.charmlet_lab.specs.declared.line.LabLine.{LabLine}
-use Rattle.charmlet_lab.specs.Trials.{AreTried, Place, places, places_at}
+use Rattle.charmlet_lab.specs.Trials.{AreTried, places, places_at}
 use Rattle.charmlet_lab.proofs.Counting.{all_taken, one_more, places_taken, same_counts}
 use Rattle.charmlet_lab.proofs.trials.try_stop.Goals as goal
 
