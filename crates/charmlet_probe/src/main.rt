@@ -8,29 +8,56 @@ mod words;
 use crate::lines::run_line;
 use charmlet_cli::{Failure, Stop, end_program, open_script};
 use charmlet_testing::{Bench, Failed};
+use std::alloc::Global;
 use std::io::Write;
 use std::process::ExitCode;
 use std::{env, io};
 
-/// Runs each line of the probe in a file, and prints what it answers before the next one is run.
-fn probe(rt: HostRuntime) -> Result<(), Stop> {
-    let alloc = rt.alloc();
-    let words: Vec<String> = env::args(&rt)?.collect(alloc)?;
-    let [_, path] = words.as_slice() else {
-        return Err(Stop::UnreadableScript);
-    };
-    let text = io::read_to_string(alloc, open_script(&rt, path.as_str())?)?;
-    let mut bench = Bench::new(alloc)?;
-    let mut writer = io::writer(&rt);
-    for (number, line) in text.as_str().lines().enumerate() {
-        let mut out: Vec<u8> = Vec::new(alloc);
-        match run_line(alloc, &mut bench, line, &mut out) {
-            Ok(()) => writer.write_all(&out)?,
-            Err(Failed::Malformed) => return Err(Stop::MalformedLine(number as u64 + 1)),
-            Err(_) => return Err(Stop::CannotGoOn),
-        }
+/// The text of the probe in the file that the command line names.
+fn text(rt: HostRuntime) -> Result<String, Stop> {
+    let words: Vec<String> = env::args(&rt)?.collect(rt.alloc())?;
+    match words.as_slice() {
+        [_, path] => Ok(io::read_to_string(rt.alloc(), open_script(&rt, path.as_str())?)?),
+        _ => Err(Stop::UnreadableScript),
+    }
+}
+
+/// Runs a line of this number, and prints what it answers.
+fn print_line<W: Write>(
+    alloc: Global,
+    bench: &mut Bench,
+    number: usize,
+    line: &str,
+    writer: &mut W,
+) -> Result<(), Stop> {
+    let mut out: Vec<u8> = Vec::new(alloc);
+    match run_line(alloc, bench, line, &mut out) {
+        Ok(()) => Ok(writer.write_all(&out)?),
+        Err(Failed::Malformed) => Err(Stop::MalformedLine((number as u64).saturating_add(1))),
+        Err(_) => Err(Stop::CannotGoOn),
+    }
+}
+
+/// Runs each line of a probe, and prints what it answers before the next one is run.
+fn print_lines<W: Write>(
+    alloc: Global,
+    bench: &mut Bench,
+    text: &str,
+    writer: &mut W,
+) -> Result<(), Stop> {
+    for (number, line) in text.lines().enumerate() {
+        print_line(alloc, bench, number, line, writer)?;
     }
     Ok(())
+}
+
+/// Runs the probe in a file.
+fn probe(rt: HostRuntime) -> Result<(), Stop> {
+    let text = text(rt)?;
+    match Bench::new(rt.alloc()) {
+        Ok(mut bench) => print_lines(rt.alloc(), &mut bench, text.as_str(), &mut io::writer(&rt)),
+        Err(_) => Err(Stop::CannotGoOn),
+    }
 }
 
 fn main(rt: HostRuntime) -> ExitCode {
