@@ -7,6 +7,9 @@ use std::alloc::Global;
 use std::io::Write;
 use std::sync::atomic::Ordering;
 
+/// What a line prints that shows something and is refused memory.
+const REFUSED: &[u8] = b"refused 1 Memory\n";
+
 /// Runs a line, and prints what it answers. Where memory is refused, and that is asked for, it is run once more.
 pub(crate) fn run_line(
     alloc: Global,
@@ -15,7 +18,11 @@ pub(crate) fn run_line(
     out: &mut Vec<u8>,
 ) -> Result<(), Failed> {
     let mut result = act(alloc, bench, text, out);
-    if bench.tries_again() && matches!(&result, Err(failed) if failed.is_memory()) {
+    let is_refused = match &result {
+        Ok(()) => out.as_slice() == REFUSED,
+        Err(failed) => failed.is_memory(),
+    };
+    if is_refused && bench.tries_again() {
         out.clear();
         result = act(alloc, bench, text, out);
     }

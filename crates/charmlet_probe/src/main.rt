@@ -8,10 +8,13 @@ mod words;
 use crate::lines::run_line;
 use charmlet_cli::{Failure, Stop, end_program, open_script};
 use charmlet_testing::{Bench, Failed};
-use std::alloc::Global;
+use std::alloc::{AllocError, Global};
 use std::io::Write;
 use std::process::ExitCode;
 use std::{env, io};
+
+/// The room of a line's output, in bytes.
+const ROOM: usize = 8_192;
 
 /// The text of the probe in the file that the command line names.
 fn text(rt: HostRuntime) -> Result<String, Stop> {
@@ -19,6 +22,14 @@ fn text(rt: HostRuntime) -> Result<String, Stop> {
     match words.as_slice() {
         [_, path] => Ok(io::read_to_string(rt.alloc(), open_script(&rt, path.as_str())?)?),
         _ => Err(Stop::UnreadableScript),
+    }
+}
+
+/// An output with room, so that few lines need more. Where memory is refused it is tried once more.
+fn output(alloc: Global) -> Result<Vec<u8>, AllocError> {
+    match Vec::with_capacity(alloc, ROOM) {
+        Ok(out) => Ok(out),
+        Err(_) => Vec::with_capacity(alloc, ROOM),
     }
 }
 
@@ -30,7 +41,7 @@ fn print_line<W: Write>(
     line: &str,
     writer: &mut W,
 ) -> Result<(), Stop> {
-    let mut out: Vec<u8> = Vec::new(alloc);
+    let mut out = output(alloc)?;
     match run_line(alloc, bench, line, &mut out) {
         Ok(()) => Ok(writer.write_all(&out)?),
         Err(Failed::Malformed) => Err(Stop::MalformedLine((number as u64).saturating_add(1))),
