@@ -1,0 +1,5 @@
+//! Tests of the laboratory, in a crate of their own, since a crate with tests is proved twice.
+#![tactic(auto)]
+
+#[cfg(test)]
+mod tests;

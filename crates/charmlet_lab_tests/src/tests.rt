@@ -1,0 +1,4 @@
+mod counters;
+mod forgetful;
+mod found;
+mod judged;

@@ -1,0 +1,115 @@
+//! Counters for the laboratory, over either disk.
+
+ghost use Rattle.std.specs.Prelude.{◌≡◌, true, IfErr, IfOk};
+ghost use Rattle.charmlet_model.specs.Core.{Blanks};
+ghost use Rattle.charmlet_model.specs.Sound.{new_world};
+ghost use Rattle.charmlet_model.specs.World.{IsLegal};
+ghost use Rattle.charmlet_disk.specs.Disk.{IsSettled};
+ghost use Rattle.charmlet_locate.specs.Locations.{is_processor_count};
+ghost use Rattle.charmlet_recovery.specs.RestartLaws.{IsEnough};
+ghost use Rattle.charmlet_recover.specs.Wanted.{blanks_in};
+ghost use Rattle.charmlet_script.specs.Script.{processors_of};
+ghost use Rattle.charmlet_lab.specs.Lines.{IsRunOf};
+ghost use Rattle.charmlet_lab.specs.Restarts.{IsJudged, IsNotTried};
+ghost use Rattle.charmlet_lab.specs.Rounds.{IsNotRun, IsRound, arrays_of};
+
+use super::forgetful::ForgetfulDisk;
+use charmlet_any_disk::AnyDisk;
+use charmlet_disk::Disk;
+use charmlet_kinds::Counter;
+use charmlet_lab::{Round, Supplier, lab_outcome, lab_round};
+use charmlet_model::{Event, Kind, Refusal};
+use charmlet_recover::Wanted;
+use charmlet_script::Script;
+use std::alloc::{AllocError, Global};
+
+// Has as many counters as are wanted.
+pub(super) struct Counters;
+
+// So many blank counters.
+pub(super) fn blank_counters(alloc: Global, count: u64) -> Result<Vec<Counter>, AllocError> {
+    let mut blanks = Vec::new(alloc);
+    for _ in 0..count {
+        blanks.push(Counter::blank())?;
+    }
+    Ok(blanks)
+}
+
+// A run of the script with as many counters as its lines supply.
+fn run_counters<D: Disk>(alloc: Global, script: &Script, disk: D) -> Result<Round<D>, Refusal>
+    requires settled { D.honest disk → IsSettled (D.file disk) }
+    ensures ok { IfOk result (IsRound D.Disk (arrays_of script.now) disk) }
+    ensures ran { IfOk result (IsRunOf script.now) }
+    ensures processors { IfOk result (λ _.
+        is_processor_count (processors_of script.now) ≡ true) }
+    ensures err { IfErr result (λ refusal. (given : Blanks)
+        × IsNotRun D.Disk given script.now disk refusal) }
+{
+    let blanks = blank_counters(alloc, script.blanks(Kind::Counter))?;
+    lab_round(alloc, script, blanks, disk)
+}
+
+// Whether a restart from this disk after a run's crash is bad, with as many counters as are wanted.
+fn restart_counters<D: Disk>(
+    alloc: Global,
+    script: &Script,
+    disk: D,
+    wanted: &Wanted,
+    events: &[Event],
+    durable: Option<u64>,
+) -> Result<bool, Refusal>
+    requires legal { IsLegal (new_world (arrays_of script.now)) 0 events.now }
+    ensures ok { IfOk result (λ bad. (given : Blanks) × IsEnough given (blanks_in wanted.now)
+        × IsJudged D.Disk script.now given disk events.now durable bad) }
+    ensures err { IfErr result (λ refusal. (given : Blanks)
+        × IsNotTried D.Disk script.now given (blanks_in wanted.now) disk refusal) }
+{
+    let blanks = blank_counters(alloc, wanted.of(Kind::Counter))?;
+    lab_outcome(alloc, script, disk, wanted, blanks, events, durable)
+}
+
+impl Supplier<AnyDisk> for Counters {
+    fn run(
+        &self,
+        alloc: Global,
+        script: &Script,
+        disk: AnyDisk,
+    ) -> Result<Round<AnyDisk>, Refusal> {
+        run_counters(alloc, script, disk)
+    }
+
+    fn restart(
+        &self,
+        alloc: Global,
+        script: &Script,
+        disk: AnyDisk,
+        wanted: &Wanted,
+        events: &[Event],
+        durable: Option<u64>,
+    ) -> Result<bool, Refusal> {
+        restart_counters(alloc, script, disk, wanted, events, durable)
+    }
+}
+
+impl Supplier<ForgetfulDisk> for Counters {
+    fn run(
+        &self,
+        alloc: Global,
+        script: &Script,
+        disk: ForgetfulDisk,
+    ) -> Result<Round<ForgetfulDisk>, Refusal> {
+        run_counters(alloc, script, disk)
+    }
+
+    fn restart(
+        &self,
+        alloc: Global,
+        script: &Script,
+        disk: ForgetfulDisk,
+        wanted: &Wanted,
+        events: &[Event],
+        durable: Option<u64>,
+    ) -> Result<bool, Refusal> {
+        restart_counters(alloc, script, disk, wanted, events, durable)
+    }
+}

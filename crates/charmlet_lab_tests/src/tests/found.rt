@@ -1,0 +1,83 @@
+//! What the laboratory finds over an honest disk, and over one that forgets.
+
+use super::counters::{Counters, blank_counters};
+use super::forgetful::ForgetfulDisk;
+use charmlet_any_disk::AnyDisk;
+use charmlet_lab::{LabLine, Watch, lab_round, try_crashes};
+use charmlet_script::read_script;
+use std::alloc::{AllocGlobal, Global};
+use std::test::Fail;
+
+// A counter, whose events are made durable twice.
+const SCRIPT: &str = "array 0 1\nsupply 1 1\nreq 7 1 0 0 65535 5\ndeliver 0 c7.1\nflush\n\
+    status 7 1\nreq 7 2 0 0 0 3\ndeliver 0 c7.2\nstatus 7 2\nflush\nstatus 7 2\nstatus 7 1\n";
+
+// Counts how often it is told something.
+#[derive(Drop)]
+struct Told {
+    times: u64,
+}
+
+impl Watch for Told {
+    fn tell(&mut self, _line: &LabLine) {
+        self.times = self.times.saturating_add(1);
+    }
+}
+
+#[test]
+fn an_honest_disk_is_found_good(rt: HostRuntime) -> Result<(), Fail> {
+    let rt = &rt;
+    let alloc = rt.alloc();
+    let script = read_script(alloc, &mut SCRIPT.as_bytes())?;
+    let mut told = Told { times: 0 };
+    let found = try_crashes::<AnyDisk, Counters, Told>(alloc, &script, &Counters, &mut told)?;
+    let good = LabLine {
+        stops: 14,
+        outcomes: 84,
+        bad: 0,
+    };
+    assert_eq!(rt; found, good);
+    assert_eq!(rt; told.times, 14);
+    Ok(())
+}
+
+// How many are bad was counted apart, by a model of the same files and crashes.
+#[test]
+fn a_disk_that_forgets_is_found_bad(rt: HostRuntime) -> Result<(), Fail> {
+    let rt = &rt;
+    let alloc = rt.alloc();
+    let script = read_script(alloc, &mut SCRIPT.as_bytes())?;
+    let mut told = Told { times: 0 };
+    let found = try_crashes::<ForgetfulDisk, Counters, Told>(alloc, &script, &Counters, &mut told)?;
+    assert_eq!(rt; (found.stops, found.outcomes), (14, 84));
+    assert_eq!(rt; found.bad, 43);
+    Ok(())
+}
+
+// How many events were durable, as the run was told, where the disk fails after so many calls;
+// none, if no store was made.
+fn durable_after(alloc: Global, calls: u64) -> Result<Option<u64>, Fail> {
+    let script = read_script(alloc, &mut SCRIPT.as_bytes())?;
+    let disk = AnyDisk::failing(alloc, calls);
+    let round = lab_round(alloc, &script, blank_counters(alloc, 1)?, disk)?;
+    Ok(round.durable)
+}
+
+// The creation makes six calls, and each flush four.
+#[test]
+fn durable_numbers_are_those_that_were_told(rt: HostRuntime) -> Result<(), Fail> {
+    let rt = &rt;
+    let alloc = rt.alloc();
+    for (calls, durable) in [
+        (0, None),
+        (5, None),
+        (6, Some(0)),
+        (9, Some(0)),
+        (10, Some(2)),
+        (13, Some(2)),
+        (14, Some(4)),
+    ] {
+        assert_eq!(rt; durable_after(alloc, calls)?, durable);
+    }
+    Ok(())
+}
