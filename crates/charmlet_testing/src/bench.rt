@@ -186,11 +186,7 @@ impl Bench {
             if let Some(stock) = self.back.take() {
                 return self.come_back(stock, processors, out);
             }
-            if let Ok(found) = manifest(alloc, self.disk()?.inner()) {
-                for kind in &Kind::ALL {
-                    wanted.push((*kind, found.wanted.of(*kind)))?;
-                }
-            }
+            self.want(&mut wanted)?;
         }
         for (kind, count) in &self.laid {
             wanted.push((*kind, *count))?;
@@ -211,6 +207,20 @@ impl Bench {
         match stock_of(alloc, brought) {
             Ok(stock) => self.come_back(stock, processors, out),
             Err(_) => Err(Failed::MEMORY),
+        }
+    }
+
+    /// How many blanks of each kind a restart from the free disk wants, none where no store is found.
+    fn want(&mut self, wanted: &mut Vec<(Kind, u64)>) -> Result<(), Failed> {
+        match manifest(self.alloc, self.disk()?.inner()) {
+            Ok(found) => {
+                for kind in &Kind::ALL {
+                    wanted.push((*kind, found.wanted.of(*kind)))?;
+                }
+                Ok(())
+            }
+            Err(Refusal::Memory) => Err(Failed::MEMORY),
+            Err(_) => Ok(()),
         }
     }
 
