@@ -5,28 +5,26 @@ use crate::failed::Failed;
 use crate::objects::blanks;
 use crate::saying::say;
 use charmlet_cli::{census_line, pending_line, state_line};
-use charmlet_model::{Answer, Step};
+use charmlet_model::{Answer, Kind, Step, Told};
 use charmlet_script::{Drained, Line, Supplied, read_restart_script};
 
 impl Bench {
     /// Runs a line of a script.
     pub fn script(&mut self, text: &str, out: &mut Vec<u8>) -> Result<(), Failed> {
-        let alloc = self.alloc;
-        let script = read_restart_script(alloc, &mut text.as_bytes())?;
-        let Some(line) = script.lines().first() else {
-            return Ok(());
-        };
-        let Some(engine) = &mut self.engine else {
-            return Err(Failed::Lacks("store"));
-        };
+        let script = read_restart_script(self.alloc, &mut text.as_bytes())?;
+        match script.lines().first() {
+            Some(line) => self.run(line, out),
+            None => Ok(()),
+        }
+    }
+
+    fn run(&mut self, line: &Line, out: &mut Vec<u8>) -> Result<(), Failed> {
         match line {
-            Line::State(elem) => Ok(state_line(alloc, engine, *elem, out)?),
-            Line::Pending => Ok(pending_line(alloc, engine, out)?),
-            Line::Census => Ok(census_line(alloc, engine, out)?),
+            Line::Supply { kind, count } => self.supply(*kind, *count, out),
             Line::Drain { count } => self.drain(*count, out),
             Line::Step(step) => {
                 let answer = self.step(step)?;
-                say(alloc, out, &answer)
+                say(self.alloc, out, &answer)
             }
             Line::Call {
                 client,
@@ -35,76 +33,113 @@ impl Bench {
                 index,
                 words,
             } => {
-                let pass = self.held.get_mut(client).ok_or(Failed::Lacks("pass"))?;
                 let words = words.as_slice();
-                let told = engine.call(
-                    pass,
-                    &self.handlers,
-                    *number,
-                    name.as_str(),
-                    *index,
-                    words,
-                )?;
-                say(alloc, out, &Answer::Told(told))
+                let told = self.call(*client, *number, name.as_str(), *index, words)?;
+                say(self.alloc, out, &Answer::Told(told))
             }
-            Line::Supply { kind, count } => {
-                let brought = blanks(alloc, &self.tally, &[(*kind, u64::from(*count))])?;
-                if engine.supply(brought).is_err() {
-                    return Err(Failed::MEMORY);
-                }
-                let line = Supplied {
-                    kind: *kind,
-                    count: *count,
-                };
-                say(alloc, out, &line)
-            }
+            Line::State(_) | Line::Pending | Line::Census => self.show(line, out),
         }
     }
 
-    /// Takes a step, by the client's pass where it has one.
-    fn step(&mut self, step: &Step) -> Result<Answer, Failed> {
+    /// A line that shows something of the store.
+    fn show(&mut self, line: &Line, out: &mut Vec<u8>) -> Result<(), Failed> {
         let Some(engine) = &mut self.engine else {
             return Err(Failed::Lacks("store"));
         };
-        let answer = match step {
+        match line {
+            Line::State(elem) => Ok(state_line(self.alloc, engine, *elem, out)?),
+            Line::Pending => Ok(pending_line(self.alloc, engine, out)?),
+            _ => Ok(census_line(self.alloc, engine, out)?),
+        }
+    }
+
+    /// So many blanks come to the store.
+    fn supply(&mut self, kind: Kind, count: u32, out: &mut Vec<u8>) -> Result<(), Failed> {
+        let Some(engine) = &mut self.engine else {
+            return Err(Failed::Lacks("store"));
+        };
+        let brought = blanks(self.alloc, &self.tally, &[(kind, u64::from(count))])?;
+        match engine.supply(brought) {
+            Ok(()) => say(self.alloc, out, &Supplied { kind, count }),
+            Err(_) => Err(Failed::MEMORY),
+        }
+    }
+
+    /// A client's request to a named handler, by its pass.
+    fn call(
+        &mut self,
+        client: u32,
+        number: u64,
+        name: &str,
+        index: u64,
+        words: &[u64],
+    ) -> Result<Told, Failed> {
+        let Some(engine) = &mut self.engine else {
+            return Err(Failed::Lacks("store"));
+        };
+        let pass = self.held.get_mut(&client).ok_or(Failed::Lacks("pass"))?;
+        Ok(engine.call(pass, &self.handlers, number, name, index, words)?)
+    }
+
+    /// Asks or requests by the client's pass, where it has one and the step is the client's.
+    fn by_pass(&mut self, step: &Step) -> Result<Option<Told>, Failed> {
+        let Some(engine) = &mut self.engine else {
+            return Err(Failed::Lacks("store"));
+        };
+        match step {
             Step::Request {
                 client,
                 number,
                 to,
                 entry,
                 words,
-            } => {
-                match self.held.get_mut(client) {
-                    Some(pass) => {
-                        Answer::Told(engine.request(pass, *number, *to, *entry, words.as_slice())?)
-                    }
-                    None => engine.step(step),
-                }
-            }
-            Step::Status { client, number } => match self.held.get_mut(client) {
-                Some(pass) => Answer::Told(engine.status(pass, *number)?),
-                None => engine.step(step),
+            } => match self.held.get_mut(client) {
+                Some(pass) => Ok(Some(engine.request(
+                    pass,
+                    *number,
+                    *to,
+                    *entry,
+                    words.as_slice(),
+                )?)),
+                None => Ok(None),
             },
-            _ => engine.step(step),
+            Step::Status { client, number } => match self.held.get_mut(client) {
+                Some(pass) => Ok(Some(engine.status(pass, *number)?)),
+                None => Ok(None),
+            },
+            _ => Ok(None),
+        }
+    }
+
+    /// Takes a step, by nobody's pass.
+    fn take(&mut self, step: &Step) -> Result<Answer, Failed> {
+        let Some(engine) = &mut self.engine else {
+            return Err(Failed::Lacks("store"));
         };
-        match answer {
+        match engine.step(step) {
             Answer::Refused(refusal) => Err(Failed::Refused(refusal)),
             answer => Ok(answer),
         }
     }
 
+    /// Takes a step, by the client's pass where it has one.
+    fn step(&mut self, step: &Step) -> Result<Answer, Failed> {
+        match self.by_pass(step)? {
+            Some(told) => Ok(Answer::Told(told)),
+            None => self.take(step),
+        }
+    }
+
     /// Delivers the oldest message that can be delivered. Whether there was one.
     fn deliver_next(&mut self) -> Result<bool, Failed> {
-        let Some(engine) = &mut self.engine else {
+        let Some(engine) = &self.engine else {
             return Err(Failed::Lacks("store"));
         };
         let Some((processor, id)) = engine.next() else {
             return Ok(false);
         };
-        match engine.step(&Step::Deliver { processor, id }) {
-            Answer::Refused(refusal) => Err(Failed::Refused(refusal)),
-            _ => Ok(true),
-        }
+        self.take(&Step::Deliver { processor, id })?;
+        Ok(true)
     }
 
     /// The same, once more where it is refused memory, if that is asked for.
