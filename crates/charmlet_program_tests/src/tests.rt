@@ -1,6 +1,7 @@
 mod dropping;
 mod ending;
 mod flushing;
+mod full;
 mod lacking;
 mod noting;
 mod outputs;
