@@ -9,7 +9,8 @@ use charmlet_any_disk::AnyDisk;
 use charmlet_disk::{CrashChoice, Disk};
 use std::alloc::Global;
 
-/// A disk that the laboratory runs scripts on. What its contracts say of files, they say of an honest one.
+/// A disk that the laboratory runs scripts on. What its contracts say of files, they say of an
+/// honest one.
 pub trait LabDisk: Disk {
     /// How many writes and syncs it passes still, where it fails each one after them.
     ghost calls_left: { Self → Option ℕ };
@@ -19,7 +20,8 @@ pub trait LabDisk: Disk {
         ensures calls { calls_left result ≡ Some calls }
         ensures empty { Self.honest result → (half : Half) → Self.file result half ≡ clean [] };
 
-    /// What a crash leaves of the disk, by its choice: one of the outcomes that it may leave, and all of it is sure.
+    /// What a crash leaves of the disk, by its choice: one of the outcomes that it may leave, and
+    /// all of it is sure.
     fn crash(self, choice: CrashChoice) -> Self
         ensures left { Self.honest self → (half : Half) →
             Self.file result half ≡ clean (left_by choice (Self.file self half)) }

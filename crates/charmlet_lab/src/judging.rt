@@ -23,11 +23,13 @@ use std::alloc::{AllocError, Global};
 /// The gate of an open half.
 const OPEN: u8 = 1;
 
-/// Whether a restart after a run's crash came to what it shouldn't: it was refused, though not for `NothingHere` where the store
-/// wasn't said to be made; or the store hasn't the world after the first events of the run, as many as it counts, or not all
-/// that were durable among them. The world is that of a plain program, which knows no file. The engine goes on as before.
+/// Whether a restart after a run's crash came to what it shouldn't: it was refused, though not for
+/// `NothingHere` where the store wasn't said to be made; or the store hasn't the world after the
+/// first events of the run, as many as it counts, or not all that were durable among them. The
+/// world is that of a plain program, which knows no file. The engine goes on as before.
 ///
-/// `Memory` where memory is lacking; `ImageFull` where an image of the store, of which its world is read, would pass a limit.
+/// `Memory` where memory is lacking; `ImageFull` where an image of the store, of which its world is
+/// read, would pass a limit.
 pub fn lab_bad<D: Disk, C: Chare>(
     alloc: Global,
     script: &Script,
@@ -52,7 +54,8 @@ pub fn lab_bad<D: Disk, C: Chare>(
     }
 }
 
-/// Whether a store has the world after the first of these events, as many as it counts, with so many among them.
+/// Whether a store has the world after the first of these events, as many as it counts, with so
+/// many among them.
 fn has_first<D: Disk, C: Chare>(
     alloc: Global,
     script: &Script,
@@ -91,8 +94,8 @@ fn world_after(alloc: Global, script: &Script, events: &[Event]) -> Result<Plain
     Ok(plain)
 }
 
-/// The world of a store, read of its image by the plain program. `Memory` where memory is lacking; `ImageFull` where
-/// the store is too large for an image. The engine goes on as before.
+/// The world of a store, read of its image by the plain program. `Memory` where memory is lacking;
+/// `ImageFull` where the store is too large for an image. The engine goes on as before.
 fn world_in<D: Disk, C: Chare>(
     alloc: Global,
     engine: &mut Engine<D, C>,

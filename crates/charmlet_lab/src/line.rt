@@ -2,7 +2,8 @@
 
 use std::fmt;
 
-/// How many runs were stopped, how many restarts were tried after them, and how many of these were bad.
+/// How many runs were stopped, how many restarts were tried after them, and how many of these were
+/// bad.
 #[derive(Clone, Copy, Debug, PartialEq, Eq)]
 pub struct LabLine {
     pub stops: u64,

@@ -46,8 +46,8 @@ pub struct Round<D: Disk> {
 /// `blanks` are the objects that the script's lines supply. Nothing is printed. The disk has to be
 /// settled.
 ///
-/// The events are those of a run of the script's lines up to that failure, one after another, and as many of
-/// them are durable as the store says.
+/// The events are those of a run of the script's lines up to that failure, one after another, and
+/// as many of them are durable as the store says.
 ///
 /// On an honest disk on which no store was, each crash after the run leaves files that recover to
 /// the world after some of the events, with all that were durable among them; where the store
@@ -176,7 +176,8 @@ fn event_of(alloc: Global, event: &Event) -> Result<Event, AllocError>
     }
 }
 
-/// Runs lines one after another, until the disk fails. There have to be as many blanks as they supply.
+/// Runs lines one after another, until the disk fails. There have to be as many blanks as they
+/// supply.
 fn run_lines<D: Disk, C: Chare>(
     engine: &mut Engine<D, C>,
     handlers: &Handlers,
@@ -199,7 +200,8 @@ fn run_lines<D: Disk, C: Chare>(
     }
 }
 
-/// Runs one line, and answers nothing. There have to be as many blanks as it supplies, and it takes no more.
+/// Runs one line, and answers nothing. There have to be as many blanks as it supplies, and it takes
+/// no more.
 fn run_line<D: Disk, C: Chare>(
     engine: &mut Engine<D, C>,
     handlers: &Handlers,
@@ -248,7 +250,8 @@ fn run_line<D: Disk, C: Chare>(
     }
 }
 
-/// Supplies so many blanks, which are there. Where memory is refused the line is refused, and the run goes on without them.
+/// Supplies so many blanks, which are there. Where memory is refused the line is refused, and the
+/// run goes on without them.
 fn supply<D: Disk, C: Chare>(
     engine: &mut Engine<D, C>,
     source: &mut Stock<C>,

@@ -20,10 +20,12 @@ use charmlet_recover::Wanted;
 use charmlet_script::Script;
 use std::alloc::Global;
 
-/// A supplier of blank objects, of whatever type: it makes as many as a run or a restart needs, and has that begin with
-/// them. So whoever has objects of mixed kinds can box them in one function, which keeps them.
+/// A supplier of blank objects, of whatever type: it makes as many as a run or a restart needs, and
+/// has that begin with them. So whoever has objects of mixed kinds can box them in one function,
+/// which keeps them.
 pub trait Supplier<D: LabDisk> {
-    /// A run of the script on this disk, with the blanks that its lines supply, as [`crate::lab_round`] makes it.
+    /// A run of the script on this disk, with the blanks that its lines supply, as
+    /// [`crate::lab_round`] makes it.
     fn run(&self, alloc: Global, script: &Script, disk: D) -> Result<Round<D>, Refusal>
         requires settled { D.honest disk → IsSettled (D.file disk) }
         ensures ok { IfOk result (IsRound D.Disk (arrays_of script.now) disk) }
@@ -33,8 +35,8 @@ pub trait Supplier<D: LabDisk> {
         ensures err { IfErr result (λ refusal. (given : Blanks)
             × IsNotRun D.Disk given script.now disk refusal) };
 
-    /// Whether a restart from this disk after a crash of such a run is bad, with the blanks that are wanted, as
-    /// [`crate::lab_outcome`] says it.
+    /// Whether a restart from this disk after a crash of such a run is bad, with the blanks that
+    /// are wanted, as [`crate::lab_outcome`] says it.
     fn restart(
         &self,
         alloc: Global,

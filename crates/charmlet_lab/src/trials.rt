@@ -22,15 +22,18 @@ pub trait Watch {
     fn tell(&mut self, line: &LabLine);
 }
 
-/// Tries the crashes of a script. It runs the script on new disks, of which the first one fails at its first write or sync, and
-/// each other one a call later than the one before, until a run isn't stopped. For each stop and each choice there is a run of
-/// its own, and after it a crash, and a restart from what that left, on the script's processors and with the blanks that are
-/// wanted. It answers how many stops there were, how many restarts, and how many of these were bad: those that came to no world
-/// of the run with all that was durable, or were refused, though not for `NothingHere` where the store wasn't said to be made.
+/// Tries the crashes of a script. It runs the script on new disks, of which the first one fails at
+/// its first write or sync, and each other one a call later than the one before, until a run isn't
+/// stopped. For each stop and each choice there is a run of its own, and after it a crash, and a
+/// restart from what that left, on the script's processors and with the blanks that are wanted. It
+/// answers how many stops there were, how many restarts, and how many of these were bad: those that
+/// came to no world of the run with all that was durable, or were refused, though not for
+/// `NothingHere` where the store wasn't said to be made.
 ///
-/// `BadPes` where the script's number of processors isn't 1 to 64; `BlanksWanted` where the supplier brings too few blanks;
-/// `AlreadyHere` where a new disk isn't empty; `Device` where a disk can't be read after its crash; `ImageFull` where an image of
-/// a store that came back would pass a limit; `Memory`.
+/// `BadPes` where the script's number of processors isn't 1 to 64; `BlanksWanted` where the
+/// supplier brings too few blanks; `AlreadyHere` where a new disk isn't empty; `Device` where a
+/// disk can't be read after its crash; `ImageFull` where an image of a store that came back would
+/// pass a limit; `Memory`.
 pub fn try_crashes<D: LabDisk, S: Supplier<D>, W: Watch>(
     alloc: Global,
     script: &Script,
@@ -54,7 +57,8 @@ pub fn try_crashes<D: LabDisk, S: Supplier<D>, W: Watch>(
     Ok(line)
 }
 
-/// Tries the crashes of one stop, and counts them. It answers false where a run isn't stopped, and tries no further then.
+/// Tries the crashes of one stop, and counts them. It answers false where a run isn't stopped, and
+/// tries no further then.
 fn try_stop<D: LabDisk, S: Supplier<D>>(
     alloc: Global,
     script: &Script,
@@ -83,8 +87,8 @@ fn try_stop<D: LabDisk, S: Supplier<D>>(
     Ok(true)
 }
 
-/// Whether the restart after a run and a crash is bad, where the disk of the run fails after so many calls; none where the run
-/// isn't stopped.
+/// Whether the restart after a run and a crash is bad, where the disk of the run fails after so
+/// many calls; none where the run isn't stopped.
 fn try_crash<D: LabDisk, S: Supplier<D>>(
     alloc: Global,
     script: &Script,

@@ -12,7 +12,8 @@ use charmlet_model::Refusal;
 use charmlet_recover::{Wanted, manifest};
 use std::alloc::Global;
 
-/// How many blanks of each kind a restart from this disk wants, and none where no store is found there. It only reads.
+/// How many blanks of each kind a restart from this disk wants, and none where no store is found
+/// there. It only reads.
 ///
 /// `Memory` and `Device`: then it isn't known.
 pub(crate) fn wanted_on<D: Disk>(alloc: Global, disk: &mut D) -> Result<Wanted, Refusal>
