@@ -9,7 +9,7 @@ use Rattle.charmlet_disk.specs.Memory.{LeftSince}
 use Rattle.charmlet_any_disk.specs.declared.any_disk.AnyDisk.{AnyDisk}
 use Rattle.charmlet_any_disk.specs.declared.any_disk.AnyDisk.TheVariants.{Folder, Memory, Failing}
 
--- in memory it behaves as a disk should, and of files nothing is said
+-- it is honest in memory, and over files it never is
 abbrev pub is_honest : AnyDisk → Type 0
 is_honest (Folder disk) = ⊥
 is_honest (Memory disk) = Unit {0}

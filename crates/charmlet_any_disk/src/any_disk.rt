@@ -6,7 +6,7 @@ use std::alloc::{AllocError, Global};
 
 /// Any of the disks that the program uses. What is generic over disks is so made once.
 ///
-/// It is honest where it is in memory. Each call is passed on once.
+/// It is honest if and only if it is in memory. Each call is passed on once.
 #[derive(Drop)]
 pub enum AnyDisk {
     /// The two files of a folder.

@@ -29,7 +29,7 @@ impl From<DeviceFault> for Refusal {
 /// Any call may answer [`DeviceFault`]: no clause says when, and `failures` counts it. Nothing is said of a read past the end, nor of a
 /// write that begins past it, on a disk that isn't honest.
 pub trait Disk: Send + Drop {
-    /// The disk behaves as a disk should.
+    /// The disk keeps what the clauses below say of an honest disk.
     ghost honest: { Self → Type 0 };
 
     /// Each half: what a read gives, what is sure, and what was written since the last sync.

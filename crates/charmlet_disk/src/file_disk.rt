@@ -69,9 +69,10 @@ use std::io;
 ///
 /// It is proved that no call panics, that each ends if the system's calls do, and that faults are
 /// counted. No clause can say what a file holds, since other programs, the system and the device have a
-/// say in it. So this disk is never called honest, and the clauses on bytes, syncs and crashes, which
-/// speak of an honest disk, say nothing of it. They describe it as far as these premises hold, which
-/// nothing proves:
+/// say in it. So this disk is never honest, and the clauses on bytes, syncs and crashes say nothing of
+/// it. But code that is generic in its disk can't tell this one from an honest one. So what is proved of
+/// such code over every honest disk speaks of a run over files too, under these premises, which nothing
+/// proves:
 ///
 /// - No other program changes, moves or removes the folder or its files while the disk lives.
 /// - A read gives what was written last, or fails.
