@@ -22,12 +22,13 @@ impl From<DeviceFault> for Refusal {
 
 /// Two files under one clock, of which nobody else writes to either.
 ///
-/// What the clauses say of bytes and of crashes, they say of an honest disk: there a read gives what was written, and a crash
-/// leaves of each file its bytes at the last sync, but for any bytes in the ranges that were written since, and any length from the
-/// one at that sync to the greatest since. What they say of `failures` holds of every disk.
+/// What the clauses say of bytes and of crashes, they say of an honest disk: there a read gives
+/// what was written, and a crash leaves of each file its bytes at the last sync, but for any bytes
+/// in the ranges that were written since, and any length from the one at that sync to the greatest
+/// since. What they say of `failures` holds of every disk.
 ///
-/// Any call may answer [`DeviceFault`]: no clause says when, and `failures` counts it. Nothing is said of a read past the end, nor of a
-/// write that begins past it, on a disk that isn't honest.
+/// Any call may answer [`DeviceFault`]: no clause says when, and `failures` counts it. Nothing is
+/// said of a read past the end, nor of a write that begins past it, on a disk that isn't honest.
 pub trait Disk: Send + Drop {
     /// The disk keeps what the clauses below say of an honest disk.
     ghost honest: { Self → Type 0 };
@@ -53,7 +54,8 @@ pub trait Disk: Send + Drop {
         ensures honest { (honest self.old → honest self.new) × (honest self.new → honest self.old) }
         ensures counted { faults self.new ≡ faults_after (is_ok result) (faults self.old) };
 
-    /// Reads as many bytes of a half as there is place for, from an offset on. After a fault `into` holds anything.
+    /// Reads as many bytes of a half as there is place for, from an offset on. After a fault `into`
+    /// holds anything.
     fn read_at(&mut self, half: Half, offset: u64, into: &mut [u8]) -> Result<(), DeviceFault>
         requires { honest self.old → offset + length into.old ≤ length (file self.old half).now }
         ensures bytes { honest self.old →
@@ -64,8 +66,9 @@ pub trait Disk: Send + Drop {
         ensures honest { (honest self.old → honest self.new) × (honest self.new → honest self.old) }
         ensures counted { faults self.new ≡ faults_after (is_ok result) (faults self.old) };
 
-    /// Writes bytes to a half from an offset on, over what is there and past its end. Until a sync of the half that succeeds, a
-    /// crash may leave any bytes in the range. A write that fails may have written any of it, and counts as a written range too.
+    /// Writes bytes to a half from an offset on, over what is there and past its end. Until a sync
+    /// of the half that succeeds, a crash may leave any bytes in the range. A write that fails may
+    /// have written any of it, and counts as a written range too.
     fn write_at(&mut self, half: Half, offset: u64, bytes: &[u8]) -> Result<(), DeviceFault>
         requires { honest self.old → offset ≤ length (file self.old half).now }
         ensures written { honest self.old →
@@ -78,7 +81,8 @@ pub trait Disk: Send + Drop {
         ensures honest { (honest self.old → honest self.new) × (honest self.new → honest self.old) }
         ensures counted { faults self.new ≡ faults_after (is_ok result) (faults self.old) };
 
-    /// Makes a half sure: from then on a crash leaves of it what a read gives, its length too. A sync that fails makes nothing sure.
+    /// Makes a half sure: from then on a crash leaves of it what a read gives, its length too. A
+    /// sync that fails makes nothing sure.
     fn sync(&mut self, half: Half) -> Result<(), DeviceFault>
         ensures durable { honest self.old →
             OnOk result (file self.new half ≡ clean (file self.old half).now) }
@@ -89,7 +93,8 @@ pub trait Disk: Send + Drop {
         ensures honest { (honest self.old → honest self.new) × (honest self.new → honest self.old) }
         ensures counted { faults self.new ≡ faults_after (is_ok result) (faults self.old) };
 
-    /// How often a call has failed. Each fault adds one, up to 2^64-1; there it stays, and counts as grown.
+    /// How often a call has failed. Each fault adds one, up to 2^64-1; there it stays, and counts
+    /// as grown.
     fn failures(&self) -> u64
         ensures { result ≡ faults self.now };
 
