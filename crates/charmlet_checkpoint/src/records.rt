@@ -39,8 +39,8 @@ pub(crate) fn count_records(elements: &BTreeMap<Elem, Element>) -> usize
     count
 }
 
-/// Appends how many records there are, and each of them, in rising order of elements. It fails only for
-/// lack of memory. The shelves are as before.
+/// Appends how many records there are, and each of them, in rising order of elements. It fails only
+/// for lack of memory. The shelves are as before.
 pub(crate) fn append_records<C: Chare>(
     out: &mut Vec<u8>,
     count: u32,
@@ -68,8 +68,8 @@ pub(crate) fn append_records<C: Chare>(
     Ok(())
 }
 
-/// Appends an element with its counts, and with its packed state if it is there. It fails only when out
-/// of memory. The shelves are as before.
+/// Appends an element with its counts, and with its packed state if it is there. It fails only when
+/// out of memory. The shelves are as before.
 fn append_record<C: Chare>(
     out: &mut Vec<u8>,
     history: &History,
@@ -94,8 +94,8 @@ fn append_record<C: Chare>(
     Ok(())
 }
 
-/// Appends an element with its counts, and with this packed state if there is one. It fails only when out
-/// of memory.
+/// Appends an element with its counts, and with this packed state if there is one. It fails only
+/// when out of memory.
 fn append_entry(
     out: &mut Vec<u8>,
     elem: Elem,

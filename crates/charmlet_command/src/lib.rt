@@ -16,7 +16,8 @@ use thiserror::Error;
 /// What a command line asks for.
 #[derive(Clone, Copy, Debug, PartialEq, Eq)]
 pub enum Command<'a> {
-    /// Run the script in the file `script`, over a store in the folder `dir`, or in memory without one.
+    /// Run the script in the file `script`, over a store in the folder `dir`, or in memory without
+    /// one.
     Run {
         script: &'a str,
         dir: Option<&'a str>,
@@ -402,11 +403,11 @@ fn command_in<'a>(matches: &ArgMatches<'a>) -> Option<Command<'a>>
     }
 }
 
-/// What the words ask for; the first is the program's name. Only `run SCRIPT`, with or without `--dir DIR`,
-/// `show DIR`, `restart DIR SCRIPT`, with or without `--pes N`, and `lab SCRIPT` are commands. N is a 16-bit number, and 1
-/// where it isn't there. Every other line, a call for help among them, is answered by `CommandError::Line` with
-/// clap's text and a kind of error that clap's meaning of the words has, and lack of memory by
-/// `CommandError::Memory`.
+/// What the words ask for; the first is the program's name. Only `run SCRIPT`, with or without
+/// `--dir DIR`, `show DIR`, `restart DIR SCRIPT`, with or without `--pes N`, and `lab SCRIPT` are
+/// commands. N is a 16-bit number, and 1 where it isn't there. Every other line, a call for help
+/// among them, is answered by `CommandError::Line` with clap's text and a kind of error that clap's
+/// meaning of the words has, and lack of memory by `CommandError::Memory`.
 pub fn command_of<'a, S: AsStr>(alloc: Global, words: &'a [S]) -> Result<Command<'a>, CommandError>
     ensures ok { IfOk result (Asks (map S.text words.entry.now)) }
     ensures err { IfErr result (AsksNothing (map S.text words.entry.now)) }

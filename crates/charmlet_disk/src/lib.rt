@@ -1,4 +1,5 @@
-//! Two files, called halves, under one clock: what their calls do, and what a crash may leave of them.
+//! Two files, called halves, under one clock: what their calls do, and what a crash may leave of
+//! them.
 #![tactic(auto)]
 
 mod crash;

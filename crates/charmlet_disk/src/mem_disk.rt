@@ -17,16 +17,18 @@ use crate::{CrashChoice, DeviceFault, Disk};
 use charmlet_model::Half;
 use std::alloc::{AllocError, Global};
 
-/// A disk in memory, which is honest. It fails only where memory is refused, and leaves all as it is then.
+/// A disk in memory, which is honest. It fails only where memory is refused, and leaves all as it
+/// is then.
 ///
-/// A write costs what is written, a sync what was written to its half since the last one, and a crash the file.
-/// The record of calls grows as long as the disk lives.
+/// A write costs what is written, a sync what was written to its half since the last one, and a
+/// crash the file. The record of calls grows as long as the disk lives.
 #[derive(Drop)]
 pub struct MemDisk {
     alloc: Global,
     zero: MemFile,
     one: MemFile,
-    /// Each call that changed the disk, the oldest first. Where something isn't sure, there is room for a crash.
+    /// Each call that changed the disk, the oldest first. Where something isn't sure, there is room
+    /// for a crash.
     calls: Vec<Call>,
     faults: u64,
     ghost zero_replayed: { file_of zero ≡ replayed Zero calls.items (clean []) },
@@ -105,15 +107,16 @@ impl MemDisk {
         }
     }
 
-    /// The writes, syncs and crashes up to now, the oldest first. A call that failed isn't among them, nor is a crash
-    /// that found all written bytes sure.
+    /// The writes, syncs and crashes up to now, the oldest first. A call that failed isn't among
+    /// them, nor is a crash that found all written bytes sure.
     pub fn calls(&self) -> &[Call]
         ensures { result.now ≡ calls_of self.now }
     {
         &self.calls
     }
 
-    /// What a crash leaves, by its choice, as a disk of its own: all of it is sure. It takes no memory.
+    /// What a crash leaves, by its choice, as a disk of its own: all of it is sure. It takes no
+    /// memory.
     pub fn crash(self, choice: CrashChoice) -> MemDisk
         ensures left { (half : _) → files result half ≡ clean (left_by choice (files self half)) }
         ensures lawful { MayLeave (files self) (λ half. left_by choice (files self half)) }
@@ -141,7 +144,8 @@ impl MemDisk {
         }
     }
 
-    // Whether nothing was written to either half since its last sync, so that a crash changes nothing.
+    // Whether nothing was written to either half since its last sync, so that a crash changes
+    // nothing.
     fn is_sure(&self) -> bool
         ensures sure { result ≡ true → (half : _) → (files self.now half).ranges ≡ [] }
         ensures room { result ≡ false → vec_len self.now.calls < vec_capacity self.now.calls }

@@ -1,4 +1,5 @@
-//! Two gated files, called halves: an image, and after it the batches of events that were made durable since.
+//! Two gated files, called halves: an image, and after it the batches of events that were made
+//! durable since.
 #![tactic(auto)]
 
 mod creating;

@@ -13,8 +13,8 @@ use charmlet_model::Half;
 /// What is written to close a gate.
 const CLOSED: u8 = 0;
 
-/// Closes the first gate of a half, unless it is closed already: what stands after a closed gate may be torn, and a crash may leave a
-/// gate open while it is being written.
+/// Closes the first gate of a half, unless it is closed already: what stands after a closed gate
+/// may be torn, and a crash may leave a gate open while it is being written.
 fn close<D: Disk>(disk: &mut D, half: Half, is_closed: bool) -> Result<(), DeviceFault>
     requires settled { D.honest disk.old → IsSettled (D.file disk.old) }
     requires gate { D.honest disk.old → FirstGate is_closed (D.file disk.old half).now }
@@ -37,7 +37,8 @@ fn close<D: Disk>(disk: &mut D, half: Half, is_closed: bool) -> Result<(), Devic
     Ok(())
 }
 
-/// Writes an image, which ends with the closed gate of its first batch, after the closed first gate of a half.
+/// Writes an image, which ends with the closed gate of its first batch, after the closed first gate
+/// of a half.
 pub(crate) fn prepare<D: Disk>(
     disk: &mut D,
     half: Half,

@@ -17,7 +17,8 @@ impl History {
         self.present.pending_count()
     }
 
-    /// The pending messages, in order of birth, each as its id and what is kept under it. It takes no memory.
+    /// The pending messages, in order of birth, each as its id and what is kept under it. It takes
+    /// no memory.
     pub fn messages(&self) -> Messages<'_>
         requires { IsConsistent (kept_in self.now) }
         ensures { result ≡ (present (core_in self.now)).pending }
@@ -25,8 +26,9 @@ impl History {
         self.present.messages()
     }
 
-    /// The oldest pending message that can be delivered, if there is one, and before it the processor
-    /// that is to deliver it: the place of its receiver, or the home of one that isn't there.
+    /// The oldest pending message that can be delivered, if there is one, and before it the
+    /// processor that is to deliver it: the place of its receiver, or the home of one that isn't
+    /// there.
     pub fn next(&self) -> Option<(u16, MsgId)>
         requires { IsConsistent (kept_in self.now) }
         ensures { result ≡ next_in (core_in self.now) }
@@ -34,8 +36,8 @@ impl History {
         self.present.next()
     }
 
-    /// The processor that is to deliver a pending message: the place of its receiver, or the home of one
-    /// that isn't there. None where no such message is pending.
+    /// The processor that is to deliver a pending message: the place of its receiver, or the home
+    /// of one that isn't there. None where no such message is pending.
     pub fn due_on(&self, id: MsgId) -> Option<u16>
         requires { IsConsistent (kept_in self.now) }
         ensures { result ≡ processor_for (core_in self.now) id }

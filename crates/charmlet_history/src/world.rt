@@ -9,8 +9,8 @@ ghost use Rattle.charmlet_history.specs.Parts.{world_of};
 use charmlet_model::{ClientRow, Elem, Manifest, Message, Record};
 use std::marker::Model;
 
-/// A world that only contracts read. It has no bytes: what ties it to a store are the clauses of whoever
-/// keeps it.
+/// A world that only contracts read. It has no bytes: what ties it to a store are the clauses of
+/// whoever keeps it.
 #[derive(Drop)]
 pub struct SeenWorld {
     pub ghost world: { World },
@@ -45,8 +45,8 @@ impl HasWorld for Manifest {
     ghost world = { new_world };
 }
 
-/// A world in parts: its arrays, what is kept of each element and of each client in rising order, and the
-/// pending messages in order of birth.
+/// A world in parts: its arrays, what is kept of each element and of each client in rising order,
+/// and the pending messages in order of birth.
 #[derive(Debug, Drop)]
 pub struct WorldParts {
     pub manifest: Manifest,

@@ -2,7 +2,8 @@
 
 ghost use Rattle.charmlet_image.specs.Examples.{EveryCut, NewStores, FlushedStores, CheckpointedStores, AlteredStores, CaughtStores, TwoHalves, Offsets, WaitingStores};
 
-/// A new store opens. Cut to one byte it is closed; nine longer cuts are damaged at the field that runs past the end.
+/// A new store opens. Cut to one byte it is closed; nine longer cuts are damaged at the field that
+/// runs past the end.
 pub fn new_stores_are_read()
     ensures { NewStores }
 {}

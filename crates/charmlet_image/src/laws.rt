@@ -19,8 +19,9 @@ pub fn images_are_lawful()
     ensures headers { Lawful IsHeader spell_header read_header }
 {}
 
-/// A half is read as its header, image and batches, up to the first closed gate, and was spelled so. Its
-/// bytes spell nothing else. A batch after its gate, once that is open, is the last of its batches.
+/// A half is read as its header, image and batches, up to the first closed gate, and was spelled
+/// so. Its bytes spell nothing else. A batch after its gate, once that is open, is the last of its
+/// batches.
 pub fn halves_are_lawful()
     ensures read_back { HalvesAreRead }
     ensures spelled_so { ReadHalvesWereSpelled }
@@ -28,7 +29,8 @@ pub fn halves_are_lawful()
     ensures appended { BatchesAreAppended }
 {}
 
-/// A fault is named by a place among the bytes that are read, or by their end, so that its offset is at most the file's length.
+/// A fault is named by a place among the bytes that are read, or by their end, so that its offset
+/// is at most the file's length.
 pub fn faults_are_within()
     ensures images { (mark : Mark) → Within (read_image mark) }
     ensures headers { Within read_header }
@@ -41,7 +43,8 @@ pub fn later_halves_are_taken()
     ensures { LaterHalvesAreTaken }
 {}
 
-/// Each record of a half that is read stands at its offset, which the lengths of the records before it say.
+/// Each record of a half that is read stands at its offset, which the lengths of the records before
+/// it say.
 pub fn records_stand_there()
     ensures { RecordsStandThere }
 {}
@@ -56,8 +59,9 @@ pub fn new_stores_open()
     ensures { NewStoresOpen }
 {}
 
-/// A file that begins with a half before any closed gate says that half, and files of bytes say nothing else. A half is closed where
-/// it has no second byte, or its first byte isn't an open gate.
+/// A file that begins with a half before any closed gate says that half, and files of bytes say
+/// nothing else. A half is closed where it has no second byte, or its first byte isn't an open
+/// gate.
 pub fn files_begin_with_halves()
     ensures found { SpelledIsFound }
     ensures spelled { FoundIsSpelled }

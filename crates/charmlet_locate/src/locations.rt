@@ -5,8 +5,8 @@ use std::alloc::{AllocError, Global};
 use std::collections::BTreeMap;
 use std::marker::Model;
 
-/// Where elements stand: the processor of each element that is there, as after a restart. It doesn't change.
-/// A contract sees the entries, in rising order.
+/// Where elements stand: the processor of each element that is there, as after a restart. It
+/// doesn't change. A contract sees the entries, in rising order.
 #[derive(Drop)]
 pub struct Locations {
     places: BTreeMap<Elem, u16>,
@@ -43,8 +43,8 @@ impl Locations {
         self.places.get(&elem).copied()
     }
 
-    /// An element comes to a processor, wherever it stood before. Any 16-bit number is a processor's
-    /// here. It fails only when out of memory, and then nothing has changed.
+    /// An element comes to a processor, wherever it stood before. Any 16-bit number is a
+    /// processor's here. It fails only when out of memory, and then nothing has changed.
     pub(crate) fn place(&mut self, elem: Elem, processor: u16) -> Result<(), AllocError>
         ensures ok { OnOk result (self.new ≡ insert_entry elem_cmp self.old elem processor) }
         ensures err { OnErr result (self.new ≡ self.old) }

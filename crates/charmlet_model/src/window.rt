@@ -7,8 +7,8 @@ use arrayvec::ArrayVec;
 use std::alloc::{AllocError, Global};
 use std::marker::Model;
 
-/// Up to eight items, the oldest first: each is the reply to a request, or none while there is no reply.
-/// A contract sees the list. None of its calls but `copy` takes memory.
+/// Up to eight items, the oldest first: each is the reply to a request, or none while there is no
+/// reply. A contract sees the list. None of its calls but `copy` takes memory.
 #[derive(Debug)]
 pub struct Window {
     items: ArrayVec<Option<Words>, 8>,
@@ -22,7 +22,8 @@ impl Model for Window {
     ghost view = { λ window. window.items.items };
 }
 
-// By hand, so that what drops the eight places is proved here, and not in each crate that drops a client.
+// By hand, so that what drops the eight places is proved here, and not in each crate that drops a
+// client.
 impl Drop for Window {
     fn drop(self) {
         let Window { items } = self;

@@ -10,9 +10,9 @@ use charmlet_model::{CaughtUp, Effect, Message, State};
 use charmlet_plain::PlainWorld;
 use std::alloc::AllocError;
 
-/// Makes the deliveries of a catch-up list, in order, up to the first one that is at fault, and answers the
-/// place of that one, if there is one. A delivery that its receiver's record has already is skipped. It fails
-/// only when out of memory.
+/// Makes the deliveries of a catch-up list, in order, up to the first one that is at fault, and
+/// answers the place of that one, if there is one. A delivery that its receiver's record has
+/// already is skipped. It fails only when out of memory.
 pub fn catch_up(
     plain: &mut PlainWorld,
     deliveries: &[CaughtUp],
@@ -31,7 +31,8 @@ pub fn catch_up(
     Ok(None)
 }
 
-/// Makes a delivery, or skips it, and answers whether it is no fault. It fails only when out of memory.
+/// Makes a delivery, or skips it, and answers whether it is no fault. It fails only when out of
+/// memory.
 fn redeliver(plain: &mut PlainWorld, delivery: &CaughtUp) -> Result<bool, AllocError>
     ensures good { IfOk result (λ good. good ≡ is_caught_up plain.old.manifest (record_of plain.old
         delivery.now.message.to) delivery.now) }
@@ -57,8 +58,8 @@ fn is_skipped(plain: &PlainWorld, delivery: &CaughtUp) -> bool
     delivery.received <= received
 }
 
-/// Whether the delivery is the next one of its receiver, can be made, and has the effect that is written. It
-/// fails only when out of memory.
+/// Whether the delivery is the next one of its receiver, can be made, and has the effect that is
+/// written. It fails only when out of memory.
 fn is_next_delivery(plain: &PlainWorld, delivery: &CaughtUp) -> Result<bool, AllocError>
     ensures { IfOk result (λ good. good ≡ is_next_delivery plain.now.manifest (record_of plain.now
         delivery.now.message.to) delivery.now) }
@@ -70,7 +71,8 @@ fn is_next_delivery(plain: &PlainWorld, delivery: &CaughtUp) -> Result<bool, All
     has_effect(plain, &delivery.message, delivery.effect)
 }
 
-/// Whether there is a reaction to the message, and it has the effect. It fails only when out of memory.
+/// Whether there is a reaction to the message, and it has the effect. It fails only when out of
+/// memory.
 fn has_effect(plain: &PlainWorld, message: &Message, effect: Effect) -> Result<bool, AllocError>
     ensures { IfOk result (λ good. good ≡ has_effect (record_of plain.now message.now.to)
         (reaction_of plain.now message.now) effect) }

@@ -1,5 +1,6 @@
-//! What two files recover to a second time, as a program that is kept as plain as it can be and is proved equal to the
-//! definition, whatever the bytes of the files are. Tests run it, and faster code is compared with it.
+//! What two files recover to a second time, as a program that is kept as plain as it can be and is
+//! proved equal to the definition, whatever the bytes of the files are. Tests run it, and faster
+//! code is compared with it.
 #![tactic(auto)]
 
 mod catching_up;

@@ -7,7 +7,8 @@ ghost use Rattle.charmlet_recovery.specs.Faults.{first_failure, pending_tests, w
 use charmlet_model::{ClientRow, MsgId, Origin};
 use charmlet_plain::PlainWorld;
 
-/// The place of the first pending message that its element didn't send, or its client doesn't wait for.
+/// The place of the first pending message that its element didn't send, or its client doesn't wait
+/// for.
 pub fn first_unsent(plain: &PlainWorld) -> Option<usize>
     ensures { result ≡ first_failure (pending_tests plain.now plain.now.pending) }
 {
@@ -20,8 +21,8 @@ pub fn first_unsent(plain: &PlainWorld) -> Option<usize>
     None
 }
 
-/// Whether the message's element has sent so many messages, or its client's window has the number, and no
-/// reply to it.
+/// Whether the message's element has sent so many messages, or its client's window has the number,
+/// and no reply to it.
 fn was_sent(plain: &PlainWorld, id: MsgId) -> bool
     ensures { result ≡ was_sent plain.now id.origin id.number }
 {

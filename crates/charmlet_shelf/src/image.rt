@@ -15,8 +15,8 @@ use indexmap::IndexMap;
 use std::alloc::{AllocError, Global};
 use std::collections::BTreeSet;
 
-/// An element that is there: its packed state, and how many messages it sent and received in its whole
-/// life.
+/// An element that is there: its packed state, and how many messages it sent and received in its
+/// whole life.
 #[derive(Debug, Drop)]
 pub struct Image {
     pub elem: Elem,
@@ -25,8 +25,8 @@ pub struct Image {
     pub packed: Vec<u8>,
 }
 
-/// The image of each element, in rising order. It fails only when out of memory. The objects show what
-/// they showed.
+/// The image of each element, in rising order. It fails only when out of memory. The objects show
+/// what they showed.
 pub(crate) fn images_of<C: Chare>(
     alloc: Global,
     residents: &mut IndexMap<Elem, Resident<C>>,
@@ -76,8 +76,8 @@ fn rising_elems<C: Chare>(
     Ok(elems)
 }
 
-/// The image of an element that is there. It fails only when out of memory. The objects show what they
-/// showed.
+/// The image of an element that is there. It fails only when out of memory. The objects show what
+/// they showed.
 pub(crate) fn image_at<C: Chare>(
     alloc: Global,
     residents: &mut IndexMap<Elem, Resident<C>>,
@@ -97,8 +97,8 @@ pub(crate) fn image_at<C: Chare>(
     image_of(alloc, elem, resident)
 }
 
-/// The image of an element with its object. It fails only when out of memory, and the object shows what
-/// it showed.
+/// The image of an element with its object. It fails only when out of memory, and the object shows
+/// what it showed.
 fn image_of<C: Chare>(
     alloc: Global,
     elem: Elem,

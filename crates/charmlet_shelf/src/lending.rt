@@ -18,16 +18,16 @@ use charmlet_model::{Elem, Resident};
 use indexmap::IndexMap;
 use std::alloc::{AllocError, Global};
 
-/// What came of a delivery: what the receiver sent and replied, and its object, if the message destroyed
-/// it.
+/// What came of a delivery: what the receiver sent and replied, and its object, if the message
+/// destroyed it.
 #[derive(Drop)]
 pub struct Delivered<C> {
     pub output: Output,
     pub destroyed: Option<C>,
 }
 
-/// Delivers a message to the element at this index. Where memory is refused, the objects show what they
-/// showed.
+/// Delivers a message to the element at this index. Where memory is refused, the objects show what
+/// they showed.
 pub(crate) fn deliver_at<C: Chare>(
     alloc: Global,
     residents: &mut IndexMap<Elem, Resident<C>>,
@@ -62,7 +62,8 @@ pub(crate) fn deliver_at<C: Chare>(
     Ok(Delivered { output, destroyed })
 }
 
-/// Has a resident react to a message, and counts that. Where memory is refused, it shows what it showed.
+/// Has a resident react to a message, and counts that. Where memory is refused, it shows what it
+/// showed.
 fn advance<C: Chare>(
     alloc: Global,
     resident: &mut Resident<C>,

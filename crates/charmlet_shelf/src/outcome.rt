@@ -4,8 +4,8 @@ use crate::delivery::Delivery;
 use charmlet_chare::Output;
 use std::marker::Model;
 
-/// A delivery that was performed, and what its receiver sent and replied by it, until that is taken: what
-/// the kind table says of the message and of the receiver's state before it.
+/// A delivery that was performed, and what its receiver sent and replied by it, until that is
+/// taken: what the kind table says of the message and of the receiver's state before it.
 #[derive(Drop)]
 pub struct Outcome {
     delivery: Delivery,

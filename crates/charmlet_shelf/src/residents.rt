@@ -50,8 +50,8 @@ fn stands_at<C: Chare>(residents: &IndexMap<Elem, Resident<C>>, index: usize, el
     }
 }
 
-/// Puts an element's resident into the table, in the place of the one that was there. Where memory is
-/// refused, the resident comes back, and the table is as before.
+/// Puts an element's resident into the table, in the place of the one that was there. Where memory
+/// is refused, the resident comes back, and the table is as before.
 pub(crate) fn put<C: Chare>(
     residents: &mut IndexMap<Elem, Resident<C>>,
     elem: Elem,

@@ -7,8 +7,8 @@ ghost use Rattle.charmlet_model.specs.declared.state.State.{State};
 use charmlet_chare::Chare;
 use std::marker::Model;
 
-/// The state in which an object was seen. It has no bytes, and only contracts read it: what ties the state to
-/// an object that has changed since are the clauses of whoever keeps it.
+/// The state in which an object was seen. It has no bytes, and only contracts read it: what ties
+/// the state to an object that has changed since are the clauses of whoever keeps it.
 #[derive(Drop)]
 pub(crate) struct SeenState {
     pub ghost state: { State },

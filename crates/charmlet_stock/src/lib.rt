@@ -1,4 +1,5 @@
-//! Blank objects, by kind, and the census of objects: how many were supplied, are in the stock, and were retired.
+//! Blank objects, by kind, and the census of objects: how many were supplied, are in the stock, and
+//! were retired.
 #![tactic(auto)]
 
 mod by_kind;

@@ -9,7 +9,8 @@ use charmlet_chare::Chare;
 use charmlet_model::Kind;
 use std::alloc::{AllocError, Global};
 
-/// Of one kind: how many objects were supplied, are in the stock, and were retired. The others are out.
+/// Of one kind: how many objects were supplied, are in the stock, and were retired. The others are
+/// out.
 #[derive(Clone, Copy, Debug, PartialEq, Eq)]
 pub struct Tally {
     pub supplied: u64,
@@ -17,8 +18,9 @@ pub struct Tally {
     pub retired: u64,
 }
 
-/// The blanks of one kind, in room for all that are out. Where retired objects are kept, as many objects
-/// more are here as were retired: all are of one kind, so that it doesn't matter which of them are blanks.
+/// The blanks of one kind, in room for all that are out. Where retired objects are kept, as many
+/// objects more are here as were retired: all are of one kind, so that it doesn't matter which of
+/// them are blanks.
 #[derive(Drop)]
 pub(crate) struct Pile<C: Chare> {
     pub(crate) kind: Kind,
@@ -78,8 +80,8 @@ impl<C: Chare> Pile<C> {
         }
     }
 
-    /// Makes room for so many objects more. It fails where memory is refused, or where more than 2^64-1
-    /// objects would have been supplied, and then nothing has changed.
+    /// Makes room for so many objects more. It fails where memory is refused, or where more than
+    /// 2^64-1 objects would have been supplied, and then nothing has changed.
     pub(crate) fn reserve(&mut self, count: usize) -> Result<(), AllocError>
         ensures ok { OnOk result (HasRoomFor self.new count) }
         ensures kind { self.new.kind ≡ self.old.kind }

@@ -11,8 +11,8 @@ use charmlet_model::{ClientRow, MAX_UNANSWERED, Told, Window, Words};
 use std::alloc::{AllocError, Global};
 use std::marker::Model;
 
-/// A client's row in the present world, and in the durable one. A contract sees the two rows. They share
-/// their replies, so that a request, a reply and a flush take no memory.
+/// A client's row in the present world, and in the durable one. A contract sees the two rows. They
+/// share their replies, so that a request, a reply and a flush take no memory.
 #[derive(Debug, Drop)]
 pub struct Client {
     present: ClientRow,
@@ -20,8 +20,8 @@ pub struct Client {
     durable_last: u64,
     /// The items of the durable window that the present one has no more.
     dropped: Window,
-    /// For each other item of the durable window, whether its reply is durable. These are the first items
-    /// of the present window.
+    /// For each other item of the durable window, whether its reply is durable. These are the first
+    /// items of the present window.
     durable: ArrayVec<bool, 8>,
 }
 
@@ -70,7 +70,8 @@ impl Client {
         &self.present
     }
 
-    /// Takes the client's next request, which has this number. The durable row stays. It takes no memory.
+    /// Takes the client's next request, which has this number. The durable row stays. It takes no
+    /// memory.
     pub fn accept(&mut self, number: u64)
         ensures { self.new ≡ with_present self.old (with_request self.old.present number) }
     {
@@ -104,8 +105,8 @@ impl Client {
         mark_durable(&mut self.durable, self.present.window.len());
     }
 
-    /// What the client is told of a request, by its durable row. It fails only when out of memory, and
-    /// takes none where the answer has no words.
+    /// What the client is told of a request, by its durable row. It fails only when out of memory,
+    /// and takes none where the answer has no words.
     pub fn told(&self, alloc: Global, number: u64) -> Result<Told, AllocError>
         ensures told { IfOk result (λ told. told ≡ told_of self.now.durable number) }
         ensures words { OnErr result (has_words (told_of self.now.durable number) ≡ true) }
@@ -145,8 +146,8 @@ impl Client {
     }
 }
 
-/// What a client is told of a request of its window that has this reply, if it has one. It fails only for
-/// lack of memory, and takes none where the answer has no words.
+/// What a client is told of a request of its window that has this reply, if it has one. It fails
+/// only for lack of memory, and takes none where the answer has no words.
 fn tell(alloc: Global, reply: Option<&Words>) -> Result<Told, AllocError>
     ensures told { IfOk result (λ told. told ≡ told_of_item (option_copied reply.entry)) }
     ensures words { OnErr result (has_words (told_of_item (option_copied reply.entry)) ≡ true) }

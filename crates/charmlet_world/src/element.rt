@@ -7,8 +7,8 @@ ghost use Rattle.charmlet_world.specs.Seen.{has_record, no_element};
 
 use charmlet_model::MAX_SENDS;
 
-/// The processor of an element, if it is there, and how many messages it sent and received in its whole
-/// life.
+/// The processor of an element, if it is there, and how many messages it sent and received in its
+/// whole life.
 #[derive(Clone, Copy, Debug, PartialEq, Eq)]
 pub struct Element {
     pub place: Option<u16>,
@@ -42,8 +42,8 @@ impl Element {
         self.place.is_some() || self.received > 0
     }
 
-    /// Counts one more delivery, by which it sent so many messages and after which it stands here, or
-    /// nowhere.
+    /// Counts one more delivery, by which it sent so many messages and after which it stands here,
+    /// or nowhere.
     pub fn advance(&mut self, place: Option<u16>, sends: u64)
         requires sent { self.old.sent + sends ≤ greatest }
         requires received { self.old.received + 1 ≤ greatest }

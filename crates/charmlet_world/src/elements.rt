@@ -17,7 +17,8 @@ use std::alloc::{AllocError, Global};
 use std::collections::BTreeMap;
 use std::marker::Model;
 
-/// Where an element is kept. It stays so, since no element is ever forgotten. A contract sees its number.
+/// Where an element is kept. It stays so, since no element is ever forgotten. A contract sees its
+/// number.
 #[derive(Clone, Copy, Debug)]
 pub struct Slot {
     index: usize,
@@ -33,8 +34,8 @@ impl Model for Slot {
     ghost inverse = { λ n. record { index = n } };
 }
 
-/// What is kept of the elements that ever received a message. A contract sees a list in the order in
-/// which they came, and the room for more.
+/// What is kept of the elements that ever received a message. A contract sees a list in the order
+/// in which they came, and the room for more.
 #[derive(Drop)]
 pub struct Elements {
     rows: IndexMap<Elem, Element>,
@@ -104,7 +105,8 @@ impl Elements {
         }
     }
 
-    /// Looks for the row of this element, so that from now on it is found by one comparison. Nothing that is kept changes.
+    /// Looks for the row of this element, so that from now on it is found by one comparison.
+    /// Nothing that is kept changes.
     pub(crate) fn expect(&mut self, elem: Elem)
         ensures { self.new ≡ self.old }
     {
@@ -113,8 +115,8 @@ impl Elements {
         }
     }
 
-    /// What is kept of an element: of one that was never constructed, that it stands nowhere and that
-    /// its counts are 0.
+    /// What is kept of an element: of one that was never constructed, that it stands nowhere and
+    /// that its counts are 0.
     pub fn element(&self, elem: Elem) -> Element
         ensures element { result ≡ element_in self.now.entries elem }
         ensures risen { lookup (is_at (elem_cmp elem)) (risen self.now.entries)
@@ -134,8 +136,8 @@ impl Elements {
         rising_rows(&self.rows, alloc)
     }
 
-    /// The processor of each element that is there, in rising order of the elements, in memory of its own. It
-    /// takes none where no element is there.
+    /// The processor of each element that is there, in rising order of the elements, in memory of
+    /// its own. It takes none where no element is there.
     pub fn places(&self, alloc: Global) -> Result<BTreeMap<Elem, u16>, AllocError>
         ensures places { IfOk result (λ tree. tree.entries ≡ places_of (risen self.now.entries)) }
         ensures nothing { places_of (risen self.now.entries) ≡ [] → IsOk result }
@@ -168,7 +170,8 @@ impl Elements {
         *row = element;
     }
 
-    /// Where an element is kept, from now on if it wasn't. Where memory is refused, nothing changes.
+    /// Where an element is kept, from now on if it wasn't. Where memory is refused, nothing
+    /// changes.
     pub fn slot_for(&mut self, elem: Elem) -> Result<Slot, AllocError>
         ensures found { IfOk result (λ slot. slice_get self.new.entries slot
             ≡ Some (elem, element_in self.old.entries elem)) }
@@ -224,7 +227,8 @@ fn rising_rows(
     Ok(tree)
 }
 
-/// The places of these rows in rising order of their elements. It takes no memory where there is none.
+/// The places of these rows in rising order of their elements. It takes no memory where there is
+/// none.
 fn rising_places(
     rows: &IndexMap<Elem, Element>,
     alloc: Global,

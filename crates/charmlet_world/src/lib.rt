@@ -1,4 +1,5 @@
-//! The present world, changed by one event at a time: its pending messages, its elements, and its clients.
+//! The present world, changed by one event at a time: its pending messages, its elements, and its
+//! clients.
 #![tactic(auto)]
 
 mod client;

@@ -38,9 +38,9 @@ use std::alloc::{AllocError, Global};
 use std::collections::BTreeMap;
 use std::marker::Model;
 
-/// The present world without its objects: the place and the counts of each element, the pending messages in
-/// order of birth, and the clients' rows in the present and in the durable world. A contract sees what is
-/// kept, and for how many deliveries there is room.
+/// The present world without its objects: the place and the counts of each element, the pending
+/// messages in order of birth, and the clients' rows in the present and in the durable world. A
+/// contract sees what is kept, and for how many deliveries there is room.
 #[derive(Drop)]
 pub struct PresentWorld {
     manifest: Manifest,
@@ -71,7 +71,8 @@ impl Model for PresentWorld {
 }
 
 impl PresentWorld {
-    /// A world with these arrays and so many processors, in which nothing has happened. It takes no memory.
+    /// A world with these arrays and so many processors, in which nothing has happened. It takes no
+    /// memory.
     pub fn new(alloc: Global, manifest: Manifest, processors: u16) -> Self
         requires { is_processor_count processors ≡ true }
         ensures empty { result ≡ record {
@@ -94,8 +95,8 @@ impl PresentWorld {
         }
     }
 
-    /// A world with these arrays and so many processors, of which this is kept. It fails only for lack of
-    /// memory.
+    /// A world with these arrays and so many processors, of which this is kept. It fails only for
+    /// lack of memory.
     pub fn of(
         alloc: Global,
         manifest: Manifest,
@@ -192,16 +193,16 @@ impl PresentWorld {
         place_in(self.processors, elem, self.element(elem).place)
     }
 
-    /// What is kept of each element, in rising order, in memory of its own. It sorts, and fails only for
-    /// lack of memory.
+    /// What is kept of each element, in rising order, in memory of its own. It sorts, and fails
+    /// only for lack of memory.
     pub fn rising(&self, alloc: Global) -> Result<BTreeMap<Elem, Element>, AllocError>
         ensures { IfOk result (λ tree. tree.entries ≡ (seen self.now).elements) }
     {
         self.elements.rising(alloc)
     }
 
-    /// The processor of each element that is there, in rising order of the elements, in memory of its own. It
-    /// takes none where no element is there.
+    /// The processor of each element that is there, in rising order of the elements, in memory of
+    /// its own. It takes none where no element is there.
     pub fn places(&self, alloc: Global) -> Result<BTreeMap<Elem, u16>, AllocError>
         ensures places { IfOk result (λ tree. tree.entries ≡ places_of (seen self.now).elements) }
         ensures nothing { places_of (seen self.now).elements ≡ [] → IsOk result }
@@ -223,8 +224,8 @@ impl PresentWorld {
         &self.clients
     }
 
-    /// What a client is told by its durable row. It fails only when out of memory, and takes none where the
-    /// answer has no words.
+    /// What a client is told by its durable row. It fails only when out of memory, and takes none
+    /// where the answer has no words.
     pub fn told(&self, alloc: Global, client: u32, number: u64) -> Result<Told, AllocError>
         ensures told { IfOk result (λ told. told
             ≡ told_of (client_at self.now.clients client).durable number) }
@@ -249,8 +250,8 @@ impl PresentWorld {
         None
     }
 
-    /// The oldest pending message that can be delivered by the counts that are kept, and before it the
-    /// processor of its receiver, or the home of one that isn't there.
+    /// The oldest pending message that can be delivered by the counts that are kept, and before it
+    /// the processor of its receiver, or the home of one that isn't there.
     pub fn next(&self) -> Option<(u16, MsgId)>
         ensures { result ≡ next_due (seen self.now) self.now.pending }
     {
@@ -270,8 +271,8 @@ impl PresentWorld {
         is_taken_by(&self.element(letter.to), letter)
     }
 
-    /// Takes a client's request, whose id no pending message has. The room of deliveries stays. Where memory is
-    /// refused, nothing changes.
+    /// Takes a client's request, whose id no pending message has. The room of deliveries stays.
+    /// Where memory is refused, nothing changes.
     pub fn accept(
         &mut self,
         client: u32,
@@ -304,7 +305,8 @@ impl PresentWorld {
         Ok(())
     }
 
-    /// Where an element is kept, from now on if it wasn't. Where memory is refused, nothing changes.
+    /// Where an element is kept, from now on if it wasn't. Where memory is refused, nothing
+    /// changes.
     pub fn slot_for(&mut self, elem: Elem) -> Result<Slot, AllocError>
         ensures slot { IfOk result (λ slot. IsSlot self.new.rows slot elem) }
         ensures seen { OnOk result (seen self.new
@@ -319,9 +321,9 @@ impl PresentWorld {
         self.elements.slot_for(elem)
     }
 
-    /// Makes all room for the delivery of a pending message, so that its commit takes no memory, and says
-    /// where its receiver is kept. There are at most 64 such deliveries. Where memory is refused, nothing
-    /// changes.
+    /// Makes all room for the delivery of a pending message, so that its commit takes no memory,
+    /// and says where its receiver is kept. There are at most 64 such deliveries. Where memory is
+    /// refused, nothing changes.
     pub fn assign(&mut self, id: MsgId) -> Result<Slot, AllocError>
         requires pending { IsSome (message_among id self.old.pending) }
         requires few { self.old.promised < 64 }
@@ -359,8 +361,9 @@ impl PresentWorld {
         self.promised -= 1;
     }
 
-    /// Delivers a pending message, for which `assign` made room: it leaves, its receiver advances, what it sent
-    /// goes last, and its reply is kept with the client that asked. It takes no memory.
+    /// Delivers a pending message, for which `assign` made room: it leaves, its receiver advances,
+    /// what it sent goes last, and its reply is kept with the client that asked. It takes no
+    /// memory.
     pub fn commit(&mut self, slot: Slot, id: MsgId, output: Output)
         requires promised { 0 < self.old.promised }
         requires pending { IsSome (message_among id self.old.pending) }
@@ -392,7 +395,8 @@ impl PresentWorld {
         self.expect_oldest();
     }
 
-    /// Looks for the receiver of the oldest message, which is mostly the next one that is delivered.
+    /// Looks for the receiver of the oldest message, which is mostly the next one that is
+    /// delivered.
     fn expect_oldest(&mut self)
         ensures { self.new ≡ self.old }
     {
@@ -425,8 +429,8 @@ impl PresentWorld {
     }
 }
 
-/// Whether an element of which this is kept is there or is constructed by the message, and its counts have
-/// room.
+/// Whether an element of which this is kept is there or is constructed by the message, and its
+/// counts have room.
 fn is_taken_by(element: &Element, letter: &Letter) -> bool
     ensures { result ≡ takes element.now letter.now.entry }
 {

@@ -6,7 +6,8 @@ use std::io::{self, ErrorKind};
 use std::os::fd::AsRawFd;
 use std::os::unix::fs::{FileExt, MetadataExt};
 
-/// A file of a folder. It is opened where it is found, and the first write makes it where it is missing.
+/// A file of a folder. It is opened where it is found, and the first write makes it where it is
+/// missing.
 #[derive(Drop)]
 pub struct HalfFile {
     path: String,
@@ -25,7 +26,8 @@ impl HalfFile {
         }
     }
 
-    /// Opens the file, settled, if it is there and not open yet. Where its sync fails, the disk is lost.
+    /// Opens the file, settled, if it is there and not open yet. Where its sync fails, the disk is
+    /// lost.
     pub fn find(&mut self, rt: &HostRuntime, is_lost: &mut bool) -> io::Result<()>
         ensures kept { IsTrue is_lost.old → IsTrue is_lost.new }
     {
@@ -55,8 +57,8 @@ impl HalfFile {
         }
     }
 
-    /// Writes bytes from an offset on, and makes the file first where it is missing. An error where the
-    /// offset is past the end.
+    /// Writes bytes from an offset on, and makes the file first where it is missing. An error where
+    /// the offset is past the end.
     pub fn write_at(&mut self, rt: &HostRuntime, offset: u64, bytes: &[u8]) -> io::Result<()> {
         let len = self.len()?;
         if !is_inside(offset, 0, len) {
@@ -93,8 +95,9 @@ fn is_inside(offset: u64, count: usize, len: u64) -> bool
     offset <= len && count as u64 <= len - offset
 }
 
-// The file, synced, if it is there. It must be a regular file, and no link, and have no second name,
-// since the lock of another folder would not keep others from it. A pipe is not opened, since that waits.
+// The file, synced, if it is there. It must be a regular file, and no link, and have no second
+// name, since the lock of another folder would not keep others from it. A pipe is not opened, since
+// that waits.
 fn open(rt: &HostRuntime, path: &str, is_lost: &mut bool) -> io::Result<Option<File>>
     ensures kept { IsTrue is_lost.old → IsTrue is_lost.new }
 {
@@ -109,8 +112,8 @@ fn open(rt: &HostRuntime, path: &str, is_lost: &mut bool) -> io::Result<Option<F
     Ok(Some(file))
 }
 
-// Syncs a file that was found. If an earlier write failed and nobody was told yet, the system tells it now,
-// and not again: so the disk is lost then.
+// Syncs a file that was found. If an earlier write failed and nobody was told yet, the system tells
+// it now, and not again: so the disk is lost then.
 fn sync_found(file: &File, is_lost: &mut bool) -> io::Result<()>
     ensures failed { IsErr result → IsTrue is_lost.new }
     ensures kept { IsTrue is_lost.old → IsTrue is_lost.new }

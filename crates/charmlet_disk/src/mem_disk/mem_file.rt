@@ -122,7 +122,8 @@ impl MemFile {
         Ok(())
     }
 
-    /// Makes sure what a read gives. It copies what was written since the last sync, and takes no memory.
+    /// Makes sure what a read gives. It copies what was written since the last sync, and takes no
+    /// memory.
     pub fn make_sure(&mut self)
         requires { IsSound (file_of self.old) }
         ensures { file_of self.new ≡ clean (file_of self.old).now }
