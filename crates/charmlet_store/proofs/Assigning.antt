@@ -9,10 +9,12 @@ use Rattle.charmlet_model.specs.declared.names.MsgId.{MsgId}
 use Rattle.charmlet_model.specs.declared.message.Message.{Message}
 use Rattle.charmlet_model.specs.declared.kind.Kind.{Kind}
 use Rattle.charmlet_model.specs.declared.kind.Kind.TheVariants as kinds
+use Rattle.charmlet_model.specs.declared.edition.Edition.{Edition}
 use Rattle.charmlet_model.specs.declared.refusal.Refusal.{Refusal}
 use Rattle.charmlet_model.specs.declared.refusal.Refusal.TheVariants as refusals
 use Rattle.charmlet_model.specs.declared.TheConstants.{CONSTRUCT}
 use Rattle.charmlet_model.specs.Kind.{kind_number, numbered_kind}
+use Rattle.charmlet_model.specs.Edition.{edition_kind}
 use Rattle.charmlet_model.specs.World.{record_of}
 use Rattle.charmlet_model.specs.Core.{Core, present, Blanks, Gate, When, MayLackMemory, CoreStep, Assign, Commit, Release, Done, gates, assign_gates, message_gates, lacks_blank, blank_for, blank_of_id, pending_message, assigned_to, first_refusal, may_lack_memory, next_core, next_blanks, with_taken, with_given, is_present, is_processor, place_or_home, is_full, are_counts_full}
 use Rattle.charmlet_model.specs.Run.{StoreView, Goes, IsNotDelivered}
@@ -26,21 +28,23 @@ use Rattle.std.proofs.lemmas.Bool.{ne_eqb}
 -- ---- an assignment, up to the blank and from it on
 
 -- a stock has the blank, where one is wanted
-abbrev pub Has : Blanks → Option Kind → Type 0
+abbrev pub Has : Blanks → Option Edition → Type 0
 Has blanks None = Unit {0}
-Has blanks (Some kind) = 0 < blanks kind
+Has blanks (Some edition) = 0 < blanks (edition_kind edition)
 
-rest_passes : (blanks : Blanks) (kind : Option Kind) → Has blanks kind → first_refusal (lacks_blank blanks kind ++ MayLackMemory ∷ []) ≡ None
+rest_passes : (blanks : Blanks) (wanted : Option Edition) → Has blanks wanted → first_refusal (lacks_blank blanks wanted ++ MayLackMemory ∷ []) ≡ None
 rest_passes blanks None has = refl
-rest_passes blanks (Some kind) has = ap (λ b. first_refusal (When b (refusals.NoBlank kind) ∷ MayLackMemory ∷ [])) (ne_eqb (blanks kind) 0 (λ none. omega arith))
+rest_passes blanks (Some edition) has =
+    ap (λ b. first_refusal (When b (refusals.NoBlank (edition_kind edition)) ∷ MayLackMemory ∷ [])) (ne_eqb (blanks (edition_kind edition)) 0 (λ none. omega arith))
 
-rest_lacks : (blanks : Blanks) (kind : Option Kind) → Has blanks kind → may_lack_memory (lacks_blank blanks kind ++ MayLackMemory ∷ []) ≡ true
+rest_lacks : (blanks : Blanks) (wanted : Option Edition) → Has blanks wanted → may_lack_memory (lacks_blank blanks wanted ++ MayLackMemory ∷ []) ≡ true
 rest_lacks blanks None has = refl
-rest_lacks blanks (Some kind) has = ap (λ b. may_lack_memory (When b (refusals.NoBlank kind) ∷ MayLackMemory ∷ [])) (ne_eqb (blanks kind) 0 (λ none. omega arith))
+rest_lacks blanks (Some edition) has =
+    ap (λ b. may_lack_memory (When b (refusals.NoBlank (edition_kind edition)) ∷ MayLackMemory ∷ [])) (ne_eqb (blanks (edition_kind edition)) 0 (λ none. omega arith))
 
-plenty_has : (kind : Option Kind) → Has plenty kind
+plenty_has : (wanted : Option Edition) → Has plenty wanted
 plenty_has None = tt
-plenty_has (Some kind) = omega arith
+plenty_has (Some edition) = omega arith
 
 module _ (core : Core) (processor : ℕ) (id : MsgId) where
   abbrev front_of : Option Message → List Gate
@@ -70,7 +74,7 @@ module _ (core : Core) (processor : ℕ) (id : MsgId) where
   split blanks None = refl
   split blanks (Some m) = refl
 
-  abbrev blank_in : Option Message → Option Kind
+  abbrev blank_in : Option Message → Option Edition
   blank_in m = option_and_then (blank_for core) m
 
   plenty_rest : (m : Option Message) → first_refusal (rest_of plenty m) ≡ None
@@ -111,16 +115,17 @@ module _ (core : Core) (processor : ℕ) (id : MsgId) where
         ap may_lack_memory (split blanks message)
         ∙ memory_after (front message) (rest_of blanks message) (front_passes message can) (rest_of_one blanks message can has).1
 
-    lacks_here : (m : Option Message) (kind : Kind) → blank_in m ≡ Some kind → blanks kind ≡ 0 → first_refusal (rest_of blanks m) ≡ Some (refusals.NoBlank kind)
-    lacks_here None kind wanted none = cc
-    lacks_here (Some m) kind wanted none =
+    lacks_here : (m : Option Message) (edition : Edition) → blank_in m ≡ Some edition → blanks (edition_kind edition) ≡ 0 → first_refusal (rest_of blanks m) ≡ Some (refusals.NoBlank (edition_kind edition))
+    lacks_here None edition wanted none = cc
+    lacks_here (Some m) edition wanted none =
         ap (λ o. first_refusal (lacks_blank blanks o ++ MayLackMemory ∷ [])) wanted
-        ∙ ap (λ n. first_refusal (When (n == 0) (refusals.NoBlank kind) ∷ MayLackMemory ∷ [])) none
+        ∙ ap (λ n. first_refusal (When (n == 0) (refusals.NoBlank (edition_kind edition)) ∷ MayLackMemory ∷ [])) none
 
-    pub lacks_blank_for : (kind : Kind) → blank_of_id core (Some id) ≡ Some kind → blanks kind ≡ 0 → first_refusal (gates core blanks (Assign processor id)) ≡ Some (refusals.NoBlank kind)
-    lacks_blank_for kind wanted none =
+    pub lacks_blank_for : (edition : Edition) → blank_of_id core (Some id) ≡ Some edition → blanks (edition_kind edition) ≡ 0 →
+        first_refusal (gates core blanks (Assign processor id)) ≡ Some (refusals.NoBlank (edition_kind edition))
+    lacks_blank_for edition wanted none =
         ap first_refusal (split blanks message)
-        ∙ none_of_both (front message) (rest_of blanks message) (front_passes message can) ∙ lacks_here message kind wanted none
+        ∙ none_of_both (front message) (rest_of blanks message) (front_passes message can) ∙ lacks_here message edition wanted none
 
 -- ---- a blank that is taken and given back
 
@@ -136,13 +141,13 @@ kind_is kinds.Tape = refl
 pub same_kind : (a b : Kind) → (kind_number a == kind_number b) ≡ true → a ≡ b
 same_kind a b h = let same : Some a ≡ Some b = sym (kind_is a) ∙ ap numbered_kind (exact_unsigned_eq (kind_number a) (kind_number b) h) ∙ kind_is b in cc
 
-pub taken_and_given : (blanks : Blanks) (wanted : Option Kind) → Has blanks wanted → with_given wanted (with_taken wanted blanks) ≡ blanks
+pub taken_and_given : (blanks : Blanks) (wanted : Option Edition) → Has blanks wanted → with_given wanted (with_taken wanted blanks) ≡ blanks
 taken_and_given blanks None has = refl
-taken_and_given blanks (Some kind) has = λ i k. at k i
+taken_and_given blanks (Some edition) has = λ i k. at k i
   where
-    at : (k : Kind) → with_given (Some kind) (with_taken (Some kind) blanks) k ≡ blanks k
-    at k = elim (kind_number k == kind_number kind) as (λ b. (kind_number k == kind_number kind) ≡ b → cond b (cond b (blanks k - 1) (blanks k) + 1) (cond b (blanks k - 1) (blanks k)) ≡ blanks k) [
-      | true ↦ λ same. let here = ap blanks (same_kind k kind same) in omega arith
+    at : (k : Kind) → with_given (Some edition) (with_taken (Some edition) blanks) k ≡ blanks k
+    at k = elim (kind_number k == kind_number (edition_kind edition)) as (λ b. (kind_number k == kind_number (edition_kind edition)) ≡ b → cond b (cond b (blanks k - 1) (blanks k) + 1) (cond b (blanks k - 1) (blanks k)) ≡ blanks k) [
+      | true ↦ λ same. let here = ap blanks (same_kind k (edition_kind edition) same) in omega arith
       | false ↦ λ _. refl
     ] refl
 
@@ -159,8 +164,9 @@ module _ (core : Core) (blanks : Blanks) (processor : ℕ) (id : MsgId) where
   is_refused_so refusal h = inl (is_refused core blanks step refl refusal (refused_so core processor id blanks (pending_message core id) refusal h))
 
   module _ (can : first_refusal (gates core plenty step) ≡ None) where
-    pub has_no_blank : (kind : Kind) → blank_of_id core (Some id) ≡ Some kind → blanks kind ≡ 0 → IsNotDelivered store processor id (refusals.NoBlank kind) store
-    has_no_blank kind wanted none = inl (is_refused core blanks step refl (refusals.NoBlank kind) (lacks_blank_for core processor id blanks can kind wanted none))
+    pub has_no_blank : (edition : Edition) → blank_of_id core (Some id) ≡ Some edition → blanks (edition_kind edition) ≡ 0 → IsNotDelivered store processor id (refusals.NoBlank (edition_kind edition)) store
+    has_no_blank edition wanted none =
+        inl (is_refused core blanks step refl (refusals.NoBlank (edition_kind edition)) (lacks_blank_for core processor id blanks can edition wanted none))
 
     pub has_no_memory : Has blanks (blank_of_id core (Some id)) → IsNotDelivered store processor id refusals.Memory store
     has_no_memory has = inl (lacks_memory core blanks step refl (may_lack core processor id blanks can has))

@@ -9,6 +9,7 @@ use Rattle.charmlet_model.specs.declared.names.Elem.{Elem}
 use Rattle.charmlet_model.specs.declared.names.MsgId.{MsgId}
 use Rattle.charmlet_model.specs.declared.message.Message.{Message}
 use Rattle.charmlet_model.specs.declared.kind.Kind.{Kind}
+use Rattle.charmlet_model.specs.declared.edition.Edition.{Edition}
 use Rattle.charmlet_model.specs.declared.state.State.{State}
 use Rattle.charmlet_model.specs.declared.state.Record.{Record}
 use Rattle.charmlet_model.specs.declared.reaction.Reaction.{Reaction}
@@ -16,9 +17,9 @@ use Rattle.charmlet_model.specs.declared.TheConstants.{CONSTRUCT}
 use Rattle.charmlet_model.specs.Names.{elem_cmp}
 use Rattle.charmlet_model.specs.Fit.{IsMessage}
 use Rattle.charmlet_model.specs.declared.refusal.Refusal.TheVariants as refusals
-use Rattle.charmlet_model.specs.Reaction.{constructed, greatest, kind_of, react}
+use Rattle.charmlet_model.specs.Reaction.{constructed, edition_of, greatest, react}
 use Rattle.charmlet_model.specs.Packed.{IsState}
-use Rattle.charmlet_model.specs.World.{World, advanced, performed, record_of, reaction_of, kind_of_array, can_deliver}
+use Rattle.charmlet_model.specs.World.{World, advanced, performed, record_of, reaction_of, edition_of_array, can_deliver}
 use Rattle.charmlet_model.specs.Core.{Core, home, present, pending_message, place_of, place_or_home, assigned_to, next_core, committed, Commit, Release, Done, blank_for, blank_of_id, with_given}
 use Rattle.charmlet_model.specs.Run.{Goes, StoreView}
 use Rattle.charmlet_model.specs.Sound.{IsAssigned}
@@ -31,7 +32,7 @@ use Rattle.charmlet_chare.specs.declared.chare.Chare.{Ghosts}
 use Rattle.charmlet_history.specs.declared.history.History.{History}
 use Rattle.charmlet_history.specs.Kept.{Kept, IsConsistent, assigned_message, core_in, core_of, kept_in}
 use Rattle.charmlet_shelf.specs.Due.{Due, newcomer_due, reaction_in, record_after}
-use Rattle.charmlet_shelf.specs.Shelf.{Assigns, IsDueAt, View, done_by, has_newcomer, is_idle, refusal_at, performed as performed_phase, receiver_kind, settled, with_record, without_output}
+use Rattle.charmlet_shelf.specs.Shelf.{Assigns, IsDueAt, View, done_by, has_newcomer, is_idle, refusal_at, performed as performed_phase, receiver_edition, settled, with_record, without_output}
 use Rattle.charmlet_shelf.proofs.Records.{found_with, rising_with}
 use Rattle.charmlet_shelf.specs.Count.{is_newcomer_of, objects_on}
 use Rattle.charmlet_shelf.specs.declared.phase.Phase.{Phase}
@@ -80,34 +81,34 @@ module _ (k : Kept) (consistent : IsConsistent k) (p : ℕ) where
     under_way_there records shows due at =
         let receiver : record_of w m.to ≡ due.receiver = seen_is (place_of core m.to) p (record_of w m.to) due.receiver (sym (shows.shown m.to) ∙ at.1) in
         let state : (record_of w m.to).state ≡ Some at.0 = ap (λ (r : Record). r.state) receiver ∙ at.2 in
-        let kind : kind_of_array w m.to.array ≡ Some (kind_of at.0) =
-        (subst (λ o. IfSome o (λ s. (kind_of_array w m.to.array ≡ Some (kind_of s)) × IsState s)) state ((sound_fit core consistent.sound).records m.to).state).0 in
+        let edition : edition_of_array w m.to.array ≡ Some (edition_of at.0) =
+        (subst (λ o. IfSome o (λ s. (edition_of_array w m.to.array ≡ Some (edition_of s)) × IsState s)) state ((sound_fit core consistent.sound).records m.to).state).0 in
         subst (IsUnderWay core p) (sym at.3) (record {
           message = here;
-          kind = kind;
+          edition = edition;
           receiver = receiver;
-          reacts = ap (λ o. is_some (react (kind_of at.0) m.to o m.entry m.words)) at.2;
+          reacts = ap (λ o. is_some (react (edition_of at.0) m.to o m.entry m.words)) at.2;
         })
 
     -- the receiver of a message for which no blank is wanted is there, on the processor's shelf
     module _ (unwanted : blank_of_id core (assigned_to core p) ≡ None) where
-      -- else it were to be constructed, from a blank of its array's kind
-      not_constructed : (entry received sent : Bool) (kind : Option Kind) → (entry && received && sent) ≡ true → IsSome kind → (if entry then kind else None) ≡ None → ⊥
-      not_constructed true received sent (Some kind) can some none = cc
+      -- else it were to be constructed, in its array's edition
+      not_constructed : (entry received sent : Bool) (edition : Option Edition) → (entry && received && sent) ≡ true → IsSome edition → (if entry then edition else None) ≡ None → ⊥
+      not_constructed true received sent (Some edition) can some none = cc
       not_constructed true received sent None can some none = cc
-      not_constructed false received sent kind can some none = cc
+      not_constructed false received sent edition can some none = cc
 
       receiver_there : (o : Option State) → (record_of w m.to).state ≡ o → is_some o ≡ true
       receiver_there (Some s) is = refl
       receiver_there None is =
-          let its_kind : IsSome (kind_of_array w m.to.array) = (found (IsMessage w) its.0 w.pending m its.2 (sound_fit core consistent.sound).messages).to.array in
+          let its_edition : IsSome (edition_of_array w m.to.array) = (found (IsMessage w) its.0 w.pending m its.2 (sound_fit core consistent.sound).messages).to.array in
           let none : blank_for core m ≡ None = ap (option_and_then (blank_for core)) (sym here) ∙ unwanted in
           let received = nat_le ((record_of w m.to).received + 1) greatest in
           let sent = nat_le ((record_of w m.to).sent + 16) greatest in
-          absurd (not_constructed (m.entry == CONSTRUCT) received sent (kind_of_array w m.to.array)
+          absurd (not_constructed (m.entry == CONSTRUCT) received sent (edition_of_array w m.to.array)
           (ap (λ o. (is_some o || (m.entry == CONSTRUCT)) && received && sent) (sym is) ∙ can_be)
-          its_kind
-          (ap (λ o. if is_some o then None else (if m.entry == CONSTRUCT then kind_of_array w m.to.array else None)) (sym is) ∙ none))
+          its_edition
+          (ap (λ o. if is_some o then None else (if m.entry == CONSTRUCT then edition_of_array w m.to.array else None)) (sym is) ∙ none))
 
       pub receiver_seen : (records : List (Elem × Record)) → ShowsOn p records core.places w → is_some (lookup (is_at (elem_cmp m.to)) records) ≡ true
       receiver_seen records shows =
@@ -116,17 +117,17 @@ module _ (k : Kept) (consistent : IsConsistent k) (p : ℕ) where
           ap is_some (shows.shown m.to) ∙ seen_there (place_of core m.to) p (home m.to core.processors) (record_of w m.to) on placed
 
     -- a message for which a blank is wanted constructs its receiver, which isn't there
-    module _ (kind : Kind) (wanted : blank_of_id core (assigned_to core p) ≡ Some kind) where
+    module _ (edition : Edition) (wanted : blank_of_id core (assigned_to core p) ≡ Some edition) where
       abbrev Wants : Type 0
-      Wants = ((record_of w m.to).state ≡ None) × (m.entry ≡ CONSTRUCT) × (kind_of_array w m.to.array ≡ Some kind)
+      Wants = ((record_of w m.to).state ≡ None) × (m.entry ≡ CONSTRUCT) × (edition_of_array w m.to.array ≡ Some edition)
 
-      by_entry : (record_of w m.to).state ≡ None → (if m.entry == CONSTRUCT then kind_of_array w m.to.array else None) ≡ Some kind → Wants
-      by_entry none h = elim (m.entry == CONSTRUCT) as (λ b. (m.entry == CONSTRUCT) ≡ b → (if b then kind_of_array w m.to.array else None) ≡ Some kind → Wants) [
+      by_entry : (record_of w m.to).state ≡ None → (if m.entry == CONSTRUCT then edition_of_array w m.to.array else None) ≡ Some edition → Wants
+      by_entry none h = elim (m.entry == CONSTRUCT) as (λ b. (m.entry == CONSTRUCT) ≡ b → (if b then edition_of_array w m.to.array else None) ≡ Some edition → Wants) [
         | true ↦ λ same array. (none, exact_unsigned_eq m.entry CONSTRUCT same, array)
         | false ↦ λ _ no. absurd (let never : ⊥ = cc in never)
       ] refl h
 
-      by_state : (o : Option State) → (record_of w m.to).state ≡ o → (if is_some o then None else (if m.entry == CONSTRUCT then kind_of_array w m.to.array else None)) ≡ Some kind → Wants
+      by_state : (o : Option State) → (record_of w m.to).state ≡ o → (if is_some o then None else (if m.entry == CONSTRUCT then edition_of_array w m.to.array else None)) ≡ Some edition → Wants
       by_state (Some s) is h = absurd (let never : ⊥ = cc in never)
       by_state None is h = by_entry is h
 
@@ -134,12 +135,12 @@ module _ (k : Kept) (consistent : IsConsistent k) (p : ℕ) where
       wants_new = by_state (record_of w m.to).state refl (ap (option_and_then (blank_for core)) (sym here) ∙ wanted)
 
       -- the delivery that constructs it
-      pub under_way_new : (sent received : ℕ) → sent ≡ (record_of w m.to).sent → received ≡ (record_of w m.to).received → IsUnderWay core p (newcomer_due m kind sent received)
+      pub under_way_new : (sent received : ℕ) → sent ≡ (record_of w m.to).sent → received ≡ (record_of w m.to).received → IsUnderWay core p (newcomer_due m edition sent received)
       under_way_new sent received sends receives = record {
         message = here;
-        kind = wants_new.2;
+        edition = wants_new.2;
         receiver = λ i. record { state = wants_new.0 i; sent = sym sends i; received = sym receives i };
-        reacts = ap (λ e. is_some (if e == CONSTRUCT then Some (constructed kind m.to m.words) else None)) wants_new.1;
+        reacts = ap (λ e. is_some (if e == CONSTRUCT then Some (constructed edition m.to m.words) else None)) wants_new.1;
       }
 
   -- ---- what a delivery makes of the world
@@ -147,8 +148,8 @@ module _ (k : Kept) (consistent : IsConsistent k) (p : ℕ) where
   module _ (due : Due) (under_way : IsUnderWay core p due) where
     reaction_is : reaction_of w due.message ≡ reaction_in due
     reaction_is =
-        ap (option_and_then (λ kind. react kind due.message.to (record_of w due.message.to).state due.message.entry due.message.words)) under_way.kind
-        ∙ ap (λ (r : Record). react due.kind due.message.to r.state due.message.entry due.message.words) under_way.receiver
+        ap (option_and_then (λ edition. react edition due.message.to (record_of w due.message.to).state due.message.entry due.message.words)) under_way.edition
+        ∙ ap (λ (r : Record). react due.edition due.message.to r.state due.message.entry due.message.words) under_way.receiver
 
     made : (r : Reaction) × (reaction_in due ≡ Some r)
     made = some_of (reaction_in due) under_way.reacts
@@ -189,14 +190,14 @@ module _ (k : Kept) (consistent : IsConsistent k) (p : ℕ) where
 
     -- ---- the blank that it took
 
-    abbrev pub blank_taken : Option Kind
-    blank_taken = if is_some due.receiver.state then None else Some due.kind
+    abbrev pub blank_taken : Option Edition
+    blank_taken = if is_some due.receiver.state then None else Some due.edition
 
-    blank_by : (o : Option State) → due.receiver.state ≡ o → is_some (react due.kind due.message.to o due.message.entry due.message.words) ≡ true →
-        (if is_some o then None else (if due.message.entry == CONSTRUCT then Some due.kind else None)) ≡ (if is_some o then None else Some due.kind)
+    blank_by : (o : Option State) → due.receiver.state ≡ o → is_some (react due.edition due.message.to o due.message.entry due.message.words) ≡ true →
+        (if is_some o then None else (if due.message.entry == CONSTRUCT then Some due.edition else None)) ≡ (if is_some o then None else Some due.edition)
     blank_by (Some s) is reacts = refl
     blank_by None is reacts =
-        elim (due.message.entry == CONSTRUCT) as (λ b. is_some (if b then Some (constructed due.kind due.message.to due.message.words) else None) ≡ true → (if b then Some due.kind else None) ≡ Some due.kind) [
+        elim (due.message.entry == CONSTRUCT) as (λ b. is_some (if b then Some (constructed due.edition due.message.to due.message.words) else None) ≡ true → (if b then Some due.edition else None) ≡ Some due.edition) [
           | true ↦ λ _. refl
           | false ↦ λ no. absurd (let never : ⊥ = cc in never)
         ] reacts
@@ -204,8 +205,8 @@ module _ (k : Kept) (consistent : IsConsistent k) (p : ℕ) where
     pub blank_is : blank_of_id core (assigned_to core p) ≡ blank_taken
     blank_is =
         ap (option_and_then (blank_for core)) under_way.message
-        ∙ ap (λ (r : Record). if is_some r.state then None else (if due.message.entry == CONSTRUCT then kind_of_array w due.message.to.array else None)) under_way.receiver
-        ∙ ap (λ o. if is_some due.receiver.state then None else (if due.message.entry == CONSTRUCT then o else None)) under_way.kind
+        ∙ ap (λ (r : Record). if is_some r.state then None else (if due.message.entry == CONSTRUCT then edition_of_array w due.message.to.array else None)) under_way.receiver
+        ∙ ap (λ o. if is_some due.receiver.state then None else (if due.message.entry == CONSTRUCT then o else None)) under_way.edition
         ∙ blank_by due.receiver.state refl under_way.reacts
 
 -- ---- a desk with a delivery under way
@@ -281,14 +282,14 @@ module _ {C : Type 0} {G : Ghosts C} (old : Desk C G) (due : Due) where
     pub newcomer_is : (result : Bool) → result ≡ has_newcomer old.shelf.phase → result ≡ is_none due.receiver.state
     newcomer_is result is = is ∙ ap has_newcomer busy.delivering.phase_is
 
-    pub kind_is : (kind : Kind) → Some kind ≡ receiver_kind old.shelf.phase → kind ≡ due.kind
-    kind_is kind is = let both : Some kind ≡ Some due.kind = is ∙ ap receiver_kind busy.delivering.phase_is in cc
+    pub edition_is : (edition : Edition) → Some edition ≡ receiver_edition old.shelf.phase → edition ≡ due.edition
+    edition_is edition is = let both : Some edition ≡ Some due.edition = is ∙ ap receiver_edition busy.delivering.phase_is in cc
 
   -- a blank was taken for a newcomer
-  pub takes_blank : {phase : Phase} (busy : IsBusyAt old due phase) → is_none due.receiver.state ≡ true → blank_taken (kept_in old.history) busy.history on due busy.delivering.under_way ≡ Some due.kind
+  pub takes_blank : {phase : Phase} (busy : IsBusyAt old due phase) → is_none due.receiver.state ≡ true → blank_taken (kept_in old.history) busy.history on due busy.delivering.under_way ≡ Some due.edition
   takes_blank busy none = by due.receiver.state none
     where
-      by : (o : Option State) → is_none o ≡ true → (if is_some o then None else Some due.kind) ≡ Some due.kind
+      by : (o : Option State) → is_none o ≡ true → (if is_some o then None else Some due.edition) ≡ Some due.edition
       by None h = refl
       by (Some s) h = absurd (let never : ⊥ = cc in never)
 
@@ -348,17 +349,17 @@ module _ (history : History) (consistent : IsConsistent (kept_in history)) (old 
     )
 
   -- with a newcomer
-  module _ {C : Type 0} (state : C → State) (blank : C) (wanted : blank_of_id (core_in history) (assigned_to (core_in history) old.number) ≡ Some (kind_of (state blank)))
-      (sent received : ℕ) (is : shelf ≡ record old { phase = phases.Assigned (newcomer_due m (kind_of (state blank)) sent received) }) where
+  module _ {C : Type 0} (state : C → State) (blank : C) (wanted : blank_of_id (core_in history) (assigned_to (core_in history) old.number) ≡ Some (edition_of (state blank)))
+      (sent received : ℕ) (is : shelf ≡ record old { phase = phases.Assigned (newcomer_due m (edition_of (state blank)) sent received) }) where
     abbrev due_new : Due
-    due_new = newcomer_due m (kind_of (state blank)) sent received
+    due_new = newcomer_due m (edition_of (state blank)) sent received
 
     pub delivering_new : sent ≡ (record_of (present (core_in history)) m.to).sent → received ≡ (record_of (present (core_in history)) m.to).received → (due : Due) × IsDelivering history shelf due (phases.Assigned due)
     delivering_new sends receives = (
       due_new,
       subst (λ (v : View). IsDelivering history v due_new (phases.Assigned due_new)) (sym is) (record {
         phase_is = refl;
-        under_way = under_way_new (kept_in history) consistent old.number m here (kind_of (state blank)) wanted sent received sends receives;
+        under_way = under_way_new (kept_in history) consistent old.number m here (edition_of (state blank)) wanted sent received sends receives;
         part = record { on = shows.on; objects = shows.objects };
       }),
     )

@@ -4,6 +4,7 @@ use Rattle.std.specs.Prelude.{◌&&◌, Option, Some, None, is_none, is_some}
 use Rattle.charmlet_model.specs.declared.kind.Kind.{Kind}
 use Rattle.charmlet_model.specs.declared.state.State.{State}
 use Rattle.charmlet_model.specs.Kind.{kind_number}
+use Rattle.charmlet_model.specs.Edition.{edition_kind}
 use Rattle.charmlet_model.specs.Core.{Commit, next_core}
 use Rattle.charmlet_model.specs.Shelves.{there_in}
 use Rattle.charmlet_chare.specs.declared.chare.Chare.{Ghosts}
@@ -45,7 +46,7 @@ module _ {C : Type 0} {G : Ghosts C} (state : C → State) (old : Desk C G) (due
   no_newcomer : (kind : Kind) → comes_as kind due ≡ false
   no_newcomer kind = by due.receiver.state entered.there
     where
-      by : (o : Option State) → is_some o ≡ true → (is_none o && (kind_number due.kind == kind_number kind)) ≡ false
+      by : (o : Option State) → is_some o ≡ true → (is_none o && (kind_number (edition_kind due.edition) == kind_number kind)) ≡ false
       by None h = absurd (let never : ⊥ = cc in never)
       by (Some s) h = refl
 

@@ -2,6 +2,7 @@
 use Rattle.std.specs.Prelude.{◌≡◌, ℕ, ◌<◌, List, get_or, length}
 use Rattle.std.specs.List.{All}
 use Rattle.charmlet_model.specs.declared.kind.Kind.{Kind}
+use Rattle.charmlet_model.specs.declared.edition.Edition.{Edition}
 use Rattle.charmlet_model.specs.World.{World}
 use Rattle.charmlet_model.specs.Core.{Core, present}
 use Rattle.charmlet_model.specs.Run.{StoreView}
@@ -16,7 +17,7 @@ use Rattle.charmlet_migrate.specs.Copying.{empty_shelf}
 
 -- nothing has happened in the store, and nothing came before its opening world
 pub record IsNew (core : Core) : Type 0 where
-  pub manifest : List (ℕ × Kind)
+  pub manifest : List (ℕ × Edition)
   pub log_end : ℕ
   pub is : core ≡ opened core.processors (new_world manifest) 0 1 log_end
 

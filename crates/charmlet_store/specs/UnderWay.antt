@@ -2,7 +2,7 @@
 use Rattle.std.specs.Prelude.{◌≡◌, ℕ, true, false, is_some, Option, Some, Result, Ok, Err}
 use Rattle.charmlet_model.specs.declared.names.MsgId.{MsgId}
 use Rattle.charmlet_model.specs.declared.refusal.Refusal.{Refusal}
-use Rattle.charmlet_model.specs.World.{kind_of_array, record_of}
+use Rattle.charmlet_model.specs.World.{edition_of_array, record_of}
 use Rattle.charmlet_model.specs.Core.{Core, Assign, Done, present}
 use Rattle.charmlet_model.specs.Run.{StoreView, Goes, IsDelivered, IsNotDelivered}
 use Rattle.charmlet_chare.specs.declared.chare.Chare.{Ghosts}
@@ -18,11 +18,11 @@ use Rattle.charmlet_shelf.specs.declared.phase.Phase.TheVariants.{Assigned, Idle
 use Rattle.charmlet_migrate.specs.Moving.{store_with}
 use Rattle.charmlet_store.specs.Desk.{Desk, IsWithin, ShowsPart}
 
--- the core has assigned the delivery's message to the processor; its receiver is of this kind, has
--- this record in the world, and reacts
+-- the core has assigned the delivery's message to the processor; its receiver is of this edition,
+-- has this record in the world, and reacts
 pub record IsUnderWay (core : Core) (processor : ℕ) (due : Due) : Type 0 where
   pub message : assigned_message core processor ≡ Some due.message
-  pub kind : kind_of_array (present core) due.message.to.array ≡ Some due.kind
+  pub edition : edition_of_array (present core) due.message.to.array ≡ Some due.edition
   pub receiver : record_of (present core) due.message.to ≡ due.receiver
   pub reacts : is_some (reaction_in due) ≡ true
 
