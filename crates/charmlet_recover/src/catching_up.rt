@@ -12,7 +12,7 @@ ghost use Rattle.charmlet_recover.specs.Maps.{records_with};
 ghost use Rattle.charmlet_recover.specs.Wanted.{blanks_in};
 
 use crate::wanted::Wanted;
-use charmlet_model::{CaughtUp, Effect, Elem, Kind, Manifest};
+use charmlet_model::{CaughtUp, Edition, Effect, Elem, Manifest};
 use charmlet_record::Placed;
 use std::alloc::AllocError;
 use std::collections::BTreeMap;
@@ -41,14 +41,14 @@ fn note_received(
     Ok(delivery.received > before)
 }
 
-/// The kind of the object that a delivery constructs, unless it is skipped, or constructs none.
-fn kind_made(manifest: &Manifest, delivery: &CaughtUp, is_new: bool) -> Option<Kind>
+/// The edition of the object that a delivery constructs, unless it is skipped, or constructs none.
+fn edition_made(manifest: &Manifest, delivery: &CaughtUp, is_new: bool) -> Option<Edition>
     ensures { (kind : Kind) → is_of kind result ≡ (is_new
         && same_effect delivery.now.effect Constructed
         && array_is manifest.now kind delivery.now.message.to.array) }
 {
     if is_new && is_constructed(delivery.effect) {
-        manifest.kind_of(delivery.message.to.array)
+        manifest.edition_of(delivery.message.to.array)
     } else {
         None
     }
@@ -67,7 +67,7 @@ pub(crate) fn count_catch_up(
     let mut wanted = Wanted::none();
     for placed in caught_up {
         let is_new = note_received(received, &placed.item)?;
-        wanted.count(kind_made(manifest, &placed.item, is_new));
+        wanted.count(edition_made(manifest, &placed.item, is_new));
     }
     Ok(wanted)
 }

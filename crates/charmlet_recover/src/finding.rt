@@ -28,7 +28,7 @@ pub struct Found {
     pub before: u64,
     /// How many events its open batches have.
     pub logged: u64,
-    /// The kind of each array.
+    /// The edition of each array.
     pub manifest: Manifest,
     /// How many blank objects a restart from these halves needs.
     pub wanted: Wanted,

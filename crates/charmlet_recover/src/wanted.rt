@@ -1,6 +1,6 @@
 //! How many blank objects are wanted, by kind.
 
-use charmlet_model::Kind;
+use charmlet_model::{Edition, Kind};
 
 /// How many blank objects of each kind are needed.
 #[derive(Clone, Copy, Debug, PartialEq, Eq)]
@@ -48,14 +48,14 @@ impl Wanted {
         }
     }
 
-    /// Counts one blank more of the kind, if there is one.
-    pub(crate) fn count(&mut self, made: Option<Kind>)
+    /// Counts one blank more of the edition's kind, if there is one.
+    pub(crate) fn count(&mut self, made: Option<Edition>)
         requires { (kind : Kind) → blanks_in self.old kind + one_if (is_of kind made) < 2 ^ 64 }
         ensures { (kind : Kind) → blanks_in self.new kind ≡ blanks_in self.old kind
             + one_if (is_of kind made) }
     {
         match made {
-            Some(kind) => self.count_one(kind),
+            Some(edition) => self.count_one(edition.kind()),
             None => {}
         }
     }

@@ -17,9 +17,9 @@ count-requires c = λ kind.
     let counts = records_with c.loop-placed.received.entries in
     let left : List CaughtUp = items_of (drop (c.loop-placed.placed-index + 1) c.args.caught_up.now) in
     let here : items_of (drop c.loop-placed.placed-index c.args.caught_up.now) ≡ d ∷ left = item_left c.args.caught_up.now c.loop-placed.placed-index c.placed-item.result c.loop-placed-test.true c.placed-item.is in
-    let made = c.kind_made.ensures kind ∙ ap (λ b. b && same_effect d.effect Constructed && array_is manifest kind d.message.to.array) c.in_ok-is_new.ensures.new in
+    let made = c.edition_made.ensures kind ∙ ap (λ b. b && same_effect d.effect Constructed && array_is manifest kind d.message.to.array) c.in_ok-is_new.ensures.new in
     let split : wanted_by_catch_up manifest kind counts (items_of (drop c.loop-placed.placed-index c.args.caught_up.now))
-    ≡ one_if (is_of kind c.kind_made.result) + wanted_by_catch_up manifest kind (with_count counts d) left =
+    ≡ one_if (is_of kind c.edition_made.result) + wanted_by_catch_up manifest kind (with_count counts d) left =
     ap (wanted_by_catch_up manifest kind counts) here ∙ ap (λ b. one_if b + wanted_by_catch_up manifest kind (with_count counts d) left) (sym made) in
     let few = few_of_catch_up manifest kind (records_with c.args.received.now.entries) (items_of c.args.caught_up.now) in
     let long : length (items_of c.args.caught_up.now) ≡ length c.args.caught_up.now = length-map _ _ in
