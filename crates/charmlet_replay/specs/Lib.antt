@@ -10,6 +10,7 @@ pub mod Images
 pub mod Unused
 pub mod Replayed
 pub use Rattle.charmlet_model.specs.Core
+pub use Rattle.charmlet_model.specs.Edition
 pub use Rattle.charmlet_model.specs.Fit
 pub use Rattle.charmlet_model.specs.Logging
 pub use Rattle.charmlet_model.specs.Names
