@@ -19,7 +19,8 @@ use charmlet_model::{Elem, Refusal, Told};
 use charmlet_requests::{ClientPass, Handler, Handlers, Passes, call, request, status, target};
 
 impl<D: Disk, C: Chare> Engine<D, C> {
-    /// Lends a client its pass over this store. `PassOut` where it is out, else `Memory`; and then nothing changes.
+    /// Lends a client its pass over this store. `PassOut` where it is out, else `Memory`; and then
+    /// nothing changes.
     pub fn lend(&self, passes: &mut Passes, client: u32) -> Result<ClientPass, Refusal>
         requires consistent { IsEngineConsistent self.now }
         ensures lent { IfOk result (λ pass. pass
@@ -32,9 +33,10 @@ impl<D: Disk, C: Chare> Engine<D, C> {
         passes.lend(&self.store.history, client)
     }
 
-    /// Takes a request of the pass's client, as [`Engine::step`] does, and the pass keeps what is told. Where all that the pass knows is
-    /// true of the durable events, so it is afterwards; and the client is told no less of the request than it knew, nor other words. A
-    /// refusal changes nothing.
+    /// Takes a request of the pass's client, as [`Engine::step`] does, and the pass keeps what is
+    /// told. Where all that the pass knows is true of the durable events, so it is afterwards; and
+    /// the client is told no less of the request than it knew, nor other words. A refusal changes
+    /// nothing.
     pub fn request(
         &mut self,
         pass: &mut ClientPass,
@@ -77,7 +79,8 @@ impl<D: Disk, C: Chare> Engine<D, C> {
         self.store.history.status(client, number)
     }
 
-    /// The handler of a name, or one of an array that isn't there, as [`charmlet_requests::target`] has it.
+    /// The handler of a name, or one of an array that isn't there, as [`charmlet_requests::target`]
+    /// has it.
     pub fn target(&self, handlers: &Handlers, name: &str) -> Handler
         requires consistent { IsEngineConsistent self.now }
         ensures { (index : ℕ) → IsTarget (world_of self.now) index
@@ -87,8 +90,9 @@ impl<D: Disk, C: Chare> Engine<D, C> {
         target(&self.store.history, handlers, name)
     }
 
-    /// Takes a request of the pass's client to a named handler, as [`charmlet_requests::call`] does: a repeat is answered before the name is
-    /// looked up. What is said of [`Engine::request`] holds here too.
+    /// Takes a request of the pass's client to a named handler, as [`charmlet_requests::call`]
+    /// does: a repeat is answered before the name is looked up. What is said of [`Engine::request`]
+    /// holds here too.
     pub fn call(
         &mut self,
         pass: &mut ClientPass,
@@ -122,8 +126,8 @@ impl<D: Disk, C: Chare> Engine<D, C> {
         )
     }
 
-    /// Tells the pass's client what is durable of its request, as [`Engine::step`] does, and the pass keeps it. What is said of
-    /// [`Engine::request`] holds here too.
+    /// Tells the pass's client what is durable of its request, as [`Engine::step`] does, and the
+    /// pass keeps it. What is said of [`Engine::request`] holds here too.
     pub fn status(&mut self, pass: &mut ClientPass, number: u64) -> Result<Told, Refusal>
         requires consistent { IsEngineConsistent self.old }
         ensures consistent { IsEngineConsistent self.new }

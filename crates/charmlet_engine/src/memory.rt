@@ -15,8 +15,8 @@ use charmlet_history::Request;
 use charmlet_model::{Answer, Refusal, Step, Told};
 use charmlet_store::Store;
 
-/// Runs a step that writes nothing to the disk, and answers it. None where the step does write; then
-/// nothing is done.
+/// Runs a step that writes nothing to the disk, and answers it. None where the step does write;
+/// then nothing is done.
 pub(crate) fn answer_in_memory<C: Chare>(store: &mut Store<C>, step: &Step) -> Option<Answer>
     requires { IsStoreConsistent store.old }
     ensures consistent { IsStoreConsistent store.new }

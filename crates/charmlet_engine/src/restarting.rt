@@ -29,18 +29,19 @@ use charmlet_stock::Stock;
 use std::alloc::Global;
 
 impl<D: Disk, C: Chare> Engine<D, C> {
-    /// Goes on with the store that stands on a disk, whatever a crash left there, on so many processors:
-    /// each element on its home, nothing happened since, no event that isn't durable. Its objects are made
-    /// of these blanks, of which none may have been used yet; those that it doesn't need are its stock, which
-    /// drops what is retired. Both halves are synced before they are read, and nothing is written.
+    /// Goes on with the store that stands on a disk, whatever a crash left there, on so many
+    /// processors: each element on its home, nothing happened since, no event that isn't durable.
+    /// Its objects are made of these blanks, of which none may have been used yet; those that it
+    /// doesn't need are its stock, which drops what is retired. Both halves are synced before they
+    /// are read, and nothing is written.
     ///
-    /// After a crash at any moment of an earlier engine on this disk, the store opens with the world after
-    /// some of what had happened, with all that was durable among it. What clients were told before the
-    /// crash, in any life of the store, is true of it.
+    /// After a crash at any moment of an earlier engine on this disk, the store opens with the
+    /// world after some of what had happened, with all that was durable among it. What clients were
+    /// told before the crash, in any life of the store, is true of it.
     ///
-    /// The refusals, and what comes back with each, are those of [`charmlet_recover::restart`]: `BadPes`,
-    /// `Device`, `Damaged`, `NothingHere`, `BlanksWanted` and `Memory`. After a crash of an earlier engine
-    /// the files alone are never the cause.
+    /// The refusals, and what comes back with each, are those of [`charmlet_recover::restart`]:
+    /// `BadPes`, `Device`, `Damaged`, `NothingHere`, `BlanksWanted` and `Memory`. After a crash of
+    /// an earlier engine the files alone are never the cause.
     pub fn restart(
         alloc: Global,
         disk: D,

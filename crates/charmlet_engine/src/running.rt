@@ -24,14 +24,16 @@ use charmlet_model::{Answer, Step};
 use std::alloc::AllocError;
 
 impl<D: Disk, C: Chare> Engine<D, C> {
-    /// Runs one step. A refusal is an answer, and leaves all as it was, but for `Device`: then the engine is
-    /// halted. After a checkpoint the half that is taken has an image of all events and a log without a batch;
-    /// and a crash in it leaves the world after the durable events, as it was, or the present one at the next
-    /// generation, if the engine wasn't halted. A flush takes no memory.
+    /// Runs one step. A refusal is an answer, and leaves all as it was, but for `Device`: then the
+    /// engine is halted. After a checkpoint the half that is taken has an image of all events and a
+    /// log without a batch; and a crash in it leaves the world after the durable events, as it was,
+    /// or the present one at the next generation, if the engine wasn't halted. A flush takes no
+    /// memory.
     ///
-    /// On an honest disk a crash at any moment of the call leaves files that recover to the world after some
-    /// of the history, with all events among it that were durable before; and from then on with all that are
-    /// durable after it. What a client is told stays true over each crash and restart to come.
+    /// On an honest disk a crash at any moment of the call leaves files that recover to the world
+    /// after some of the history, with all events among it that were durable before; and from then
+    /// on with all that are durable after it. What a client is told stays true over each crash and
+    /// restart to come.
     pub fn step(&mut self, step: &Step) -> Answer
         requires { IsEngineConsistent self.old }
         ensures consistent { IsEngineConsistent self.new }
@@ -111,13 +113,14 @@ impl<D: Disk, C: Chare> Engine<D, C> {
         }
     }
 
-    /// Runs the steps one after another, and gives an answer for each. Room for all answers is made first;
-    /// where it is refused, no step was done.
+    /// Runs the steps one after another, and gives an answer for each. Room for all answers is made
+    /// first; where it is refused, no step was done.
     ///
-    /// All that clients are told in the run is true of the events that are durable when it ends. On an honest
-    /// disk a crash at any moment of the run leaves files that recover to the world after some of the history,
-    /// with all events among it that were durable before the run; and from then on with all that are durable
-    /// when it ends. `Device` is answered only where the disk's count of failures grew.
+    /// All that clients are told in the run is true of the events that are durable when it ends. On
+    /// an honest disk a crash at any moment of the run leaves files that recover to the world after
+    /// some of the history, with all events among it that were durable before the run; and from
+    /// then on with all that are durable when it ends. `Device` is answered only where the disk's
+    /// count of failures grew.
     pub fn run(&mut self, steps: &[Step]) -> Result<Vec<Answer>, AllocError>
         requires { IsEngineConsistent self.old }
         ensures consistent { IsEngineConsistent self.new }

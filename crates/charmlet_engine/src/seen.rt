@@ -25,8 +25,8 @@ use charmlet_store::{Census, Look};
 use std::alloc::AllocError;
 
 impl<D: Disk, C: Chare> Engine<D, C> {
-    /// Takes blank objects into the stock. Where memory is refused it hands all of them back, and nothing
-    /// has changed. It makes no call of the disk.
+    /// Takes blank objects into the stock. Where memory is refused it hands all of them back, and
+    /// nothing has changed. It makes no call of the disk.
     pub fn supply(&mut self, blanks: Vec<C>) -> Result<(), Vec<C>>
         requires { IsEngineConsistent self.old }
         ensures consistent { IsEngineConsistent self.new }
@@ -44,8 +44,8 @@ impl<D: Disk, C: Chare> Engine<D, C> {
         self.store.supply(blanks)
     }
 
-    /// Draws so many blanks of a kind into the stock from another one, which has them. Where memory is
-    /// refused, both are as before. It makes no call of the disk.
+    /// Draws so many blanks of a kind into the stock from another one, which has them. Where memory
+    /// is refused, both are as before. It makes no call of the disk.
     pub fn draw(
         &mut self,
         source: &mut Stock<C>,
@@ -74,9 +74,9 @@ impl<D: Disk, C: Chare> Engine<D, C> {
         self.store.draw(source, kind, count)
     }
 
-    /// The oldest message that can be delivered, and before it the processor that is to deliver it: the
-    /// place of its receiver, or the home of one that isn't there. None exactly where no message can be
-    /// delivered.
+    /// The oldest message that can be delivered, and before it the processor that is to deliver it:
+    /// the place of its receiver, or the home of one that isn't there. None exactly where no
+    /// message can be delivered.
     pub fn next(&self) -> Option<(u16, MsgId)>
         requires { IsEngineConsistent self.now }
         ensures { result ≡ next_in (core_of self.now) }
@@ -100,8 +100,8 @@ impl<D: Disk, C: Chare> Engine<D, C> {
         self.store.pending()
     }
 
-    /// What is seen of an element. It fails only when out of memory, which the packed state takes, and
-    /// so not where the element isn't there. Nothing changes.
+    /// What is seen of an element. It fails only when out of memory, which the packed state takes,
+    /// and so not where the element isn't there. Nothing changes.
     pub fn look(&mut self, elem: Elem) -> Result<Look, AllocError>
         requires { IsEngineConsistent self.old }
         ensures same { self.new ≡ self.old }
@@ -113,8 +113,8 @@ impl<D: Disk, C: Chare> Engine<D, C> {
         self.store.look(elem)
     }
 
-    /// How many objects of the kind were supplied, are on the shelves, are in the stock, and were retired.
-    /// Each object that was supplied is in one of the three.
+    /// How many objects of the kind were supplied, are on the shelves, are in the stock, and were
+    /// retired. Each object that was supplied is in one of the three.
     pub fn census(&self, kind: Kind) -> Census
         requires { IsEngineConsistent self.now }
         ensures counts { result ≡ census_in self.now.store kind }
@@ -123,16 +123,17 @@ impl<D: Disk, C: Chare> Engine<D, C> {
         self.store.census(kind)
     }
 
-    /// The events since the engine was created or came back, in order, if they were asked to be noted.
+    /// The events since the engine was created or came back, in order, if they were asked to be
+    /// noted.
     pub fn events(&self) -> Option<&[Event]>
         ensures { IfSome result (λ events. events.now ≡ (core_of self.now).history) }
     {
         self.store.history.events()
     }
 
-    /// Notes the events from now on, so that they can be looked at, where none has happened and no message is
-    /// assigned. Without it none is kept, since an engine can do without. It makes no call of the disk, and
-    /// takes no memory.
+    /// Notes the events from now on, so that they can be looked at, where none has happened and no
+    /// message is assigned. Without it none is kept, since an engine can do without. It makes no
+    /// call of the disk, and takes no memory.
     pub fn note_events(&mut self)
         requires { IsEngineConsistent self.old }
         ensures consistent { IsEngineConsistent self.new }
@@ -153,10 +154,10 @@ impl<D: Disk, C: Chare> Engine<D, C> {
         self.store.history.event_count()
     }
 
-    /// What a checkpoint would write after an open gate: an image of the present world, of the next generation
-    /// and with a count of all events, and a log that has no batch yet. Nothing changes, and no call of the disk
-    /// is made. `Memory` where memory is lacking; `ImageFull` where the next generation would be past 2^40, or
-    /// the file past 2^31 bytes.
+    /// What a checkpoint would write after an open gate: an image of the present world, of the next
+    /// generation and with a count of all events, and a log that has no batch yet. Nothing changes,
+    /// and no call of the disk is made. `Memory` where memory is lacking; `ImageFull` where the
+    /// next generation would be past 2^40, or the file past 2^31 bytes.
     pub fn image(&mut self) -> Result<Vec<u8>, Refusal>
         requires { IsEngineConsistent self.old }
         ensures same { self.new ≡ self.old }

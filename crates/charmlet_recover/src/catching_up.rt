@@ -24,8 +24,9 @@ pub(crate) fn is_constructed(effect: Effect) -> bool
     matches!(effect, Effect::Constructed)
 }
 
-/// Notes how many messages the receiver of a delivery has received, and says whether the delivery isn't skipped: its count is
-/// above all of its receiver's so far. It fails only when out of memory.
+/// Notes how many messages the receiver of a delivery has received, and says whether the delivery
+/// isn't skipped: its count is above all of its receiver's so far. It fails only when out of
+/// memory.
 fn note_received(
     received: &mut BTreeMap<Elem, u64>,
     delivery: &CaughtUp,
@@ -54,7 +55,8 @@ fn edition_made(manifest: &Manifest, delivery: &CaughtUp, is_new: bool) -> Optio
     }
 }
 
-/// The blanks that a catch-up list needs, where each element had received so many messages. It fails only when out of memory.
+/// The blanks that a catch-up list needs, where each element had received so many messages. It
+/// fails only when out of memory.
 pub(crate) fn count_catch_up(
     manifest: &Manifest,
     received: &mut BTreeMap<Elem, u64>,

@@ -40,7 +40,8 @@ pub(crate) fn count_entries(manifest: &Manifest, entries: &[Entry<'_>]) -> Wante
     wanted
 }
 
-/// How many messages each element of these had received, whose entries rise. It fails only when out of memory.
+/// How many messages each element of these had received, whose entries rise. It fails only when out
+/// of memory.
 pub(crate) fn received_of(
     alloc: Global,
     entries: &[Entry<'_>],

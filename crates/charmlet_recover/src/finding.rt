@@ -34,11 +34,12 @@ pub struct Found {
     pub wanted: Wanted,
 }
 
-/// What two halves say: which of them is taken, what its header and its log have, its arrays, and how many blank objects a
-/// restart from it needs. It only reads, and syncs nothing.
+/// What two halves say: which of them is taken, what its header and its log have, its arrays, and
+/// how many blank objects a restart from it needs. It only reads, and syncs nothing.
 ///
-/// `Damaged` names the first field that isn't as the format says, and `NothingHere` says that neither half is open, as
-/// [`charmlet_halves::survey`] has it; `Memory`; `Device`. Whether the events can have happened isn't tested.
+/// `Damaged` names the first field that isn't as the format says, and `NothingHere` says that
+/// neither half is open, as [`charmlet_halves::survey`] has it; `Memory`; `Device`. Whether the
+/// events can have happened isn't tested.
 pub fn manifest<D: Disk>(alloc: Global, disk: &mut D) -> Result<Found, Refusal>
     ensures read { IfOk result IsRead }
     ensures err { IfErr result (λ refusal. is_finding_refusal refusal ≡ true) }

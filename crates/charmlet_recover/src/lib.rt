@@ -1,5 +1,5 @@
-//! What stands in two halves, found by reads alone: which half is taken, and how many blank objects a restart needs. And stores that come
-//! back from two halves.
+//! What stands in two halves, found by reads alone: which half is taken, and how many blank objects
+//! a restart needs. And stores that come back from two halves.
 #![tactic(auto)]
 
 mod blanks;

@@ -11,7 +11,8 @@ use charmlet_chare::Chare;
 use charmlet_model::Kind;
 use charmlet_shelf::Shelf;
 
-/// Of one kind: how many objects were supplied, are on the shelves, are in the stock, and were retired.
+/// Of one kind: how many objects were supplied, are on the shelves, are in the stock, and were
+/// retired.
 #[derive(Clone, Copy, Debug, PartialEq, Eq)]
 pub struct Census {
     pub supplied: u64,
@@ -21,8 +22,9 @@ pub struct Census {
 }
 
 impl<C: Chare> Store<C> {
-    /// How many objects of the kind were supplied, are on the shelves, are in the stock, and were retired.
-    /// Those on the shelves are counted there. Each object that was supplied is in one of the three.
+    /// How many objects of the kind were supplied, are on the shelves, are in the stock, and were
+    /// retired. Those on the shelves are counted there. Each object that was supplied is in one of
+    /// the three.
     pub fn census(&self, kind: Kind) -> Census
         requires { IsStoreConsistent self.now }
         ensures counts { result ≡ census_in self.now kind }

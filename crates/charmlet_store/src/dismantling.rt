@@ -33,7 +33,8 @@ pub struct Dismantled<C: Chare> {
 impl<C: Chare> Store<C> {
     /// Takes the store apart, also a halted one. Each object that was supplied is then among the
     /// residents, in the stock, or retired. It fails only when out of memory, which the lists of
-    /// the places and of the residents take, and so not where no element is there; then the store comes back as it was.
+    /// the places and of the residents take, and so not where no element is there; then the store
+    /// comes back as it was.
     pub fn dismantle(self) -> Result<Dismantled<C>, Store<C>>
         requires { IsStoreConsistent self }
         ensures shows { IfOk result (λ parts.
@@ -60,8 +61,8 @@ impl<C: Chare> Store<C> {
     }
 }
 
-/// Takes each element that is there from its shelf into the list, in rising order: these are the places
-/// of the history. The list has room for them.
+/// Takes each element that is there from its shelf into the list, in rising order: these are the
+/// places of the history. The list has room for them.
 fn lift_all<C: Chare>(
     residents: &mut Vec<(Elem, Resident<C>)>,
     _history: &History,

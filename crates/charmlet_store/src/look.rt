@@ -49,8 +49,8 @@ impl<C: Chare> Store<C> {
         Ok(ids)
     }
 
-    /// What is seen of an element. It fails only when out of memory, which the packed state takes, and
-    /// so not where the element isn't there. Nothing changes.
+    /// What is seen of an element. It fails only when out of memory, which the packed state takes,
+    /// and so not where the element isn't there. Nothing changes.
     pub fn look(&mut self, elem: Elem) -> Result<Look, AllocError>
         requires { IsStoreConsistent self.old }
         ensures same { self.new ≡ self.old }

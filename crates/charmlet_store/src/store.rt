@@ -26,8 +26,8 @@ use charmlet_shelf::Shelf;
 use charmlet_stock::Stock;
 use std::alloc::{AllocError, Global};
 
-/// A history, a shelf for each processor with the objects that it made, and a stock of blank ones. It knows
-/// no disk: whoever writes the history to one takes care that the shelves still show it.
+/// A history, a shelf for each processor with the objects that it made, and a stock of blank ones.
+/// It knows no disk: whoever writes the history to one takes care that the shelves still show it.
 #[derive(Drop)]
 pub struct Store<C: Chare> {
     pub alloc: Global,
@@ -38,8 +38,8 @@ pub struct Store<C: Chare> {
 }
 
 impl<C: Chare> Store<C> {
-    /// A store of a history in which nothing has happened, over shelves on which nothing stands, one for
-    /// each processor. Its stock is empty. It takes no memory.
+    /// A store of a history in which nothing has happened, over shelves on which nothing stands,
+    /// one for each processor. Its stock is empty. It takes no memory.
     pub fn new(alloc: Global, history: History, shelves: Vec<Shelf<C>>) -> Self
         requires consistent { IsConsistent (kept_in history) }
         requires new { IsNew (core_in history) }
@@ -58,8 +58,8 @@ impl<C: Chare> Store<C> {
         }
     }
 
-    /// Takes blank objects into the stock. Where memory is refused it hands all of them back, and nothing
-    /// has changed.
+    /// Takes blank objects into the stock. Where memory is refused it hands all of them back, and
+    /// nothing has changed.
     pub fn supply(&mut self, blanks: Vec<C>) -> Result<(), Vec<C>>
         requires { IsStoreConsistent self.old }
         ensures consistent { IsStoreConsistent self.new }
@@ -78,8 +78,8 @@ impl<C: Chare> Store<C> {
         self.stock.supply(blanks)
     }
 
-    /// Draws so many blanks of a kind into the stock from another one, which has them. Where memory is
-    /// refused, both are as before.
+    /// Draws so many blanks of a kind into the stock from another one, which has them. Where memory
+    /// is refused, both are as before.
     pub fn draw(
         &mut self,
         source: &mut Stock<C>,
@@ -107,8 +107,8 @@ impl<C: Chare> Store<C> {
         self.stock.draw(source, kind, count)
     }
 
-    /// The oldest message that can be delivered, and before it the processor that is to deliver it: the
-    /// place of its receiver, or the home of one that isn't there.
+    /// The oldest message that can be delivered, and before it the processor that is to deliver it:
+    /// the place of its receiver, or the home of one that isn't there.
     pub fn next(&self) -> Option<(u16, MsgId)>
         requires { IsStoreConsistent self.now }
         ensures { result ≡ next_in (core_in self.now.history) }
@@ -116,8 +116,8 @@ impl<C: Chare> Store<C> {
         self.history.next()
     }
 
-    /// A client asks for a delivery, and is told what is durable of it. A repeat of a request of its window
-    /// changes nothing. A refusal leaves all as it was.
+    /// A client asks for a delivery, and is told what is durable of it. A repeat of a request of
+    /// its window changes nothing. A refusal leaves all as it was.
     pub fn request(&mut self, request: &Request<'_>) -> Result<Told, Refusal>
         requires { IsStoreConsistent self.old }
         ensures consistent { IsStoreConsistent self.new }
