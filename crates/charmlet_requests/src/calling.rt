@@ -78,7 +78,7 @@ fn array_not_in(manifest: &Manifest) -> u16
     ensures { lookup (is_at (nat_cmp result)) manifest.now ≡ None }
 {
     for array in 0..MAX_ARRAYS as u16 + 1 {
-        if manifest.kind_of(array).is_none() {
+        if manifest.edition_of(array).is_none() {
             return array;
         }
     }
