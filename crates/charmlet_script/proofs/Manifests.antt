@@ -11,7 +11,9 @@ use Rattle.std.specs.Map.{lookup}
 use Rattle.std.specs.BTreeMap.{insert_entry, is_at}
 use Rattle.charmlet_model.specs.declared.kind.Kind.{Kind}
 use Rattle.charmlet_model.specs.declared.kind.Kind.TheVariants.{Counter, Ring, Account, Sum, Tree, Tape}
-use Rattle.charmlet_model.specs.Kind.{kind_number, numbered_kind}
+use Rattle.charmlet_model.specs.declared.edition.Edition.{Edition}
+use Rattle.charmlet_model.specs.Kind.{kind_number}
+use Rattle.charmlet_model.specs.Edition.{newest_of, numbered_edition}
 use Rattle.charmlet_model.specs.Manifest.{manifest_of, with_array as with_entry, with_pairs}
 use Rattle.charmlet_model.proofs.Maps.{lookup-insert_entry}
 use Rattle.charmlet_model.proofs.ManifestLemmas.{manifest-bounded, with_pairs-at}
@@ -25,8 +27,8 @@ use Rattle.charmlet_script.specs.Script.{Contents, no_lines, pairs_of}
 use Rattle.charmlet_script.specs.Line.{◌>>=◌, is_empty, item_of}
 use Rattle.charmlet_script.specs.Reading.{has_array, describes_store, is_array, is_array_line, may_add, may_declare, with_array, with_handler, with_item, with_line, with_lines, with_processors}
 
--- a kind's number names it
-numbered-number : (kind : Kind) → Some kind ≡ numbered_kind (kind_number kind)
+-- a kind's number names its newest version
+numbered-number : (kind : Kind) → Some (newest_of kind) ≡ numbered_edition (kind_number kind)
 numbered-number Counter = refl
 numbered-number Ring = refl
 numbered-number Account = refl
@@ -35,28 +37,28 @@ numbered-number Tree = refl
 numbered-number Tape = refl
 
 -- one step of `with_pairs`, and what follows it
-then-append : (pairs : List (ℕ × ℕ)) (last : ℕ × ℕ) (more : Option (List (ℕ × Kind)))
-    → ((entries : List (ℕ × Kind)) → with_pairs entries (pairs ++ last ∷ []) ≡ option_and_then (λ more. with_pairs more (last ∷ [])) (with_pairs entries pairs))
+then-append : (pairs : List (ℕ × ℕ)) (last : ℕ × ℕ) (more : Option (List (ℕ × Edition)))
+    → ((entries : List (ℕ × Edition)) → with_pairs entries (pairs ++ last ∷ []) ≡ option_and_then (λ more. with_pairs more (last ∷ [])) (with_pairs entries pairs))
     → option_and_then (λ more. with_pairs more (pairs ++ last ∷ [])) more ≡ option_and_then (λ more. with_pairs more (last ∷ [])) (option_and_then (λ more. with_pairs more pairs) more)
 then-append pairs last None rest = refl
 then-append pairs last (Some entries) rest = rest entries
 
-known-append : (entries : List (ℕ × Kind)) (array : ℕ) (pairs : List (ℕ × ℕ)) (last : ℕ × ℕ) (kind : Option Kind)
-    → ((entries : List (ℕ × Kind)) → with_pairs entries (pairs ++ last ∷ []) ≡ option_and_then (λ more. with_pairs more (last ∷ [])) (with_pairs entries pairs))
-    → option_and_then (λ kind. option_and_then (λ more. with_pairs more (pairs ++ last ∷ [])) (with_entry entries array kind)) kind
-    ≡ option_and_then (λ more. with_pairs more (last ∷ [])) (option_and_then (λ kind. option_and_then (λ more. with_pairs more pairs) (with_entry entries array kind)) kind)
+known-append : (entries : List (ℕ × Edition)) (array : ℕ) (pairs : List (ℕ × ℕ)) (last : ℕ × ℕ) (edition : Option Edition)
+    → ((entries : List (ℕ × Edition)) → with_pairs entries (pairs ++ last ∷ []) ≡ option_and_then (λ more. with_pairs more (last ∷ [])) (with_pairs entries pairs))
+    → option_and_then (λ edition. option_and_then (λ more. with_pairs more (pairs ++ last ∷ [])) (with_entry entries array edition)) edition
+    ≡ option_and_then (λ more. with_pairs more (last ∷ [])) (option_and_then (λ edition. option_and_then (λ more. with_pairs more pairs) (with_entry entries array edition)) edition)
 known-append entries array pairs last None rest = refl
-known-append entries array pairs last (Some kind) rest = then-append pairs last (with_entry entries array kind) rest
+known-append entries array pairs last (Some edition) rest = then-append pairs last (with_entry entries array edition) rest
 
 -- one more pair comes after the others
-with_pairs-append : (entries : List (ℕ × Kind)) (pairs : List (ℕ × ℕ)) (last : ℕ × ℕ) →
+with_pairs-append : (entries : List (ℕ × Edition)) (pairs : List (ℕ × ℕ)) (last : ℕ × ℕ) →
     with_pairs entries (pairs ++ last ∷ []) ≡ option_and_then (λ more. with_pairs more (last ∷ [])) (with_pairs entries pairs)
 with_pairs-append entries [] last = refl
 with_pairs-append entries (pair ∷ pairs) last =
-    known-append entries pair.0 pairs last (numbered_kind pair.1) (λ entries. with_pairs-append entries pairs last)
+    known-append entries pair.0 pairs last (numbered_edition pair.1) (λ entries. with_pairs-append entries pairs last)
 
 -- the entries that the arrays make, which have just these arrays
-pub record AreEntries (arrays : List ArrayLine) (entries : List (ℕ × Kind)) : Type 0 where
+pub record AreEntries (arrays : List ArrayLine) (entries : List (ℕ × Edition)) : Type 0 where
   pub made : with_pairs [] (pairs_of arrays) ≡ Some entries
   pub same : (array : ℕ) → is_some (lookup (is_at (nat_cmp array)) entries) ≡ has_array array arrays
 
@@ -70,27 +72,27 @@ found-or false x None = refl
 found-or false x (Some y) = refl
 
 -- an array that has no line yet adds an entry
-one_more : (arrays : List ArrayLine) (entries : List (ℕ × Kind)) (line : ArrayLine) → AreEntries arrays entries → has_array line.array arrays ≡ false
-    → AreEntries (arrays ++ line ∷ []) (insert_entry nat_cmp entries line.array line.kind)
+one_more : (arrays : List ArrayLine) (entries : List (ℕ × Edition)) (line : ArrayLine) → AreEntries arrays entries → has_array line.array arrays ≡ false
+    → AreEntries (arrays ++ line ∷ []) (insert_entry nat_cmp entries line.array (newest_of line.kind))
 one_more arrays entries line so_far new = record {
   made =
       let pair : ℕ × ℕ = (line.array, kind_number line.kind) in
-      let last : with_pairs entries (pair ∷ []) ≡ Some (insert_entry nat_cmp entries line.array line.kind) =
-      with_pairs-at entries (pair ∷ []) 0 line.kind false (omega arith) (numbered-number line.kind) (so_far.same line.array ∙ new) in
+      let last : with_pairs entries (pair ∷ []) ≡ Some (insert_entry nat_cmp entries line.array (newest_of line.kind)) =
+      with_pairs-at entries (pair ∷ []) 0 (newest_of line.kind) false (omega arith) (numbered-number line.kind) (so_far.same line.array ∙ new) in
       ap (with_pairs []) (map-append (λ line. (line.array, kind_number line.kind)) arrays (line ∷ []))
       ∙ with_pairs-append [] (pairs_of arrays) pair
       ∙ ap (option_and_then (λ more. with_pairs more (pair ∷ []))) so_far.made
       ∙ last;
   same = λ array.
-      ap is_some (lookup-insert_entry nat_cmp nat_cmp_total array line.array line.kind entries)
-      ∙ ap (λ here. is_some (cond here (Some line.kind) (lookup (is_at (nat_cmp array)) entries))) (unsigned_tied array line.array ∙ nat_eq_equiv.symm array line.array)
-      ∙ found-or (line.array == array) line.kind (lookup (is_at (nat_cmp array)) entries)
+      ap is_some (lookup-insert_entry nat_cmp nat_cmp_total array line.array (newest_of line.kind) entries)
+      ∙ ap (λ here. is_some (cond here (Some (newest_of line.kind)) (lookup (is_at (nat_cmp array)) entries))) (unsigned_tied array line.array ∙ nat_eq_equiv.symm array line.array)
+      ∙ found-or (line.array == array) (newest_of line.kind) (lookup (is_at (nat_cmp array)) entries)
       ∙ ap (λ found. found || ((line.array == array) || false)) (so_far.same array)
       ∙ sym (list_any-append (λ other. other.array == array) arrays (line ∷ []));
 }
 
 -- at least one array and at most 64 make a manifest
-pub manifest-is : (arrays : List ArrayLine) (entries : List (ℕ × Kind)) → AreEntries arrays entries → 1 ≤ length arrays → length arrays ≤ 64
+pub manifest-is : (arrays : List ArrayLine) (entries : List (ℕ × Edition)) → AreEntries arrays entries → 1 ≤ length arrays → length arrays ≤ 64
     → is_some (manifest_of (pairs_of arrays)) ≡ true
 manifest-is arrays entries h some few =
     let count : length (pairs_of arrays) ≡ length arrays = length-map arrays (λ line. (line.array, kind_number line.kind)) in
@@ -100,7 +102,7 @@ manifest-is arrays entries h some few =
 
 -- the arrays so far make entries, and are at most 64
 pub record IsDeclared (script : Contents) : Type 0 where
-  pub entries : List (ℕ × Kind)
+  pub entries : List (ℕ × Edition)
   pub are : AreEntries script.arrays entries
   pub few : length script.arrays ≤ 64
 
@@ -137,7 +139,7 @@ with_array-goes_on purpose script next line so_far e = if_added (may_add purpose
         let count : length (script.arrays ++ line ∷ []) ≡ length script.arrays + 1 = length-append script.arrays (line ∷ []) in
         subst (GoesOn script (items.Array line)) same (record {
           declared = record {
-            entries = insert_entry nat_cmp so_far.entries line.array line.kind;
+            entries = insert_entry nat_cmp so_far.entries line.array (newest_of line.kind);
             are = one_more script.arrays so_far.entries line so_far.are (not-true _ ends.1);
             few = omega arith;
           };

@@ -120,6 +120,7 @@ impl Model for Script {
 
 impl Script {
     ghost use Rattle.std.specs.Prelude.{◌≡◌, IfOk, Some};
+    ghost use Rattle.charmlet_model.specs.Edition.{AreNewest};
     ghost use Rattle.charmlet_model.specs.Fit.{IsFit};
     ghost use Rattle.charmlet_model.specs.Manifest.{manifest_of};
     ghost use Rattle.charmlet_model.specs.Sound.{new_world};
@@ -176,11 +177,13 @@ impl Script {
         self.lines.as_slice()
     }
 
-    /// The manifest of the arrays, with which a new world is fit. It fails only when out of memory.
+    /// The manifest of the arrays, each in the newest version of its kind, with which a new world is
+    /// fit. It fails only when out of memory.
     pub fn manifest(&self, alloc: Global) -> Result<Manifest, AllocError>
         ensures manifest { IfOk result (λ manifest. manifest_of (pairs_of self.now.arrays)
             ≡ Some manifest) }
         ensures fit { IfOk result (λ manifest. IsFit (new_world manifest)) }
+        ensures newest { IfOk result AreNewest }
     {
         let pairs = pairs_of(alloc, &self.arrays)?;
         match Manifest::of(alloc, &pairs)? {
