@@ -20,7 +20,7 @@ use Rattle.charmlet_script.specs.Script.{Contents, blanks_of, pairs_of, processo
 use Rattle.charmlet_engine.specs.Outcomes.{IsNothingOrNew}
 use Rattle.charmlet_lab.specs.declared.round.Round.{Round}
 
--- the script's arrays, each with its kind
+-- the script's arrays, each in the newest version of its kind
 abbrev pub arrays_of : Contents → Kinds
 arrays_of script = unwrap_or (manifest_of (pairs_of script.arrays)) []
 

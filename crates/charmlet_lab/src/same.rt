@@ -8,7 +8,7 @@ ghost use Rattle.charmlet_model.specs.Fit.{IsFit};
 ghost use Rattle.charmlet_model.specs.Names.{elem_cmp};
 ghost use Rattle.charmlet_lab.specs.Same.{HasEntries};
 
-use charmlet_model::{ClientRow, Kind, Manifest, Message, Record, State, Window, Words};
+use charmlet_model::{ClientRow, Edition, Manifest, Message, Record, State, Window, Words};
 use charmlet_plain::PlainWorld;
 use std::alloc::{AllocError, Global};
 
@@ -38,11 +38,11 @@ fn is_same_manifest(alloc: Global, one: &Manifest, other: &Manifest) -> Result<b
     ensures { IfOk result (λ same. (same ≡ true) ↔ (one.now ≡ other.now)) }
 {
     let others = other.arrays(alloc)?;
-    if !has_kinds(one, &others) {
+    if !has_editions(one, &others) {
         return Ok(false);
     }
     let arrays = one.arrays(alloc)?;
-    Ok(has_kinds(other, &arrays))
+    Ok(has_editions(other, &arrays))
 }
 
 /// Whether two worlds have the same records.
@@ -63,12 +63,12 @@ fn are_same_rows(one: &PlainWorld, other: &PlainWorld) -> bool
     has_rows(one, other) && has_rows(other, one)
 }
 
-/// Whether a manifest has each of these arrays, with its kind.
-fn has_kinds(manifest: &Manifest, arrays: &[(u16, Kind)]) -> bool
+/// Whether a manifest has each of these arrays, with its kind and version.
+fn has_editions(manifest: &Manifest, arrays: &[(u16, Edition)]) -> bool
     ensures { (result ≡ true) ↔ HasEntries nat_cmp manifest.now arrays.now }
 {
-    for (array, kind) in arrays {
-        if manifest.kind_of(*array) != Some(*kind) {
+    for (array, edition) in arrays {
+        if manifest.edition_of(*array) != Some(*edition) {
             return false;
         }
     }
@@ -127,7 +127,10 @@ fn is_same_object(one: &State, other: &State) -> bool
     ensures { (result ≡ true) ↔ (one.now ≡ other.now) }
 {
     match (one, other) {
-        (State::Counter { count }, State::Counter { count: k }) => count == k,
+        (State::FirstCounter { count }, State::FirstCounter { count: k }) => count == k,
+        (State::Counter { count, peak }, State::Counter { count: k, peak: p }) => {
+            count == k && peak == p
+        }
         (State::Ring { next, seen }, State::Ring { next: n, seen: s }) => next == n && seen == s,
         (State::Account { balance }, State::Account { balance: b }) => balance == b,
         (

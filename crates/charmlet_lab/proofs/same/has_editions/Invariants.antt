@@ -1,7 +1,7 @@
 use Rattle.std.proofs.Common.{drop}
 use Rattle.std.specs.Ordering.{nat_cmp}
 use Rattle.charmlet_lab.specs.Same.{HasEntries}
-use Rattle.charmlet_lab.proofs.same.has_kinds.Given as goal
+use Rattle.charmlet_lab.proofs.same.has_editions.Given as goal
 
 -- the arrays so far are there
 abbrev pub invariant-loop-array : goal.invariant-loop-array
