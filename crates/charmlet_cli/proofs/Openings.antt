@@ -1,6 +1,7 @@
 -- A store that runs a script's first line.
 use Rattle.std.proofs.Common.{◌≡◌, ℕ, List, Some, [], sym, ap, ◌∙◌}
 use Rattle.std.specs.Prelude.{unwrap_or}
+use Rattle.charmlet_model.specs.declared.edition.Edition.{Edition}
 use Rattle.charmlet_model.specs.declared.kind.Kind.{Kind}
 use Rattle.charmlet_model.specs.Manifest.{manifest_of}
 use Rattle.charmlet_journal.specs.NewStores.{new_core}
@@ -8,7 +9,7 @@ use Rattle.charmlet_script.specs.Script.{Contents, pairs_of, processors_of}
 use Rattle.charmlet_cli.specs.Lines.{Ledger, opening_of}
 
 -- a new store has the script's processors and arrays, and nothing else
-pub opens : {D : Type 0} (script : Contents) (manifest : List (ℕ × Kind)) (processors : ℕ) (ledger : Ledger D) → manifest_of (pairs_of script.arrays) ≡ Some manifest → processors ≡ processors_of script →
+pub opens : {D : Type 0} (script : Contents) (manifest : List (ℕ × Edition)) (processors : ℕ) (ledger : Ledger D) → manifest_of (pairs_of script.arrays) ≡ Some manifest → processors ≡ processors_of script →
     ledger.store.core ≡ new_core processors manifest → ((kind : Kind) → ledger.store.blanks kind ≡ 0) → ((kind : Kind) → ledger.supplied kind ≡ 0) → ledger ≡ opening_of script ledger.disk
 opens script manifest processors ledger is count core blanks supplied = λ i. record {
   store = record {

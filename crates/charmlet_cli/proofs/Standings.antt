@@ -2,7 +2,7 @@
 use Rattle.std.proofs.Common.{◌≡◌, ◌≢◌, ◌⊎◌, Option, Some, inl, inr, ⊎_elim, ℕ, Bool, Err, List, [], refl, sym, ap, subst, ◌∙◌, arith}
 use Rattle.std.specs.Prelude.{unwrap_or}
 use Rattle.charmlet_model.specs.declared.half.Half.TheVariants.{Zero, One}
-use Rattle.charmlet_model.specs.declared.kind.Kind.{Kind}
+use Rattle.charmlet_model.specs.declared.edition.Edition.{Edition}
 use Rattle.charmlet_model.specs.declared.refusal.Refusal.{Refusal}
 use Rattle.charmlet_model.specs.declared.refusal.Refusal.TheVariants as refusals
 use Rattle.charmlet_model.specs.Manifest.{manifest_of}
@@ -29,7 +29,7 @@ use Rattle.charmlet_cli.specs.Lines.{kinds_of, ledger_in}
 use Rattle.charmlet_cli.specs.Run.{IsCreated, IsEarlierOrLawful, IsHandedBack, IsNothing, Stands}
 
 -- a new store that went on to this one
-module _ (manifest : List (ℕ × Kind)) (processors : ℕ) (old new : Core) (opens : old ≡ new_core processors manifest) (on : Onward old new) where
+module _ (manifest : List (ℕ × Edition)) (processors : ℕ) (old new : Core) (opens : old ≡ new_core processors manifest) (on : Onward old new) where
   opening : new.opening ≡ new_world manifest
   opening = on.opening ∙ ap (λ (core : Core). core.opening) opens
 
@@ -70,7 +70,7 @@ module _ {D C : Type 0} {G : disks.Ghosts D} {H : chares.Ghosts C} where
       })
 
   -- of a new store
-  pub stands : (manifest : List (ℕ × Kind)) (processors : ℕ) (disk end : D) (first last : Engine D C G H) → core_of first ≡ new_core processors manifest → IsEngineConsistent last → Advances first last →
+  pub stands : (manifest : List (ℕ × Edition)) (processors : ℕ) (disk end : D) (first last : Engine D C G H) → core_of first ≡ new_core processors manifest → IsEngineConsistent last → Advances first last →
       (G.honest disk → G.honest (disk_in first)) → (G.honest disk → LeavesOnly G.moment G.since disk (disk_in first) (IsNothingOrNew manifest)) → end ≡ disk_in last →
       Stands G IsNothing disk end (ledger_in last)
   stands manifest processors disk end first last opens consistent advances honest leaves is =
@@ -86,15 +86,15 @@ module _ {D C : Type 0} {G : disks.Ghosts D} {H : chares.Ghosts C} where
   )
 
 -- the arrays that a script's store has
-made_of : (script : Contents) (manifest : List (ℕ × Kind)) → manifest_of (pairs_of script.arrays) ≡ Some manifest → manifest ≡ kinds_of script
-made_of script manifest is = sym (ap (λ (o : Option (List (ℕ × Kind))). unwrap_or o []) is)
+made_of : (script : Contents) (manifest : List (ℕ × Edition)) → manifest_of (pairs_of script.arrays) ≡ Some manifest → manifest ≡ kinds_of script
+made_of script manifest is = sym (ap (λ (o : Option (List (ℕ × Edition))). unwrap_or o []) is)
 
 -- a refusal is a failure of the device if and only if it says so
 pub failure_said : (X : Type 0) (refusal : Refusal) → is_no_failure {X = X} (Err refusal) ≡ not_device refusal
 failure_said X refusals.Device = refl
 failure_said X _ = refl
 
-module _ {D : Type 0} (G : disks.Ghosts D) (first last : D) (script : Contents) (manifest : List (ℕ × Kind)) (is : manifest_of (pairs_of script.arrays) ≡ Some manifest) where
+module _ {D : Type 0} (G : disks.Ghosts D) (first last : D) (script : Contents) (manifest : List (ℕ × Edition)) (is : manifest_of (pairs_of script.arrays) ≡ Some manifest) where
   -- a disk on which a store was made
   pub created : (G.honest first → IsClosed (G.file first Zero).now × IsClosed (G.file first One).now) → G.faults last ≡ G.faults first →
       (G.honest first → G.honest last) × (G.honest last → G.honest first) → (G.honest first → LeavesOnly G.moment G.since first last (IsNothingOrNew manifest)) → IsCreated G (kinds_of script) first last
@@ -102,7 +102,7 @@ module _ {D : Type 0} (G : disks.Ghosts D) (first last : D) (script : Contents) 
     closed = closed;
     counted = counted;
     honest = honest;
-    any_moment = λ still. subst (λ (kinds : List (ℕ × Kind)). LeavesOnly G.moment G.since first last (IsNothingOrNew kinds)) (made_of script manifest is) (leaves still);
+    any_moment = λ still. subst (λ (kinds : List (ℕ × Edition)). LeavesOnly G.moment G.since first last (IsNothingOrNew kinds)) (made_of script manifest is) (leaves still);
   }
 
   -- a disk that a refused creation handed back
@@ -121,6 +121,6 @@ module _ {D : Type 0} (G : disks.Ghosts D) (first last : D) (script : Contents) 
       unwritten = unwritten honest;
       open_kept = open_kept honest;
       any_moment = λ zero one.
-          subst (λ (kinds : List (ℕ × Kind)). LeavesOnly G.moment G.since first last (IsNothingOrNew kinds)) (made_of script manifest is) (any_moment honest zero one);
+          subst (λ (kinds : List (ℕ × Edition)). LeavesOnly G.moment G.since first last (IsNothingOrNew kinds)) (made_of script manifest is) (any_moment honest zero one);
     },
   )

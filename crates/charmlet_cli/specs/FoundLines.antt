@@ -2,7 +2,9 @@
 use Rattle.std.specs.Prelude.{ℕ, List, [], ◌∷◌, ◌++◌, nat_lt, if◌then◌else◌, codes}
 use Rattle.std.specs.Fmt.{decimal}
 use Rattle.std.specs.List.{flat_map}
+use Rattle.charmlet_model.specs.declared.edition.Edition.{Edition}
 use Rattle.charmlet_model.specs.declared.kind.Kind.{Kind}
+use Rattle.charmlet_model.specs.Edition.{edition_kind, edition_version}
 use Rattle.charmlet_model.specs.Texts.{Text, half_text, kind_text}
 use Rattle.charmlet_recover.specs.declared.finding.Found.{Found}
 use Rattle.charmlet_recover.specs.declared.wanted.Wanted.{Wanted}
@@ -18,9 +20,11 @@ half_line_text line =
     codes "half " ++ half_text line.half ++ codes " generation " ++ decimal line.generation
     ++ codes " base " ++ decimal line.base ++ codes " log " ++ decimal line.log
 
--- array A kind K
+-- array A kind K version V
 abbrev pub array_line_text : ArrayLine → Text
-array_line_text line = codes "array " ++ decimal line.array ++ codes " kind " ++ kind_text line.kind
+array_line_text line =
+    codes "array " ++ decimal line.array ++ codes " kind " ++ kind_text (edition_kind line.edition)
+    ++ codes " version " ++ decimal (edition_version line.edition)
 
 -- wanted K C
 abbrev pub wanted_line_text : WantedLine → Text
@@ -31,8 +35,8 @@ abbrev pub half_line : Found → HalfLine
 half_line f = record { half = f.half; generation = f.generation; base = f.before; log = f.logged }
 
 -- the line of an array
-abbrev pub array_texts : ℕ × Kind → List Text
-array_texts e = array_line_text (record { array = e.0; kind = e.1 }) ∷ []
+abbrev pub array_texts : ℕ × Edition → List Text
+array_texts e = array_line_text (record { array = e.0; edition = e.1 }) ∷ []
 
 -- the line of a kind of which so many blanks are wanted, if any are
 abbrev pub count_texts : Kind → ℕ → List Text

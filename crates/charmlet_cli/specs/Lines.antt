@@ -66,7 +66,7 @@ ledger_in engine = record {
   disk = disk_in engine;
 }
 
--- the script's arrays, each with its kind
+-- the script's arrays, each in the newest version of its kind
 abbrev pub kinds_of : Contents → Kinds
 kinds_of script = unwrap_or (manifest_of (pairs_of script.arrays)) []
 

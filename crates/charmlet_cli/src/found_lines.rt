@@ -1,6 +1,6 @@
 //! The lines that show what is found in two halves.
 
-use charmlet_model::{Half, Kind};
+use charmlet_model::{Edition, Half, Kind};
 use std::fmt;
 
 /// Of the half that is taken: its generation, how many events came before its image, and how many its log has.
@@ -12,11 +12,11 @@ pub struct HalfLine {
     pub log: u64,
 }
 
-/// An array, and its kind.
+/// An array, and the kind and the version of its elements.
 #[derive(Clone, Copy, Debug, PartialEq, Eq)]
 pub struct ArrayLine {
     pub array: u16,
-    pub kind: Kind,
+    pub edition: Edition,
 }
 
 /// How many blank objects of a kind a restart needs.
@@ -45,7 +45,7 @@ impl fmt::Display for HalfLine {
     }
 }
 
-/// Writes `array A kind K`, without a line feed.
+/// Writes `array A kind K version V`, without a line feed.
 impl fmt::Display for ArrayLine {
     ghost use Rattle.std.specs.Prelude.{Some};
     ghost use Rattle.charmlet_cli.specs.FoundLines.{array_line_text};
@@ -54,8 +54,9 @@ impl fmt::Display for ArrayLine {
 
     fn fmt<W: fmt::Write>(&self, f: &mut fmt::Formatter<W>) -> fmt::Result {
         let array = self.array;
-        let kind = self.kind;
-        write!(f, "array {array} kind {kind}")
+        let kind = self.edition.kind();
+        let version = self.edition.version();
+        write!(f, "array {array} kind {kind} version {version}")
     }
 }
 

@@ -20,7 +20,7 @@ ghost use Rattle.charmlet_cli.specs.Writing.{Writes};
 use crate::found_lines::{ArrayLine, HalfLine, WantedLine};
 use crate::writing::{write_answer, write_line};
 use charmlet_disk::Disk;
-use charmlet_model::{Answer, Kind, Refusal};
+use charmlet_model::{Answer, Edition, Kind, Refusal};
 use charmlet_recover::{Found, Wanted, manifest};
 use std::alloc::{AllocError, Global};
 use std::io;
@@ -36,9 +36,10 @@ pub enum ShowError {
     Output(io::Error),
 }
 
-/// Shows what is found in the two halves of a disk: the half that is taken, with its generation, how many events came
-/// before its image and how many its log has; then each array with its kind; then how many blank objects of each kind a
-/// restart needs, where it needs some. It only reads the disk.
+/// Shows what is found in the two halves of a disk: the half that is taken, with its generation,
+/// how many events came before its image and how many its log has; then each array with its kind
+/// and its version; then how many blank objects of each kind a restart needs, where it needs some.
+/// It only reads the disk.
 ///
 /// Where nothing is found the refusal's line is written: `Damaged`, `NothingHere`, `Memory` or `Device`, as
 /// [`charmlet_recover::manifest`] has them. `ShowError` says what each error means.
@@ -74,7 +75,7 @@ pub fn show_store<D: Disk, W: Write>(
 #[derive(Drop)]
 struct Listed {
     found: Found,
-    arrays: Vec<(u16, Kind)>,
+    arrays: Vec<(u16, Edition)>,
 }
 
 /// What is found in the two halves of a disk, and the list of its arrays. The refusals are those of
@@ -119,15 +120,19 @@ fn write_found<W: Write>(alloc: Global, writer: &mut W, listed: &Listed) -> io::
     write_wanted(alloc, writer, &found.wanted)
 }
 
-/// Writes each array with its kind.
-fn write_arrays<W: Write>(alloc: Global, writer: &mut W, arrays: &[(u16, Kind)]) -> io::Result<()>
+/// Writes each array with its kind and its version.
+fn write_arrays<W: Write>(
+    alloc: Global,
+    writer: &mut W,
+    arrays: &[(u16, Edition)],
+) -> io::Result<()>
     ensures { Writes result (W.contents writer.old) (W.contents writer.new)
         (in_lines (flat_map array_texts arrays.now)) }
 {
-    for (array, kind) in arrays {
+    for (array, edition) in arrays {
         let line = ArrayLine {
             array: *array,
-            kind: *kind,
+            edition: *edition,
         };
         write_line(alloc, writer, &line)?;
     }

@@ -1,4 +1,4 @@
-use Rattle.charmlet_model.specs.declared.kind.Kind.TheVariants.{Counter}
+use Rattle.charmlet_model.specs.declared.edition.Edition.TheVariants.{Counter}
 use Rattle.std.specs.List.{flat_map}
 use Rattle.charmlet_cli.specs.FoundLines.{array_texts}
 use Rattle.charmlet_cli.specs.Lines.{in_lines}
