@@ -2,7 +2,7 @@
 use Rattle.std.specs.Prelude.{ℕ, ◌+◌, List, [], ◌∷◌, ◌++◌, option_copied}
 use Rattle.std.specs.List.{flat_map}
 use Rattle.charmlet_model.specs.declared.client.ClientRow.{ClientRow}
-use Rattle.charmlet_model.specs.declared.kind.Kind.{Kind}
+use Rattle.charmlet_model.specs.declared.edition.Edition.{Edition}
 use Rattle.charmlet_model.specs.declared.message.Message.{Message}
 use Rattle.charmlet_model.specs.declared.names.Elem.{Elem}
 use Rattle.charmlet_model.specs.declared.refusal.Refusal.{Refusal}
@@ -12,12 +12,12 @@ use Rattle.charmlet_model.specs.Row.{Item, below}
 use Rattle.charmlet_model.specs.World.{World}
 use Rattle.charmlet_dump.specs.declared.lines.Fact as lines
 
--- a generation and how many events there were; an array and its kind; an element, its home and what
--- is kept of it; a pending message; a client and the number of its last request; a request of its
--- window and the reply, if there is one; why nothing is dumped
+-- a generation and how many events there were; an array, and the kind and version of its elements;
+-- an element, its home and what is kept of it; a pending message; a client and the number of its
+-- last request; a request of its window and the reply, if there is one; why nothing is dumped
 pub data Fact : Type 0 where
   Store : (generation events : ℕ) → Fact
-  Array : ℕ → Kind → Fact
+  Array : ℕ → Edition → Fact
   Element : Elem → (home : ℕ) → Record → Fact
   Pending : Message → Fact
   Client : (client last : ℕ) → Fact
@@ -27,7 +27,7 @@ pub data Fact : Type 0 where
 -- the fact that the code's value says
 abbrev pub fact_in : lines.Fact → Fact
 fact_in (lines.TheVariants.Store generation events) = Store generation events
-fact_in (lines.TheVariants.Array array kind) = Array array kind
+fact_in (lines.TheVariants.Array array edition) = Array array edition
 fact_in (lines.TheVariants.Element elem home kept) = Element elem home kept.now
 fact_in (lines.TheVariants.Pending message) = Pending message.now
 fact_in (lines.TheVariants.Client client last) = Client client last
@@ -42,7 +42,7 @@ window_facts client below (item ∷ items) =
     Request client (below + 1) item ∷ window_facts client (below + 1) items
 
 -- an array
-abbrev pub array_facts : ℕ × Kind → List Fact
+abbrev pub array_facts : ℕ × Edition → List Fact
 array_facts e = Array e.0 e.1 ∷ []
 
 -- an element, on so many processors

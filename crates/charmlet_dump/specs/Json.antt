@@ -9,7 +9,8 @@ use Rattle.charmlet_model.specs.declared.names.Origin as origins
 use Rattle.charmlet_model.specs.declared.refusal.Refusal.{Refusal}
 use Rattle.charmlet_model.specs.declared.refusal.Refusal.TheVariants.{Damaged}
 use Rattle.charmlet_model.specs.declared.state.State.{State}
-use Rattle.charmlet_model.specs.declared.state.State.TheVariants.{Counter, Ring, Account, Sum, Tree, Tape}
+use Rattle.charmlet_model.specs.declared.state.State.TheVariants.{FirstCounter, Counter, Ring, Account, Sum, Tree, Tape}
+use Rattle.charmlet_model.specs.Edition.{edition_kind, edition_version}
 use Rattle.charmlet_model.specs.Refusal.{refusal_number}
 use Rattle.charmlet_model.specs.Row.{Item}
 use Rattle.charmlet_model.specs.Texts.{Text, half_text, kind_text, refusal_text}
@@ -42,8 +43,11 @@ json_numbers (number ∷ numbers) = codes "[" ++ decimal number ++ more_numbers 
 
 -- the kind of an object, and its fields in their order
 abbrev pub json_state : State → Text
-json_state (Counter count) =
+json_state (FirstCounter count) =
     codes "\"kind\":\"counter\",\"state\":{\"count\":" ++ decimal count ++ codes "}"
+json_state (Counter count peak) =
+    codes "\"kind\":\"counter\",\"state\":{\"count\":" ++ decimal count
+    ++ codes ",\"peak\":" ++ decimal peak ++ codes "}"
 json_state (Ring next seen) =
     codes "\"kind\":\"ring\",\"state\":{\"next\":" ++ decimal next
     ++ codes ",\"seen\":" ++ decimal seen ++ codes "}"
@@ -98,9 +102,11 @@ abbrev pub json_text : Fact → Text
 json_text (Store generation events) =
     codes "{\"store\":{\"generation\":" ++ decimal generation ++ codes ",\"events\":"
     ++ decimal events ++ codes "}}"
-json_text (Array array kind) =
-    codes "{\"array\":" ++ decimal array ++ codes ",\"kind\":\"" ++ kind_name kind
-    ++ codes "\",\"kind_number\":" ++ kind_text kind ++ codes "}"
+json_text (Array array edition) =
+    codes "{\"array\":" ++ decimal array ++ codes ",\"kind\":\""
+    ++ kind_name (edition_kind edition) ++ codes "\",\"kind_number\":"
+    ++ kind_text (edition_kind edition) ++ codes ",\"version\":"
+    ++ decimal (edition_version edition) ++ codes "}"
 json_text (Element elem home kept) =
     codes "{\"element\":" ++ json_elem elem ++ codes ","
     ++ json_record home kept.state kept.sent kept.received ++ codes "}"

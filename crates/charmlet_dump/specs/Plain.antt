@@ -5,8 +5,9 @@ use Rattle.charmlet_model.specs.declared.kind.Kind.{Kind}
 use Rattle.charmlet_model.specs.declared.kind.Kind.TheVariants as kinds
 use Rattle.charmlet_model.specs.declared.names.Elem.{Elem}
 use Rattle.charmlet_model.specs.declared.state.State.{State}
-use Rattle.charmlet_model.specs.declared.state.State.TheVariants.{Counter, Ring, Account, Sum, Tree, Tape}
+use Rattle.charmlet_model.specs.declared.state.State.TheVariants.{FirstCounter, Counter, Ring, Account, Sum, Tree, Tape}
 use Rattle.charmlet_model.specs.declared.step.Answer.TheVariants as answers
+use Rattle.charmlet_model.specs.Edition.{edition_kind, edition_version}
 use Rattle.charmlet_model.specs.Row.{Item}
 use Rattle.charmlet_model.specs.Texts.{Text, answer_text, elem_text, id_text, kind_text, words_text}
 use Rattle.charmlet_dump.specs.Facts.{Fact, Store, Array, Element, Pending, Client, Request, Refused}
@@ -22,7 +23,9 @@ kind_name kinds.Tape = codes "tape"
 
 -- the kind of an object, and its fields in their order, each after its name
 abbrev pub plain_state : State → Text
-plain_state (Counter count) = codes "counter count " ++ decimal count
+plain_state (FirstCounter count) = codes "counter count " ++ decimal count
+plain_state (Counter count peak) = codes "counter count " ++ decimal count
+    ++ codes " peak " ++ decimal peak
 plain_state (Ring next seen) = codes "ring next " ++ decimal next ++ codes " seen " ++ decimal seen
 plain_state (Account balance) = codes "account balance " ++ decimal balance
 plain_state (Sum want got total up) = codes "sum want " ++ decimal want ++ codes " got "
@@ -53,9 +56,10 @@ plain_item (Some words) = codes "replied" ++ words_text words
 abbrev pub plain_text : Fact → Text
 plain_text (Store generation events) =
     codes "store generation " ++ decimal generation ++ codes " events " ++ decimal events
-plain_text (Array array kind) =
-    codes "array " ++ decimal array ++ codes " kind " ++ kind_text kind ++ codes " "
-    ++ kind_name kind
+plain_text (Array array edition) =
+    codes "array " ++ decimal array ++ codes " kind " ++ kind_text (edition_kind edition)
+    ++ codes " version " ++ decimal (edition_version edition) ++ codes " "
+    ++ kind_name (edition_kind edition)
 plain_text (Element elem home kept) = plain_element elem home kept.state kept.sent kept.received
 plain_text (Pending m) =
     codes "pending " ++ id_text m.id ++ codes " to " ++ elem_text m.to

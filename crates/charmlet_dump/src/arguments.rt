@@ -19,7 +19,7 @@ may use the store meanwhile.
 
 Lines, in this order, each sort rising and messages by birth:
   store generation G events E     the image is of generation G, and E events came back
-  array A kind K NAME             there is an array A of objects of kind K
+  array A kind K version V NAME   there is an array A of objects of kind K, in version V
   element A.I pe P sent S received R NAME FIELD VALUE..
                                   element I of array A is on processor P, and has sent S
                                   messages and received R; its fields by name

@@ -12,7 +12,7 @@ use crate::finding::Found;
 use crate::lines::Fact;
 use crate::writing::{Form, write_fact};
 use charmlet_locate::home;
-use charmlet_model::{ClientRow, Elem, Kind, Message, Record};
+use charmlet_model::{ClientRow, Edition, Elem, Message, Record};
 use std::alloc::Global;
 use std::collections::BTreeMap;
 use std::io;
@@ -45,20 +45,20 @@ pub fn write_world<W: Write>(
     write_clients(alloc, writer, form, found.world.clients())
 }
 
-/// Writes each array with its kind.
+/// Writes each array with its kind and its version.
 fn write_arrays<W: Write>(
     alloc: Global,
     writer: &mut W,
     form: Form,
-    arrays: &[(u16, Kind)],
+    arrays: &[(u16, Edition)],
 ) -> io::Result<()>
     ensures { Writes result (W.contents writer.old) (W.contents writer.new)
         (lines_of form (flat_map array_facts arrays.now)) }
 {
-    for (array, kind) in arrays {
+    for (array, edition) in arrays {
         let fact = Fact::Array {
             array: *array,
-            kind: *kind,
+            edition: *edition,
         };
         write_fact(alloc, writer, form, fact)?;
     }

@@ -122,9 +122,13 @@ impl<'a> fmt::Display for JsonState<'a> {
 
     fn fmt<W: fmt::Write>(&self, f: &mut fmt::Formatter<W>) -> fmt::Result {
         match self.0 {
-            State::Counter { count } => {
+            State::FirstCounter { count } => {
                 write!(f, "\"kind\":\"counter\",\"state\":{{\"count\":{count}}}")
             }
+            State::Counter { count, peak } => write!(
+                f,
+                "\"kind\":\"counter\",\"state\":{{\"count\":{count},\"peak\":{peak}}}"
+            ),
             State::Ring { next, seen } => write!(
                 f,
                 "\"kind\":\"ring\",\"state\":{{\"next\":{next},\"seen\":{seen}}}"
@@ -257,11 +261,14 @@ impl<'a> fmt::Display for JsonLine<'a> {
                 f,
                 "{{\"store\":{{\"generation\":{generation},\"events\":{events}}}}}"
             ),
-            Fact::Array { array, kind } => {
+            Fact::Array { array, edition } => {
+                let kind = edition.kind();
+                let version = edition.version();
                 let name = KindName(kind);
                 write!(
                     f,
-                    "{{\"array\":{array},\"kind\":\"{name}\",\"kind_number\":{kind}}}"
+                    "{{\"array\":{array},\"kind\":\"{name}\",\"kind_number\":{kind},\
+                     \"version\":{version}}}"
                 )
             }
             Fact::Element { elem, home, kept } => {

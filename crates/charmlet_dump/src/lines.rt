@@ -1,6 +1,6 @@
 //! The facts of a dump, and the plain form of each.
 
-use charmlet_model::{Elem, Kind, Message, Record, Refusal, State, Words};
+use charmlet_model::{Edition, Elem, Kind, Message, Record, Refusal, State, Words};
 use std::fmt;
 
 /// Something that a dump says, in a line of its own.
@@ -11,10 +11,10 @@ pub enum Fact<'a> {
         generation: u64,
         events: u64,
     },
-    /// An array, and its kind.
+    /// An array, and the kind and the version of its elements.
     Array {
         array: u16,
-        kind: Kind,
+        edition: Edition,
     },
     /// What is kept of an element, and its home.
     Element {
@@ -83,7 +83,8 @@ impl<'a> fmt::Display for PlainState<'a> {
 
     fn fmt<W: fmt::Write>(&self, f: &mut fmt::Formatter<W>) -> fmt::Result {
         match self.0 {
-            State::Counter { count } => write!(f, "counter count {count}"),
+            State::FirstCounter { count } => write!(f, "counter count {count}"),
+            State::Counter { count, peak } => write!(f, "counter count {count} peak {peak}"),
             State::Ring { next, seen } => write!(f, "ring next {next} seen {seen}"),
             State::Account { balance } => write!(f, "account balance {balance}"),
             State::Sum {
@@ -111,9 +112,11 @@ impl<'a> fmt::Display for PlainLine<'a> {
             Fact::Store { generation, events } => {
                 write!(f, "store generation {generation} events {events}")
             }
-            Fact::Array { array, kind } => {
+            Fact::Array { array, edition } => {
+                let kind = edition.kind();
+                let version = edition.version();
                 let name = KindName(kind);
-                write!(f, "array {array} kind {kind} {name}")
+                write!(f, "array {array} kind {kind} version {version} {name}")
             }
             Fact::Element { elem, home, kept } => {
                 let sent = kept.sent;

@@ -1,7 +1,7 @@
 use Rattle.std.proofs.Common.{◌+◌, drop, get_or, ℕ}
 use Rattle.std.specs.List.{flat_map}
-use Rattle.charmlet_model.specs.declared.kind.Kind.{Kind}
-use Rattle.charmlet_model.specs.declared.kind.Kind.TheVariants.{Counter}
+use Rattle.charmlet_model.specs.declared.edition.Edition.{Edition}
+use Rattle.charmlet_model.specs.declared.edition.Edition.TheVariants.{Counter}
 use Rattle.charmlet_dump.specs.Facts.{array_facts}
 use Rattle.charmlet_dump.specs.Lines.{fact_line, lines_of}
 use Rattle.charmlet_dump.proofs.Printing.{beginning_written, begun, breaks_off, ended, goes_on, left_over, none_left}
@@ -14,7 +14,7 @@ pub loop-array-preserved : goal.loop-array-preserved
 loop-array-preserved g c =
     let all = c.args.arrays.now in
     let at = c.loop-array.array-index in
-    let e : ℕ × Kind = (0, Counter) in
+    let e : ℕ × Edition = (0, Counter) in
     goes_on (fact_line c.args.form) (g.W.Write.contents c.args.writer.now) (g.W.Write.contents c.loop-array.writer) (g.W.Write.contents c.write_fact.new.writer)
     (flat_map array_facts all) (flat_map array_facts (drop at all)) (array_facts (get_or all at e)) (flat_map array_facts (drop (at + 1) all))
     c.loop-array.invariant (left_over array_facts all at e c.loop-array-test.true) c.in_ok-write_fact.ensures
@@ -23,7 +23,7 @@ pub returns-in_err-write_fact : goal.returns-in_err-write_fact
 returns-in_err-write_fact g c =
     let all = c.args.arrays.now in
     let at = c.loop-array.array-index in
-    let e : ℕ × Kind = (0, Counter) in
+    let e : ℕ × Edition = (0, Counter) in
     let old = g.W.Write.contents c.args.writer.now in
     let new = g.W.Write.contents c.write_fact.new.writer in
     beginning_written c.from_residual.result _ old new (lines_of c.args.form (flat_map array_facts all)) c.from_residual.ensures.1

@@ -2,7 +2,7 @@ use Rattle.std.proofs.Common.{◌++◌, ◌∙◌, ℕ, List, [], ◌∷◌, ref
 use Rattle.std.specs.Io.KnownBytes.{Appends}
 use Rattle.std.specs.List.{flat_map}
 use Rattle.charmlet_model.specs.declared.client.ClientRow.{ClientRow}
-use Rattle.charmlet_model.specs.declared.kind.Kind.{Kind}
+use Rattle.charmlet_model.specs.declared.edition.Edition.{Edition}
 use Rattle.charmlet_model.specs.declared.message.Message.{Message}
 use Rattle.charmlet_model.specs.declared.names.Elem.{Elem}
 use Rattle.charmlet_model.specs.declared.state.Record.{Record}
@@ -40,7 +40,7 @@ returns-in_err-write_arrays g c =
     let pending = flat_map pending_facts found.world.pending in
     let clients = flat_map client_facts found.world.clients in
     let rest = arrays ++ (elements ++ (pending ++ clients)) in
-    let begins = subst (λ (es : List (ℕ × Kind)). AppendsBeginning one new (lines_of c.args.form (flat_map array_facts es))) (c.as_slice.ensures.value ∙ c.requires.arrays) c.in_err-write_arrays.ensures in
+    let begins = subst (λ (es : List (ℕ × Edition)). AppendsBeginning one new (lines_of c.args.form (flat_map array_facts es))) (c.as_slice.ensures.value ∙ c.requires.arrays) c.in_err-write_arrays.ensures in
     beginning_written c.from_residual-in_err-write_arrays.result _ old new (lines_of c.args.form (first ++ rest)) c.from_residual-in_err-write_arrays.ensures.1
     (breaks_off line old one new (first ++ rest) rest arrays (elements ++ (pending ++ clients))
     (goes_on line old old one (first ++ rest) (first ++ rest) first rest (begun line old (first ++ rest)) refl c.in_ok-write_fact.ensures) refl begins)
@@ -59,7 +59,7 @@ returns-in_err-write_elements g c =
     let pending = flat_map pending_facts found.world.pending in
     let clients = flat_map client_facts found.world.clients in
     let all = first ++ (arrays ++ (elements ++ (pending ++ clients))) in
-    let listed = subst (λ (es : List (ℕ × Kind)). Appends one two (lines_of c.args.form (flat_map array_facts es))) (c.as_slice.ensures.value ∙ c.requires.arrays) c.in_ok-write_arrays.ensures in
+    let listed = subst (λ (es : List (ℕ × Edition)). Appends one two (lines_of c.args.form (flat_map array_facts es))) (c.as_slice.ensures.value ∙ c.requires.arrays) c.in_ok-write_arrays.ensures in
     let begins = subst (λ (es : List (Elem × Record)). AppendsBeginning two new (lines_of c.args.form (flat_map (element_facts c.args.processors) es))) c.records.ensures c.in_err-write_elements.ensures in
     let at_one = goes_on line old old one all all first (arrays ++ (elements ++ (pending ++ clients))) (begun line old all) refl c.in_ok-write_fact.ensures in
     let at_two = goes_on line old one two all (arrays ++ (elements ++ (pending ++ clients))) arrays (elements ++ (pending ++ clients)) at_one refl listed in
@@ -81,7 +81,7 @@ returns-in_err-write_pending g c =
     let pending = flat_map pending_facts found.world.pending in
     let clients = flat_map client_facts found.world.clients in
     let all = first ++ (arrays ++ (elements ++ (pending ++ clients))) in
-    let listed = subst (λ (es : List (ℕ × Kind)). Appends one two (lines_of c.args.form (flat_map array_facts es))) (c.as_slice.ensures.value ∙ c.requires.arrays) c.in_ok-write_arrays.ensures in
+    let listed = subst (λ (es : List (ℕ × Edition)). Appends one two (lines_of c.args.form (flat_map array_facts es))) (c.as_slice.ensures.value ∙ c.requires.arrays) c.in_ok-write_arrays.ensures in
     let kept = subst (λ (es : List (Elem × Record)). Appends two three (lines_of c.args.form (flat_map (element_facts c.args.processors) es))) c.records.ensures c.in_ok-write_elements.ensures in
     let begins = subst (λ (ms : List Message). AppendsBeginning three new (lines_of c.args.form (flat_map pending_facts ms))) c.pending.ensures c.in_err-write_pending.ensures in
     let at_one = goes_on line old old one all all first (arrays ++ (elements ++ (pending ++ clients))) (begun line old all) refl c.in_ok-write_fact.ensures in
@@ -106,7 +106,7 @@ returns g c =
     let pending = flat_map pending_facts found.world.pending in
     let clients = flat_map client_facts found.world.clients in
     let all = first ++ (arrays ++ (elements ++ (pending ++ clients))) in
-    let listed = subst (λ (es : List (ℕ × Kind)). Appends one two (lines_of c.args.form (flat_map array_facts es))) (c.as_slice.ensures.value ∙ c.requires.arrays) c.in_ok-write_arrays.ensures in
+    let listed = subst (λ (es : List (ℕ × Edition)). Appends one two (lines_of c.args.form (flat_map array_facts es))) (c.as_slice.ensures.value ∙ c.requires.arrays) c.in_ok-write_arrays.ensures in
     let kept = subst (λ (es : List (Elem × Record)). Appends two three (lines_of c.args.form (flat_map (element_facts c.args.processors) es))) c.records.ensures c.in_ok-write_elements.ensures in
     let waiting = subst (λ (ms : List Message). Appends three four (lines_of c.args.form (flat_map pending_facts ms))) c.pending.ensures c.in_ok-write_pending.ensures in
     let last = subst (λ (es : List (ℕ × ClientRow)). Writes c.write_clients.result four new (lines_of c.args.form (flat_map client_facts es))) c.clients.ensures c.write_clients.ensures in
