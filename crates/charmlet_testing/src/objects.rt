@@ -42,6 +42,22 @@ impl Chare for AnyObject {
         by_kind!(self, object => object.kind())
     }
 
+    fn version(&self) -> u16 {
+        by_kind!(self, object => object.version())
+    }
+
+    fn newest(&self) -> u16 {
+        by_kind!(self, object => object.newest())
+    }
+
+    fn retro(&mut self, version: u16) {
+        by_kind!(self, object => object.retro(version))
+    }
+
+    fn upgrade(&mut self) {
+        by_kind!(self, object => object.upgrade())
+    }
+
     fn size(&mut self) -> usize {
         by_kind!(self, object => object.size())
     }
@@ -116,6 +132,22 @@ impl Chare for Object {
 
     fn kind(&self) -> u16 {
         self.object.kind()
+    }
+
+    fn version(&self) -> u16 {
+        self.object.version()
+    }
+
+    fn newest(&self) -> u16 {
+        self.object.newest()
+    }
+
+    fn retro(&mut self, version: u16) {
+        self.object.retro(version)
+    }
+
+    fn upgrade(&mut self) {
+        self.object.upgrade()
     }
 
     fn size(&mut self) -> usize {
