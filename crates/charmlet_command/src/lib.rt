@@ -151,7 +151,7 @@ Show what stands in the folder of a store, and change nothing.
 Lines:
   half H generation G base B log L  the file halfH is the later one, with an image of
                                     generation G, made after B events, and a log of L events
-  array A kind K                    there is an array A of objects of kind K
+  array A kind K version V          there is an array A of objects of kind K, in version V
   wanted K C                        a restart needs C blank objects of kind K
 
 Where nothing can be shown there is one line: 'refused 15 NothingHere' where the folder has no
