@@ -151,8 +151,8 @@ module _ {D : Type 0} (G : disks.Ghosts D) where
 
   -- A step is answered: what clients are told is true of the durable events; the device fails once
   -- if and only if the answer says so; after an answer to what writes nothing the disk is as it
-  -- was; a flush isn't refused when out of memory; and a crash in a checkpoint of a store that isn't
-  -- halted leaves the old store or the image.
+  -- was; a flush isn't refused when out of memory; and a crash in a checkpoint of a store that
+  -- isn't halted leaves the old store or the image.
   pub record IsAnswered (step : Step) (answer : Answer) (old new : Ledger D) : Type 0 where
     pub does : Does old.store step answer new.store
     pub told : IsToldTrue new.store.core.opening

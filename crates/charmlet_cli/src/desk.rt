@@ -18,8 +18,9 @@ use charmlet_script::HandlerLine;
 use std::alloc::{AllocError, Global};
 use std::collections::BTreeMap;
 
-/// The handlers of a script, and the passes of its clients. Each client has one from its first request or question on; where
-/// memory for it is refused it goes without one, and is answered the same.
+/// The handlers of a script, and the passes of its clients. Each client has one from its first
+/// request or question on; where memory for it is refused it goes without one, and is answered the
+/// same.
 #[derive(Drop)]
 pub(crate) struct Desk {
     handlers: Handlers,
@@ -38,7 +39,8 @@ pub(crate) struct Call<'a> {
 }
 
 impl Desk {
-    /// A desk with these handlers, of which the last one of a name counts. It fails only when out of memory.
+    /// A desk with these handlers, of which the last one of a name counts. It fails only when out
+    /// of memory.
     pub(crate) fn new(alloc: Global, lines: &[HandlerLine]) -> Result<Self, AllocError>
         ensures { IfOk result (λ desk. (name : List ℕ) →
             named_at desk name ≡ named_by lines.now name) }
@@ -110,7 +112,8 @@ impl Desk {
         }
     }
 
-    /// A client's request to a named handler, by its pass. A repeat is answered before the name is looked up.
+    /// A client's request to a named handler, by its pass. A repeat is answered before the name is
+    /// looked up.
     pub(crate) fn call<D: Disk, C: Chare>(
         &mut self,
         engine: &mut Engine<D, C>,
@@ -140,7 +143,8 @@ impl Desk {
     }
 }
 
-/// The handlers of these lines, of which the last one of a name counts. It fails only when out of memory.
+/// The handlers of these lines, of which the last one of a name counts. It fails only when out of
+/// memory.
 fn handlers_of(alloc: Global, lines: &[HandlerLine]) -> Result<Handlers, AllocError>
     ensures { IfOk result (λ handlers. (name : List ℕ) →
         handler_of handlers name ≡ named_by lines.now name) }

@@ -18,8 +18,8 @@ use std::io;
 use std::io::Write;
 
 /// Delivers the oldest message that can be delivered, up to so many times, and writes how many it
-/// delivered and how many are pending then. Where a delivery is refused it ends, and writes that too.
-/// An error is as `write_line` has it, once all is delivered.
+/// delivered and how many are pending then. Where a delivery is refused it ends, and writes that
+/// too. An error is as `write_line` has it, once all is delivered.
 pub fn drain_line<D: Disk, C: Chare, W: Write>(
     alloc: Global,
     engine: &mut Engine<D, C>,
@@ -41,8 +41,8 @@ pub fn drain_line<D: Disk, C: Chare, W: Write>(
     write_answer(alloc, writer, &Answer::Refused(refusal))
 }
 
-/// Delivers the oldest message that can be delivered, up to so many times: how often it did, and why it
-/// ended, where a delivery was refused.
+/// Delivers the oldest message that can be delivered, up to so many times: how often it did, and
+/// why it ended, where a delivery was refused.
 fn drain<D: Disk, C: Chare>(engine: &mut Engine<D, C>, most: u32) -> (u32, Option<Refusal>)
     requires { IsEngineConsistent engine.old }
     ensures consistent { IsEngineConsistent engine.new }
@@ -61,7 +61,8 @@ fn drain<D: Disk, C: Chare>(engine: &mut Engine<D, C>, most: u32) -> (u32, Optio
     (most, None)
 }
 
-/// Delivers the oldest message that can be delivered, if there is one, on the processor of its receiver.
+/// Delivers the oldest message that can be delivered, if there is one, on the processor of its
+/// receiver.
 fn deliver_next<D: Disk, C: Chare>(engine: &mut Engine<D, C>) -> Result<bool, Refusal>
     requires { IsEngineConsistent engine.old }
     ensures consistent { IsEngineConsistent engine.new }

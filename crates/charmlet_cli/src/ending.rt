@@ -82,9 +82,9 @@ impl From<io::Error> for Failure {
     }
 }
 
-/// Says on `errors`, the program's standard error, why it failed, if it did. Gives its exit status, and whether
-/// that could be said: 0 where the script ran to its end, 2 for a bad command line or a call for help, and else
-/// the status of the stop. The status is the same where `errors` fails.
+/// Says on `errors`, the program's standard error, why it failed, if it did. Gives its exit status,
+/// and whether that could be said: 0 where the script ran to its end, 2 for a bad command line or a
+/// call for help, and else the status of the stop. The status is the same where `errors` fails.
 pub fn end_program<W: Write>(ran: &Result<(), Failure>, errors: &mut W) -> (u8, io::Result<()>)
     ensures status { result.0 ≡ exit_status ran.now }
     ensures said { OnOk result.1 (IfErr ran.now

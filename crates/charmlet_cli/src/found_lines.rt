@@ -3,7 +3,8 @@
 use charmlet_model::{Edition, Half, Kind};
 use std::fmt;
 
-/// Of the half that is taken: its generation, how many events came before its image, and how many its log has.
+/// Of the half that is taken: its generation, how many events came before its image, and how many
+/// its log has.
 #[derive(Clone, Copy, Debug, PartialEq, Eq)]
 pub struct HalfLine {
     pub half: Half,

@@ -47,28 +47,28 @@ pub enum FindError {
 /// Why a script wasn't run to its last line over a store that was to come back.
 #[derive(Drop)]
 pub enum RestartError<C: Chare> {
-    /// There are fewer objects of a kind than the script supplies. All come back, those for the restart first, and
-    /// nothing was written.
+    /// There are fewer objects of a kind than the script supplies. All come back, those for the
+    /// restart first, and nothing was written.
     TooFewBlanks(Vec<C>, Vec<C>),
     /// No store came back, for this reason, whose line is all that was written. No line was run.
     NotRestarted(Refusal),
     /// Memory was refused before the store was to come back. Nothing was written.
     Memory,
-    /// A line couldn't be written: the output failed, or memory for the line's text was refused. A beginning of what
-    /// is printed was written.
+    /// A line couldn't be written: the output failed, or memory for the line's text was refused. A
+    /// beginning of what is printed was written.
     Output(io::Error),
 }
 
-/// How a script was run over a store that was to come back: the disk, which comes back in any case, and whether each line
-/// was run.
+/// How a script was run over a store that was to come back: the disk, which comes back in any case,
+/// and whether each line was run.
 #[derive(Drop)]
 pub struct Restarted<D: Disk, C: Chare> {
     pub disk: D,
     pub result: Result<(), RestartError<C>>,
 }
 
-/// That a store came back: the generation of the half that was taken, how many events came back, and on how many
-/// processors the store goes on.
+/// That a store came back: the generation of the half that was taken, how many events came back,
+/// and on how many processors the store goes on.
 #[derive(Clone, Copy, Debug, PartialEq, Eq)]
 pub struct RestartedLine {
     pub generation: u64,
@@ -94,11 +94,12 @@ impl fmt::Display for RestartedLine {
     }
 }
 
-/// How many blank objects of each kind a restart of the store on this disk needs, on so many processors. It only reads
-/// the disk, and writes nothing.
+/// How many blank objects of each kind a restart of the store on this disk needs, on so many
+/// processors. It only reads the disk, and writes nothing.
 ///
-/// Where no store is found the refusal's line is written: `BadPes` where there aren't 1 to 64 processors, before anything
-/// is read; else `Damaged`, `NothingHere`, `Memory` or `Device`, as [`charmlet_recover::manifest`] has them.
+/// Where no store is found the refusal's line is written: `BadPes` where there aren't 1 to 64
+/// processors, before anything is read; else `Damaged`, `NothingHere`, `Memory` or `Device`, as
+/// [`charmlet_recover::manifest`] has them.
 pub fn find_blanks<D: Disk, W: Write>(
     alloc: Global,
     disk: &mut D,
@@ -133,22 +134,24 @@ pub fn find_blanks<D: Disk, W: Write>(
     }
 }
 
-/// Goes on with the store on a disk, whatever a crash left there, on so many processors, and runs a script's lines.
-/// First it writes the generation of the half that was taken, how many events came back, and the number of processors;
-/// then what the lines print: all that a line prints is written before the next line is run. `blanks` are the objects of which the store's
-/// elements are made, as many as [`find_blanks`] names, and those beyond come to its stock; `supplies` those that the script's
-/// lines supply, of which those beyond are dropped at the end. A refusal is an answer, and the run goes on. The disk comes back in any case.
+/// Goes on with the store on a disk, whatever a crash left there, on so many processors, and runs a
+/// script's lines. First it writes the generation of the half that was taken, how many events came
+/// back, and the number of processors; then what the lines print: all that a line prints is written
+/// before the next line is run. `blanks` are the objects of which the store's elements are made, as
+/// many as [`find_blanks`] names, and those beyond come to its stock; `supplies` those that the
+/// script's lines supply, of which those beyond are dropped at the end. A refusal is an answer, and
+/// the run goes on. The disk comes back in any case.
 ///
-/// No store comes back for the reasons of [`charmlet_recover::restart`], in its order. Then the refusal is written, no
-/// line is run, nothing on the disk is changed, and all objects are dropped.
+/// No store comes back for the reasons of [`charmlet_recover::restart`], in its order. Then the
+/// refusal is written, no line is run, nothing on the disk is changed, and all objects are dropped.
 ///
-/// After a crash at any moment of an earlier run on this disk the store has the world after some of what had happened,
-/// with all that was durable among it, and what clients were told before is true. What is said of a run's disk by
-/// [`crate::run_script`] holds here too: from the end of each line on, a crash leaves files with all events that were
-/// durable then.
+/// After a crash at any moment of an earlier run on this disk the store has the world after some of
+/// what had happened, with all that was durable among it, and what clients were told before is
+/// true. What is said of a run's disk by [`crate::run_script`] holds here too: from the end of each
+/// line on, a crash leaves files with all events that were durable then.
 ///
-/// The disk's count of failures grows by one for each `Device` that is answered, and for nothing else. The
-/// disk is as honest as before. `RestartError` says what each error means.
+/// The disk's count of failures grows by one for each `Device` that is answered, and for nothing
+/// else. The disk is as honest as before. `RestartError` says what each error means.
 pub fn restart_script<D: Disk, C: Chare, W: Write>(
     alloc: Global,
     disk: D,
@@ -194,8 +197,8 @@ fn supplied_by(script: &RestartScript) -> Wanted
     }
 }
 
-/// What a restart for a script begins with: the objects of which the store's elements are made, those that the script's lines supply, and its
-/// handlers.
+/// What a restart for a script begins with: the objects of which the store's elements are made,
+/// those that the script's lines supply, and its handlers.
 #[derive(Drop)]
 struct Prepared<C: Chare> {
     given: Stock<C>,

@@ -44,12 +44,13 @@ pub enum RunError<C: Chare> {
     /// There are fewer objects of a kind than the script supplies. All come back, and nothing was
     /// written.
     TooFewBlanks(Vec<C>),
-    /// The store wasn't created, for this reason, whose line is all that was written. No line was run.
+    /// The store wasn't created, for this reason, whose line is all that was written. No line was
+    /// run.
     NotCreated(Refusal),
     /// Memory was refused before the store was to be created. Nothing was written.
     Memory,
-    /// A line couldn't be written: the output failed, or memory for the line's text was refused. A beginning of what
-    /// the script prints was written.
+    /// A line couldn't be written: the output failed, or memory for the line's text was refused. A
+    /// beginning of what the script prints was written.
     Output(io::Error),
 }
 
@@ -76,25 +77,25 @@ pub struct Ran<D: Disk, C: Chare> {
     pub result: Result<(), RunError<C>>,
 }
 
-/// Makes the script's store on a disk, runs its lines there, and writes what they print: all that a line
-/// prints is written before the next line is run. `blanks` are the objects that the script's lines supply;
-/// those beyond are dropped at the end. A refusal is an answer, and the run goes on. The disk has to be
-/// settled, and comes back in any case.
+/// Makes the script's store on a disk, runs its lines there, and writes what they print: all that a
+/// line prints is written before the next line is run. `blanks` are the objects that the script's
+/// lines supply; those beyond are dropped at the end. A refusal is an answer, and the run goes on.
+/// The disk has to be settled, and comes back in any case.
 ///
-/// There is no store where the script's number of processors is outside 1 to 64, `BadPes`; a half of the
-/// disk is open, `AlreadyHere`; memory is refused, `Memory`; or the device fails, `Device`. Then the refusal
-/// is written, no line is run, and all objects are dropped.
+/// There is no store where the script's number of processors is outside 1 to 64, `BadPes`; a half
+/// of the disk is open, `AlreadyHere`; memory is refused, `Memory`; or the device fails, `Device`.
+/// Then the refusal is written, no line is run, and all objects are dropped.
 ///
-/// On an honest disk a crash at any moment of the run leaves files that recover to nothing, or to the world
-/// after some of the run's history. From the end of each line on it is one that has all events which were
-/// durable then: what a line has told, or counted as durable, stays so. And so it is from the run's end on,
-/// whether each line was run or not.
+/// On an honest disk a crash at any moment of the run leaves files that recover to nothing, or to
+/// the world after some of the run's history. From the end of each line on it is one that has all
+/// events which were durable then: what a line has told, or counted as durable, stays so. And so it
+/// is from the run's end on, whether each line was run or not.
 ///
-/// The disk's count of failures grows by one for each `Device` that is answered, and for nothing else. The
-/// disk is as honest as before.
+/// The disk's count of failures grows by one for each `Device` that is answered, and for nothing
+/// else. The disk is as honest as before.
 ///
-/// `RunError` says what each error means; where there are too few objects, it comes before the test of the
-/// number of processors.
+/// `RunError` says what each error means; where there are too few objects, it comes before the test
+/// of the number of processors.
 pub fn run_script<D: Disk, C: Chare, W: Write>(
     alloc: Global,
     disk: D,
@@ -120,7 +121,8 @@ pub fn run_script<D: Disk, C: Chare, W: Write>(
     }
 }
 
-/// What a run of a script begins with: the arrays of its store, its handlers, and the blanks that it supplies.
+/// What a run of a script begins with: the arrays of its store, its handlers, and the blanks that
+/// it supplies.
 #[derive(Drop)]
 struct Prepared<C: Chare> {
     manifest: Manifest,
@@ -128,8 +130,8 @@ struct Prepared<C: Chare> {
     source: Stock<C>,
 }
 
-/// The arrays of a script's store, its handlers, and a stock of the objects that its lines supply. `TooFewBlanks` where
-/// there aren't as many, and `Memory`.
+/// The arrays of a script's store, its handlers, and a stock of the objects that its lines supply.
+/// `TooFewBlanks` where there aren't as many, and `Memory`.
 fn prepare<C: Chare>(
     alloc: Global,
     script: &Script,

@@ -31,8 +31,8 @@ use std::io::Write;
 pub enum ShowError {
     /// Nothing is found, for this reason, whose line is all that was written.
     Refused(Refusal),
-    /// A line couldn't be written: the output failed, or memory for the line's text was refused. A beginning of what is
-    /// shown was written.
+    /// A line couldn't be written: the output failed, or memory for the line's text was refused. A
+    /// beginning of what is shown was written.
     Output(io::Error),
 }
 
@@ -41,8 +41,8 @@ pub enum ShowError {
 /// and its version; then how many blank objects of each kind a restart needs, where it needs some.
 /// It only reads the disk.
 ///
-/// Where nothing is found the refusal's line is written: `Damaged`, `NothingHere`, `Memory` or `Device`, as
-/// [`charmlet_recover::manifest`] has them. `ShowError` says what each error means.
+/// Where nothing is found the refusal's line is written: `Damaged`, `NothingHere`, `Memory` or
+/// `Device`, as [`charmlet_recover::manifest`] has them. `ShowError` says what each error means.
 pub fn show_store<D: Disk, W: Write>(
     alloc: Global,
     disk: &mut D,
@@ -102,7 +102,8 @@ fn list_found<D: Disk>(alloc: Global, disk: &mut D) -> Result<Listed, Refusal>
     }
 }
 
-/// Writes what is found. An error is as `write_line` has it, and the lines before that one stay written.
+/// Writes what is found. An error is as `write_line` has it, and the lines before that one stay
+/// written.
 fn write_found<W: Write>(alloc: Global, writer: &mut W, listed: &Listed) -> io::Result<()>
     requires { listed.now.arrays.items ≡ listed.now.found.manifest }
     ensures { Writes result (W.contents writer.old) (W.contents writer.new)

@@ -22,7 +22,8 @@ use std::alloc::{AllocError, Global};
 use std::io;
 use std::io::Write;
 
-/// Writes where the element stands and its state, or that memory was refused. An error is as `write_line` has it.
+/// Writes where the element stands and its state, or that memory was refused. An error is as
+/// `write_line` has it.
 pub fn state_line<D: Disk, C: Chare, W: Write>(
     alloc: Global,
     engine: &mut Engine<D, C>,
@@ -41,8 +42,8 @@ pub fn state_line<D: Disk, C: Chare, W: Write>(
     write_line(alloc, writer, &shown)
 }
 
-/// What a line shows of an element. It fails only when out of memory, and not where the element isn't
-/// there.
+/// What a line shows of an element. It fails only when out of memory, and not where the element
+/// isn't there.
 fn shown<D: Disk, C: Chare>(
     alloc: Global,
     engine: &mut Engine<D, C>,
@@ -78,7 +79,8 @@ fn shown<D: Disk, C: Chare>(
     })
 }
 
-/// Writes the ids of the pending messages, or that memory was refused. An error is as `write_line` has it.
+/// Writes the ids of the pending messages, or that memory was refused. An error is as `write_line`
+/// has it.
 pub fn pending_line<D: Disk, C: Chare, W: Write>(
     alloc: Global,
     engine: &Engine<D, C>,
@@ -94,8 +96,8 @@ pub fn pending_line<D: Disk, C: Chare, W: Write>(
     write_line(alloc, writer, &PendingIds(ids.as_slice()))
 }
 
-/// Writes, for each kind of which objects were supplied, where they are, a line each. An error is as `write_line` has
-/// it, and the lines before that one stay written.
+/// Writes, for each kind of which objects were supplied, where they are, a line each. An error is
+/// as `write_line` has it, and the lines before that one stay written.
 pub fn census_line<D: Disk, C: Chare, W: Write>(
     alloc: Global,
     engine: &Engine<D, C>,

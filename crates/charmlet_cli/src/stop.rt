@@ -36,8 +36,8 @@ impl Stop {
     ghost use Rattle.std.specs.Prelude.{◌≡◌};
     ghost use Rattle.charmlet_cli.specs.Stop.{status_of};
 
-    /// The program's exit status: 1 where it can't go on, has no store, shows none, or found bad outcomes, and 2 for a script
-    /// that can't be run.
+    /// The program's exit status: 1 where it can't go on, has no store, shows none, or found bad
+    /// outcomes, and 2 for a script that can't be run.
     pub fn status(&self) -> u8
         ensures { result ≡ status_of self.now }
     {
@@ -52,8 +52,8 @@ impl Stop {
     }
 }
 
-/// What to do where there is no store for this reason, to follow `cannot create store` and its like. It is
-/// empty where the refusal's own line says it all.
+/// What to do where there is no store for this reason, to follow `cannot create store` and its
+/// like. It is empty where the refusal's own line says it all.
 fn advice(refusal: &Refusal) -> &'static str
     ensures { result.now ≡ advice_of refusal.now }
 {
@@ -70,7 +70,8 @@ fn advice(refusal: &Refusal) -> &'static str
     }
 }
 
-/// Writes what is said on standard error, without a line feed: why the program stops, and what to do.
+/// Writes what is said on standard error, without a line feed: why the program stops, and what to
+/// do.
 impl fmt::Display for Stop {
     ghost use Rattle.std.specs.Prelude.{Some};
     ghost use Rattle.charmlet_cli.specs.Stop.{stop_text};

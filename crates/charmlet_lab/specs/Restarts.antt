@@ -35,8 +35,8 @@ abbrev pub IsKnown : Result finding.Found Refusal → Type 0
 IsKnown found = IfErr found (λ refusal. (refusal ≢ Memory) × (refusal ≢ Device))
 
 module _ {D : Type 0} (G : disks.Ghosts D) where
-  -- Of an honest disk the crash leaves what its choice says, which is one of what a crash may leave,
-  -- and all of it is sure. The disk is as honest as before.
+  -- Of an honest disk the crash leaves what its choice says, which is one of what a crash may
+  -- leave, and all of it is sure. The disk is as honest as before.
   pub record IsCrash (choice : CrashChoice) (old new : D) : Type 0 where
     pub left : G.honest old → (half : Half) →
         G.file new half ≡ clean (left_by choice (G.file old half))
@@ -68,16 +68,17 @@ module _ {D : Type 0} (G : disks.Ghosts D) where
         AnswersBy (restart_refusal given (bytes_on (G.file disk))) back
     pub refusals : IfErr back (λ refusal. is_restart_refusal refusal ≡ true)
 
-  -- a restart from this disk, with these blanks and on the script's processors, is called bad if and
-  -- only if it is
+  -- a restart from this disk, with these blanks and on the script's processors, is called bad if
+  -- and only if it is
   pub record IsJudged (script : Contents) (given : Blanks) (disk : D) (events : List Event)
       (durable : Option ℕ) (bad : Bool) : Type 0 where
     pub back : Result Core Refusal
     pub restart : IsRestart (processors_of script) given disk back
     pub judged : (bad ≡ false) ↔ IsGood (arrays_of script) events durable back
 
-  -- why there is no such restart, or none that is judged: there are too few blanks, of this kind and
-  -- no lesser one; an image of the store that came back would pass a limit; or memory is lacking
+  -- why there is no such restart, or none that is judged: there are too few blanks, of this kind
+  -- and no lesser one; an image of the store that came back would pass a limit; or memory is
+  -- lacking
   abbrev pub IsNotTried : Contents → (given wanted : Blanks) → D → Refusal → Type 0
   IsNotTried script given wanted disk (BlanksWanted kind count) =
       IsLeastShort given wanted kind count

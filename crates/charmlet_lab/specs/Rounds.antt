@@ -37,8 +37,8 @@ IsExpected kinds events (Some durable) outcome = IsLawful (new_world kinds) 0 ev
 module _ {D : Type 0} (G : disks.Ghosts D) where
   -- A run on a disk leaves this. Its events can happen one after another; those that are durable
   -- are among them; a store was made where the disk didn't fail, and on an honest disk only where
-  -- no half was open; and of an honest disk on which no store was, each crash afterwards leaves what
-  -- is expected.
+  -- no half was open; and of an honest disk on which no store was, each crash afterwards leaves
+  -- what is expected.
   pub record IsRound (kinds : Kinds) (first : D) (round : Round D) : Type 0 where
     pub legal : IsLegal (new_world kinds) 0 round.events.items
     pub within : IfSome round.durable (λ durable. durable ≤ length round.events.items)

@@ -88,8 +88,8 @@ module _ {D : Type 0} (G : disks.Ghosts D) (calls_left : D → Option ℕ) where
     pub run : IsRunAfter script calls round
     pub unstopped : round.is_stopped ≡ false
 
-  -- What is found of a script: all crashes of so many stops, and the first ones of the next stop, at
-  -- which a run wasn't stopped. It would take 2^60 stops to end before.
+  -- What is found of a script: all crashes of so many stops, and the first ones of the next stop,
+  -- at which a run wasn't stopped. It would take 2^60 stops to end before.
   pub record Finds (script : Contents) (line : LabLine) : Type 0 where
     pub more : ℕ
     pub tried : AreTried script (places line.stops ++ take more (places_at line.stops)) line

@@ -10,7 +10,8 @@ use std::sync::atomic::Ordering;
 /// What a line prints that shows something and is refused memory.
 const REFUSED: &[u8] = b"refused 1 Memory\n";
 
-/// Runs a line, and prints what it answers. Where memory is refused, and that is asked for, it is run once more.
+/// Runs a line, and prints what it answers. Where memory is refused, and that is asked for, it is
+/// run once more.
 pub(crate) fn run_line(
     alloc: Global,
     bench: &mut Bench,

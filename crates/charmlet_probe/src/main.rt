@@ -1,5 +1,5 @@
-//! `charmlet_probe`: runs the lines of a probe, over a disk that fails as told and objects that count what is done with
-//! them.
+//! `charmlet_probe`: runs the lines of a probe, over a disk that fails as told and objects that
+//! count what is done with them.
 #![tactic(auto)]
 
 mod lines;

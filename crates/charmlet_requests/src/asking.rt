@@ -10,11 +10,12 @@ use crate::pass::ClientPass;
 use charmlet_history::{History, Request};
 use charmlet_model::{Elem, Refusal, Told};
 
-/// A request of the pass's client, as [`History::request`] takes it, with the same refusals in the same order. Where it isn't refused
-/// the pass keeps that it was accepted, and what was told of it. A refusal changes nothing.
+/// A request of the pass's client, as [`History::request`] takes it, with the same refusals in the
+/// same order. Where it isn't refused the pass keeps that it was accepted, and what was told of it.
+/// A refusal changes nothing.
 ///
-/// Where all that the pass knows is true of the durable events, so it is afterwards; and the client is told no less of the request
-/// than it knew, nor other words.
+/// Where all that the pass knows is true of the durable events, so it is afterwards; and the client
+/// is told no less of the request than it knew, nor other words.
 pub fn request(
     history: &mut History,
     pass: &mut ClientPass,
@@ -50,11 +51,12 @@ pub fn request(
     Ok(told)
 }
 
-/// Tells the pass's client what is durable of its request, as [`History::status`] does, with the same refusals in the same order; the
-/// pass keeps it. A refusal changes nothing. An answer without words takes no memory.
+/// Tells the pass's client what is durable of its request, as [`History::status`] does, with the
+/// same refusals in the same order; the pass keeps it. A refusal changes nothing. An answer without
+/// words takes no memory.
 ///
-/// Where all that the pass knows is true of the durable events, so it is afterwards; and the client is told no less of the request
-/// than it knew, nor other words.
+/// Where all that the pass knows is true of the durable events, so it is afterwards; and the client
+/// is told no less of the request than it knew, nor other words.
 pub fn status(history: &History, pass: &mut ClientPass, number: u64) -> Result<Told, Refusal>
     requires consistent { IsConsistent (kept_in history.now) }
     ensures steps { (blanks : Blanks) → Steps (core_in history.now) blanks

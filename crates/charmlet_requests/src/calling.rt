@@ -18,9 +18,10 @@ use crate::pass::ClientPass;
 use charmlet_history::History;
 use charmlet_model::{Elem, MAX_ARRAYS, Manifest, Refusal, Told};
 
-/// A request of the pass's client, as [`request`] takes it, at the entry of a named handler, to the element of its array that has this
-/// index. Where no handler has the name, the array isn't there: the answer is `NoArray`, but only where no earlier refusal comes, and a repeat
-/// is answered as a repeat.
+/// A request of the pass's client, as [`request`] takes it, at the entry of a named handler, to the
+/// element of its array that has this index. Where no handler has the name, the array isn't there:
+/// the answer is `NoArray`, but only where no earlier refusal comes, and a repeat is answered as a
+/// repeat.
 pub fn call(
     history: &mut History,
     pass: &mut ClientPass,
@@ -54,8 +55,8 @@ pub fn call(
     request(history, pass, number, to, handler.entry, words)
 }
 
-/// The handler of a name, or one of an array that isn't there, so that a request to it is refused as `NoArray`, at that refusal's place in
-/// the order. It takes no memory.
+/// The handler of a name, or one of an array that isn't there, so that a request to it is refused
+/// as `NoArray`, at that refusal's place in the order. It takes no memory.
 pub fn target(history: &History, handlers: &Handlers, name: &str) -> Handler
     requires consistent { IsConsistent (kept_in history.now) }
     ensures { (index : ℕ) → IsTarget (present (core_in history.now)) index

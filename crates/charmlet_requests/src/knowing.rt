@@ -9,8 +9,8 @@ ghost use Rattle.charmlet_requests.specs.Knowing.{IsWindowed, gone_on, heard, pa
 use charmlet_model::{ClientRow, MAX_UNANSWERED, Told, Window, Words};
 use std::alloc::{AllocError, Global};
 
-/// The row knows what was told of a request. It fails only when out of memory, and takes none where nothing was told
-/// that has words, or where the row has these already. Then nothing changes.
+/// The row knows what was told of a request. It fails only when out of memory, and takes none where
+/// nothing was told that has words, or where the row has these already. Then nothing changes.
 pub(crate) fn hear(
     row: &mut ClientRow,
     alloc: Global,
@@ -37,7 +37,8 @@ pub(crate) fn hear(
     }
 }
 
-/// The row knows the reply to a request. It fails only when out of memory, and then nothing changes.
+/// The row knows the reply to a request. It fails only when out of memory, and then nothing
+/// changes.
 fn hear_reply(
     row: &mut ClientRow,
     alloc: Global,

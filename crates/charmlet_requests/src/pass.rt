@@ -5,8 +5,9 @@ use charmlet_model::{ClientRow, Told};
 use std::alloc::{AllocError, Global};
 use std::marker::Model;
 
-/// What a client has of its requests over one history: which of them were accepted since the pass was lent, and what it was told of
-/// them. Over the history it was lent for it is never told less than before, nor other words.
+/// What a client has of its requests over one history: which of them were accepted since the pass
+/// was lent, and what it was told of them. Over the history it was lent for it is never told less
+/// than before, nor other words.
 #[derive(Debug, Drop)]
 pub struct ClientPass {
     alloc: Global,
@@ -71,7 +72,8 @@ impl ClientPass {
         self.last
     }
 
-    /// How many requests were accepted since the pass was lent: those with the numbers up to the last one.
+    /// How many requests were accepted since the pass was lent: those with the numbers up to the
+    /// last one.
     pub fn accept_count(&self) -> u64
         ensures number { result ≡ self.now.last - self.now.lent_at }
         ensures count { result ≡ length (accepts_of self.now) }
@@ -79,9 +81,9 @@ impl ClientPass {
         self.last - self.lent_at
     }
 
-    /// What is known of a request: the highest that the client was told of it, or what follows from what it was told of
-    /// others. Of the client's last eight requests replies are kept. It fails only when out of memory, and takes none where
-    /// what is known has no words.
+    /// What is known of a request: the highest that the client was told of it, or what follows from
+    /// what it was told of others. Of the client's last eight requests replies are kept. It fails
+    /// only when out of memory, and takes none where what is known has no words.
     pub fn known(&self, number: u64) -> Result<Told, AllocError>
         ensures known { IfOk result (λ told. told ≡ known self.now number) }
         ensures words { OnErr result (has_words (known self.now number) ≡ true) }
@@ -89,8 +91,9 @@ impl ClientPass {
         self.row.told(self.alloc, number)
     }
 
-    /// Keeps what the client was told of a request, so that no less is known of any request than before. It fails only
-    /// when out of memory, and then nothing changes. It takes none where that has no words.
+    /// Keeps what the client was told of a request, so that no less is known of any request than
+    /// before. It fails only when out of memory, and then nothing changes. It takes none where that
+    /// has no words.
     pub fn hear(&mut self, number: u64, told: &Told) -> Result<(), AllocError>
         ensures ok { OnOk result (self.new ≡ with_told self.old number told.now) }
         ensures kept { (other : ℕ) → IsNoLess (known self.old other) (known self.new other) }

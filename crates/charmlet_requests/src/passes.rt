@@ -55,7 +55,8 @@ impl Passes {
         self.out.contains(&client)
     }
 
-    /// Lends a client its pass over this history. `PassOut` where it is out, else `Memory`; and then nothing changes.
+    /// Lends a client its pass over this history. `PassOut` where it is out, else `Memory`; and
+    /// then nothing changes.
     pub fn lend(&mut self, history: &History, client: u32) -> Result<ClientPass, Refusal>
         requires consistent { IsConsistent (kept_in history.now) }
         ensures lent { IfOk result (λ pass. pass

@@ -10,7 +10,8 @@ use std::marker::Model;
 pub(crate) enum Purpose {
     /// A run over a new store, which the script's header describes.
     Run,
-    /// What comes after a restart. The header of such a script describes no store, since it is there already.
+    /// What comes after a restart. The header of such a script describes no store, since it is
+    /// there already.
     Restart,
 }
 
@@ -29,8 +30,8 @@ impl Purpose {
     }
 }
 
-/// The lines of a script so far. A contract sees the number of processors, if one is declared, and the
-/// three lists.
+/// The lines of a script so far. A contract sees the number of processors, if one is declared, and
+/// the three lists.
 #[derive(Drop)]
 pub(crate) struct Draft {
     processors: Option<u16>,

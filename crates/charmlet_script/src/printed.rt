@@ -17,8 +17,8 @@ pub struct Drained {
     pub left: u64,
 }
 
-/// What a `state` line answers: an element, how many messages it sent and received, and, while it is
-/// there, where it stands.
+/// What a `state` line answers: an element, how many messages it sent and received, and, while it
+/// is there, where it stands.
 #[derive(Debug, Drop)]
 pub struct Shown {
     pub elem: Elem,
@@ -38,8 +38,8 @@ pub struct Standing {
 #[derive(Clone, Copy, Debug)]
 pub struct PendingIds<'a>(pub &'a [MsgId]);
 
-/// A line of what `census` answers: of one kind, how many objects were supplied, are on shelves, are in
-/// the stock, and were retired.
+/// A line of what `census` answers: of one kind, how many objects were supplied, are on shelves,
+/// are in the stock, and were retired.
 #[derive(Clone, Copy, Debug, PartialEq, Eq)]
 pub struct Counted {
     pub kind: Kind,
@@ -77,8 +77,8 @@ impl fmt::Display for Drained {
     }
 }
 
-/// Writes `state A.I pe P sent S received R X`, or `state A.I none sent S received R` where the element
-/// isn't there, without a line feed.
+/// Writes `state A.I pe P sent S received R X`, or `state A.I none sent S received R` where the
+/// element isn't there, without a line feed.
 impl fmt::Display for Shown {
     ghost use Rattle.std.specs.Prelude.{Some};
     ghost use Rattle.charmlet_script.specs.Printed.{shown_text};

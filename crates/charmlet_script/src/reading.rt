@@ -30,8 +30,8 @@ fn has_array(arrays: &[ArrayLine], array: u16) -> bool
     arrays.iter().any(|other| other.array == array)
 }
 
-/// Whether an array line may stand here: in the header of a run's script, before the other lines, once
-/// for an array, and at most 64 times.
+/// Whether an array line may stand here: in the header of a run's script, before the other lines,
+/// once for an array, and at most 64 times.
 fn may_add(purpose: Purpose, script: &Draft, line: ArrayLine) -> bool
     ensures { result ≡ may_add purpose script.now line }
 {
@@ -56,8 +56,8 @@ fn add_array(purpose: Purpose, script: &mut Draft, line: ArrayLine) -> Result<()
     Ok(())
 }
 
-/// Whether a line of the number of processors may stand here: in the header of a run's script, before
-/// the other lines, once.
+/// Whether a line of the number of processors may stand here: in the header of a run's script,
+/// before the other lines, once.
 fn may_declare(purpose: Purpose, script: &Draft) -> bool
     ensures { result ≡ may_declare purpose script.now }
 {
@@ -223,9 +223,10 @@ fn read_text<R: Read>(alloc: Global, reader: &mut R) -> Result<Vec<u8>, io::Erro
 
 /// Reads the script of a run, of at most 1,048,576 bytes, and nothing past the byte after these.
 ///
-/// Where a line is malformed, it answers `ReadError::Malformed` with the number of the first one, or
-/// with 1 where no line spells an array; where a read fails, `ReadError::Failed`, and where memory
-/// runs out, `ReadError::Memory`. An interrupted read is tried again. After an error the reader has given any part of its bytes.
+/// Where a line is malformed, it answers `ReadError::Malformed` with the number of the first one,
+/// or with 1 where no line spells an array; where a read fails, `ReadError::Failed`, and where
+/// memory runs out, `ReadError::Memory`. An interrupted read is tried again. After an error the
+/// reader has given any part of its bytes.
 pub fn read_script<R: Read>(alloc: Global, reader: &mut R) -> Result<Script, ReadError>
     ensures reads { IfSome (R.remaining reader.old) (λ bytes. Answers result (script_of bytes)) }
     ensures failure { IfErr result TellsFailure }
@@ -235,13 +236,13 @@ pub fn read_script<R: Read>(alloc: Global, reader: &mut R) -> Result<Script, Rea
     read_lines(alloc, &lines)
 }
 
-/// Reads the script of a restart, of at most 1,048,576 bytes, and nothing past the byte after these.
-/// The header of such a script is its `handler` lines, and it may have no line at all.
+/// Reads the script of a restart, of at most 1,048,576 bytes, and nothing past the byte after
+/// these. The header of such a script is its `handler` lines, and it may have no line at all.
 ///
-/// Where a line is malformed, it answers `ReadError::Malformed` with the number of the first one; an
-/// `array` line and a `pes` line are malformed wherever they stand. Where a read fails, it answers
-/// `ReadError::Failed`, and where memory runs out, `ReadError::Memory`. An interrupted read is tried
-/// again. After an error the reader has given any part of its bytes.
+/// Where a line is malformed, it answers `ReadError::Malformed` with the number of the first one;
+/// an `array` line and a `pes` line are malformed wherever they stand. Where a read fails, it
+/// answers `ReadError::Failed`, and where memory runs out, `ReadError::Memory`. An interrupted read
+/// is tried again. After an error the reader has given any part of its bytes.
 pub fn read_restart_script<R: Read>(
     alloc: Global,
     reader: &mut R,

@@ -4,9 +4,9 @@ use crate::script::{HandlerLine, Line, total_blanks};
 use charmlet_model::Kind;
 use std::marker::Model;
 
-/// A script that was read for a restart: its handlers, and the lines after them, in order. Its header has
-/// nothing else, since its arrays come back with the store, and the number of processors is given
-/// elsewhere. A contract sees the two lists.
+/// A script that was read for a restart: its handlers, and the lines after them, in order. Its
+/// header has nothing else, since its arrays come back with the store, and the number of processors
+/// is given elsewhere. A contract sees the two lists.
 #[derive(Debug, Drop)]
 pub struct RestartScript {
     handlers: Vec<HandlerLine>,

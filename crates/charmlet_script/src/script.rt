@@ -42,8 +42,8 @@ pub enum Line {
     Pending,
     /// `census`: it is shown of each kind where its objects are.
     Census,
-    /// `call C N NAME I W..`: a client asks for a delivery to the element with index I of the array that
-    /// the name is registered for, at the entry that it is registered for.
+    /// `call C N NAME I W..`: a client asks for a delivery to the element with index I of the array
+    /// that the name is registered for, at the entry that it is registered for.
     Call {
         client: u32,
         number: u64,
@@ -92,9 +92,9 @@ pub(crate) fn total_blanks(lines: &[Line], kind: Kind) -> u64
     total
 }
 
-/// A script that was read: its header, which is a number of processors, arrays that make a manifest, and
-/// handlers, and the lines after it in order. A contract sees the number, if a line declares it, and the
-/// three lists.
+/// A script that was read: its header, which is a number of processors, arrays that make a
+/// manifest, and handlers, and the lines after it in order. A contract sees the number, if a line
+/// declares it, and the three lists.
 #[derive(Debug, Drop)]
 pub struct Script {
     processors: Option<u16>,
@@ -177,8 +177,8 @@ impl Script {
         self.lines.as_slice()
     }
 
-    /// The manifest of the arrays, each in the newest version of its kind, with which a new world is
-    /// fit. It fails only when out of memory.
+    /// The manifest of the arrays, each in the newest version of its kind, with which a new world
+    /// is fit. It fails only when out of memory.
     pub fn manifest(&self, alloc: Global) -> Result<Manifest, AllocError>
         ensures manifest { IfOk result (λ manifest. manifest_of (pairs_of self.now.arrays)
             ≡ Some manifest) }

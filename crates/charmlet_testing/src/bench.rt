@@ -176,8 +176,8 @@ impl Bench {
         }
     }
 
-    /// The store comes back on so many processors: with the blanks that came back and those that were laid by, or with
-    /// those that are wanted where there are none.
+    /// The store comes back on so many processors: with the blanks that came back and those that
+    /// were laid by, or with those that are wanted where there are none.
     pub fn restart(&mut self, processors: u16, out: &mut Vec<u8>) -> Result<(), Failed> {
         let alloc = self.alloc;
         self.disk()?;
@@ -210,7 +210,8 @@ impl Bench {
         }
     }
 
-    /// How many blanks of each kind a restart from the free disk wants, none where no store is found.
+    /// How many blanks of each kind a restart from the free disk wants, none where no store is
+    /// found.
     fn want(&mut self, wanted: &mut Vec<(Kind, u64)>) -> Result<(), Failed> {
         match manifest(self.alloc, self.disk()?.inner()) {
             Ok(found) => {

@@ -1,5 +1,5 @@
-//! What tests run over: a disk in memory that fails and forgets as told, objects that count what is done with them, and a bench,
-//! on which a store has both.
+//! What tests run over: a disk in memory that fails and forgets as told, objects that count what is
+//! done with them, and a bench, on which a store has both.
 #![tactic(auto)]
 
 mod bench;

@@ -9,7 +9,8 @@ use std::alloc::{AllocError, Global};
 use std::sync::Arc;
 use std::sync::atomic::{AtomicBool, AtomicU64, Ordering};
 
-/// How a disk misbehaves, and the calls that it had. Whoever has it may set it while a store has the disk.
+/// How a disk misbehaves, and the calls that it had. Whoever has it may set it while a store has
+/// the disk.
 #[derive(Drop)]
 pub struct Switches {
     /// How many writes and syncs pass before each fails.
@@ -45,7 +46,8 @@ impl Switches {
         self.once.store(u64::MAX, Ordering::SeqCst);
     }
 
-    /// How many lengths, reads, writes and syncs the disk in memory was asked for, and how many calls failed before it.
+    /// How many lengths, reads, writes and syncs the disk in memory was asked for, and how many
+    /// calls failed before it.
     pub fn counts(&self) -> [u64; 5] {
         [
             self.lengths.load(Ordering::SeqCst),
@@ -138,8 +140,8 @@ impl ProbeDisk {
         bytes_of(alloc, &mut self.disk, half)
     }
 
-    /// Writes these bytes to a half, where they begin inside or at its end, and makes them sure, which is no call
-    /// of the disk.
+    /// Writes these bytes to a half, where they begin inside or at its end, and makes them sure,
+    /// which is no call of the disk.
     pub fn put(&mut self, half: Half, offset: u64, bytes: &[u8]) -> Result<(), DeviceFault> {
         write(&mut self.disk, half, offset, bytes)?;
         self.disk.sync(half)

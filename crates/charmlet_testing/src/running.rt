@@ -151,8 +151,8 @@ impl Bench {
         }
     }
 
-    /// Delivers the oldest message that can be delivered, up to so many times: how often, and why it ended, where a
-    /// delivery was refused.
+    /// Delivers the oldest message that can be delivered, up to so many times: how often, and why
+    /// it ended, where a delivery was refused.
     fn deliver(&mut self, most: u32) -> (u32, Result<(), Failed>) {
         for delivered in 0..most {
             match self.deliver_again() {
