@@ -2,8 +2,8 @@ mod reading;
 mod worlds;
 
 use charmlet_model::{
-    CONSTRUCT, ClientRow, Elem, Half, Kind, Manifest, MsgId, Origin, Outgoing, Reaction, Refusal,
-    State, Words,
+    CONSTRUCT, ClientRow, Edition, Elem, Half, Kind, Manifest, MsgId, Origin, Outgoing, Reaction,
+    Refusal, State, Words,
 };
 use charmlet_plain::{pack_state, react, read_state};
 use charmlet_pup::PupFault;
@@ -21,12 +21,12 @@ const TAPE: [u8; 20] = [2, 0, 0, 0, 1, 0, 0, 0, 0, 0, 0, 0, 2, 1, 0, 0, 0, 0, 0,
 // What a message makes.
 fn answer(
     rt: &(impl AllocGlobal + Abort),
-    kind: Kind,
+    edition: Edition,
     state: Option<&State>,
     entry: u16,
     words: &[u64],
 ) -> Reaction {
-    let reaction = react(rt.alloc(), kind, ME, state, entry, words).expect(rt, "memory");
+    let reaction = react(rt.alloc(), edition, ME, state, entry, words).expect(rt, "memory");
     reaction.expect(rt, "a reaction")
 }
 
@@ -40,14 +40,14 @@ fn are_children(rt: &impl Abort, sends: &[Outgoing]) {
 
 #[test]
 fn tree_is_constructed_with_its_children(rt: HostRuntime) {
-    let made = answer(&rt, Kind::Tree, None, CONSTRUCT, &[2]);
+    let made = answer(&rt, Edition::Tree, None, CONSTRUCT, &[2]);
     are_children(&rt, made.sends.as_slice());
 }
 
 // An account of 10 is asked to pay this amount, and replies so.
 fn pays(rt: &(impl AllocGlobal + Abort), amount: u64, reply: u64) -> Reaction {
     let account = State::Account { balance: 10 };
-    let paid = answer(rt, Kind::Account, Some(&account), 0, &[9, amount]);
+    let paid = answer(rt, Edition::Account, Some(&account), 0, &[9, amount]);
     assert_eq!(rt; paid.reply.as_slice(), [reply].as_slice());
     paid
 }
@@ -59,9 +59,55 @@ fn account_pays_what_it_has(rt: HostRuntime) {
     pays(&rt, 11, 0);
 }
 
+// A message with this word makes this of an object, and replies so.
+fn makes(
+    rt: &(impl AllocGlobal + Abort),
+    edition: Edition,
+    state: Option<&State>,
+    entry: u16,
+    word: u64,
+    wanted: &str,
+) {
+    let made = answer(rt, edition, state, entry, &[word]);
+    let state = &made.state;
+    let reply = made.reply.as_slice();
+    let text = format!(in rt.alloc(); "{state:?} {reply:?}").expect(rt, "memory");
+    assert_eq!(rt; text.as_str(), wanted);
+}
+
+// A counter of version 2 takes, down to 0, and tells its peak. One of version 1 has neither entry.
+#[test]
+fn counters_react_by_their_version(rt: HostRuntime) {
+    let new = "Some(Counter { count: 5, peak: 5 }) []";
+    makes(&rt, Edition::Counter, None, CONSTRUCT, 5, new);
+    let counter = State::Counter { count: 8, peak: 9 };
+    for (entry, word, wanted) in [
+        (0, 1, "Some(Counter { count: 9, peak: 9 }) [9]"),
+        (0, 3, "Some(Counter { count: 11, peak: 11 }) [11]"),
+        (1, 3, "Some(Counter { count: 8, peak: 9 }) [8]"),
+        (2, 3, "Some(Counter { count: 5, peak: 9 }) [5]"),
+        (2, 9, "Some(Counter { count: 0, peak: 9 }) [0]"),
+        (3, 3, "Some(Counter { count: 8, peak: 9 }) [9]"),
+        (4, 3, "Some(Counter { count: 8, peak: 9 }) []"),
+    ] {
+        makes(&rt, Edition::Counter, Some(&counter), entry, word, wanted);
+    }
+    let new = "Some(FirstCounter { count: 5 }) []";
+    makes(&rt, Edition::FirstCounter, None, CONSTRUCT, 5, new);
+    let counter = State::FirstCounter { count: 8 };
+    for (entry, word, wanted) in [
+        (0, 3, "Some(FirstCounter { count: 11 }) [11]"),
+        (1, 3, "Some(FirstCounter { count: 8 }) [8]"),
+        (2, 3, "Some(FirstCounter { count: 8 }) []"),
+        (3, 3, "Some(FirstCounter { count: 8 }) []"),
+    ] {
+        makes(&rt, Edition::FirstCounter, Some(&counter), entry, word, wanted);
+    }
+}
+
 #[test]
 fn absent_elements_do_not_react(rt: HostRuntime) {
-    let reaction = react(rt.alloc(), Kind::Ring, ME, None, 0, &[1]).expect(&rt, "memory");
+    let reaction = react(rt.alloc(), Edition::Ring, ME, None, 0, &[1]).expect(&rt, "memory");
     assert!(rt; reaction.is_none());
 }
 
@@ -75,9 +121,9 @@ fn packed_tape(rt: &(impl AllocGlobal + Abort)) -> Vec<u8> {
 fn tapes_are_packed_and_read(rt: HostRuntime) {
     let bytes = packed_tape(&rt);
     assert_eq!(rt; bytes.as_slice(), TAPE.as_slice());
-    let read = read_state(rt.alloc(), Kind::Tape, &TAPE).expect(&rt, "a tape");
+    let read = read_state(rt.alloc(), Edition::Tape, &TAPE).expect(&rt, "a tape");
     assert!(rt; matches!(&read, State::Tape { items } if items.as_slice() == ITEMS.as_slice()));
-    let short = read_state(rt.alloc(), Kind::Tape, &TAPE[..19]);
+    let short = read_state(rt.alloc(), Edition::Tape, &TAPE[..19]);
     assert!(rt; matches!(short, Err(PupFault::Short)));
 }
 
@@ -96,6 +142,22 @@ fn kinds_have_their_numbers(rt: HostRuntime) {
     assert_eq!(rt; Kind::of_number(7), None);
 }
 
+#[test]
+fn kinds_have_their_versions(rt: HostRuntime) {
+    for (number, version, wanted) in [
+        (1, 0, None),
+        (1, 1, Some(Edition::FirstCounter)),
+        (1, 2, Some(Edition::Counter)),
+        (1, 3, None),
+        (2, 0, None),
+        (2, 1, Some(Edition::Ring)),
+        (2, 2, None),
+        (2, 3, None),
+    ] {
+        assert_eq!(rt; Edition::of_version(number, version), wanted);
+    }
+}
+
 // The manifest of these arrays, if they make one.
 fn manifest_of(rt: &(impl AllocGlobal + Abort), pairs: &[(u16, u16)]) -> Option<Manifest> {
     Manifest::of(rt.alloc(), pairs).expect(rt, "memory")
@@ -104,8 +166,9 @@ fn manifest_of(rt: &(impl AllocGlobal + Abort), pairs: &[(u16, u16)]) -> Option<
 #[test]
 fn manifests_have_distinct_arrays(rt: HostRuntime) {
     let manifest = manifest_of(&rt, &[(9, 6), (0, 1)]).expect(&rt, "a manifest");
-    assert_eq!(rt; manifest.kind_of(9), Some(Kind::Tape));
-    assert_eq!(rt; manifest.kind_of(1), None);
+    assert_eq!(rt; manifest.edition_of(9), Some(Edition::Tape));
+    assert_eq!(rt; manifest.edition_of(0), Some(Edition::Counter));
+    assert_eq!(rt; manifest.edition_of(1), None);
     assert!(rt; manifest_of(&rt, &[]).is_none());
     assert!(rt; manifest_of(&rt, &[(0, 0)]).is_none());
     assert!(rt; manifest_of(&rt, &[(0, 7)]).is_none());
