@@ -94,14 +94,14 @@ fn counters_react_by_their_version(rt: HostRuntime) {
     }
     let new = "Some(FirstCounter { count: 5 }) []";
     makes(&rt, Edition::FirstCounter, None, CONSTRUCT, 5, new);
-    let counter = State::FirstCounter { count: 8 };
-    for (entry, word, wanted) in [
-        (0, 3, "Some(FirstCounter { count: 11 }) [11]"),
-        (1, 3, "Some(FirstCounter { count: 8 }) [8]"),
-        (2, 3, "Some(FirstCounter { count: 8 }) []"),
-        (3, 3, "Some(FirstCounter { count: 8 }) []"),
+    let first = State::FirstCounter { count: 8 };
+    for (entry, wanted) in [
+        (0, "Some(FirstCounter { count: 11 }) [11]"),
+        (1, "Some(FirstCounter { count: 8 }) [8]"),
+        (2, "Some(FirstCounter { count: 8 }) []"),
+        (3, "Some(FirstCounter { count: 8 }) []"),
     ] {
-        makes(&rt, Edition::FirstCounter, Some(&counter), entry, word, wanted);
+        makes(&rt, Edition::FirstCounter, Some(&first), entry, 3, wanted);
     }
 }
 
