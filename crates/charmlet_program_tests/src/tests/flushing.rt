@@ -58,7 +58,7 @@ const REACHED: [(usize, u64); 9] = [
     (81, 2),
     (129, 2),
     (139, 2),
-    (189, 2),
+    (205, 2),
 ];
 
 // An output that takes so many flushes.

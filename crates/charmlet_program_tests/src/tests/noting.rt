@@ -77,6 +77,22 @@ impl<C: Chare> Chare for Noted<C> {
         self.object.kind()
     }
 
+    fn version(&self) -> u16 {
+        self.object.version()
+    }
+
+    fn newest(&self) -> u16 {
+        self.object.newest()
+    }
+
+    fn retro(&mut self, version: u16) {
+        self.object.retro(version)
+    }
+
+    fn upgrade(&mut self) {
+        self.object.upgrade()
+    }
+
     fn size(&mut self) -> usize {
         self.object.size()
     }

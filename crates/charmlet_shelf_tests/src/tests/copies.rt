@@ -3,7 +3,7 @@
 ghost use Rattle.std.specs.Prelude.{◌≡◌, ◌∷◌, []};
 ghost use Rattle.charmlet_kinds.specs.Ring.{state_of};
 ghost use Rattle.charmlet_model.specs.Packed.{IsState};
-ghost use Rattle.charmlet_model.specs.Reaction.{kind_of};
+ghost use Rattle.charmlet_model.specs.Reaction.{edition_of};
 
 use super::shelf::{ME, message, resident, shelf_with};
 use charmlet_chare::Chare;
@@ -21,7 +21,7 @@ const RING: [u8; 16] = [9, 0, 0, 0, 0, 0, 0, 0, 2, 0, 0, 0, 0, 0, 0, 0];
 // An object of this packed form.
 fn unpacked<C: Chare>(rt: &impl Abort, mut blank: C, packed: &[u8]) -> C
     ensures state { IsState (C.state result) }
-    ensures kind { kind_of (C.state result) ≡ kind_of (C.state blank) }
+    ensures edition { edition_of (C.state result) ≡ edition_of (C.state blank) }
 {
     assert!(rt; blank.unpack(packed).is_ok());
     blank

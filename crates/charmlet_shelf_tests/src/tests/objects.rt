@@ -1,5 +1,5 @@
-//! What no run shows of an object of each kind: bytes that are none of its own, and a construction
-//! of one that was used.
+//! What no run shows of an object of each kind: bytes that are none of its own, a construction of
+//! one that was used, and its versions.
 
 ghost use Rattle.std.specs.Prelude.{◌≤◌, length};
 
@@ -16,6 +16,14 @@ use std::test::Fail;
 const ITEMS: [u8; 21] = [
     2, 0, 0, 0, 1, 0, 0, 0, 0, 0, 0, 0, 2, 0, 0, 0, 0, 0, 0, 0, 0,
 ];
+
+// A counter of version 1, the one before the newest.
+fn first_counter(rt: &impl Abort) -> Counter {
+    let mut counter = Counter::blank();
+    assert!(rt; counter.newest() == 2);
+    counter.retro(1);
+    counter
+}
 
 // The packed form.
 fn packed_form<C: Chare>(alloc: Global, object: &mut C) -> Result<Vec<u8>, AllocError> {
@@ -85,7 +93,8 @@ fn unpacks<C: Chare>(
 
 #[test]
 fn faults_leave_each_object(rt: HostRuntime) -> Result<(), Fail> {
-    unpacks(&rt, &mut Counter::blank(), &[1; 9], &[0; 8])?;
+    unpacks(&rt, &mut Counter::blank(), &[1; 17], &[0; 16])?;
+    unpacks(&rt, &mut first_counter(&rt), &[1; 9], &[0; 8])?;
     unpacks(&rt, &mut Ring::blank(), &[1; 17], &[0; 16])?;
     unpacks(&rt, &mut Account::blank(), &[1; 9], &[0; 8])?;
     unpacks(&rt, &mut Sum::blank(), &[1; 33], &[0; 32])?;
@@ -116,11 +125,52 @@ fn begins_anew<C: Chare>(
 
 #[test]
 fn used_objects_are_constructed_anew(rt: HostRuntime) -> Result<(), Fail> {
-    begins_anew(&rt, &mut Counter::blank(), &[1; 8], &[0; 8])?;
+    begins_anew(&rt, &mut Counter::blank(), &[1; 16], &[0; 16])?;
+    begins_anew(&rt, &mut first_counter(&rt), &[1; 8], &[0; 8])?;
     begins_anew(&rt, &mut Ring::blank(), &[1; 16], &[0; 16])?;
     begins_anew(&rt, &mut Account::blank(), &[1; 8], &[0; 8])?;
     begins_anew(&rt, &mut Sum::blank(), &[1; 32], &[0; 32])?;
     begins_anew(&rt, &mut Tree::blank(), &[1; 8], &[0; 8])?;
     let mut tape = Tape::blank(rt.alloc());
     begins_anew(&rt, &mut tape, &ITEMS[..20], &[0; 4])
+}
+
+// Whatever the object was, it is made a blank of this version, with the blank's packed form. Then it
+// takes another one, and has the upgraded one once it goes on in the newest version.
+fn goes_on<C: Chare>(
+    rt: &(impl AllocGlobal + Abort),
+    object: &mut C,
+    version: u16,
+    blank: &[u8],
+    packed: &[u8],
+    upgraded: &[u8],
+) -> Result<(), Fail> {
+    assert!(rt; 1 <= version);
+    assert!(rt; version <= object.newest());
+    object.retro(version);
+    assert_eq!(rt; object.version(), version);
+    packs_to(rt, object, blank)?;
+    object.unpack(packed)?;
+    packs_to(rt, object, packed)?;
+    object.upgrade();
+    assert_eq!(rt; object.version(), object.newest());
+    packs_to(rt, object, upgraded)
+}
+
+// A counter at 1 that was at 3.
+const FALLEN: [u8; 16] = [1, 0, 0, 0, 0, 0, 0, 0, 3, 0, 0, 0, 0, 0, 0, 0];
+
+// A counter of version 1 goes on with its count as its peak, and all others go on as they were.
+#[test]
+fn objects_go_on_in_the_newest_version(rt: HostRuntime) -> Result<(), Fail> {
+    let mut counter = Counter::blank();
+    goes_on(&rt, &mut counter, 2, &[0; 16], &FALLEN, &FALLEN)?;
+    goes_on(&rt, &mut counter, 1, &[0; 8], &[1; 8], &[1; 16])?;
+    goes_on(&rt, &mut Ring::blank(), 1, &[0; 16], &[1; 16], &[1; 16])?;
+    goes_on(&rt, &mut Account::blank(), 1, &[0; 8], &[1; 8], &[1; 8])?;
+    goes_on(&rt, &mut Sum::blank(), 1, &[0; 32], &[1; 32], &[1; 32])?;
+    goes_on(&rt, &mut Tree::blank(), 1, &[0; 8], &[1; 8], &[1; 8])?;
+    let mut tape = Tape::blank(rt.alloc());
+    let items = &ITEMS[..20];
+    goes_on(&rt, &mut tape, 1, &[0; 4], items, items)
 }

@@ -26,6 +26,22 @@ impl<C: Chare> Chare for Packer<C> {
         self.object.kind()
     }
 
+    fn version(&self) -> u16 {
+        self.object.version()
+    }
+
+    fn newest(&self) -> u16 {
+        self.object.newest()
+    }
+
+    fn retro(&mut self, version: u16) {
+        self.object.retro(version)
+    }
+
+    fn upgrade(&mut self) {
+        self.object.upgrade()
+    }
+
     fn size(&mut self) -> usize {
         self.packings.fetch_add(1, Ordering::SeqCst);
         self.object.size()
