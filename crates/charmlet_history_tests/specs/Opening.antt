@@ -4,15 +4,15 @@ use Rattle.charmlet_model.specs.declared.names.Elem.{Elem}
 use Rattle.charmlet_model.specs.declared.names.Origin.{Origin}
 use Rattle.charmlet_model.specs.declared.names.Origin.TheVariants.{Client, Element}
 use Rattle.charmlet_model.specs.declared.message.Message.{Message}
-use Rattle.charmlet_model.specs.declared.kind.Kind.{Kind}
-use Rattle.charmlet_model.specs.declared.kind.Kind.TheVariants as kinds
+use Rattle.charmlet_model.specs.declared.edition.Edition.{Edition}
+use Rattle.charmlet_model.specs.declared.edition.Edition.TheVariants as editions
 use Rattle.charmlet_model.specs.declared.state.Record.{Record}
 use Rattle.charmlet_model.specs.declared.state.State.TheVariants.{Counter}
 use Rattle.charmlet_model.specs.declared.client.ClientRow.{ClientRow}
 use Rattle.charmlet_model.specs.World.{World}
 
-abbrev pub array_kinds : List (ℕ × Kind)
-array_kinds = (0, kinds.Counter) ∷ (1, kinds.Tree) ∷ []
+abbrev pub array_editions : List (ℕ × Edition)
+array_editions = (0, editions.Counter) ∷ (1, editions.Tree) ∷ []
 
 -- an element of the counters
 abbrev pub counter_at : ℕ → Elem
@@ -21,9 +21,9 @@ counter_at index = record { array = 0; index = index }
 -- two counters that are there, and between them one that is there no more and has counts
 abbrev pub records : List (Elem × Record)
 records =
-    (counter_at 0, record { state = Some (Counter 5); sent = 0; received = 2 })
+    (counter_at 0, record { state = Some (Counter 5 5); sent = 0; received = 2 })
     ∷ (counter_at 1, record { state = None; sent = 1; received = 3 })
-    ∷ (counter_at 5, record { state = Some (Counter 7); sent = 2; received = 1 }) ∷ []
+    ∷ (counter_at 5, record { state = Some (Counter 7 9); sent = 2; received = 1 }) ∷ []
 
 abbrev pub message : Origin → ℕ → ℕ → ℕ → List ℕ → Message
 message origin number index entry words = record {
@@ -35,8 +35,8 @@ message origin number index entry words = record {
 
 -- two requests, and between them a message that waits for its receiver
 abbrev pub pending : List Message
-pending = message (Client 7) 2 0 2 (3 ∷ []) ∷ message (Element (counter_at 5)) 2 1 0 []
-    ∷ message (Client 8) 2 5 2 [] ∷ []
+pending = message (Client 7) 2 0 4 (3 ∷ []) ∷ message (Element (counter_at 5)) 2 1 0 []
+    ∷ message (Client 8) 2 5 4 [] ∷ []
 
 -- a client with two requests, of which the first has its reply, and one whose window is full, and
 -- whose first request has none
@@ -54,7 +54,7 @@ clients =
 
 abbrev pub opening_world : World
 opening_world = record {
-  manifest = array_kinds;
+  manifest = array_editions;
   records = records;
   pending = pending;
   clients = clients;

@@ -3,7 +3,7 @@
 ghost use Rattle.std.specs.Prelude.{◌≡◌, ◌≤◌, ◌<◌, ◌^◌, [], ◌∷◌, Some, None, IfOk};
 ghost use Rattle.charmlet_history.specs.Kept.{IsConsistent, kept_in};
 ghost use Rattle.charmlet_history.specs.Parts.{world_of};
-ghost use Rattle.charmlet_history_tests.specs.Opening.{array_kinds, clients, counter_at, message, opening_world, pending, records};
+ghost use Rattle.charmlet_history_tests.specs.Opening.{array_editions, clients, counter_at, message, opening_world, pending, records};
 
 use charmlet_history::{History, Opening, WorldParts};
 use charmlet_model::{
@@ -53,7 +53,7 @@ fn opening_parts(alloc: Global) -> Result<WorldParts, AllocError>
 
 // Counters, and trees of which there is none.
 fn manifest(alloc: Global) -> Result<Manifest, AllocError>
-    ensures { IfOk result (λ manifest. manifest ≡ array_kinds) }
+    ensures { IfOk result (λ manifest. manifest ≡ array_editions) }
 {
     let manifest = Manifest::of(alloc, &[(0, 1), (1, 5)])?;
     let Some(manifest) = manifest else {
@@ -75,9 +75,9 @@ fn record(state: Option<State>, sent: u64, received: u64) -> Record
 fn records(alloc: Global) -> Result<Vec<(Elem, Record)>, AllocError>
     ensures { IfOk result (λ entries. entries.items ≡ records) }
 {
-    let first = record(Some(State::Counter { count: 5 }), 0, 2);
+    let first = record(Some(State::Counter { count: 5, peak: 5 }), 0, 2);
     let absent = record(None, 1, 3);
-    let last = record(Some(State::Counter { count: 7 }), 2, 1);
+    let last = record(Some(State::Counter { count: 7, peak: 9 }), 2, 1);
     let records = vec![in alloc;
         (counter_at(0), first),
         (counter_at(1), absent),
@@ -108,9 +108,9 @@ fn message(
 fn pending(alloc: Global) -> Result<Vec<Message>, AllocError>
     ensures { IfOk result (λ messages. messages.items ≡ pending) }
 {
-    let first = message(alloc, Origin::Client(7), 2, 0, 2, &[3])?;
+    let first = message(alloc, Origin::Client(7), 2, 0, 4, &[3])?;
     let waiting = message(alloc, Origin::Element(counter_at(5)), 2, 1, 0, &[])?;
-    let last = message(alloc, Origin::Client(8), 2, 5, 2, &[])?;
+    let last = message(alloc, Origin::Client(8), 2, 5, 4, &[])?;
     let pending = vec![in alloc; first, waiting, last]?;
     Ok(pending)
 }

@@ -7,7 +7,7 @@ ghost use Rattle.charmlet_history.specs.Kept.{IsOutcome, IsConsistent, core_in, 
 use super::opening::counter_at;
 use charmlet_chare::Output;
 use charmlet_history::{History, RefusedCommit, Request};
-use charmlet_model::{Elem, Kind, MsgId, Origin, Refusal, Sends, Told, Words};
+use charmlet_model::{Edition, Elem, MsgId, Origin, Refusal, Sends, Told, Words};
 use charmlet_world::Element;
 use std::alloc::{AllocError, Global};
 use std::process::Abort;
@@ -48,7 +48,7 @@ pub enum Answer {
     Done,
     Refused(Refusal),
     Told(Told),
-    Blank(Option<Kind>),
+    Blank(Option<Edition>),
     Durable(u64),
     Halted(bool),
     Place(Option<u16>),
@@ -76,7 +76,7 @@ fn ask(history: &mut History, client: u32, number: u64) -> Result<Told, Refusal>
         client,
         number,
         to: counter_at(0),
-        entry: 2,
+        entry: 4,
         words: &[4],
     };
     history.request(&request)
@@ -89,9 +89,9 @@ fn told(answered: Result<Told, Refusal>) -> Answer {
     }
 }
 
-fn blank(answered: Result<Option<Kind>, Refusal>) -> Answer {
+fn blank(answered: Result<Option<Edition>, Refusal>) -> Answer {
     match answered {
-        Ok(kind) => Answer::Blank(kind),
+        Ok(edition) => Answer::Blank(edition),
         Err(refusal) => Answer::Refused(refusal),
     }
 }
@@ -192,11 +192,11 @@ fn assign(history: &mut History, processor: u16, id: MsgId) -> Option<Refusal>
     if let Err(refusal) = history.test_delivery(processor, id) {
         return Some(refusal);
     }
-    let kind = match history.test_move(counter_at(0), 3) {
-        Ok(kind) => kind,
+    let edition = match history.test_move(counter_at(0), 3) {
+        Ok(edition) => edition,
         Err(refusal) => return Some(refusal),
     };
-    let Some(Kind::Counter) = kind else {
+    let Some(Edition::Counter) = edition else {
         return Some(Refusal::Strayed);
     };
     if history.assign(processor, id).is_err() {
@@ -205,7 +205,7 @@ fn assign(history: &mut History, processor: u16, id: MsgId) -> Option<Refusal>
     let Some((_id, letter)) = history.assigned(processor) else {
         return Some(Refusal::Strayed);
     };
-    if letter.entry != 2 || letter.to.array != 0 {
+    if letter.entry != 4 || letter.to.array != 0 {
         return Some(Refusal::Strayed);
     }
     None
@@ -285,9 +285,12 @@ fn write_element(text: &mut String, element: Element) -> Result<(), AllocError> 
     writeln!(text, "{place:?} sent {sent} received {received}")
 }
 
-fn write_blank(text: &mut String, kind: Option<Kind>) -> Result<(), AllocError> {
-    match kind {
-        Some(kind) => writeln!(text, "can with a blank of kind {kind}"),
+fn write_blank(text: &mut String, edition: Option<Edition>) -> Result<(), AllocError> {
+    match edition {
+        Some(edition) => {
+            let kind = edition.kind();
+            writeln!(text, "can with a blank of kind {kind}")
+        }
         None => writeln!(text, "can"),
     }
 }
@@ -297,7 +300,7 @@ fn write_answer(text: &mut String, answer: &Answer) -> Result<(), AllocError> {
         Answer::Done => writeln!(text, "done"),
         Answer::Refused(refusal) => writeln!(text, "{refusal}"),
         Answer::Told(told) => writeln!(text, "{told}"),
-        Answer::Blank(kind) => write_blank(text, *kind),
+        Answer::Blank(edition) => write_blank(text, *edition),
         Answer::Durable(count) => writeln!(text, "durable {count}"),
         Answer::Halted(is_halted) => writeln!(text, "halted {is_halted}"),
         Answer::Place(place) => writeln!(text, "{place:?}"),
