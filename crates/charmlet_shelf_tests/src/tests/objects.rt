@@ -135,8 +135,8 @@ fn used_objects_are_constructed_anew(rt: HostRuntime) -> Result<(), Fail> {
     begins_anew(&rt, &mut tape, &ITEMS[..20], &[0; 4])
 }
 
-// Whatever the object was, it is made a blank of this version, with the blank's packed form. Then it
-// takes another one, and has the upgraded one once it goes on in the newest version.
+// Whatever the object was, it is made a blank of this version, with the blank's packed form. Then
+// it takes another one, and has the upgraded one once it goes on in the newest version.
 fn goes_on<C: Chare>(
     rt: &(impl AllocGlobal + Abort),
     object: &mut C,
