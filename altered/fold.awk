@@ -8,9 +8,10 @@ BEGIN {
   print "# recovery gives it; `./altered-files --answers` writes it. Of the stores `flushed` has a log of two"
   print "# events in half 0, which is altered; `image` has an image in half 1 besides, which is altered; `older` is"
   print "# the same store, of which half 0 is altered; `caught` has a new store in half 0, and in half 1, which is"
-  print "# altered, an image that was taken shelf by shelf. `5-8 = 00 07` are the bytes at 5 to 8, each by itself"
-  print "# set to 00 or to 07. If both commands print one line, it stands alone; else the lines stand that the"
-  print "# store doesn\047t have as it is."
+  print "# altered, an image that was taken shelf by shelf. Their files have the third mark; those of the stores with"
+  print "# `second` before their names have the second one, and those of `first-caught` the first one in half 1."
+  print "# `5-8 = 00 07` are the bytes at 5 to 8, each by itself set to 00 or to 07. If both commands print one line,"
+  print "# it stands alone; else the lines stand that the store doesn\047t have as it is."
   print ""
 }
 
