@@ -9,6 +9,7 @@ use Rattle.charmlet_checkpoint.specs.Showing.{PassesLimit}
 use Rattle.charmlet_disk.specs.declared.crash.CrashChoice.{CrashChoice}
 use Rattle.charmlet_disk.specs.declared.crash.CrashChoice.TheVariants.{Old, New, Zeros, Ones, Sevens, FirstHalves}
 use Rattle.charmlet_disk.specs.declared.disk.Disk as disks
+use Rattle.charmlet_disk.specs.Disk.{faults_after}
 use Rattle.charmlet_disk.specs.File.{clean}
 use Rattle.charmlet_locate.specs.Locations.{is_processor_count}
 use Rattle.charmlet_recovery.specs.RestartLaws.{IsEnough, IsLeastShort}
@@ -104,7 +105,7 @@ module _ {D : Type 0} (G : disks.Ghosts D) (calls_left : D → Option ℕ) where
 module _ {D : Type 0} (G : disks.Ghosts D) where
   -- why nothing is found: there can't be so many processors; there were too few blanks for a run or
   -- a restart; an image of a store that came back would pass a limit; a new disk has an open half,
-  -- and isn't honest; a disk can't be read; or memory is lacking
+  -- and isn't honest; a disk has failed once more, by its own count; or memory is lacking
   abbrev pub IsNotFound : Contents → Refusal → Type 0
   IsNotFound script BadPes = is_processor_count (processors_of script) ≡ false
   IsNotFound script (BlanksWanted kind count) = (given : Blanks) × (wanted : Blanks)
@@ -112,6 +113,7 @@ module _ {D : Type 0} (G : disks.Ghosts D) where
   IsNotFound script ImageFull = (disk : D) × (given : Blanks) × (core : Core)
       × IsRestart G (processors_of script) given disk (Ok core) × PassesLimit core
   IsNotFound script AlreadyHere = (disk : D) × ¬ G.honest disk
-  IsNotFound script Device = ⊤
+  IsNotFound script Device = (old : D) × (new : D)
+      × (G.faults new ≡ faults_after false (G.faults old))
   IsNotFound script Memory = ⊤
   IsNotFound script _ = ⊥

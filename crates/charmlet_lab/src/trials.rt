@@ -32,8 +32,8 @@ pub trait Watch {
 ///
 /// `BadPes` where the script's number of processors isn't 1 to 64; `BlanksWanted` where the
 /// supplier brings too few blanks; `AlreadyHere` where a new disk isn't empty; `Device` where a
-/// disk can't be read after its crash; `ImageFull` where an image of a store that came back would
-/// pass a limit; `Memory`.
+/// disk can't be read after its crash, and counts that failure; `ImageFull` where an image of a
+/// store that came back would pass a limit; `Memory`.
 pub fn try_crashes<D: LabDisk, S: Supplier<D>, W: Watch>(
     alloc: Global,
     script: &Script,

@@ -1,9 +1,9 @@
 //! The blanks that a restart from a disk wants.
 
-ghost use Rattle.std.specs.Prelude.{◌≡◌, ◌⊎◌, IfErr, IfOk};
+ghost use Rattle.std.specs.Prelude.{◌≡◌, ◌⊎◌, false, IfErr, IfOk};
 ghost use Rattle.charmlet_model.specs.declared.kind.Kind as kinds;
 ghost use Rattle.charmlet_model.specs.declared.refusal.Refusal.TheVariants as refusals;
-ghost use Rattle.charmlet_disk.specs.Disk.{SameFiles};
+ghost use Rattle.charmlet_disk.specs.Disk.{SameFiles, faults_after};
 ghost use Rattle.charmlet_recover.specs.Wanted.{blanks_in};
 ghost use Rattle.charmlet_lab.specs.Restarts.{AreWanted};
 
@@ -15,11 +15,12 @@ use std::alloc::Global;
 /// How many blanks of each kind a restart from this disk wants, and none where no store is found
 /// there. It only reads.
 ///
-/// `Memory` and `Device`: then it isn't known.
+/// `Memory`, and `Device` where a read fails, which the disk counts: then it isn't known.
 pub(crate) fn wanted_on<D: Disk>(alloc: Global, disk: &mut D) -> Result<Wanted, Refusal>
     ensures ok { IfOk result (λ wanted. AreWanted D.Disk disk.old (blanks_in wanted)) }
-    ensures err { IfErr result (λ refusal.
-        (refusal ≡ refusals.Memory) ⊎ (refusal ≡ refusals.Device)) }
+    ensures err { IfErr result (λ refusal. (refusal ≡ refusals.Memory)
+        ⊎ ((refusal ≡ refusals.Device)
+        × (D.faults disk.new ≡ faults_after false (D.faults disk.old)))) }
     ensures same { D.honest disk.old → SameFiles (D.file disk.old) (D.file disk.new) }
     ensures honest { (D.honest disk.old → D.honest disk.new)
         × (D.honest disk.new → D.honest disk.old) }

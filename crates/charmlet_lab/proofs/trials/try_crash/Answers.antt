@@ -4,11 +4,18 @@ use Rattle.charmlet_script.specs.Script.{processors_of}
 use Rattle.charmlet_lab.specs.Judged.{IsGood}
 use Rattle.charmlet_lab.specs.Rounds.{arrays_of}
 use Rattle.charmlet_lab.proofs.Restarts.{same_restart}
-use Rattle.charmlet_lab.proofs.Causes.{empty_is_settled}
+use Rattle.charmlet_lab.proofs.Causes.{empty_is_settled, handed_on, not_read}
 use Rattle.charmlet_lab.proofs.trials.try_crash.Goals as goal
 
 pub run-requires : goal.run-requires
 run-requires g c = record { settled = λ honest. empty_is_settled (g.D.Disk.file c.failing.result) (c.failing.ensures.empty honest) }
+
+pub returns-in_err-wanted-clause-err : goal.returns-in_err-wanted-clause-err
+returns-in_err-wanted-clause-err g c =
+    let script = c.args.script.now in
+    let refusal = c.in_err-wanted.field-0.0 in
+    handed_on g.D.Disk script c.from_residual-in_err-wanted.result refusal c.from_residual-in_err-wanted.ensures.1
+    (not_read g.D.Disk script c.crash-disk.result c.wanted_on.new.disk refusal c.in_err-wanted.ensures.err)
 
 pub returns-clause-ok : goal.returns-clause-ok
 returns-clause-ok g c =
