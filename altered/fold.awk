@@ -10,6 +10,7 @@ BEGIN {
   print "# the same store, of which half 0 is altered; `caught` has a new store in half 0, and in half 1, which is"
   print "# altered, an image that was taken shelf by shelf. Their files have the third mark; those of the stores with"
   print "# `second` before their names have the second one, and those of `first-caught` the first one in half 1."
+  print "# A half that has older versions of its kinds is restarted with one generation more than it is shown with."
   print "# `5-8 = 00 07` are the bytes at 5 to 8, each by itself set to 00 or to 07. If both commands print one line,"
   print "# it stands alone; else the lines stand that the store doesn\047t have as it is."
   print ""

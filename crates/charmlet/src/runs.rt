@@ -71,8 +71,8 @@ pub(crate) fn run(rt: HostRuntime, path: &str, dir: Option<&str>) -> Result<(), 
     Ok(())
 }
 
-/// A run of a script over the store on this disk, which comes back on so many processors, with so
-/// many blanks.
+/// A run of a script over the store on this disk, which comes back on this number of processors,
+/// with the blanks that it wants.
 #[derive(Drop)]
 struct ScriptRestart<'a, W: Write> {
     alloc: Global,

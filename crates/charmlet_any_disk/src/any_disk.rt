@@ -4,7 +4,7 @@ use charmlet_disk::{CrashChoice, DeviceFault, Disk, FileDisk, FuseDisk, MemDisk}
 use charmlet_model::Half;
 use std::alloc::{AllocError, Global};
 
-/// Any of the disks that the program uses. What is generic over disks is so made once.
+/// Any of the disks that the program uses, so that code generic over disks is made for one type.
 ///
 /// It is honest if and only if it is in memory. Each call is passed on once.
 #[derive(Drop)]
@@ -43,8 +43,8 @@ impl AnyDisk {
         AnyDisk::Memory(MemDisk::new(alloc))
     }
 
-    /// An empty disk in memory that passes so many writes and syncs, and then fails each, with no
-    /// failure counted.
+    /// An empty disk in memory that passes `calls` writes and syncs, and then fails each one, with
+    /// no failure counted.
     pub fn failing(alloc: Global, calls: u64) -> AnyDisk
         ensures honest { is_honest result }
         ensures files { (half : _) → files_of result half ≡ clean [] }

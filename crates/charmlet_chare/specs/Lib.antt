@@ -1,5 +1,7 @@
 -- The definitions that contracts cite.
 pub mod Output
+pub use Rattle.charmlet_model.specs.Edition
 pub use Rattle.charmlet_model.specs.Kind
 pub use Rattle.charmlet_model.specs.Packed
 pub use Rattle.charmlet_model.specs.Reaction
+pub use Rattle.charmlet_model.specs.Upgrade

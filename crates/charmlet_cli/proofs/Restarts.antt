@@ -1,8 +1,8 @@
 -- Stores that came back for a script.
-use Rattle.std.proofs.Common.{◌≡◌, inl, ℕ, ◌+◌, Bool, true, false, Option, Result, Ok, Err, OnErr, OnOk, List, [], ◌∷◌, refl, sym, ap, subst, ◌∙◌, arith}
+use Rattle.std.proofs.Common.{◌≡◌, ◌≢◌, inl, inr, ⊎_elim, ℕ, ◌+◌, Bool, true, false, Option, Result, Ok, Err, OnErr, OnOk, List, [], ◌∷◌, refl, sym, ap, subst, ◌∙◌, arith}
 use Rattle.std.specs.Result.{IfErr}
+use Rattle.charmlet_model.specs.declared.half.Half.{Half}
 use Rattle.charmlet_model.specs.declared.kind.Kind.{Kind}
-use Rattle.charmlet_model.specs.declared.refusal.Refusal.{Refusal}
 use Rattle.charmlet_model.specs.declared.refusal.Refusal.TheVariants as refusals
 use Rattle.charmlet_model.specs.declared.state.State.{State}
 use Rattle.charmlet_model.specs.Core.{Blanks, Core}
@@ -11,62 +11,93 @@ use Rattle.charmlet_model.specs.Texts.{Text}
 use Rattle.charmlet_chare.specs.declared.chare.Chare as chares
 use Rattle.charmlet_disk.specs.declared.disk.Disk as disks
 use Rattle.charmlet_disk.specs.Disk.{IsSettled, LeavesOnly, faults_after}
-use Rattle.charmlet_disk.specs.File.{MayLeave}
+use Rattle.charmlet_disk.specs.File.{File, MayLeave, Outcome}
 use Rattle.charmlet_locate.specs.Locations.{is_processor_count}
 use Rattle.charmlet_halves.specs.Answers.{is_no_failure}
 use Rattle.charmlet_model.specs.declared.event.Event.{Event}
 use Rattle.charmlet_model.specs.World.{World}
 use Rattle.charmlet_recovery.specs.Outcomes.{IsLawful}
 use Rattle.charmlet_recovery.specs.Recovered.{Found, recovered}
-use Rattle.charmlet_recovery.specs.Restarts.{restart_refusal}
+use Rattle.charmlet_recovery.specs.Restarts.{engine_refusal, wants_image}
 use Rattle.charmlet_stock.specs.declared.pile.Tally.{Tally}
 use Rattle.charmlet_stock.specs.declared.stock.Stock.{Stock}
 use Rattle.charmlet_stock.specs.Stock.{blanks_in, supplied_to}
 use Rattle.charmlet_replay.specs.Unused.{IsUnused}
 use Rattle.charmlet_recover.specs.declared.restarting.NotRestarted.{NotRestarted}
-use Rattle.charmlet_recover.specs.declared.restarting.Recovered.{Recovered}
-use Rattle.charmlet_recover.specs.Restart.{AnswersBy, IsHandedBack, IsOpenedOn, IsTakenFrom, ReadsSame, bytes_on, is_after_sync, is_lack, is_restart_refusal}
+use Rattle.charmlet_recover.specs.Restart.{AnswersBy, bytes_on, is_after_sync}
 use Rattle.charmlet_script.specs.Script.{RestartContents}
 use Rattle.charmlet_engine.specs.declared.engine.Engine.{Engine}
 use Rattle.charmlet_engine.specs.Advances.{Advances}
-use Rattle.charmlet_engine.specs.Engine.{IsEngineConsistent, core_of, disk_in, recovered_in, supplied_of}
+use Rattle.charmlet_engine.specs.Engine.{IsEngineConsistent, core_of, disk_in, supplied_of, view_of}
 use Rattle.charmlet_engine.specs.Lives.{ComesBack, Past, Remembers}
-use Rattle.charmlet_engine.specs.Outcomes.{Onward, is_lawful_since}
+use Rattle.charmlet_engine.specs.Outcomes.{Onward, is_lawful_now, is_lawful_since}
+use Rattle.charmlet_engine.specs.Restarted.{IsFound, IsHandedBack, IsLackOrFull, IsLeftByRestart, IsOpenedOn, IsSameOrNext, IsTakenFrom, IsUnwritten, is_engine_refusal}
 use Rattle.charmlet_cli.specs.declared.restarting.RestartError.{RestartError}
 use Rattle.charmlet_cli.specs.declared.restarting.RestartError.TheVariants as ends
 use Rattle.charmlet_cli.specs.Lines.{AreEnough, in_lines, ledger_in}
 use Rattle.charmlet_cli.specs.Restarted.{EndsRestart, EndsRestartWrite, IsBack, RestartLeaves, WasNotRestarted, given_of, is_left_by, restarted_line_text, restarted_text}
-use Rattle.charmlet_cli.specs.Run.{Stands}
+use Rattle.charmlet_cli.specs.Run.{IsEarlierOrLawful, Stands}
 use Rattle.charmlet_cli.proofs.Standings.{failure_said, stands_after}
+
+-- files recover to one world and one count of events
+same_found : (v w : World) (n m g h : ℕ) → Found v n g ≡ Found w m h → (v ≡ w) × (n ≡ m)
+same_found v w n m g h is = ((let same : v ≡ w = cc in same), (let same : n ≡ m = cc in same))
+
+-- what a crash within a restart leaves is what one before might have left, or the world of the store that came back, which then went on
+module _ (files : Half → File) (back last : Core) (found : IsFound (bytes_on files) back) (on : Onward back last) where
+  at_generation : (o : Outcome) (w : World) (count generation : ℕ) → recovered o ≡ Found w count generation → w ≡ back.opening → count ≡ back.before → IsLawful last.opening last.before last.history 0 o
+  at_generation o w count generation is world before =
+      let opening : w ≡ last.opening = world ∙ sym on.opening in
+      let all : count ≡ last.before + 0 = omega (arith, before, on.before) in
+      record {
+        kept = 0;
+        durable_kept = omega arith;
+        none_invented = omega arith;
+        generation = generation;
+        is = is ∙ ap (λ (v : World). Found v count generation) opening ∙ ap (λ (n : ℕ). Found last.opening n generation) all;
+      }
+
+  same_is_lawful : (o : Outcome) → IsSameOrNext (bytes_on files) o → IsLawful last.opening last.before last.history 0 o
+  same_is_lawful o same =
+      let its = same_found same.world back.opening same.count back.before same.generation found.generation (sym same.was ∙ found.is) in
+      ⊎_elim (λ now. at_generation o same.world same.count same.generation now its.0 its.1) (λ next. at_generation o same.world same.count (same.generation + 1) next its.0 its.1) same.is
+
+  from_restart : (o : Outcome) → IsLeftByRestart files o → IsEarlierOrLawful (MayLeave files) last o
+  from_restart o left = ⊎_elim (λ old. inl old) (λ same. inr (same_is_lawful o same)) left
 
 module _ {D C : Type 0} {G : disks.Ghosts D} {H : chares.Ghosts C} where
   -- an engine that came back
-  pub is_back : (processors : ℕ) (given : Blanks) (first : D) (engine : Engine D C G H) → IsOpenedOn processors (recovered_in engine) →
-      (G.honest first → recovered (bytes_on (G.file first)) ≡ Found (core_of engine).opening (core_of engine).before (core_of engine).generation) →
-      (G.honest first → IsTakenFrom given (bytes_on (G.file first)) (recovered_in engine)) →
+  pub is_back : (processors : ℕ) (given : Blanks) (first : D) (engine : Engine D C G H) → IsOpenedOn processors (core_of engine) →
+      (G.honest first → IsFound (bytes_on (G.file first)) (core_of engine)) →
+      (G.honest first → IsTakenFrom given (bytes_on (G.file first)) (view_of engine)) →
       supplied_of engine ≡ given →
       (G.honest first → (past : Past) (old new : Core) → Remembers past old → Onward old new → IsSound new → is_lawful_since old new (bytes_on (G.file first)) → ComesBack past old new (core_of engine)) →
       G.faults (disk_in engine) ≡ G.faults first → (G.honest first → G.honest (disk_in engine)) × (G.honest (disk_in engine) → G.honest first) →
-      (G.honest first → ReadsSame (G.file first) (G.file (disk_in engine))) → (G.honest first → IsSettled (G.file (disk_in engine))) →
-      (G.honest first → LeavesOnly G.moment G.since first (disk_in engine) (MayLeave (G.file first))) → IsBack G processors given first (ledger_in engine)
-  is_back processors given first engine opens found taken supplied remembers counted honest same settled any_moment = record {
+      (G.honest first → IsSettled (G.file (disk_in engine))) →
+      (G.honest first → (o : Outcome) → MayLeave (G.file (disk_in engine)) o → is_lawful_now (core_of engine) o) →
+      (G.honest first → wants_image (bytes_on (G.file first)) ≡ false → IsUnwritten G first (disk_in engine)) →
+      (G.honest first → LeavesOnly G.moment G.since first (disk_in engine) (IsLeftByRestart (G.file first))) → IsBack G processors given first (ledger_in engine)
+  is_back processors given first engine opens found taken supplied remembers counted honest settled now still any_moment = record {
     opens = opens;
     found = found;
-    left = λ still. (let half = taken still in (_, half.0, half.1, half.2.left, half.2.log_end));
+    left = taken;
     supplied = λ kind. ap (λ (f : Kind → ℕ). f kind) supplied;
     remembers = remembers;
     counted = counted;
     honest = honest;
-    same = same;
     settled = settled;
+    now = now;
+    still = still;
     any_moment = any_moment;
   }
 
   -- and what it stands on, after some lines
   pub stands_back : (disk end : D) (first last : Engine D C G H) → IsEngineConsistent last → Advances first last → (G.honest disk → G.honest (disk_in first)) →
-      (G.honest disk → LeavesOnly G.moment G.since disk (disk_in first) (MayLeave (G.file disk))) → end ≡ disk_in last → Stands G (is_left_by G disk) disk end (ledger_in last)
-  stands_back disk end first last consistent advances honest leaves is =
-      stands_after {G = G} {H = H} (MayLeave (G.file disk)) (MayLeave (G.file disk)) disk end first last consistent advances honest leaves (λ o left. inl left) is
+      (G.honest disk → IsFound (bytes_on (G.file disk)) (core_of first)) →
+      (G.honest disk → LeavesOnly G.moment G.since disk (disk_in first) (IsLeftByRestart (G.file disk))) → end ≡ disk_in last → Stands G (is_left_by G disk) disk end (ledger_in last)
+  stands_back disk end first last consistent advances honest found leaves is =
+      stands_after {G = G} {H = H} (MayLeave (G.file disk)) (IsLeftByRestart (G.file disk)) disk end first last consistent advances honest leaves
+      (λ still. from_restart (G.file disk) (core_of first) (core_of last) (found still) advances.onward) is
 
 -- there are 1 to 64 processors where a store came back
 pub counted_processors : (b : Bool) → (b ≡ false → ⊥) → b ≡ true
@@ -108,35 +139,25 @@ all_given stock unused =
     let each : (kind : Kind) → blanks_in stock kind ≡ supplied_to stock kind = λ kind. ap (λ (t : Tally). t.in_stock) (unused.all kind) ∙ omega arith in
     λ i kind. each kind i
 
--- the cause of a refusal, whatever might have been answered in its place
-answers_any : (X : Type 0) (why : Option Refusal) (refusal : Refusal) → AnswersBy {X = X} why (Err refusal) → AnswersBy {X = Core} why (Err refusal)
-answers_any X why refusals.Memory h = tt
-answers_any X why refusals.Device h = tt
-answers_any X why _ h = h
-
--- and so whether it came after the syncs
-synced_any : (X : Type 0) (refusal : Refusal) → is_after_sync {X = Core} (Err refusal) ≡ true → is_after_sync {X = X} (Err refusal) ≡ true
-synced_any X refusals.BadPes is = is
-synced_any X refusals.Device is = is
-synced_any X _ is = is
-
 module _ {D C : Type 0} {G : disks.Ghosts D} {H : chares.Ghosts C} where
   -- no store came back
   pub was_not_restarted : (processors : ℕ) (given : Blanks) (first : D) (blanks : Stock C H) (refused : NotRestarted D C H) →
-      is_restart_refusal refused.refusal ≡ true → (is_processor_count processors ≡ false → IsHandedBack {G = G} first blanks (Err refused)) → (refused.refusal ≡ refusals.BadPes → is_processor_count processors ≡ false) →
-      (G.honest first → is_processor_count processors ≡ true → AnswersBy {X = Recovered D C G H} (restart_refusal given (bytes_on (G.file first))) (Err refused.refusal)) →
-      (G.honest first → (w : World) (before : ℕ) (history : List Event) (durable : ℕ) → IsLawful w before history durable (bytes_on (G.file first)) → is_lack refused.refusal ≡ true) →
-      (G.honest first → ReadsSame (G.file first) (G.file refused.disk)) →
-      (G.honest first → is_after_sync {X = Recovered D C G H} (Err refused.refusal) ≡ true → IsSettled (G.file refused.disk)) →
-      (G.honest first → LeavesOnly G.moment G.since first refused.disk (MayLeave (G.file first))) →
-      G.faults refused.disk ≡ faults_after (is_no_failure {X = Recovered D C G H} (Err refused.refusal)) (G.faults first) → WasNotRestarted G processors given first refused.disk refused.refusal
-  was_not_restarted processors given first blanks refused kind bad only_bad cause lawful same settled any_moment counted = record {
+      is_engine_refusal refused.refusal ≡ true → (is_processor_count processors ≡ false → IsHandedBack {G = G} first blanks (Err refused)) → (refused.refusal ≡ refusals.BadPes → is_processor_count processors ≡ false) →
+      (G.honest first → is_processor_count processors ≡ true → AnswersBy {X = Core} (engine_refusal given (bytes_on (G.file first))) (Err refused.refusal)) →
+      (G.honest first → (w : World) (before : ℕ) (history : List Event) (durable : ℕ) → IsLawful w before history durable (bytes_on (G.file first)) → IsLackOrFull (bytes_on (G.file first)) refused.refusal) →
+      (G.honest first → wants_image (bytes_on (G.file first)) ≡ false → IsUnwritten G first refused.disk) →
+      (G.honest first → refused.refusal ≢ refusals.Device → IsUnwritten G first refused.disk) →
+      (G.honest first → is_after_sync {X = Core} (Err refused.refusal) ≡ true → IsSettled (G.file refused.disk)) →
+      (G.honest first → LeavesOnly G.moment G.since first refused.disk (IsLeftByRestart (G.file first))) →
+      G.faults refused.disk ≡ faults_after (is_no_failure {X = Core} (Err refused.refusal)) (G.faults first) → WasNotRestarted G processors given first refused.disk refused.refusal
+  was_not_restarted processors given first blanks refused kind bad only_bad cause lawful still unwritten settled any_moment counted = record {
     kind = kind;
     bad = ((λ is. only_bad is), (λ is. (bad is).0));
-    cause = λ honest is. answers_any (Recovered D C G H) (restart_refusal given (bytes_on (G.file first))) refused.refusal (cause honest is);
+    cause = cause;
     lawful = lawful;
-    same = same;
-    settled = λ honest is. settled honest (synced_any (Recovered D C G H) refused.refusal is);
+    still = still;
+    unwritten = unwritten;
+    settled = settled;
     any_moment = any_moment;
-    counted = counted ∙ ap (λ (b : Bool). faults_after b (G.faults first)) (failure_said (Recovered D C G H) refused.refusal);
+    counted = counted ∙ ap (λ (b : Bool). faults_after b (G.faults first)) (failure_said Core refused.refusal);
   }

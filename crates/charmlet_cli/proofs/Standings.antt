@@ -58,14 +58,14 @@ from_lawful earlier old new o lawful = inr (record {
 module _ {D C : Type 0} {G : disks.Ghosts D} {H : chares.Ghosts C} where
   -- what it stands on is the disk at the end
   pub stands_after : (earlier before : Outcome → Type 0) (disk end : D) (first last : Engine D C G H) → IsEngineConsistent last → Advances first last → (G.honest disk → G.honest (disk_in first)) →
-      (G.honest disk → LeavesOnly G.moment G.since disk (disk_in first) before) → ((o : Outcome) → before o → IsEarlierOrLawful earlier (core_of last) o) → end ≡ disk_in last →
+      (G.honest disk → LeavesOnly G.moment G.since disk (disk_in first) before) → (G.honest disk → (o : Outcome) → before o → IsEarlierOrLawful earlier (core_of last) o) → end ≡ disk_in last →
       Stands G earlier disk end (ledger_in last)
   stands_after earlier before disk end first last consistent advances honest leaves goes is =
       subst (λ (d : D). Stands G earlier disk d (ledger_in last)) (sym is) (record {
         disk = refl;
         any_moment = λ still.
             after_that G.moment G.since disk (disk_in first) (disk_in last) before (is_lawful_since (core_of first) (core_of last)) (IsEarlierOrLawful earlier (core_of last))
-            (leaves still) (advances.any_moment (honest still)) goes (from_lawful earlier (core_of first) (core_of last));
+            (leaves still) (advances.any_moment (honest still)) (goes still) (from_lawful earlier (core_of first) (core_of last));
         now = λ still o left. lawful_now {G = G} (core_of last) last.halves (consistent.keeps (advances.honest.0 (honest still))) o left;
       })
 
@@ -75,7 +75,7 @@ module _ {D C : Type 0} {G : disks.Ghosts D} {H : chares.Ghosts C} where
       Stands G IsNothing disk end (ledger_in last)
   stands manifest processors disk end first last opens consistent advances honest leaves is =
       stands_after IsNothing (IsNothingOrNew manifest) disk end first last consistent advances honest leaves
-      (from_new manifest processors (core_of first) (core_of last) opens advances.onward) is
+      (λ still. from_new manifest processors (core_of first) (core_of last) opens advances.onward) is
 
   -- and it is as honest as the first one was
   pub stays_honest : (disk end : D) (first last : Engine D C G H) → (G.honest disk → G.honest (disk_in first)) × (G.honest (disk_in first) → G.honest disk) → Advances first last → end ≡ disk_in last →

@@ -11,6 +11,7 @@ pub mod Shown
 pub mod Stop
 pub mod Writing
 pub use Rattle.charmlet_model.specs.Core
+pub use Rattle.charmlet_model.specs.Edition
 pub use Rattle.charmlet_model.specs.Fit
 pub use Rattle.charmlet_model.specs.Manifest
 pub use Rattle.charmlet_model.specs.Shelves

@@ -1,35 +1,31 @@
 -- What a restart for a script is, and what it leaves on the disk.
-use Rattle.std.specs.Prelude.{◌≡◌, ◌⊎◌, ◌↔◌, ℕ, ◌+◌, true, false, List, [], ◌∷◌, ◌++◌, IsTrue, Option, Result, Ok, Err, codes, length}
+use Rattle.std.specs.Prelude.{◌≡◌, ◌≢◌, ◌⊎◌, ◌↔◌, ℕ, true, false, List, [], ◌∷◌, ◌++◌, IsTrue, Option, Result, Ok, Err, codes}
 use Rattle.std.specs.Fmt.{decimal}
 use Rattle.std.specs.Io.KnownBytes.{Appends}
-use Rattle.charmlet_model.specs.declared.half.Half.{Half}
 use Rattle.charmlet_model.specs.declared.event.Event.{Event}
 use Rattle.charmlet_model.specs.declared.kind.Kind.{Kind}
 use Rattle.charmlet_model.specs.declared.refusal.Refusal.{Refusal}
-use Rattle.charmlet_model.specs.declared.refusal.Refusal.TheVariants.{BadPes}
+use Rattle.charmlet_model.specs.declared.refusal.Refusal.TheVariants.{BadPes, Device}
 use Rattle.charmlet_model.specs.declared.state.State.{State}
 use Rattle.charmlet_model.specs.declared.step.Answer.TheVariants.{Refused}
 use Rattle.charmlet_model.specs.Core.{Blanks, Core}
 use Rattle.charmlet_model.specs.Shelves.{count_of}
-use Rattle.charmlet_model.specs.Sound.{IsSound, opened}
+use Rattle.charmlet_model.specs.Sound.{IsSound}
 use Rattle.charmlet_model.specs.Texts.{Text, answer_text}
 use Rattle.charmlet_model.specs.World.{World}
 use Rattle.charmlet_locate.specs.Locations.{is_processor_count}
-use Rattle.charmlet_image.specs.Halves.{Takes, taken}
-use Rattle.charmlet_image.specs.Images.{Saved, spell_half}
-use Rattle.charmlet_model.specs.declared.half.Half.TheVariants.{Zero, One}
 use Rattle.charmlet_recovery.specs.Outcomes.{IsLawful}
-use Rattle.charmlet_recovery.specs.Recovered.{Found, recovered}
-use Rattle.charmlet_recovery.specs.Restarts.{restart_refusal, wanted_of}
+use Rattle.charmlet_recovery.specs.Restarts.{engine_refusal, wants_image}
 use Rattle.charmlet_disk.specs.declared.disk.Disk as disks
 use Rattle.charmlet_disk.specs.Disk.{IsSettled, LeavesOnly, faults_after}
 use Rattle.charmlet_disk.specs.File.{MayLeave, Outcome}
 use Rattle.charmlet_recover.specs.declared.finding.Found as findings
 use Rattle.charmlet_recover.specs.declared.wanted.Wanted.{Wanted}
-use Rattle.charmlet_recover.specs.Restart.{AnswersBy, ReadsSame, bytes_on, is_after_sync, is_lack, is_restart_refusal}
+use Rattle.charmlet_recover.specs.Restart.{AnswersBy, bytes_on, is_after_sync}
 use Rattle.charmlet_script.specs.Script.{RestartContents}
 use Rattle.charmlet_engine.specs.Lives.{ComesBack, Past, Remembers}
-use Rattle.charmlet_engine.specs.Outcomes.{Onward, is_lawful_since, not_device}
+use Rattle.charmlet_engine.specs.Outcomes.{Onward, is_lawful_now, is_lawful_since, not_device}
+use Rattle.charmlet_engine.specs.Restarted.{IsFound, IsLackOrFull, IsLeftByRestart, IsOpenedOn, IsTakenFrom, IsUnwritten, is_engine_refusal}
 use Rattle.charmlet_cli.specs.declared.restarting.FindError.{FindError}
 use Rattle.charmlet_cli.specs.declared.restarting.FindError.TheVariants as finds
 use Rattle.charmlet_cli.specs.declared.restarting.RestartError.{RestartError}
@@ -48,7 +44,7 @@ abbrev pub restarted_line_text : RestartedLine → Text
 restarted_line_text line = codes "restarted generation " ++ decimal line.generation
     ++ codes " events " ++ decimal line.events ++ codes " on " ++ decimal line.processors
 
--- the first line after a restart: the generation of the half that was taken, and how many events
+-- the first line after a restart: the generation at which the store goes on, and how many events
 -- came back
 abbrev pub restarted_text : Core → Text
 restarted_text core = in_lines
@@ -88,29 +84,30 @@ module _ {D : Type 0} (G : disks.Ghosts D) where
   is_left_by first = MayLeave (G.file first)
 
   -- A store came back from the first disk. Nothing has happened since, and each element that is
-  -- there stands on its home. Of an honest disk it has the world, the count of events and the
-  -- generation to which the files recover; of each kind the stock has what the half that is taken
-  -- didn't want of the blanks, and the log goes on where that half ends. After a crash in any life
-  -- of the store all that clients were told is true. Nothing is written, and the disk is settled.
+  -- there stands on its home. Of an honest disk it has the world and the count of events to which
+  -- the files recover, at their generation, or at the next one where an image was wanted; of each
+  -- kind the stock has what the half that is taken didn't want of the blanks, and the log goes on
+  -- where that half ends, or after the image. After a crash in any life of the store all that
+  -- clients were told is true. The disk is settled, and each crash now leaves that world. Unless an
+  -- image was wanted nothing was written; and each crash since the beginning leaves what one before
+  -- might have left, or files that recover to that world, at their generation or the next.
   pub record IsBack (processors : ℕ) (given : Blanks) (first : D) (back : Ledger D) : Type 0 where
-    pub opens : back.store.core ≡ opened processors back.store.core.opening back.store.core.before
-        back.store.core.generation back.store.core.log_end
-    pub found : G.honest first → recovered (bytes_on (G.file first))
-        ≡ Found back.store.core.opening back.store.core.before back.store.core.generation
-    pub left : G.honest first →
-        (half : Half) × (s : Saved) × (taken (G.file first Zero).now (G.file first One).now
-        ≡ Takes half s)
-        × ((kind : Kind) → back.store.blanks kind + wanted_of s kind ≡ given kind)
-        × (back.store.core.log_end ≡ length (spell_half s))
+    pub opens : IsOpenedOn processors back.store.core
+    pub found : G.honest first → IsFound (bytes_on (G.file first)) back.store.core
+    pub left : G.honest first → IsTakenFrom given (bytes_on (G.file first)) back.store
     pub supplied : (kind : Kind) → back.supplied kind ≡ given kind
     pub remembers : G.honest first → (past : Past) (old new : Core) → Remembers past old →
         Onward old new → IsSound new →
         is_lawful_since old new (bytes_on (G.file first)) → ComesBack past old new back.store.core
     pub counted : G.faults back.disk ≡ G.faults first
     pub honest : (G.honest first → G.honest back.disk) × (G.honest back.disk → G.honest first)
-    pub same : G.honest first → ReadsSame (G.file first) (G.file back.disk)
     pub settled : G.honest first → IsSettled (G.file back.disk)
-    pub any_moment : G.honest first → LeavesOnly G.moment G.since first back.disk (is_left_by first)
+    pub now : G.honest first → (outcome : Outcome) → MayLeave (G.file back.disk) outcome →
+        is_lawful_now back.store.core outcome
+    pub still : G.honest first → wants_image (bytes_on (G.file first)) ≡ false →
+        IsUnwritten G first back.disk
+    pub any_moment : G.honest first →
+        LeavesOnly G.moment G.since first back.disk (IsLeftByRestart (G.file first))
 
   -- the first line is written, and each line of the script is run in its order and prints its texts
   abbrev pub PrintsRestart : (back : Ledger D) → RestartContents → (last : Ledger D) →
@@ -150,19 +147,26 @@ module _ {D : Type 0} (G : disks.Ghosts D) where
 
   -- No store came back from the first disk, for a cause that is found in its files or its blanks,
   -- the number of processors, lack of memory, or a failure of the device. After a crash of an
-  -- earlier run the files alone are never the cause. Nothing is written, and what was read is sure.
+  -- earlier run the files alone are never the cause, but where an image is wanted that can't be
+  -- written. What was read is sure. Nothing is written unless an image is wanted, and then only
+  -- where the device failed; and each crash since the beginning leaves what one before might have
+  -- left, or files that recover to the same world, at the same generation or the next.
   pub record WasNotRestarted (processors : ℕ) (given : Blanks) (first end : D)
       (refusal : Refusal) : Type 0 where
-    pub kind : is_restart_refusal refusal ≡ true
+    pub kind : is_engine_refusal refusal ≡ true
     pub bad : (refusal ≡ BadPes) ↔ (is_processor_count processors ≡ false)
     pub cause : G.honest first → is_processor_count processors ≡ true →
-        AnswersBy {X = Core} (restart_refusal given (bytes_on (G.file first))) (Err refusal)
+        AnswersBy {X = Core} (engine_refusal given (bytes_on (G.file first))) (Err refusal)
     pub lawful : G.honest first → (w : World) (before : ℕ) (history : List Event) (durable : ℕ) →
-        IsLawful w before history durable (bytes_on (G.file first)) → is_lack refusal ≡ true
-    pub same : G.honest first → ReadsSame (G.file first) (G.file end)
+        IsLawful w before history durable (bytes_on (G.file first)) →
+        IsLackOrFull (bytes_on (G.file first)) refusal
+    pub still : G.honest first → wants_image (bytes_on (G.file first)) ≡ false →
+        IsUnwritten G first end
+    pub unwritten : G.honest first → refusal ≢ Device → IsUnwritten G first end
     pub settled : G.honest first → is_after_sync {X = Core} (Err refusal) ≡ true →
         IsSettled (G.file end)
-    pub any_moment : G.honest first → LeavesOnly G.moment G.since first end (is_left_by first)
+    pub any_moment : G.honest first →
+        LeavesOnly G.moment G.since first end (IsLeftByRestart (G.file first))
     pub counted : G.faults end ≡ faults_after (not_device refusal) (G.faults first)
 
   -- a line couldn't be written: that of a refusal, or one after the store came back

@@ -17,9 +17,9 @@ use std::alloc::Global;
 use std::io;
 use std::io::Write;
 
-/// Delivers the oldest message that can be delivered, up to so many times, and writes how many it
-/// delivered and how many are pending then. Where a delivery is refused it ends, and writes that
-/// too. An error is as `write_line` has it, once all is delivered.
+/// Delivers the oldest message that can be delivered, up to `most` times, and then writes how many
+/// it delivered and how many are still pending. A refused delivery ends it, and is written too. An
+/// error is as `write_line` has it, once all is delivered.
 pub fn drain_line<D: Disk, C: Chare, W: Write>(
     alloc: Global,
     engine: &mut Engine<D, C>,
@@ -41,8 +41,8 @@ pub fn drain_line<D: Disk, C: Chare, W: Write>(
     write_answer(alloc, writer, &Answer::Refused(refusal))
 }
 
-/// Delivers the oldest message that can be delivered, up to so many times: how often it did, and
-/// why it ended, where a delivery was refused.
+/// Delivers the oldest message that can be delivered, up to `most` times. Returns how often it did,
+/// and the refusal that ended it, if one did.
 fn drain<D: Disk, C: Chare>(engine: &mut Engine<D, C>, most: u32) -> (u32, Option<Refusal>)
     requires { IsEngineConsistent engine.old }
     ensures consistent { IsEngineConsistent engine.new }

@@ -67,8 +67,8 @@ pub struct Restarted<D: Disk, C: Chare> {
     pub result: Result<(), RestartError<C>>,
 }
 
-/// That a store came back: the generation of the half that was taken, how many events came back,
-/// and on how many processors the store goes on.
+/// That a store came back: the generation at which it goes on, how many events came back, and on
+/// how many processors it goes on.
 #[derive(Clone, Copy, Debug, PartialEq, Eq)]
 pub struct RestartedLine {
     pub generation: u64,
@@ -94,7 +94,7 @@ impl fmt::Display for RestartedLine {
     }
 }
 
-/// How many blank objects of each kind a restart of the store on this disk needs, on so many
+/// How many blank objects of each kind a restart of the store on this disk needs, on this number of
 /// processors. It only reads the disk, and writes nothing.
 ///
 /// Where no store is found the refusal's line is written: `BadPes` where there aren't 1 to 64
@@ -134,16 +134,22 @@ pub fn find_blanks<D: Disk, W: Write>(
     }
 }
 
-/// Goes on with the store on a disk, whatever a crash left there, on so many processors, and runs a
-/// script's lines. First it writes the generation of the half that was taken, how many events came
-/// back, and the number of processors; then what the lines print: all that a line prints is written
-/// before the next line is run. `blanks` are the objects of which the store's elements are made, as
-/// many as [`find_blanks`] names, and those beyond come to its stock; `supplies` those that the
-/// script's lines supply, of which those beyond are dropped at the end. A refusal is an answer, and
-/// the run goes on. The disk comes back in any case.
+/// Goes on with the store on a disk, whatever a crash left there, on this number of processors, and
+/// runs a script's lines. First it writes the generation at which the store goes on, how many
+/// events came back, and the number of processors; then what the lines print: all that a line
+/// prints is written before the next line is run. `blanks` are the objects of which the store's
+/// elements are made, as many as [`find_blanks`] names, and those beyond come to its stock;
+/// `supplies` those that the script's lines supply, of which those beyond are dropped at the end. A
+/// refusal is an answer, and the run goes on. The disk comes back in any case.
 ///
-/// No store comes back for the reasons of [`charmlet_recover::restart`], in its order. Then the
-/// refusal is written, no line is run, nothing on the disk is changed, and all objects are dropped.
+/// Where the half that is taken has its kinds in their newest versions alone, the restart writes
+/// nothing to the disk, and the store goes on at its generation. Else an image of the store in the
+/// newest versions takes its place, at the next generation, as [`Engine::restart`] says; a crash
+/// meanwhile leaves what one before might have left, or files that recover to the same world.
+///
+/// No store comes back for the reasons of [`Engine::restart`], in its order. Then the refusal is
+/// written, no line is run, and all objects are dropped. Nothing on the disk is changed, unless the
+/// device failed while that image was to be written.
 ///
 /// After a crash at any moment of an earlier run on this disk the store has the world after some of
 /// what had happened, with all that was durable among it, and what clients were told before is

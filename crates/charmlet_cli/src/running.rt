@@ -2,6 +2,7 @@
 
 ghost use Rattle.std.specs.Prelude.{◌≡◌, ◌↔◌, ◌+◌, ◌≤◌, ℕ, List, Some, true, OnOk, OnErr, IfErr, IfOk};
 ghost use Rattle.charmlet_model.specs.declared.kind.Kind.{Kind};
+ghost use Rattle.charmlet_model.specs.Edition.{AreNewest};
 ghost use Rattle.charmlet_model.specs.Fit.{IsFit};
 ghost use Rattle.charmlet_model.specs.Manifest.{manifest_of};
 ghost use Rattle.charmlet_model.specs.Shelves.{count_of};
@@ -141,6 +142,7 @@ fn prepare<C: Chare>(
     ensures manifest { IfOk result (λ prepared. manifest_of (pairs_of script.now.arrays)
         ≡ Some prepared.manifest) }
     ensures fit { IfOk result (λ prepared. IsFit (new_world prepared.manifest)) }
+    ensures newest { IfOk result (λ prepared. AreNewest prepared.manifest) }
     ensures named { IfOk result (λ prepared. (name : List ℕ) →
         named_at prepared.desk name ≡ named_by script.now.handlers name) }
     ensures left { IfOk result (λ prepared. (kind : Kind) →
@@ -183,6 +185,7 @@ fn run_in_new_store<D: Disk, C: Chare, W: Write>(
     requires settled { D.honest disk → IsSettled (D.file disk) }
     requires manifest { manifest_of (pairs_of script.now.arrays) ≡ Some prepared.manifest }
     requires fit { IsFit (new_world prepared.manifest) }
+    requires newest { AreNewest prepared.manifest }
     requires named { (name : List ℕ) →
         named_at prepared.desk name ≡ named_by script.now.handlers name }
     requires enough { (kind : Kind) → blanks_of kind script.now.lines
@@ -400,7 +403,7 @@ fn supplied_by(script: &Script) -> Wanted
     }
 }
 
-/// Whether there are so many objects of each kind.
+/// Whether there are at least as many objects of each kind as are wanted.
 pub(crate) fn has_enough<C: Chare>(wanted: &Wanted, objects: &[C]) -> bool
     ensures { (result ≡ true) ↔ ((kind : Kind) →
         wants.blanks_in wanted.now kind ≤ count_of C.state objects.now kind) }

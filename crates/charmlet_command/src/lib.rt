@@ -172,8 +172,9 @@ const RESTART_ABOUT: &str = "Restart the store in a folder, and run a script on 
 const RESTART_LONG_ABOUT: &str = "\
 Restart the store in a folder, and run a script on it.
 
-The store comes back as its files have it, with all events that were durable. First this is
-printed:
+The store comes back as its files have it, with all events that were durable. If they have
+older versions of its kinds, it goes on in the newest ones, and its folder gets an image of the
+next generation for that. First this is printed:
 
   restarted generation G events E on N  the image is of generation G, E events came back, and
                                         the store is on N processors
@@ -187,7 +188,8 @@ Where no store comes back, there is one line, and no line of the script is run:
 'refused 15 NothingHere' where the folder has no store, 'refused 14 Damaged H O' where what
 stands at offset O of the file halfH isn't as the format says or can't have happened,
 'refused 17 BadPes' where N isn't 1 to 64, 'refused 2 Device' where the folder isn't there or
-the disk fails, or 'refused 1 Memory'.";
+the disk fails, 'refused 12 ImageFull' where such an image would be past a limit, or
+'refused 1 Memory'.";
 
 const RESTART_STATUSES: &str = "\
 Exit status:

@@ -4,9 +4,9 @@ ghost use Rattle.std.specs.Prelude.{◌≡◌, ◌+◌, ◌-◌, ◌^◌, ◌↔
 use crate::{DeviceFault, Disk};
 use charmlet_model::Half;
 
-/// A disk that passes so many calls of `write_at` and `sync` on to another one, and then fails
-/// every one, without touching that other disk: it is as that one was at some call. Lengths and
-/// reads are passed on always.
+/// A disk that passes a given number of calls of `write_at` and `sync` on to another one, and then
+/// fails each further one without touching the other disk, so that it stays as that one was at some
+/// call. Lengths and reads are passed on always.
 ///
 /// It is honest if and only if the other disk is. Its `failures` are the other disk's and those
 /// that it made itself.

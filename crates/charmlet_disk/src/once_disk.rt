@@ -5,8 +5,8 @@ ghost use Rattle.charmlet_disk.specs.Once.{one_less};
 use crate::{DeviceFault, Disk};
 use charmlet_model::Half;
 
-/// A disk that passes so many calls on to another one, lengths and reads among them, fails the next
-/// one without touching that other disk, and passes all later ones.
+/// A disk that passes a given number of calls on to another one, lengths and reads among them,
+/// fails the next one without touching the other disk, and passes all later ones on.
 ///
 /// It is honest if and only if the other disk is. Its `failures` are the other disk's and the one
 /// that it made itself.

@@ -11,7 +11,7 @@ use Rattle.charmlet_halves.specs.Answers.{is_finding_refusal}
 use Rattle.charmlet_halves.specs.Found.{Finds}
 use Rattle.charmlet_locate.specs.Locations.{is_processor_count}
 use Rattle.charmlet_plain_recovery.specs.Views.{files}
-use Rattle.charmlet_recovery.specs.Recovered.{recovered, recovered_from}
+use Rattle.charmlet_plain_recovery.specs.Written.{as_written_from, recovered_as_written}
 use Rattle.charmlet_dump.specs.declared.finding.Found.{Found}
 use Rattle.charmlet_dump.specs.Answers.{Comes, IsAnswer, IsRefusal}
 
@@ -27,18 +27,18 @@ beside_zero size more (Begun h bytes) s is = ap (taken_half One) is
 beside_zero size more (Broken offset) s is = absurd cc
 
 -- an open half alone is taken
-pub alone_zero : (bytes : List ℕ) (s : Saved) → found bytes ≡ Open s → recovered (files bytes []) ≡ recovered_from (Takes Zero s)
-unfolding recovered
-alone_zero bytes s is = ap recovered_from (beside_one (length bytes) 0 (top bytes) s is)
+pub alone_zero : (bytes : List ℕ) (s : Saved) → found bytes ≡ Open s → recovered_as_written (files bytes []) ≡ as_written_from (Takes Zero s)
+unfolding recovered_as_written
+alone_zero bytes s is = ap as_written_from (beside_one (length bytes) 0 (top bytes) s is)
 
-pub alone_one : (bytes : List ℕ) (s : Saved) → found bytes ≡ Open s → recovered (files [] bytes) ≡ recovered_from (Takes One s)
-unfolding recovered
-alone_one bytes s is = ap recovered_from (beside_zero 0 (length bytes) (top bytes) s is)
+pub alone_one : (bytes : List ℕ) (s : Saved) → found bytes ≡ Open s → recovered_as_written (files [] bytes) ≡ as_written_from (Takes One s)
+unfolding recovered_as_written
+alone_one bytes s is = ap as_written_from (beside_zero 0 (length bytes) (top bytes) s is)
 
 -- what is taken is what is recovered
-pub recovered_so : (outcome : Outcome) (t : Taken) → taken (outcome Zero) (outcome One) ≡ t → recovered outcome ≡ recovered_from t
-unfolding recovered
-recovered_so outcome t is = ap recovered_from is
+pub recovered_so : (outcome : Outcome) (t : Taken) → taken (outcome Zero) (outcome One) ≡ t → recovered_as_written outcome ≡ as_written_from t
+unfolding recovered_as_written
+recovered_so outcome t is = ap as_written_from is
 
 -- why nothing is taken is why nothing is recovered
 pub refused_so : (processors : ℕ) (outcome : Outcome) (refusal : Refusal) → is_processor_count processors ≡ true → is_finding_refusal refusal ≡ true → Finds (outcome Zero) (outcome One) (Err refusal) →
@@ -55,12 +55,12 @@ refused_of_halves processors refusals.BadPes good is = absurd cc
 refused_of_halves processors _ good is = (good, is)
 
 -- what is answered where the number of processors is good
-answered_or_refused : (processors : ℕ) (outcome : Outcome) (refusal : Refusal) → is_processor_count processors ≡ true → is_finding_refusal refusal ≡ true → Comes (recovered outcome) (Err refusal) →
+answered_or_refused : (processors : ℕ) (outcome : Outcome) (refusal : Refusal) → is_processor_count processors ≡ true → is_finding_refusal refusal ≡ true → Comes (recovered_as_written outcome) (Err refusal) →
     IsAnswer processors outcome (Err refusal)
 answered_or_refused processors outcome refusals.BadPes good is h = absurd h
 answered_or_refused processors outcome _ good is h = (good, h)
 
-pub answered_so : (processors : ℕ) (outcome : Outcome) (answer : Result Found Refusal) → is_processor_count processors ≡ true → IfErr answer (λ refusal. is_finding_refusal refusal ≡ true) → Comes (recovered outcome) answer →
+pub answered_so : (processors : ℕ) (outcome : Outcome) (answer : Result Found Refusal) → is_processor_count processors ≡ true → IfErr answer (λ refusal. is_finding_refusal refusal ≡ true) → Comes (recovered_as_written outcome) answer →
     IsAnswer processors outcome answer
 answered_so processors outcome (Ok found) good is h = (good, h)
 answered_so processors outcome (Err refusal) good is h = answered_or_refused processors outcome refusal good is h

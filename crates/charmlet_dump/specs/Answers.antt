@@ -7,7 +7,8 @@ use Rattle.charmlet_disk.specs.File.{File, Outcome}
 use Rattle.charmlet_halves.specs.Answers.{is_finding_refusal}
 use Rattle.charmlet_locate.specs.Locations.{is_processor_count}
 use Rattle.charmlet_recovery.specs.Recovered as files
-use Rattle.charmlet_recovery.specs.Recovered.{Recovered, recovered}
+use Rattle.charmlet_recovery.specs.Recovered.{Recovered}
+use Rattle.charmlet_plain_recovery.specs.Written.{recovered_as_written}
 use Rattle.charmlet_dump.specs.declared.finding.Found.{Found}
 
 -- what a read of each half gives
@@ -25,16 +26,16 @@ Comes r (Err refusals.Device) = Unit {0}
 Comes r (Err refusal) = ⊥
 
 -- the number of processors is refused, where and only where there aren't 1 to 64; else what these
--- bytes recover to is answered
+-- bytes recover to, in the versions that are written, is answered
 abbrev pub IsAnswer : ℕ → Outcome → Result Found Refusal → Type 0
 IsAnswer processors outcome (Err refusals.BadPes) = is_processor_count processors ≡ false
 IsAnswer processors outcome answer = (is_processor_count processors ≡ true)
-    × Comes (recovered outcome) answer
+    × Comes (recovered_as_written outcome) answer
 
--- on any disk, what is found is what the bytes of some halves recover to
+-- on any disk, what is found is what some halves recover to, in the versions that are written
 abbrev pub IsRecovered : Found → Type 0
 IsRecovered found = (outcome : Outcome)
-    × (recovered outcome ≡ files.Found found.world found.events found.generation)
+    × (recovered_as_written outcome ≡ files.Found found.world found.events found.generation)
 
 -- on any disk, it is refused for the number of processors, or else for a fault
 abbrev pub IsRefusal : ℕ → Refusal → Type 0

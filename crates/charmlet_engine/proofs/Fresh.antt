@@ -1,6 +1,7 @@
 -- What a crash leaves of a disk on which a store is made.
 use Rattle.std.proofs.Common.{inl, inr, ⊎_elim, subst, sym}
 use Rattle.charmlet_model.specs.declared.half.Half.TheVariants.{Zero, One}
+use Rattle.charmlet_model.specs.Edition.{AreNewest}
 use Rattle.charmlet_model.specs.Fit.{IsFit}
 use Rattle.charmlet_model.specs.Sound.{new_world}
 use Rattle.charmlet_disk.specs.declared.disk.Disk.{Ghosts}
@@ -24,10 +25,10 @@ module _ {D : Type 0} (G : Ghosts D) (kinds : Kinds) (old new : D) where
   leaves_new leaves = weaker G.moment G.since old new (NothingOrNewWorld kinds) (IsNothingOrNew kinds) leaves (recovers kinds)
 
   -- where nothing is written, there is nothing
-  pub leaves_nothing : IsFit (new_world kinds) → IsSettled (G.file old) → IsClosed (G.file old Zero).now → IsClosed (G.file old One).now →
+  pub leaves_nothing : IsFit (new_world kinds) → AreNewest kinds → IsSettled (G.file old) → IsClosed (G.file old Zero).now → IsClosed (G.file old One).now →
       LeavesOnly G.moment G.since old new (MayLeave (G.file old)) → LeavesOnly G.moment G.since old new (IsNothingOrNew kinds)
-  leaves_nothing fit settled zero_closed one_closed leaves =
+  leaves_nothing fit newest settled zero_closed one_closed leaves =
       weaker G.moment G.since old new (MayLeave (G.file old)) (IsNothingOrNew kinds) leaves
       (λ o left.
       let same = is_left (G.file old) settled o left in
-      recovers kinds o (creations_are_stored o kinds fit (subst IsClosed (sym (same One)) one_closed) (inl (subst IsClosed (sym (same Zero)) zero_closed))))
+      recovers kinds o (creations_are_stored o kinds fit newest (subst IsClosed (sym (same One)) one_closed) (inl (subst IsClosed (sym (same Zero)) zero_closed))))

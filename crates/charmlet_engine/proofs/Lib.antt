@@ -6,3 +6,5 @@ pub mod Fresh
 pub mod Advancing
 pub mod Lives
 pub mod Asked
+pub mod Renewed
+pub mod Restarts

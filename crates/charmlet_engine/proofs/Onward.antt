@@ -1,5 +1,5 @@
 -- Later cores of one store.
-use Rattle.std.proofs.Common.{◌≡◌, ◌≢◌, inl, inr, ⊎_elim, ℕ, ◌+◌, ◌≤◌, List, [], ◌∷◌, ◌++◌, length, refl, sym, ap, subst, ◌∙◌, arith, append_assoc, true, false}
+use Rattle.std.proofs.Common.{◌≡◌, ◌≢◌, ◌⊎◌, inl, inr, ⊎_elim, ℕ, ◌+◌, ◌≤◌, List, [], ◌∷◌, ◌++◌, length, refl, sym, ap, subst, ◌∙◌, arith, append_assoc, true, false}
 use Rattle.std.proofs.lemmas.List.{append-nil}
 use Rattle.charmlet_model.specs.declared.event.Event.{Event}
 use Rattle.charmlet_model.specs.declared.refusal.Refusal.{Refusal}
@@ -82,3 +82,8 @@ ends_more (first ∷ next ∷ answers) answer = ends_more (next ∷ answers) ans
 -- a refusal that isn't the device's
 pub apart : (refusal : Refusal) → not_device refusal ≡ true → refusal ≢ refusals.Device
 apart refusal other is = (let no : false ≡ true = sym (ap not_device is) ∙ other in cc)
+
+-- each is one or the other
+pub device_or_not : (refusal : Refusal) → (refusal ≡ refusals.Device) ⊎ (refusal ≢ refusals.Device)
+device_or_not refusals.Device = inl refl
+device_or_not refusal = inr (apart refusal refl)

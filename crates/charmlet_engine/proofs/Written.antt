@@ -1,25 +1,29 @@
 -- Engines whose history was written to the disk.
-use Rattle.std.proofs.Common.{Vec, ◌≡◌, List, length, refl, sym, ap, subst, ◌∙◌}
+use Rattle.std.proofs.Common.{Vec, ◌≡◌, ◌≢◌, inl, inr, true, false, List, length, refl, sym, ap, subst, ◌∙◌}
 use Rattle.std.specs.Vec.{with_items}
 use Rattle.std.proofs.Math.Nat.{ℕ_set}
 use Rattle.std.proofs.Math.Path.{path_j}
 use Rattle.std.proofs.lemmas.List.{with_items_is}
+use Rattle.charmlet_model.specs.declared.refusal.Refusal.{Refusal}
+use Rattle.charmlet_model.specs.declared.refusal.Refusal.TheVariants as refusals
 use Rattle.charmlet_model.specs.Core.{Core, CoreAnswer, Flush, Steps}
 use Rattle.charmlet_chare.specs.declared.chare.Chare as chares
 use Rattle.charmlet_disk.specs.declared.disk.Disk as disks
 use Rattle.charmlet_halves.specs.declared.halves.Halves.{Halves}
-use Rattle.charmlet_halves.specs.Halves.{disk_of}
+use Rattle.charmlet_halves.specs.Halves.{disk_of, is_halted}
 use Rattle.charmlet_history.specs.declared.history.History.{History}
 use Rattle.charmlet_history.specs.Kept.{IsConsistent, core_in, core_of, kept_in}
 use Rattle.charmlet_journal.specs.Quiet.{Quiet}
-use Rattle.charmlet_journal.specs.Rest.{Agrees, IsKept}
-use Rattle.charmlet_journal.proofs.Quietness.{still_agrees, still_kept}
+use Rattle.charmlet_journal.specs.Rest.{Agrees, IsCurrent, IsKept}
+use Rattle.charmlet_journal.proofs.Quietness.{stays, still_agrees, still_kept}
 use Rattle.charmlet_store.specs.declared.store.Store.{Store}
 use Rattle.charmlet_migrate.specs.Moving.{records_on}
+use Rattle.charmlet_checkpoint.specs.Showing.{IsShown}
 use Rattle.charmlet_store.specs.Store.{IsStoreConsistent}
 use Rattle.charmlet_store.proofs.Showing.{ShowsCore, flush_shows}
 use Rattle.charmlet_engine.specs.declared.engine.Engine.{Engine}
-use Rattle.charmlet_engine.specs.Engine.{IsEngineConsistent}
+use Rattle.charmlet_engine.specs.Engine.{IsEngineConsistent, disk_in}
+use Rattle.charmlet_engine.proofs.Onward.{device_or_not}
 
 module _ {D C : Type 0} {G : disks.Ghosts D} {H : chares.Ghosts C} (old : Engine D C G H) (consistent : IsEngineConsistent old) (history : History) (halves : Halves D G) where
   abbrev pub written : Engine D C G H
@@ -28,8 +32,8 @@ module _ {D C : Type 0} {G : disks.Ghosts D} {H : chares.Ghosts C} (old : Engine
   -- a flush changes no object
   pub flushed_consistent : (answer : CoreAnswer) → IsConsistent (kept_in history) →
       Steps (core_in old.store.history) (λ _. 0) Flush (record { answer = answer; core = core_in history; blanks = λ _. 0 }) → Agrees (core_in history) halves →
-      (G.honest (disk_of halves) → IsKept (core_in history) halves) → IsEngineConsistent written
-  flushed_consistent answer same steps agrees kept =
+      (G.honest (disk_of halves) → IsKept (core_in history) halves) → (G.honest (disk_of halves) → (core_in history).halted ≡ false → IsCurrent halves) → IsEngineConsistent written
+  flushed_consistent answer same steps agrees kept current =
       let before = core_in old.store.history in
       let shows = flush_shows (records_on old.store.shelves.items) before.processors before (λ _. 0) (record { answer = answer; core = core_in history; blanks = λ _. 0 })
       (record { processors = refl; shows = consistent.shows.objects }) steps in
@@ -44,9 +48,37 @@ module _ {D C : Type 0} {G : disks.Ghosts D} {H : chares.Ghosts C} (old : Engine
         };
         agrees = agrees;
         keeps = kept;
+        current = current;
       }
 
-  -- nor is it another one where what is kept is the same
+  -- nor does an image
+  pub imaged_consistent : IsShown history old.store.shelves.items → Agrees (core_in history) halves → (G.honest (disk_of halves) → IsKept (core_in history) halves) →
+      (G.honest (disk_of halves) → (core_in history).halted ≡ false → IsCurrent halves) → IsEngineConsistent written
+  imaged_consistent shown agrees kept current = record {
+    shows = record {
+      history = shown.consistent;
+      count = shown.count;
+      numbers = consistent.shows.numbers;
+      idle = shown.idle;
+      objects = shown.objects;
+      census = consistent.shows.census;
+    };
+    agrees = agrees;
+    keeps = kept;
+    current = current;
+  }
+
+  -- where none is written, the half is as current as it was
+  pub refused_current : (refusal : Refusal) → (refusal ≢ refusals.Device → (history ≡ old.store.history) × (halves ≡ old.halves)) → (refusal ≡ refusals.Device → is_halted halves ≡ true) →
+      Agrees (core_in history) halves → (G.honest (disk_of halves) → G.honest (disk_in old)) → G.honest (disk_of halves) → (core_in history).halted ≡ false → IsCurrent halves
+  refused_current refusal same failed agrees back honest going = elim (device_or_not refusal) [
+    | inl is ↦ (let no : true ≡ false = sym (failed is) ∙ (agrees going).going in absurd cc)
+    | inr other ↦
+        (let both = same other in
+        subst (λ (its : Halves D G). IsCurrent its) (sym both.1) (consistent.current (back honest) (ap (λ (h : History). (core_in h).halted) (sym both.0) ∙ going)))
+  ]
+
+  -- it isn't another one where what is kept is the same
   pub same_consistent : kept_in history ≡ kept_in old.store.history → IsEngineConsistent {G = G} (record { store = record old.store { history = history }; halves = old.halves })
   same_consistent same =
       let core : core_in history ≡ core_in old.store.history = ap core_of same in
@@ -62,6 +94,7 @@ module _ {D C : Type 0} {G : disks.Ghosts D} {H : chares.Ghosts C} (old : Engine
         };
         agrees = subst (λ (core : Core). Agrees core old.halves) (sym core) consistent.agrees;
         keeps = λ honest. subst (λ (core : Core). IsKept core old.halves) (sym core) (consistent.keeps honest);
+        current = λ honest going. consistent.current honest (ap (λ (k : Core). k.halted) (sym core) ∙ going);
       }
 
 module _ {D C : Type 0} {G : disks.Ghosts D} {H : chares.Ghosts C} (old : Engine D C G H) (consistent : IsEngineConsistent old) (store : Store C H) where
@@ -74,7 +107,23 @@ module _ {D C : Type 0} {G : disks.Ghosts D} {H : chares.Ghosts C} (old : Engine
         shows = shows;
         agrees = still_agrees {G = G} before after quiet old.halves consistent.agrees;
         keeps = λ honest. still_kept {G = G} before after quiet consistent.shows.history.sound.durable old.halves (consistent.keeps honest);
+        current = λ honest going. consistent.current honest (quiet.going going);
       }
+
+  -- and so do steps that leave the core
+  pub core_consistent : IsStoreConsistent store → core_in store.history ≡ core_in old.store.history → IsEngineConsistent {G = G} (record { store = store; halves = old.halves })
+  core_consistent shows same = quiet_consistent shows (subst (Quiet (core_in old.store.history)) (sym same) (stays (core_in old.store.history)))
+
+-- a store whose history was written, and whose shelves show it, is as consistent as it was
+pub imaged_store : {C : Type 0} {H : chares.Ghosts C} (store : Store C H) (history : History) → IsStoreConsistent store → IsShown history store.shelves.items → IsStoreConsistent (record store { history = history })
+imaged_store store history was shown = record {
+  history = shown.consistent;
+  count = shown.count;
+  numbers = was.numbers;
+  idle = shown.idle;
+  objects = shown.objects;
+  census = was.census;
+}
 
 -- items that are written back as they were
 module _ {X Z : Type 0} (v : Vec X Z) where

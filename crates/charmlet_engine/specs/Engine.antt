@@ -1,5 +1,5 @@
 -- What is seen of an engine.
-use Rattle.std.specs.Prelude.{◌≡◌, ℕ, ◌+◌, Bool, [], length, Result, Ok, Err}
+use Rattle.std.specs.Prelude.{◌≡◌, ℕ, ◌+◌, Bool, false, [], length, Result, Ok, Err}
 use Rattle.charmlet_model.specs.declared.refusal.Refusal.{Refusal}
 use Rattle.charmlet_model.specs.declared.half.Half.{Half}
 use Rattle.charmlet_model.specs.declared.kind.Kind.{Kind}
@@ -14,14 +14,12 @@ use Rattle.charmlet_disk.specs.declared.disk.Disk as disks
 use Rattle.charmlet_halves.specs.declared.opening.Refused.{Refused}
 use Rattle.charmlet_halves.specs.Halves.{disk_of, taken_half, text_of}
 use Rattle.charmlet_history.specs.Kept.{core_in}
-use Rattle.charmlet_journal.specs.Rest.{Agrees, IsKept}
+use Rattle.charmlet_journal.specs.Rest.{Agrees, IsCurrent, IsKept}
 use Rattle.charmlet_stock.specs.declared.by_kind.ByKind.{ByKind}
 use Rattle.charmlet_stock.specs.Stock.{keeping_of}
 use Rattle.charmlet_store.specs.Store.{IsStoreConsistent, store_in, supplied_in}
 use Rattle.charmlet_image.specs.Images.{spell_half}
 use Rattle.charmlet_recovery.specs.Stores.{saved_of}
-use Rattle.charmlet_recover.specs.declared.restarting.Recovered.{Recovered}
-use Rattle.charmlet_recover.specs.declared.restarting.NotRestarted.{NotRestarted}
 use Rattle.charmlet_engine.specs.declared.engine.Engine.{Engine}
 
 -- the answer to a request or a status
@@ -59,11 +57,13 @@ module _ {D C : Type 0} {G : disks.Ghosts D} {H : chares.Ghosts C} where
   half_of engine = taken_half engine.halves
 
   -- Its shelves show the present world; its halves go on where the store does; and on an honest
-  -- disk each crash keeps what is durable.
+  -- disk each crash keeps what is durable, and events may be appended unless the store is halted.
   pub record IsEngineConsistent (engine : Engine D C G H) : Type 0 where
     pub shows : IsStoreConsistent engine.store
     pub agrees : Agrees (core_of engine) engine.halves
     pub keeps : G.honest (disk_in engine) → IsKept (core_of engine) engine.halves
+    pub current : G.honest (disk_in engine) → (core_of engine).halted ≡ false →
+        IsCurrent engine.halves
 
   -- The half that is taken says an image of the present world, with a count of all events, and a
   -- log that has no batch yet.
@@ -83,13 +83,3 @@ module _ {D C : Type 0} {G : disks.Ghosts D} {H : chares.Ghosts C} where
       Result (Engine D C G H) Refusal
   engine_or_refusal (Ok engine) = Ok engine
   engine_or_refusal (Err refused) = Err refused.refusal
-
-  -- what a restart brought back
-  abbrev pub recovered_in : Engine D C G H → Recovered D C G H
-  recovered_in engine = record { store = engine.store; halves = engine.halves }
-
-  -- that a restart brought it back, or what it handed back
-  abbrev pub recovered_or_not : Result (Engine D C G H) (NotRestarted D C H) →
-      Result (Recovered D C G H) (NotRestarted D C H)
-  recovered_or_not (Ok engine) = Ok (recovered_in engine)
-  recovered_or_not (Err refused) = Err refused

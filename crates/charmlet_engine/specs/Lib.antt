@@ -4,7 +4,9 @@ pub mod Engine
 pub mod Advances
 pub mod Lives
 pub mod Taken
+pub mod Restarted
 pub use Rattle.charmlet_model.specs.Core
+pub use Rattle.charmlet_model.specs.Edition
 pub use Rattle.charmlet_model.specs.Fit
 pub use Rattle.charmlet_model.specs.Run
 pub use Rattle.charmlet_model.specs.RunLaws
@@ -13,12 +15,12 @@ pub use Rattle.charmlet_model.specs.Sound
 pub use Rattle.charmlet_model.specs.World
 pub use Rattle.charmlet_image.specs.Spelled
 pub use Rattle.charmlet_recovery.specs.Outcomes as RecoveryOutcomes
-pub use Rattle.charmlet_recovery.specs.Recovered
 pub use Rattle.charmlet_recovery.specs.Restarts
 pub use Rattle.charmlet_disk.specs.Disk
 pub use Rattle.charmlet_disk.specs.File
 pub use Rattle.charmlet_halves.specs.Answers
 pub use Rattle.charmlet_halves.specs.Bytes
+pub use Rattle.charmlet_halves.specs.Halves
 pub use Rattle.charmlet_stock.specs.ByKind
 pub use Rattle.charmlet_stock.specs.Pile
 pub use Rattle.charmlet_stock.specs.Stock
@@ -28,6 +30,7 @@ pub use Rattle.charmlet_requests.specs.Handlers
 pub use Rattle.charmlet_requests.specs.Pass
 pub use Rattle.charmlet_journal.specs.NewStores
 pub use Rattle.charmlet_journal.specs.Quiet
+pub use Rattle.charmlet_journal.specs.Rest
 pub use Rattle.charmlet_migrate.specs.Moving
 pub use Rattle.charmlet_checkpoint.specs.Showing
 pub use Rattle.charmlet_store.specs.Census

@@ -5,6 +5,7 @@ mod asking;
 mod closing;
 mod creating;
 mod engine;
+mod going_on;
 mod laws;
 mod memory;
 mod restarting;

@@ -1,6 +1,6 @@
 //! Engines that come back.
 
-ghost use Rattle.std.specs.Prelude.{◌≡◌, ℕ, List, false, true, IfErr, IfOk};
+ghost use Rattle.std.specs.Prelude.{◌≡◌, ◌≢◌, ℕ, List, false, true, IfErr, IfOk};
 ghost use Rattle.charmlet_model.specs.declared.event.Event.{Event};
 ghost use Rattle.charmlet_model.specs.declared.refusal.Refusal.TheVariants as refusals;
 ghost use Rattle.charmlet_model.specs.Core.{Core};
@@ -11,17 +11,18 @@ ghost use Rattle.charmlet_disk.specs.File.{MayLeave, Outcome};
 ghost use Rattle.charmlet_halves.specs.Answers.{is_no_failure};
 ghost use Rattle.charmlet_locate.specs.Locations.{is_processor_count};
 ghost use Rattle.charmlet_recovery.specs.Outcomes.{IsLawful};
-ghost use Rattle.charmlet_recovery.specs.Recovered as files;
-ghost use Rattle.charmlet_recovery.specs.Restarts.{restart_refusal};
+ghost use Rattle.charmlet_recovery.specs.Restarts.{engine_refusal, wants_image};
 ghost use Rattle.charmlet_stock.specs.ByKind.{for_all};
 ghost use Rattle.charmlet_stock.specs.Stock.{blanks_in, supplied_to};
 ghost use Rattle.charmlet_replay.specs.Unused.{IsUnused};
-ghost use Rattle.charmlet_recover.specs.Restart.{AnswersAfterCrash, AnswersBy, IsHandedBack, IsOpenedOn, IsReadFrom, IsSameStock, IsShortOfSome, IsTakenFrom, ReadsSame, bytes_on, disk_after, is_after_sync, is_restart_refusal, restarted_or_refused};
-ghost use Rattle.charmlet_engine.specs.Engine.{IsEngineConsistent, core_of, disk_in, keeping_in, recovered_in, recovered_or_not, supplied_of};
+ghost use Rattle.charmlet_recover.specs.Restart.{AnswersBy, IsSameStock, IsShortOfSome, bytes_on, is_after_sync};
+ghost use Rattle.charmlet_engine.specs.Engine.{HasImage, IsEngineConsistent, core_of, disk_in, half_of, keeping_in, supplied_of, view_of};
 ghost use Rattle.charmlet_engine.specs.Lives.{ComesBack, Past, Remembers};
 ghost use Rattle.charmlet_engine.specs.Outcomes.{Onward, is_lawful_now, is_lawful_since};
+ghost use Rattle.charmlet_engine.specs.Restarted.{AnswersAfterCrash, IsFound, IsFullOfSome, IsHandedBack, IsLeftByRestart, IsOpenedOn, IsReadFrom, IsTaken, IsTakenFrom, IsUnwritten, core_or_refusal, disk_after, is_engine_refusal};
 
 use crate::engine::Engine;
+use crate::going_on::go_on;
 use charmlet_chare::Chare;
 use charmlet_disk::Disk;
 use charmlet_recover::{NotRestarted, Recovered, restart};
@@ -29,19 +30,29 @@ use charmlet_stock::Stock;
 use std::alloc::Global;
 
 impl<D: Disk, C: Chare> Engine<D, C> {
-    /// Goes on with the store that stands on a disk, whatever a crash left there, on so many
-    /// processors: each element on its home, nothing happened since, no event that isn't durable.
-    /// Its objects are made of these blanks, of which none may have been used yet; those that it
-    /// doesn't need are its stock, which drops what is retired. Both halves are synced before they
-    /// are read, and nothing is written.
+    /// Goes on with the store that stands on a disk, whatever a crash left there, on this number of
+    /// processors: each element is on its home, nothing has happened since, and each event is
+    /// durable. Its objects are made of these blanks, of which none may have been used yet; those
+    /// that it doesn't need are its stock, which drops what is retired. Both halves are synced
+    /// before they are read.
+    ///
+    /// Where the half that is taken has its kinds in their newest versions alone, nothing is
+    /// written. Else the store goes on in the newest versions: an image of it, of the next
+    /// generation, is written to the other half and takes the place of the store, as the image of
+    /// a checkpoint does. Before its gate is opened a crash leaves the half that was read, and
+    /// afterwards the image; the files recover to the same world either way, so that nothing is
+    /// lost at any moment. It can't be undone but from a copy of the folder.
     ///
     /// After a crash at any moment of an earlier engine on this disk, the store opens with the
     /// world after some of what had happened, with all that was durable among it. What clients were
     /// told before the crash, in any life of the store, is true of it.
     ///
-    /// The refusals, and what comes back with each, are those of [`charmlet_recover::restart`]:
-    /// `BadPes`, `Device`, `Damaged`, `NothingHere`, `BlanksWanted` and `Memory`. After a crash of
-    /// an earlier engine the files alone are never the cause.
+    /// The refusals are in their order those of [`charmlet_recover::restart`], which are `BadPes`,
+    /// `Device`, `Damaged`, `NothingHere`, `BlanksWanted` and `Memory`; and then, where an image is
+    /// wanted, `Memory`, `ImageFull` if its generation would be past 2^40 or its file past 2^31
+    /// bytes, and `Device`. Each hands the disk and all blanks back, these in whatever state, so
+    /// that the caller may try again. At each but `Device` nothing is written. After a crash of an
+    /// earlier engine the files alone are never the cause, except of `ImageFull`.
     pub fn restart(
         alloc: Global,
         disk: D,
@@ -50,14 +61,16 @@ impl<D: Disk, C: Chare> Engine<D, C> {
     ) -> Result<Self, NotRestarted<D, C>>
         requires unused { IsUnused blanks }
         ensures consistent { IfOk result (λ engine. IsEngineConsistent engine) }
-        ensures opens { IfOk result (λ engine. IsOpenedOn processors (recovered_in engine)) }
+        ensures opens { IfOk result (λ engine. IsOpenedOn processors (core_of engine)) }
         ensures found { D.honest disk → IfOk result (λ engine.
-            files.recovered (bytes_on (D.file disk)) ≡ files.Found (core_of engine).opening
-            (core_of engine).before (core_of engine).generation) }
+            IsFound (bytes_on (D.file disk)) (core_of engine)) }
         ensures taken { D.honest disk → IfOk result (λ engine.
-            IsTakenFrom (blanks_in blanks) (bytes_on (D.file disk)) (recovered_in engine)) }
-        ensures read { IfOk result (λ engine.
-            IsReadFrom (blanks_in blanks) (recovered_in engine)) }
+            IsTakenFrom (blanks_in blanks) (bytes_on (D.file disk)) (view_of engine)) }
+        ensures read { IfOk result (λ engine. IsReadFrom (blanks_in blanks) (view_of engine)) }
+        ensures which { D.honest disk → wants_image (bytes_on (D.file disk)) ≡ false →
+            IfOk result (λ engine. IsTaken (bytes_on (D.file disk)) (half_of engine)) }
+        ensures image { D.honest disk → wants_image (bytes_on (D.file disk)) ≡ true →
+            IfOk result (λ engine. HasImage engine) }
         ensures supplied { IfOk result (λ engine. supplied_of engine ≡ supplied_to blanks) }
         ensures keeping { IfOk result (λ engine. keeping_in engine ≡ for_all false) }
         ensures now { D.honest disk → IfOk result (λ engine. (outcome : Outcome) →
@@ -68,33 +81,40 @@ impl<D: Disk, C: Chare> Engine<D, C> {
             IfOk result (λ engine. ComesBack past old new (core_of engine)) }
         ensures lawful { D.honest disk → (w : World) (before : ℕ) (history : List Event)
             (durable : ℕ) → IsLawful w before history durable (bytes_on (D.file disk)) →
-            AnswersAfterCrash w before history durable
-            (restarted_or_refused (recovered_or_not result)) }
+            AnswersAfterCrash w before history durable (bytes_on (D.file disk))
+            (core_or_refusal result) }
         ensures answer { D.honest disk → is_processor_count processors ≡ true →
-            AnswersBy (restart_refusal (blanks_in blanks) (bytes_on (D.file disk)))
-            (restarted_or_refused (recovered_or_not result)) }
-        ensures bad { is_processor_count processors ≡ false →
-            IsHandedBack disk blanks (recovered_or_not result) }
+            AnswersBy (engine_refusal (blanks_in blanks) (bytes_on (D.file disk)))
+            (core_or_refusal result) }
+        ensures bad { is_processor_count processors ≡ false → IsHandedBack disk blanks result }
         ensures only_bad { IfErr result (λ refused. refused.refusal ≡ refusals.BadPes →
             is_processor_count processors ≡ false) }
-        ensures err { IfErr result (λ refused. is_restart_refusal refused.refusal ≡ true) }
+        ensures err { IfErr result (λ refused. is_engine_refusal refused.refusal ≡ true) }
         ensures short { IfErr result (λ refused.
             IsShortOfSome (blanks_in blanks) refused.refusal) }
+        ensures full { IfErr result (λ refused. IsFullOfSome refused.refusal) }
         ensures back { IfErr result (λ refused. IsSameStock blanks refused.blanks) }
-        ensures settled { D.honest disk →
-            is_after_sync (restarted_or_refused (recovered_or_not result)) ≡ true →
-            IsSettled (D.file (disk_after (recovered_or_not result))) }
-        ensures same { D.honest disk →
-            ReadsSame (D.file disk) (D.file (disk_after (recovered_or_not result))) }
+        ensures settled { D.honest disk → is_after_sync (core_or_refusal result) ≡ true →
+            IsSettled (D.file (disk_after result)) }
+        ensures still { D.honest disk → wants_image (bytes_on (D.file disk)) ≡ false →
+            IsUnwritten D.Disk disk (disk_after result) }
+        ensures refused { D.honest disk → IfErr result (λ refused.
+            refused.refusal ≢ refusals.Device → IsUnwritten D.Disk disk refused.disk) }
         ensures any_moment { D.honest disk → LeavesOnly D.moment D.since disk
-            (disk_after (recovered_or_not result)) (MayLeave (D.file disk)) }
-        ensures honest { (D.honest disk → D.honest (disk_after (recovered_or_not result)))
-            × (D.honest (disk_after (recovered_or_not result)) → D.honest disk) }
-        ensures counted { D.faults (disk_after (recovered_or_not result)) ≡ faults_after
-            (is_no_failure (restarted_or_refused (recovered_or_not result))) (D.faults disk) }
+            (disk_after result) (IsLeftByRestart (D.file disk)) }
+        ensures honest { (D.honest disk → D.honest (disk_after result))
+            × (D.honest (disk_after result) → D.honest disk) }
+        ensures counted { D.faults (disk_after result) ≡ faults_after
+            (is_no_failure (core_or_refusal result)) (D.faults disk) }
     {
         match restart(alloc, disk, blanks, processors) {
-            Ok(Recovered { store, halves }) => Ok(Engine { store, halves }),
+            Ok(
+                Recovered {
+                    store,
+                    halves,
+                    is_current,
+                },
+            ) => go_on(store, halves, is_current),
             Err(refused) => Err(refused),
         }
     }

@@ -44,7 +44,7 @@ impl<D: Disk, C: Chare> Engine<D, C> {
         self.store.supply(blanks)
     }
 
-    /// Draws so many blanks of a kind into the stock from another one, which has them. Where memory
+    /// Draws `count` blanks of a kind into the stock from another one, which has them. Where memory
     /// is refused, both are as before. It makes no call of the disk.
     pub fn draw(
         &mut self,

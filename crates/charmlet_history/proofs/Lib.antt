@@ -14,4 +14,5 @@ pub mod Moves
 pub mod Openings
 pub mod Rooms
 pub mod Unwritten
+pub mod Upgrades
 pub mod RecordLists

@@ -14,6 +14,7 @@ pub use Rattle.charmlet_model.specs.Reaction
 pub use Rattle.charmlet_model.specs.Row
 pub use Rattle.charmlet_model.specs.Sound
 pub use Rattle.charmlet_model.specs.Told
+pub use Rattle.charmlet_model.specs.Upgrade
 pub use Rattle.charmlet_model.specs.World
 pub use Rattle.charmlet_record.specs.Backlog
 pub use Rattle.charmlet_record.specs.Limits

@@ -13,6 +13,7 @@ pub mod Placed
 pub mod Views
 pub mod NewStores
 pub mod Spelled
+pub use Rattle.charmlet_model.specs.Edition
 pub use Rattle.charmlet_model.specs.Names
 pub use Rattle.charmlet_model.specs.Packed
 pub use Rattle.charmlet_model.specs.Spelling

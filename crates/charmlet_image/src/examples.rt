@@ -1,19 +1,25 @@
 //! Halves byte for byte, as contracts of functions that do nothing.
 
-ghost use Rattle.charmlet_image.specs.Examples.{EveryCut, NewStores, FlushedStores, CheckpointedStores, AlteredStores, CaughtStores, TwoHalves, Offsets, WaitingStores};
+ghost use Rattle.charmlet_image.specs.Examples.{EveryCut, NewStores, OlderStores, FlushedStores, CheckpointedStores, AlteredStores, CaughtStores, TwoHalves, Offsets, WaitingStores};
 
-/// A new store opens. Cut to one byte it is closed; nine longer cuts are damaged at the field that
-/// runs past the end.
+/// A new store opens. With version 1 of its array's kind it opens too, and a version that the kind
+/// doesn't have is damage at the version.
 pub fn new_stores_are_read()
     ensures { NewStores }
 {}
 
-/// A store after its first flush.
+/// The same store by the second mark opens, and has version 1. Cut to one byte it is closed; nine
+/// longer cuts are damaged at the field that runs past the end.
+pub fn older_stores_are_read()
+    ensures { OlderStores }
+{}
+
+/// An older store after its first flush.
 pub fn flushed_stores_are_read()
     ensures { FlushedStores }
 {}
 
-/// The image that is made of it.
+/// The image that was made of it by the second mark.
 pub fn checkpointed_stores_are_read()
     ensures { CheckpointedStores }
 {}

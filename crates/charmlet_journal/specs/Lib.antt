@@ -3,6 +3,7 @@ pub mod Rest
 pub mod NewStores
 pub mod Quiet
 pub use Rattle.charmlet_model.specs.Core
+pub use Rattle.charmlet_model.specs.Edition
 pub use Rattle.charmlet_model.specs.Fit
 pub use Rattle.charmlet_model.specs.Sound
 pub use Rattle.charmlet_model.specs.World

@@ -4,6 +4,7 @@ use Rattle.std.proofs.Math.Seq.{take-append_seam, get_or-append_seam}
 use Rattle.std.proofs.lemmas.List.{length-append}
 use Rattle.charmlet_model.specs.declared.half.Half.TheVariants.{Zero}
 use Rattle.charmlet_model.specs.Core.{Core, present}
+use Rattle.charmlet_model.specs.Edition.{AreNewest}
 use Rattle.charmlet_model.specs.Sound.{IsSound}
 use Rattle.charmlet_model.specs.World.{World}
 use Rattle.charmlet_model.proofs.SoundLemmas.{sound_fit}
@@ -26,16 +27,16 @@ spells_closed bytes text is = subst (λ (l : List ℕ). Spells l text) (sym is) 
   closed = λ h. (let no : ⊥ = let zero = get_or-append_seam text 0 [] 0 in omega (arith, zero, h) in no);
 })
 
--- the image of a sound store, after an open gate and with nothing in the other half, recovers to its world
-pub image_recovers : (core : Core) (bytes : List ℕ) → IsSound core → IsImageOf core bytes → IsWithinLimits core →
+-- the image of a sound store of newest versions, after an open gate and with nothing in the other half, recovers to its world
+pub image_recovers : (core : Core) (bytes : List ℕ) → IsSound core → AreNewest (present core).manifest → IsImageOf core bytes → IsWithinLimits core →
     recovered (files (1 ∷ bytes) []) ≡ Found (present core) (event_count core + 0) (core.generation + 1)
-image_recovers core bytes sound is within =
+image_recovers core bytes sound newest is within =
     let w = present core in
     let count = event_count core in
     let room = sound.room in
     let low = within.generation in
     let short = within.size in
-    files_of_histories_recover (files (1 ∷ bytes) []) Zero w count (core.generation + 1) [] [] (sound_fit core sound) (record { events = tt; each_can = refl; in_limit = omega arith })
+    files_of_histories_recover (files (1 ∷ bytes) []) Zero w count (core.generation + 1) [] [] (sound_fit core sound) newest (record { events = tt; each_can = refl; in_limit = omega arith })
     (record { some = tt; few = tt; whole = refl }) (record { above = omega arith; below = omega arith }) (omega (arith, images_have_size w, short))
     (spells_closed (1 ∷ bytes) (spell_half (saved_of w count (core.generation + 1) [])) is) (inl refl)
 

@@ -5,45 +5,44 @@ use Rattle.charmlet_model.specs.declared.kind.Kind.{Kind}
 use Rattle.charmlet_model.specs.declared.refusal.Refusal.{Refusal}
 use Rattle.charmlet_model.specs.declared.refusal.Refusal.TheVariants as refusals
 use Rattle.charmlet_model.specs.Core.{Blanks, Core}
+use Rattle.charmlet_model.specs.Edition.{AreNewest}
+use Rattle.charmlet_model.specs.World.{World}
+use Rattle.charmlet_model.proofs.Upgrades.{up_is_newest}
 use Rattle.charmlet_chare.specs.declared.chare.Chare as chares
 use Rattle.charmlet_disk.specs.declared.disk.Disk as disks
 use Rattle.charmlet_disk.specs.Disk.{SameFiles}
 use Rattle.charmlet_disk.specs.File.{File}
 use Rattle.charmlet_locate.specs.Locations.{is_processor_count}
 use Rattle.charmlet_recovery.specs.Blanks.{least_short}
-use Rattle.charmlet_recovery.specs.Recovered.{Found, recovered}
+use Rattle.charmlet_recovery.specs.Meanings.{meaning}
+use Rattle.charmlet_recovery.specs.Recovered.{log_of}
 use Rattle.charmlet_recovery.specs.RestartLaws.{IsEnough, Lacks}
-use Rattle.charmlet_recovery.specs.Restarts.{restart_refusal}
+use Rattle.charmlet_recovery.specs.Restarts.{engine_refusal}
 use Rattle.charmlet_recovery.proofs.Restarting.{least_short_is_found}
+use Rattle.charmlet_recovery.proofs.Saving.{newest-world, went_on}
 use Rattle.charmlet_stock.specs.declared.stock.Stock.{Stock}
 use Rattle.charmlet_recover.specs.declared.restarting.NotRestarted.{NotRestarted}
-use Rattle.charmlet_recover.specs.declared.restarting.Recovered as stores
-use Rattle.charmlet_recover.specs.Restart.{AnswersBy, IsHandedBack, IsOpenedOn, bytes_on, is_restart_refusal, restarted_or_refused}
+use Rattle.charmlet_recover.specs.Restart.{AnswersBy, bytes_on}
 use Rattle.charmlet_script.specs.Script.{Contents, processors_of}
 use Rattle.charmlet_engine.specs.declared.engine.Engine.{Engine}
-use Rattle.charmlet_engine.specs.Engine.{core_of, recovered_in, recovered_or_not}
-use Rattle.charmlet_lab.specs.Judged.{IsNotJudged, came_to}
+use Rattle.charmlet_engine.specs.Engine.{core_of, view_of, world_of}
+use Rattle.charmlet_engine.specs.Restarted.{IsFound, IsHandedBack, IsOpenedOn, IsReadFrom, core_or_refusal, is_engine_refusal}
+use Rattle.charmlet_lab.specs.Judged.{IsNotJudged}
 use Rattle.charmlet_lab.specs.Restarts.{IsNotTried, IsRestart}
 
 -- a restart that is refused
 abbrev no_store : Refusal → Result Core Refusal
 no_store refusal = Err refusal
 
--- a refusal by a cause is one, whatever would have been answered
-refused_alike : (X Y : Type 0) (why : Option Refusal) (refusal : Refusal) → AnswersBy {X = X} why (Err refusal) → AnswersBy {X = Y} why (Err refusal)
-refused_alike X Y why refusals.Memory by = by
-refused_alike X Y why refusals.Device by = by
-refused_alike X Y why _ by = by
-
 module _ {D C : Type 0} {G : disks.Ghosts D} {H : chares.Ghosts C} where
   -- what the engine answers to a restart is a restart
   pub is_restart : (processors : ℕ) (given : Blanks) (disk : D) (blanks : Stock C H) (r : Result (Engine D C G H) (NotRestarted D C H)) →
-      IfOk r (λ engine. IsOpenedOn processors (recovered_in engine)) →
-      (G.honest disk → IfOk r (λ engine. recovered (bytes_on (G.file disk)) ≡ Found (core_of engine).opening (core_of engine).before (core_of engine).generation)) →
-      (is_processor_count processors ≡ false → IsHandedBack {G = G} disk blanks (recovered_or_not r)) →
+      IfOk r (λ engine. IsOpenedOn processors (core_of engine)) →
+      (G.honest disk → IfOk r (λ engine. IsFound (bytes_on (G.file disk)) (core_of engine))) →
+      (is_processor_count processors ≡ false → IsHandedBack {G = G} disk blanks r) →
       IfErr r (λ refused. refused.refusal ≡ refusals.BadPes → is_processor_count processors ≡ false) →
-      (G.honest disk → is_processor_count processors ≡ true → AnswersBy (restart_refusal given (bytes_on (G.file disk))) (restarted_or_refused (recovered_or_not r))) →
-      IfErr r (λ refused. is_restart_refusal refused.refusal ≡ true) → IsRestart G processors given disk (came_to r)
+      (G.honest disk → is_processor_count processors ≡ true → AnswersBy (engine_refusal given (bytes_on (G.file disk))) (core_or_refusal r)) →
+      IfErr r (λ refused. is_engine_refusal refused.refusal ≡ true) → IsRestart G processors given disk (core_or_refusal r)
   is_restart processors given disk blanks (Ok engine) opens found bad only answer refused = record {
     opens = opens;
     found = found;
@@ -57,9 +56,18 @@ module _ {D C : Type 0} {G : disks.Ghosts D} {H : chares.Ghosts C} where
     found = λ honest. tt;
     bad = λ no. ap no_store (bad no).0;
     only_bad = λ is. only (let same : refused.refusal ≡ refusals.BadPes = cc in same);
-    cause = λ honest good. refused_alike (stores.Recovered D C G H) Core (restart_refusal given (bytes_on (G.file disk))) refused.refusal (answer honest good);
+    cause = answer;
     refusals = told;
   }
+
+  -- whatever the disk said, the store goes on in the newest versions
+  pub goes_on_newest : (given : Blanks) (r : Result (Engine D C G H) (NotRestarted D C H)) → IfOk r (λ engine. IsReadFrom given (view_of engine)) → IfOk r (λ engine. AreNewest (world_of engine).manifest)
+  goes_on_newest given (Ok engine) read =
+      let core = core_of engine in
+      let half = read.saved in
+      let went = went_on (meaning half.image half.header.events (log_of half)) core.opening core.before read.comes.means in
+      newest-world core.opening core.history (subst (λ (w : World). AreNewest w.manifest) (sym went.is) (up_is_newest went.old))
+  goes_on_newest given (Err refused) read = tt
 
 -- of the same files it is the same restart
 pub same_restart : {D : Type 0} (G : disks.Ghosts D) (processors : ℕ) (given : Blanks) (old new : D) (back : Result Core Refusal) →
@@ -68,10 +76,10 @@ same_restart G processors given old new back honest same restart =
     let bytes : G.honest old → bytes_on (G.file new) ≡ bytes_on (G.file old) = λ h. λ i half. ap (λ (file : File). file.now) (same h half) i in
     record {
       opens = restart.opens;
-      found = λ h. subst (λ o. IfOk back (λ core. recovered o ≡ Found core.opening core.before core.generation)) (bytes h) (restart.found (honest h));
+      found = λ h. subst (λ o. IfOk back (IsFound o)) (bytes h) (restart.found (honest h));
       bad = restart.bad;
       only_bad = restart.only_bad;
-      cause = λ h good. subst (λ o. AnswersBy (restart_refusal given o) back) (bytes h) (restart.cause (honest h) good);
+      cause = λ h good. subst (λ o. AnswersBy (engine_refusal given o) back) (bytes h) (restart.cause (honest h) good);
       refusals = restart.refusals;
     }
 

@@ -1,22 +1,23 @@
 -- Restarts that aren't bad.
-use Rattle.std.proofs.Common.{◌≡◌, inl, inr, ℕ, ◌+◌, arith, true, false, List, [], Option, Some, None, Result, Ok, Err, length, take, refl, sym, ap, subst, ◌∙◌}
+use Rattle.std.proofs.Common.{◌≡◌, inl, inr, ℕ, ◌+◌, ◌^◌, nat_le, arith, Bool, true, false, if◌then◌else◌, List, [], Option, Some, None, Result, Ok, Err, length, take, refl, sym, ap, subst, ◌∙◌}
 use Rattle.std.specs.Prelude.{IfOk, unwrap_or}
 use Rattle.charmlet_model.specs.declared.event.Event.{Event}
 use Rattle.charmlet_model.specs.declared.half.Half.{Half}
+use Rattle.charmlet_model.specs.declared.half.Half.TheVariants.{Zero, One}
 use Rattle.charmlet_model.specs.declared.kind.Kind.{Kind}
 use Rattle.charmlet_model.specs.declared.refusal.Refusal.{Refusal}
 use Rattle.charmlet_model.specs.declared.refusal.Refusal.TheVariants as refusals
 use Rattle.charmlet_model.specs.Core.{Blanks, Core}
-use Rattle.charmlet_model.specs.Sound.{new_world, opened}
+use Rattle.charmlet_model.specs.Sound.{new_world}
 use Rattle.charmlet_model.specs.World.{World, world}
 use Rattle.charmlet_record.specs.Reading.{Kinds}
 use Rattle.charmlet_recovery.specs.Outcomes.{IsLawful}
-use Rattle.charmlet_image.specs.Halves.{Taken, NothingHere, Takes, DamagedAt}
+use Rattle.charmlet_image.specs.Halves.{Taken, NothingHere, Takes, DamagedAt, taken}
 use Rattle.charmlet_image.specs.Images.{Saved}
 use Rattle.charmlet_recovery.specs.Blanks.{least_short}
 use Rattle.charmlet_recovery.specs.Meanings.{Meaning, Faulty, Whole}
-use Rattle.charmlet_recovery.specs.Recovered.{Found, Nothing, meaning_of, recovered, recovered_from}
-use Rattle.charmlet_recovery.specs.Restarts.{fault_refusal, restart_refusal, short_refusal, taken_refusal, wanted_of}
+use Rattle.charmlet_recovery.specs.Recovered.{Found, Nothing, is_current, meaning_of, recovered, recovered_from}
+use Rattle.charmlet_recovery.specs.Restarts.{either_refusal, engine_refusal, fault_refusal, image_end, image_refusal, restart_refusal, short_refusal, taken_image_refusal, taken_refusal, wanted_of}
 use Rattle.charmlet_recovery.proofs.Restarting.{restarts_are_taken}
 use Rattle.charmlet_recovery.proofs.Stored.{recovered_is_taken}
 use Rattle.charmlet_locate.specs.Locations.{is_processor_count}
@@ -25,16 +26,15 @@ use Rattle.charmlet_chare.specs.declared.chare.Chare as chares
 use Rattle.charmlet_disk.specs.declared.disk.Disk as disks
 use Rattle.charmlet_disk.specs.File.{Outcome}
 use Rattle.charmlet_recover.specs.declared.restarting.NotRestarted.{NotRestarted}
-use Rattle.charmlet_recover.specs.declared.restarting.Recovered as stores
-use Rattle.charmlet_recover.specs.Restart.{AnswersBy, IsHandedBack, IsOpenedOn, restarted_or_refused}
+use Rattle.charmlet_recover.specs.Restart.{AnswersBy}
 use Rattle.charmlet_engine.specs.declared.engine.Engine.{Engine}
-use Rattle.charmlet_engine.specs.Engine.{core_of, recovered_in, recovered_or_not}
-use Rattle.charmlet_lab.specs.Judged.{HasFirst, IsGood, IsNothingOrLawful, came_to, count_of}
+use Rattle.charmlet_engine.specs.Engine.{core_of}
+use Rattle.charmlet_engine.specs.Restarted.{IsFound, IsHandedBack, IsOpenedOn, core_or_refusal}
+use Rattle.charmlet_lab.specs.Judged.{HasFirst, IsGood, IsNothingOrLawful, count_of}
 
 -- a store in which nothing has happened since it opened, and which has the first events of a run, was recovered from lawful files
-opened_is_lawful : (kinds : Kinds) (events : List Event) (n processors : ℕ) (core : Core) (outcome : Outcome) →
-    core ≡ opened processors core.opening core.before core.generation core.log_end → recovered outcome ≡ Found core.opening core.before core.generation →
-    HasFirst kinds events n core → IsLawful (new_world kinds) 0 events n outcome
+opened_is_lawful : (kinds : Kinds) (events : List Event) (n processors : ℕ) (core : Core) (outcome : Outcome) → IsOpenedOn processors core → IsFound outcome core → HasFirst kinds events n core →
+    IsLawful (new_world kinds) 0 events n outcome
 opened_is_lawful kinds events n processors core outcome opens found has =
     let none : core.history ≡ [] = ap (λ (k : Core). k.history) opens in
     let count : count_of core ≡ core.before = omega (arith, ap (length {A = Event}) none) in
@@ -45,32 +45,46 @@ opened_is_lawful kinds events n processors core outcome opens found has =
       kept = core.before;
       durable_kept = (let few = has.no_fewer in omega (arith, count));
       none_invented = (let most = has.no_more in omega (arith, count));
-      generation = core.generation;
-      is = found ∙ ap (λ (w : World). Found w core.before core.generation) same ∙ ap (λ (k : ℕ). Found (world (new_world kinds) (take core.before events)) k core.generation) plus;
+      generation = found.generation;
+      is = found.is ∙ ap (λ (w : World). Found w core.before found.generation) same ∙ ap (λ (k : ℕ). Found (world (new_world kinds) (take core.before events)) k found.generation) plus;
     }
 
 -- ---- where nothing is here
 
-other_than_nothing : (lack : Option (Kind × ℕ)) (half : Half) (s : Saved) (m : Meaning) → short_refusal lack (fault_refusal half s m) ≡ Some refusals.NothingHere → ⊥
+-- an image that can't be written is full
+full_image : (current past long : Bool) → (if current then None else (if past then Some refusals.ImageFull else (if long then Some refusals.ImageFull else None))) ≡ Some refusals.NothingHere → ⊥
+full_image true past long e = cc
+full_image false true long e = cc
+full_image false false true e = cc
+full_image false false false e = cc
+
+other_than_nothing : (lack : Option (Kind × ℕ)) (half : Half) (s : Saved) (m : Meaning) → either_refusal (short_refusal lack (fault_refusal half s m)) (image_refusal s m) ≡ Some refusals.NothingHere → ⊥
 other_than_nothing (Some lack) half s m e = cc
 other_than_nothing None half s (Faulty place) e = cc
-other_than_nothing None half s (Whole w count) e = cc
+other_than_nothing None half s (Whole w count) e = full_image (is_current s) (nat_le (2 ^ 40) s.header.generation) (nat_le (2 ^ 31) (image_end w)) e
 
-nothing_taken : (given : Blanks) (t : Taken) → taken_refusal given t ≡ Some refusals.NothingHere → recovered_from t ≡ Nothing
+nothing_taken : (given : Blanks) (t : Taken) → either_refusal (taken_refusal given t) (taken_image_refusal t) ≡ Some refusals.NothingHere → recovered_from t ≡ Nothing
 nothing_taken given NothingHere e = refl
 nothing_taken given (DamagedAt half offset) e = absurd cc
 nothing_taken given (Takes half s) e = absurd (other_than_nothing (least_short given (wanted_of s)) half s (meaning_of s) e)
 
+-- why a restart is refused that writes an image is known from what is taken of the two halves
+engine_refusals_are_taken : (given : Blanks) (outcome : Outcome) → engine_refusal given outcome ≡ either_refusal (restart_refusal given outcome) (taken_image_refusal (taken (outcome Zero) (outcome One)))
+unfolding engine_refusal
+engine_refusals_are_taken given outcome = refl
+
 -- files from which a restart is refused as those of no store recover to nothing
-nothing_is_here : (given : Blanks) (outcome : Outcome) → restart_refusal given outcome ≡ Some refusals.NothingHere → recovered outcome ≡ Nothing
-nothing_is_here given outcome e = recovered_is_taken outcome ∙ nothing_taken given _ (sym (restarts_are_taken given outcome) ∙ e)
+nothing_is_here : (given : Blanks) (outcome : Outcome) → engine_refusal given outcome ≡ Some refusals.NothingHere → recovered outcome ≡ Nothing
+nothing_is_here given outcome e =
+    let t = taken (outcome Zero) (outcome One) in
+    recovered_is_taken outcome
+    ∙ nothing_taken given t (ap (λ (why : Option Refusal). either_refusal why (taken_image_refusal t)) (sym (restarts_are_taken given outcome)) ∙ sym (engine_refusals_are_taken given outcome) ∙ e)
 
 module _ {D C : Type 0} {G : disks.Ghosts D} {H : chares.Ghosts C} where
   -- so a restart that isn't bad, of a store that was said to be made, was from lawful files
   pub good_is_lawful : (kinds : Kinds) (events : List Event) (durable : Option ℕ) (n processors : ℕ) (outcome : Outcome) (r : Result (Engine D C G H) (NotRestarted D C H)) → durable ≡ Some n →
-      IfOk r (λ engine. IsOpenedOn processors (recovered_in engine)) →
-      IfOk r (λ engine. recovered outcome ≡ Found (core_of engine).opening (core_of engine).before (core_of engine).generation) →
-      IsGood kinds events durable (came_to r) → IsLawful (new_world kinds) 0 events n outcome
+      IfOk r (λ engine. IsOpenedOn processors (core_of engine)) → IfOk r (λ engine. IsFound outcome (core_of engine)) →
+      IsGood kinds events durable (core_or_refusal r) → IsLawful (new_world kinds) 0 events n outcome
   good_is_lawful kinds events durable n processors outcome (Ok engine) is opens found good =
       opened_is_lawful kinds events n processors (core_of engine) outcome opens found (subst (λ (d : Option ℕ). HasFirst kinds events (unwrap_or d 0) (core_of engine)) is good)
   good_is_lawful kinds events durable n processors outcome (Err refused) is opens found good =
@@ -78,18 +92,17 @@ module _ {D C : Type 0} {G : disks.Ghosts D} {H : chares.Ghosts C} where
 
   -- where none was said to be made, it was from such files too, or from those of no store
   pub good_is_nothing_or_lawful : (kinds : Kinds) (events : List Event) (durable : Option ℕ) (processors : ℕ) (given : Blanks) (outcome : Outcome) (disk : D) (blanks : Stock C H)
-      (r : Result (Engine D C G H) (NotRestarted D C H)) → durable ≡ None → IfOk r (λ engine. IsOpenedOn processors (recovered_in engine)) →
-      IfOk r (λ engine. recovered outcome ≡ Found (core_of engine).opening (core_of engine).before (core_of engine).generation) →
-      (is_processor_count processors ≡ false → IsHandedBack {G = G} disk blanks (recovered_or_not r)) →
-      (is_processor_count processors ≡ true → AnswersBy (restart_refusal given outcome) (restarted_or_refused (recovered_or_not r))) →
-      IsGood kinds events durable (came_to r) → IsNothingOrLawful kinds events outcome
+      (r : Result (Engine D C G H) (NotRestarted D C H)) → durable ≡ None → IfOk r (λ engine. IsOpenedOn processors (core_of engine)) → IfOk r (λ engine. IsFound outcome (core_of engine)) →
+      (is_processor_count processors ≡ false → IsHandedBack {G = G} disk blanks r) →
+      (is_processor_count processors ≡ true → AnswersBy (engine_refusal given outcome) (core_or_refusal r)) →
+      IsGood kinds events durable (core_or_refusal r) → IsNothingOrLawful kinds events outcome
   good_is_nothing_or_lawful kinds events durable processors given outcome disk blanks (Ok engine) is opens found bad answer good =
       inr (opened_is_lawful kinds events 0 processors (core_of engine) outcome opens found (subst (λ (d : Option ℕ). HasFirst kinds events (unwrap_or d 0) (core_of engine)) is good))
   good_is_nothing_or_lawful kinds events durable processors given outcome disk blanks (Err refused) is opens found bad answer good =
-      let why : restart_refusal given outcome ≡ Some refusals.NothingHere =
+      let why : engine_refusal given outcome ≡ Some refusals.NothingHere =
       elim (is_processor_count processors) as (λ b. (b ≡ false → refused.refusal ≡ refusals.BadPes)
-      → (b ≡ true → AnswersBy {X = stores.Recovered D C G H} (restart_refusal given outcome) (Err refused.refusal)) → restart_refusal given outcome ≡ Some refusals.NothingHere) [
-        | true ↦ λ bad answer. subst (λ (refusal : Refusal). AnswersBy {X = stores.Recovered D C G H} (restart_refusal given outcome) (Err refusal)) good.0 (answer refl)
+      → (b ≡ true → AnswersBy {X = Core} (engine_refusal given outcome) (Err refused.refusal)) → engine_refusal given outcome ≡ Some refusals.NothingHere) [
+        | true ↦ λ bad answer. subst (λ (refusal : Refusal). AnswersBy {X = Core} (engine_refusal given outcome) (Err refusal)) good.0 (answer refl)
         | false ↦ λ bad answer. absurd (let both : refusals.BadPes ≡ refusals.NothingHere = sym (bad refl) ∙ good.0 in let never : ⊥ = cc in never)
       ] (λ no. (bad no).0) answer in
       inl (nothing_is_here given outcome why)

@@ -14,7 +14,7 @@ use Rattle.charmlet_chare.specs.declared.chare.Chare as chares
 use Rattle.charmlet_disk.specs.declared.disk.Disk as disks
 use Rattle.charmlet_disk.specs.File.{Outcome}
 use Rattle.charmlet_engine.specs.declared.engine.Engine.{Engine}
-use Rattle.charmlet_engine.specs.Engine.{core_of, disk_in, supplied_of, view_of}
+use Rattle.charmlet_engine.specs.Engine.{disk_in, supplied_of, view_of}
 use Rattle.charmlet_recover.specs.declared.restarting.NotRestarted.{NotRestarted}
 
 -- how many events there are, those before the opening world among them
@@ -27,12 +27,6 @@ pub record HasFirst (kinds : Kinds) (events : List Event) (durable : ℕ) (core 
   pub no_fewer : durable ≤ count_of core
   pub no_more : count_of core ≤ length events
   pub is : present core ≡ world (new_world kinds) (take (count_of core) events)
-
--- what a restart came to: the core of the store that came back, or the refusal
-abbrev pub came_to : {D C : Type 0} {G : disks.Ghosts D} {H : chares.Ghosts C} →
-    Result (Engine D C G H) (NotRestarted D C H) → Result Core Refusal
-came_to (Ok engine) = Ok (core_of engine)
-came_to (Err refused) = Err refused.refusal
 
 -- a store came back that has the first events of the run; or there is none, and it wasn't said to
 -- be made

@@ -7,6 +7,7 @@ pub mod Rounds
 pub mod Same
 pub mod Trials
 pub use Rattle.charmlet_model.specs.Core
+pub use Rattle.charmlet_model.specs.Edition
 pub use Rattle.charmlet_model.specs.Fit
 pub use Rattle.charmlet_model.specs.Names
 pub use Rattle.charmlet_model.specs.Shelves
@@ -26,4 +27,5 @@ pub use Rattle.charmlet_recover.specs.Restart
 pub use Rattle.charmlet_recover.specs.Wanted
 pub use Rattle.charmlet_engine.specs.Advances
 pub use Rattle.charmlet_engine.specs.Engine
+pub use Rattle.charmlet_engine.specs.Restarted
 pub use Rattle.charmlet_script.specs.Script

@@ -7,20 +7,19 @@ use Rattle.charmlet_model.specs.declared.kind.Kind.{Kind}
 use Rattle.charmlet_model.specs.declared.refusal.Refusal.{Refusal}
 use Rattle.charmlet_model.specs.declared.refusal.Refusal.TheVariants.{BadPes, BlanksWanted, Device, ImageFull, Memory}
 use Rattle.charmlet_model.specs.Core.{Blanks, Core}
-use Rattle.charmlet_model.specs.Sound.{opened}
 use Rattle.charmlet_checkpoint.specs.Showing.{PassesLimit}
 use Rattle.charmlet_disk.specs.declared.crash.CrashChoice.{CrashChoice}
 use Rattle.charmlet_disk.specs.declared.disk.Disk as disks
 use Rattle.charmlet_disk.specs.Crash.{left_by}
 use Rattle.charmlet_disk.specs.File.{MayLeave, clean}
 use Rattle.charmlet_locate.specs.Locations.{is_processor_count}
-use Rattle.charmlet_recovery.specs.Recovered.{Found, recovered}
 use Rattle.charmlet_recovery.specs.RestartLaws.{IsLeastShort}
-use Rattle.charmlet_recovery.specs.Restarts.{restart_refusal}
+use Rattle.charmlet_recovery.specs.Restarts.{engine_refusal}
 use Rattle.charmlet_recover.specs.declared.finding.Found as finding
 use Rattle.charmlet_recover.specs.Found.{IsFoundIn, IsRead}
-use Rattle.charmlet_recover.specs.Restart.{AnswersBy, bytes_on, is_restart_refusal}
+use Rattle.charmlet_recover.specs.Restart.{AnswersBy, bytes_on}
 use Rattle.charmlet_recover.specs.Wanted.{blanks_in}
+use Rattle.charmlet_engine.specs.Restarted.{IsFound, IsOpenedOn, is_engine_refusal}
 use Rattle.charmlet_script.specs.Script.{Contents, processors_of}
 use Rattle.charmlet_lab.specs.Judged.{IsGood}
 use Rattle.charmlet_lab.specs.Rounds.{arrays_of}
@@ -55,18 +54,17 @@ module _ {D : Type 0} (G : disks.Ghosts D) where
 
   -- A restart from this disk on so many processors, with these blanks, came to this store or this
   -- refusal. Nothing has happened in the store since it opened, and of an honest disk it has the
-  -- world that the files recover to; and a refusal has the cause that they give.
+  -- world that the files recover to, at their generation, or at the next one where an image was
+  -- wanted; and a refusal has the cause that they give.
   pub record IsRestart (processors : ℕ) (given : Blanks) (disk : D)
       (back : Result Core Refusal) : Type 0 where
-    pub opens : IfOk back (λ core. core
-        ≡ opened processors core.opening core.before core.generation core.log_end)
-    pub found : G.honest disk → IfOk back (λ core. recovered (bytes_on (G.file disk))
-        ≡ Found core.opening core.before core.generation)
+    pub opens : IfOk back (IsOpenedOn processors)
+    pub found : G.honest disk → IfOk back (IsFound (bytes_on (G.file disk)))
     pub bad : is_processor_count processors ≡ false → back ≡ Err BadPes
     pub only_bad : back ≡ Err BadPes → is_processor_count processors ≡ false
     pub cause : G.honest disk → is_processor_count processors ≡ true →
-        AnswersBy (restart_refusal given (bytes_on (G.file disk))) back
-    pub refusals : IfErr back (λ refusal. is_restart_refusal refusal ≡ true)
+        AnswersBy (engine_refusal given (bytes_on (G.file disk))) back
+    pub refusals : IfErr back (λ refusal. is_engine_refusal refusal ≡ true)
 
   -- a restart from this disk, with these blanks and on the script's processors, is called bad if
   -- and only if it is

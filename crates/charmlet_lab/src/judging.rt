@@ -1,12 +1,14 @@
 //! Whether what came back after a crash is a world of a run.
 
 ghost use Rattle.std.specs.Prelude.{◌≡◌, ◌↔◌, ◌≤◌, false, true, length, take, IfErr, IfOk, OnOk};
+ghost use Rattle.charmlet_model.specs.Edition.{AreNewest};
 ghost use Rattle.charmlet_model.specs.Fit.{IsFit};
 ghost use Rattle.charmlet_model.specs.Sound.{new_world};
 ghost use Rattle.charmlet_model.specs.World.{IsLegal, world};
 ghost use Rattle.charmlet_checkpoint.specs.Showing.{IsRefusal};
 ghost use Rattle.charmlet_engine.specs.Engine.{IsEngineConsistent, core_of, world_of};
-ghost use Rattle.charmlet_lab.specs.Judged.{HasFirst, IsAsBefore, IsGood, IsNotJudged, IsSameEngine, came_to};
+ghost use Rattle.charmlet_engine.specs.Restarted.{core_or_refusal};
+ghost use Rattle.charmlet_lab.specs.Judged.{HasFirst, IsAsBefore, IsGood, IsNotJudged, IsSameEngine};
 ghost use Rattle.charmlet_lab.specs.Rounds.{arrays_of};
 
 use crate::same::is_same_world;
@@ -26,7 +28,8 @@ const OPEN: u8 = 1;
 /// Whether a restart after a run's crash came to what it shouldn't: it was refused, though not for
 /// `NothingHere` where the store wasn't said to be made; or the store hasn't the world after the
 /// first events of the run, as many as it counts, or not all that were durable among them. The
-/// world is that of a plain program, which knows no file. The engine goes on as before.
+/// world is that of a plain program, which knows no file. The engine goes on as before. Its arrays
+/// have to be of the newest versions of their kinds, as a restart has them go on.
 ///
 /// `Memory` where memory is lacking; `ImageFull` where an image of the store, of which its world is
 /// read, would pass a limit.
@@ -38,10 +41,11 @@ pub fn lab_bad<D: Disk, C: Chare>(
     durable: Option<u64>,
 ) -> Result<bool, Refusal>
     requires consistent { IfOk answer.old IsEngineConsistent }
+    requires newest { IfOk answer.old (λ engine. AreNewest (world_of engine).manifest) }
     requires legal { IsLegal (new_world (arrays_of script.now)) 0 events.now }
-    ensures ok { IfOk result (λ bad.
-        (bad ≡ false) ↔ IsGood (arrays_of script.now) events.now durable (came_to answer.old)) }
-    ensures err { IfErr result (IsNotJudged (came_to answer.old)) }
+    ensures ok { IfOk result (λ bad. (bad ≡ false)
+        ↔ IsGood (arrays_of script.now) events.now durable (core_or_refusal answer.old)) }
+    ensures err { IfErr result (IsNotJudged (core_or_refusal answer.old)) }
     ensures same { IsAsBefore answer.old answer.new }
     ensures consistent { IfOk answer.new IsEngineConsistent }
 {
@@ -54,8 +58,8 @@ pub fn lab_bad<D: Disk, C: Chare>(
     }
 }
 
-/// Whether a store has the world after the first of these events, as many as it counts, with so
-/// many among them.
+/// Whether a store has the world after the first of these events, as many as it counts and at least
+/// `durable` of them. Its arrays have to be of the newest versions of their kinds.
 fn has_first<D: Disk, C: Chare>(
     alloc: Global,
     script: &Script,
@@ -64,6 +68,7 @@ fn has_first<D: Disk, C: Chare>(
     durable: u64,
 ) -> Result<bool, Refusal>
     requires consistent { IsEngineConsistent engine.old }
+    requires newest { AreNewest (world_of engine.old).manifest }
     requires legal { IsLegal (new_world (arrays_of script.now)) 0 events.now }
     ensures ok { IfOk result (λ good.
         (good ≡ true) ↔ HasFirst (arrays_of script.now) events.now durable (core_of engine.old)) }
@@ -94,13 +99,15 @@ fn world_after(alloc: Global, script: &Script, events: &[Event]) -> Result<Plain
     Ok(plain)
 }
 
-/// The world of a store, read of its image by the plain program. `Memory` where memory is lacking;
-/// `ImageFull` where the store is too large for an image. The engine goes on as before.
+/// The world of a store, read of its image by the plain program, which has it go on in the newest
+/// versions: so its arrays have to be of these. `Memory` where memory is lacking; `ImageFull` where
+/// the store is too large for an image. The engine goes on as before.
 fn world_in<D: Disk, C: Chare>(
     alloc: Global,
     engine: &mut Engine<D, C>,
 ) -> Result<PlainWorld, Refusal>
-    requires { IsEngineConsistent engine.old }
+    requires consistent { IsEngineConsistent engine.old }
+    requires newest { AreNewest (world_of engine.old).manifest }
     ensures is { IfOk result (λ plain. plain ≡ world_of engine.old) }
     ensures fit { IfOk result (λ plain. IsFit plain) }
     ensures err { IfErr result (IsRefusal (core_of engine.old)) }

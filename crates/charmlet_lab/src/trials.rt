@@ -87,8 +87,8 @@ fn try_stop<D: LabDisk, S: Supplier<D>>(
     Ok(true)
 }
 
-/// Whether the restart after a run and a crash is bad, where the disk of the run fails after so
-/// many calls; none where the run isn't stopped.
+/// Whether the restart after a run and a crash is bad, where the disk of the run fails after
+/// `calls` calls; `None` where the run isn't stopped.
 fn try_crash<D: LabDisk, S: Supplier<D>>(
     alloc: Global,
     script: &Script,

@@ -10,10 +10,9 @@ use charmlet_model::{Elem, Refusal};
 /// The most processors of a store.
 pub const MAX_PROCESSORS: u16 = 64;
 
-/// The home of an element on so many processors, 1 to 64 of them: the sum of its array and its
-/// index, which may be past 64 bits, modulo the number of processors. So it is a processor's
-/// number, from 0 on. `BadPes` for another number of processors, and for nothing else. It takes no
-/// memory.
+/// The home of an element on 1 to 64 processors: the sum of its array and its index, which may be
+/// past 64 bits, modulo the number of processors. So it is a processor's number, from 0 on.
+/// `BadPes` for any other number of processors, and for nothing else. It takes no memory.
 pub fn home(elem: Elem, processors: u16) -> Result<u16, Refusal>
     ensures ok { IfOk result (λ place. place ≡ home elem processors) }
     ensures which { is_ok result ≡ is_processor_count processors }

@@ -75,20 +75,22 @@ fn makes(
     assert_eq!(rt; text.as_str(), wanted);
 }
 
-// A counter of version 2 takes, down to 0, and tells its peak. One of version 1 has neither entry.
+// A counter of version 2 takes, down to 0, and tells its peak, which only a sum above it changes.
+// One of version 1 has neither entry.
 #[test]
 fn counters_react_by_their_version(rt: HostRuntime) {
     let new = "Some(Counter { count: 5, peak: 5 }) []";
     makes(&rt, Edition::Counter, None, CONSTRUCT, 5, new);
-    let counter = State::Counter { count: 8, peak: 9 };
+    let counter = State::Counter { count: 8, peak: 20 };
     for (entry, word, wanted) in [
-        (0, 1, "Some(Counter { count: 9, peak: 9 }) [9]"),
-        (0, 3, "Some(Counter { count: 11, peak: 11 }) [11]"),
-        (1, 3, "Some(Counter { count: 8, peak: 9 }) [8]"),
-        (2, 3, "Some(Counter { count: 5, peak: 9 }) [5]"),
-        (2, 9, "Some(Counter { count: 0, peak: 9 }) [0]"),
-        (3, 3, "Some(Counter { count: 8, peak: 9 }) [9]"),
-        (4, 3, "Some(Counter { count: 8, peak: 9 }) []"),
+        (0, 1, "Some(Counter { count: 9, peak: 20 }) [9]"),
+        (0, 12, "Some(Counter { count: 20, peak: 20 }) [20]"),
+        (0, 13, "Some(Counter { count: 21, peak: 21 }) [21]"),
+        (1, 3, "Some(Counter { count: 8, peak: 20 }) [8]"),
+        (2, 3, "Some(Counter { count: 5, peak: 20 }) [5]"),
+        (2, 9, "Some(Counter { count: 0, peak: 20 }) [0]"),
+        (3, 3, "Some(Counter { count: 8, peak: 20 }) [20]"),
+        (4, 3, "Some(Counter { count: 8, peak: 20 }) []"),
     ] {
         makes(&rt, Edition::Counter, Some(&counter), entry, word, wanted);
     }

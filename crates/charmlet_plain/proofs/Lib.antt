@@ -1,3 +1,4 @@
 pub mod PlainWorlds
 pub mod Readings
 pub mod RisingMaps
+pub mod Upgrades

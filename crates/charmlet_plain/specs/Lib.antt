@@ -5,4 +5,5 @@ pub use Rattle.charmlet_model.specs.Reaction
 pub use Rattle.charmlet_model.specs.Row
 pub use Rattle.charmlet_model.specs.Told
 pub use Rattle.charmlet_model.specs.Unpacked
+pub use Rattle.charmlet_model.specs.Upgrade
 pub use Rattle.charmlet_model.specs.World

@@ -5,6 +5,7 @@
 
 mod kind_table;
 mod packed;
+mod upgrading;
 mod world;
 
 pub use crate::kind_table::react;

@@ -4,3 +4,4 @@ pub mod CatchUpLoops
 pub mod EventLoops
 pub mod OffsetLemmas
 pub mod PartLemmas
+pub mod Versions

@@ -1,6 +1,7 @@
 -- The definitions that contracts cite.
 pub mod Views
 pub mod Parts
+pub mod Written
 pub use Rattle.charmlet_model.specs.Logging
 pub use Rattle.charmlet_model.specs.Packed
 pub use Rattle.charmlet_model.specs.Row

@@ -10,5 +10,5 @@ mod pending;
 mod recovering;
 mod replaying;
 
-pub use crate::recovering::{Recovered, recover};
+pub use crate::recovering::{Recovered, recover, recover_as_written};
 pub use crate::replaying::{Meaning, Place, replay};

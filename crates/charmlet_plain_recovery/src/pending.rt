@@ -21,8 +21,8 @@ pub fn first_unsent(plain: &PlainWorld) -> Option<usize>
     None
 }
 
-/// Whether the message's element has sent so many messages, or its client's window has the number,
-/// and no reply to it.
+/// Whether the message's element has sent at least as many messages as its number says, or its
+/// client's window has the number, and no reply to it.
 fn was_sent(plain: &PlainWorld, id: MsgId) -> bool
     ensures { result ≡ was_sent plain.now id.origin id.number }
 {

@@ -51,7 +51,7 @@ fn act(alloc: Global, bench: &mut Bench, text: &str, out: &mut Vec<u8>) -> Resul
         begin(bench, name, words, out)
     } else if ["leave", "close", "crash", "disk"].contains(name) {
         end(bench, name, words, out)
-    } else if ["look", "next", "image", "tally"].contains(name) {
+    } else if ["look", "next", "image", "tally", "versions"].contains(name) {
         look(bench, name, out)
     } else if ["lend", "give", "pass", "known"].contains(name) {
         ask(bench, name, words, out)
@@ -107,6 +107,10 @@ fn look(bench: &mut Bench, name: &str, out: &mut Vec<u8>) -> Result<(), Failed> 
         "look" => bench.look(out),
         "next" => bench.next(out),
         "image" => bench.image(out),
+        "versions" => {
+            let [retros, upgrades] = bench.tally().versions();
+            Ok(writeln!(out, "retros {retros} upgrades {upgrades}")?)
+        }
         _ => {
             let [entries, packs, unpacks, drops] = bench.tally().counts();
             write!(out, "entries {entries} packs {packs} ")?;

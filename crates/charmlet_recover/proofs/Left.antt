@@ -12,8 +12,9 @@ use Rattle.charmlet_image.specs.Images.{Saved}
 use Rattle.charmlet_image.specs.Halves.{IsSaved}
 use Rattle.charmlet_recovery.specs.Blanks.{made}
 use Rattle.charmlet_recovery.specs.Faults.{Place, first_fault}
-use Rattle.charmlet_recovery.specs.Meanings.{Whole, unless_faulty}
+use Rattle.charmlet_recovery.specs.Meanings.{Whole, meaning, unless_faulty}
 use Rattle.charmlet_recovery.specs.Recovered.{log_of, meaning_of}
+use Rattle.charmlet_recovery.proofs.Saving.{went_on}
 use Rattle.charmlet_recovery.specs.Restarts.{wanted_of}
 use Rattle.charmlet_recovery.proofs.Good.{image-good, log-events}
 use Rattle.charmlet_recovery.proofs.BlankLogs.{blanks-made}
@@ -29,7 +30,9 @@ no_fault (Some place) v w n count e = absurd cc
 
 -- a half that means a world has no fault
 pub whole_is_faultless : (s : Saved) (w : World) (count : ℕ) → meaning_of s ≡ Whole w count → first_fault s.image s.header.events (log_of s) ≡ None
-whole_is_faultless s w count means = no_fault (first_fault s.image s.header.events (log_of s)) _ w _ count means
+whole_is_faultless s w count means =
+    let went = went_on (meaning s.image s.header.events (log_of s)) w count means in
+    no_fault (first_fault s.image s.header.events (log_of s)) _ went.old _ count went.whole
 
 -- then as many blanks are wanted of each kind as objects are made
 pub wanted_are_made : (s : Saved) (w : World) (count : ℕ) → IsSaved s → meaning_of s ≡ Whole w count → (kind : Kind) → wanted_of s kind ≡ made s.image (log_of s) kind

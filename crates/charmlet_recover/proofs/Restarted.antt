@@ -22,11 +22,11 @@ use Rattle.charmlet_halves.specs.Answers.{is_finding_refusal, is_no_failure}
 use Rattle.charmlet_halves.specs.Found.{Finds, Says}
 use Rattle.charmlet_halves.specs.Opened.{OpensAs}
 use Rattle.charmlet_halves.specs.Halves.{disk_of, taken_half, text_of}
-use Rattle.charmlet_journal.specs.Rest.{GoesOn, IsKept}
+use Rattle.charmlet_journal.specs.Rest.{GoesOn, IsCurrent, IsKept}
 use Rattle.charmlet_recover.specs.declared.restarting.NotRestarted.{NotRestarted}
 use Rattle.charmlet_recover.specs.declared.restarting.Recovered.{Recovered}
 use Rattle.charmlet_replay.specs.Replayed.{IsReplayed}
-use Rattle.charmlet_recover.specs.Restart.{AnswersBy, IsOpenedOn, IsReadFrom, IsShortOfSome, IsTakenFrom, OpensWith, ReadsSame, bytes_on, core_of, is_half_refusal, is_restart_refusal, restarted_or_refused}
+use Rattle.charmlet_recover.specs.Restart.{AnswersBy, IsOpenedOn, IsReadFrom, IsShortOfSome, IsTakenFrom, OpensWith, ReadsSame, bytes_on, core_of, is_half_refusal, is_restart_refusal, restarted_or_refused, replayed_in}
 use Rattle.charmlet_recover.proofs.Answered.{half_is_short, taken_is_recovered}
 use Rattle.charmlet_recover.proofs.Kept.{opened_goes_on, opened_keeps, survey_found}
 use Rattle.charmlet_recover.proofs.Left.{left_unwanted}
@@ -153,7 +153,7 @@ module _ {D C : Type 0} {G : disks.Ghosts D} {H : chares.Ghosts C} where
   came_short given half bytes s is (Err refused) so = half_is_short (Recovered D C G H) given half bytes s refused.refusal is so
 
   module _ (opened : Opened D G) (s : Saved) (says : Says opened.survey.bytes.items opened.survey.contents s) (opens_as : OpensAs opened) (processors : ℕ) (given : Blanks)
-      (back : Recovered D C G H) (same : back.halves ≡ opened.halves) (is : IsReplayed processors given s back.store) where
+      (back : Recovered D C G H) (same : back.halves ≡ opened.halves) (is : IsReplayed processors given s (replayed_in back)) where
     abbrev core : Core
     core = core_of back
 
@@ -166,6 +166,7 @@ module _ {D C : Type 0} {G : disks.Ghosts D} {H : chares.Ghosts C} where
     came_with : OpensWith given back s
     came_with = record {
       means = is.means;
+      current = is.current;
       generation = is.generation;
       log_end = is.log_end;
       left = left_unwanted s core.opening core.before says.good is.means given (blanks_in back.store.stock) is.left;
@@ -193,3 +194,9 @@ module _ {D C : Type 0} {G : disks.Ghosts D} {H : chares.Ghosts C} where
       came_keeps reads text honest =
           subst (λ (h : Halves D G). IsKept core h) (sym same)
           (subst (λ (c : Core). IsKept {G = G} c opened.halves) (sym core_is) (opened_keeps {G = G} opened s says opens_as old finds reads text honest processors core.before core.opening is.means))
+
+      -- and where the half has the newest versions alone, events may be appended to it
+      pub came_current : text_of opened.halves ≡ spell_half s → back.is_current ≡ true → IsCurrent back.halves
+      came_current text current =
+          subst (λ (h : Halves D G). IsCurrent h) (sym same)
+          (record { saved = s; text = text; good = says.good; newest = sym is.current ∙ current })

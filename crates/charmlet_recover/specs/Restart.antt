@@ -16,7 +16,7 @@ use Rattle.charmlet_image.specs.Images.{Saved, spell_half}
 use Rattle.charmlet_image.specs.Halves.{Open, Takes, found, taken}
 use Rattle.charmlet_recovery.specs.Blanks.{least_short}
 use Rattle.charmlet_recovery.specs.Meanings.{Whole}
-use Rattle.charmlet_recovery.specs.Recovered.{meaning_of}
+use Rattle.charmlet_recovery.specs.Recovered.{is_current, meaning_of}
 use Rattle.charmlet_recovery.specs.Restarts.{wanted_of}
 use Rattle.charmlet_halves.specs.Halves.{disk_of, taken_half}
 use Rattle.charmlet_history.specs.Kept.{core_in}
@@ -24,7 +24,7 @@ use Rattle.charmlet_stock.specs.declared.stock.Stock.{Stock}
 use Rattle.charmlet_stock.specs.Stock.{blanks_in, census_of, keeping_of}
 use Rattle.charmlet_record.specs.declared.reader.ReadError.{ReadError}
 use Rattle.charmlet_record.specs.declared.reader.ReadError.TheVariants.{Damaged, Memory}
-use Rattle.charmlet_store.specs.declared.store.Store.{Store}
+use Rattle.charmlet_replay.specs.declared.replaying.Replayed.{Replayed}
 use Rattle.charmlet_recover.specs.declared.reopening.NotReopened.{NotReopened}
 use Rattle.charmlet_recover.specs.declared.restarting.Recovered.{Recovered}
 use Rattle.charmlet_recover.specs.declared.restarting.NotRestarted.{NotRestarted}
@@ -105,6 +105,10 @@ module _ {D C : Type 0} {G : disks.Ghosts D} {H : chares.Ghosts C} where
   abbrev pub core_of : Recovered D C G H → Core
   core_of back = core_in back.store.history
 
+  -- the store that came back, and whether events may be appended to the half
+  abbrev pub replayed_in : Recovered D C G H → Replayed C H
+  replayed_in back = record { store = back.store; is_current = back.is_current }
+
   -- the disk afterwards, which the halves own or which was handed back
   abbrev pub disk_after : Result (Recovered D C G H) (NotRestarted D C H) → D
   disk_after (Ok back) = disk_of back.halves
@@ -134,6 +138,7 @@ module _ {D C : Type 0} {G : disks.Ghosts D} {H : chares.Ghosts C} where
   -- half didn't want of the blanks.
   pub record OpensWith (given : Blanks) (back : Recovered D C G H) (s : Saved) : Type 0 where
     pub means : meaning_of s ≡ Whole (core_of back).opening (core_of back).before
+    pub current : back.is_current ≡ is_current s
     pub generation : (core_of back).generation ≡ s.header.generation
     pub log_end : (core_of back).log_end ≡ length (spell_half s)
     pub left : (kind : Kind) → blanks_in back.store.stock kind + wanted_of s kind ≡ given kind
@@ -168,8 +173,8 @@ IsShortOfSome given _ = Unit {0}
 
 -- that the store of a half came back, or why not
 abbrev pub reopened_or_refused : {C : Type 0} {G : chares.Ghosts C} →
-    Result (Store C G) (NotReopened C G) → Result (Store C G) Refusal
-reopened_or_refused (Ok store) = Ok store
+    Result (Replayed C G) (NotReopened C G) → Result (Replayed C G) Refusal
+reopened_or_refused (Ok replayed) = Ok replayed
 reopened_or_refused (Err refused) = Err refused.refusal
 
 -- a fault of a half of so many bytes, by how many are left from its record on, is damage at its

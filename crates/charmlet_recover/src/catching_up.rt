@@ -55,8 +55,8 @@ fn edition_made(manifest: &Manifest, delivery: &CaughtUp, is_new: bool) -> Optio
     }
 }
 
-/// The blanks that a catch-up list needs, where each element had received so many messages. It
-/// fails only when out of memory.
+/// The blanks that a catch-up list needs, where `received` is how many messages each element had
+/// received. It fails only when out of memory.
 pub(crate) fn count_catch_up(
     manifest: &Manifest,
     received: &mut BTreeMap<Elem, u64>,

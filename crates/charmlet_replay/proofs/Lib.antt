@@ -28,3 +28,4 @@ pub mod Faulty
 pub mod OpenHalves
 pub mod Reopened
 pub mod Waits
+pub mod Upgrades

@@ -15,5 +15,5 @@ mod replaying;
 mod restored;
 mod waiting;
 
-pub use crate::reopening::NotReplayed;
-pub use crate::replaying::replay;
+pub use crate::reopening::{NotReplayed, take_back};
+pub use crate::replaying::{Replayed, replay};

@@ -10,4 +10,5 @@ pub mod Lending
 pub use Rattle.charmlet_model.specs.Names
 pub use Rattle.charmlet_model.specs.Reaction
 pub use Rattle.charmlet_model.specs.Shelves
+pub use Rattle.charmlet_model.specs.Upgrade
 pub use Rattle.charmlet_chare.specs.Output

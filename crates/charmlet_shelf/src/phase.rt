@@ -1,9 +1,9 @@
-//! What a shelf is about.
+//! What a shelf is doing.
 
 use crate::delivery::Delivery;
 use crate::outcome::Outcome;
 
-/// What a shelf is about.
+/// What a shelf is doing.
 #[derive(Drop)]
 pub enum Phase {
     /// It waits for a message.

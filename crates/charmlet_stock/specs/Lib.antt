@@ -4,6 +4,8 @@ pub mod Pile
 pub mod Retired
 pub mod Sorted
 pub mod Stock
+pub use Rattle.charmlet_model.specs.Edition
 pub use Rattle.charmlet_model.specs.Kind
 pub use Rattle.charmlet_model.specs.Reaction
 pub use Rattle.charmlet_model.specs.Shelves
+pub use Rattle.charmlet_model.specs.Upgrade

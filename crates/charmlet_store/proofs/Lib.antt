@@ -9,3 +9,4 @@ pub mod Theres
 pub mod Lifting
 pub mod Residents
 pub mod Entering
+pub mod Upgrades

@@ -6,6 +6,7 @@ pub mod Census
 pub mod Look
 pub mod There
 pub mod Dismantled
+pub mod Upgraded
 pub use Rattle.charmlet_model.specs.Core
 pub use Rattle.charmlet_model.specs.Fit
 pub use Rattle.charmlet_model.specs.Names
@@ -13,6 +14,7 @@ pub use Rattle.charmlet_model.specs.Reaction
 pub use Rattle.charmlet_model.specs.Run
 pub use Rattle.charmlet_model.specs.Shelves
 pub use Rattle.charmlet_model.specs.Sound
+pub use Rattle.charmlet_model.specs.Upgrade
 pub use Rattle.charmlet_model.specs.World
 pub use Rattle.charmlet_shelf.specs.Count
 pub use Rattle.charmlet_shelf.specs.Due
@@ -23,5 +25,6 @@ pub use Rattle.charmlet_stock.specs.Pile
 pub use Rattle.charmlet_stock.specs.Stock
 pub use Rattle.charmlet_locate.specs.Locations
 pub use Rattle.charmlet_history.specs.Kept
+pub use Rattle.charmlet_history.specs.Opened
 pub use Rattle.charmlet_migrate.specs.Copying
 pub use Rattle.charmlet_migrate.specs.Moving

@@ -6,6 +6,7 @@ mod delivery;
 mod dismantling;
 mod look;
 mod store;
+mod upgrading;
 
 pub use crate::census::Census;
 pub use crate::dismantling::Dismantled;

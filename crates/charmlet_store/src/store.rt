@@ -107,6 +107,17 @@ impl<C: Chare> Store<C> {
         self.stock.draw(source, kind, count)
     }
 
+    /// From now on the stock drops what is retired, and first what it kept. It takes no memory.
+    pub fn drop_retired(&mut self)
+        requires { IsStoreConsistent self.old }
+        ensures consistent { IsStoreConsistent self.new }
+        ensures same { store_in self.new ≡ store_in self.old }
+        ensures supplied { supplied_in self.new ≡ supplied_in self.old }
+        ensures dropping { keeping_of self.new.stock ≡ for_all false }
+    {
+        self.stock.drop_retired();
+    }
+
     /// The oldest message that can be delivered, and before it the processor that is to deliver it:
     /// the place of its receiver, or the home of one that isn't there.
     pub fn next(&self) -> Option<(u16, MsgId)>

@@ -88,6 +88,8 @@ pub struct Tally {
     packs: AtomicU64,
     unpacks: AtomicU64,
     drops: AtomicU64,
+    retros: AtomicU64,
+    upgrades: AtomicU64,
 }
 
 impl Tally {
@@ -98,6 +100,8 @@ impl Tally {
             packs: AtomicU64::new(0),
             unpacks: AtomicU64::new(0),
             drops: AtomicU64::new(0),
+            retros: AtomicU64::new(0),
+            upgrades: AtomicU64::new(0),
         }
     }
 
@@ -108,6 +112,14 @@ impl Tally {
             self.packs.load(Ordering::SeqCst),
             self.unpacks.load(Ordering::SeqCst),
             self.drops.load(Ordering::SeqCst),
+        ]
+    }
+
+    /// How often objects were made blanks of a version, and told to go on in the newest one.
+    pub fn versions(&self) -> [u64; 2] {
+        [
+            self.retros.load(Ordering::SeqCst),
+            self.upgrades.load(Ordering::SeqCst),
         ]
     }
 }
@@ -143,10 +155,12 @@ impl Chare for Object {
     }
 
     fn retro(&mut self, version: u16) {
+        self.tally.retros.fetch_add(1, Ordering::SeqCst);
         self.object.retro(version)
     }
 
     fn upgrade(&mut self) {
+        self.tally.upgrades.fetch_add(1, Ordering::SeqCst);
         self.object.upgrade()
     }
 

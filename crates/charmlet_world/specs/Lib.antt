@@ -14,5 +14,6 @@ pub use Rattle.charmlet_model.specs.Reaction
 pub use Rattle.charmlet_model.specs.Row
 pub use Rattle.charmlet_model.specs.Sound
 pub use Rattle.charmlet_model.specs.Told
+pub use Rattle.charmlet_model.specs.Upgrade
 pub use Rattle.charmlet_model.specs.World
 pub use Rattle.charmlet_locate.specs.Locations

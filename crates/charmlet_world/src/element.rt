@@ -42,8 +42,8 @@ impl Element {
         self.place.is_some() || self.received > 0
     }
 
-    /// Counts one more delivery, by which it sent so many messages and after which it stands here,
-    /// or nowhere.
+    /// Counts one more delivery, by which the element sent `sends` messages, and after which it
+    /// stands at `place`, or nowhere.
     pub fn advance(&mut self, place: Option<u16>, sends: u64)
         requires sent { self.old.sent + sends ≤ greatest }
         requires received { self.old.received + 1 ≤ greatest }

@@ -8,6 +8,7 @@ ghost use Rattle.charmlet_model.specs.Core.{has_words, home};
 ghost use Rattle.charmlet_model.specs.Sound.{new_world};
 ghost use Rattle.charmlet_model.specs.Fit.{AreDistinct};
 ghost use Rattle.charmlet_model.specs.Told.{told_of};
+ghost use Rattle.charmlet_model.specs.Upgrade.{up_manifest};
 ghost use Rattle.charmlet_model.specs.Names.{elem_cmp};
 ghost use Rattle.charmlet_model.specs.World.{World as AWorld, after, message_among};
 ghost use Rattle.charmlet_model.specs.declared.event.Event.TheVariants.{Accept, Deliver};
@@ -95,8 +96,8 @@ impl PresentWorld {
         }
     }
 
-    /// A world with these arrays and so many processors, of which this is kept. It fails only for
-    /// lack of memory.
+    /// A world with these arrays, this number of processors, and these elements, pending messages
+    /// and clients. It fails only for lack of memory.
     pub fn of(
         alloc: Global,
         manifest: Manifest,
@@ -127,7 +128,14 @@ impl PresentWorld {
         })
     }
 
-    /// The kind of each array.
+    /// The world goes on in the newest versions of its kinds. It takes no memory.
+    pub fn upgrade(&mut self)
+        ensures { self.new ≡ record self.old { manifest = up_manifest self.old.manifest } }
+    {
+        self.manifest.upgrade();
+    }
+
+    /// The edition of each array.
     pub fn manifest(&self) -> &Manifest
         ensures { result.now ≡ self.now.manifest }
     {
@@ -179,7 +187,7 @@ impl PresentWorld {
         self.processors
     }
 
-    /// The processor of an element of which this is kept, or the home of one that isn't there.
+    /// The processor of an element, given what is kept of it, or the home of one that isn't there.
     pub fn place_of(&self, elem: Elem, element: &Element) -> u16
         ensures { result ≡ unwrap_or element.now.place (home elem self.now.processors) }
     {
@@ -429,8 +437,7 @@ impl PresentWorld {
     }
 }
 
-/// Whether an element of which this is kept is there or is constructed by the message, and its
-/// counts have room.
+/// Whether the element is there or is constructed by the message, and its counts have room.
 fn is_taken_by(element: &Element, letter: &Letter) -> bool
     ensures { result ≡ takes element.now letter.now.entry }
 {
@@ -451,7 +458,8 @@ fn place_in(processors: u16, elem: Elem, place: Option<u16>) -> u16
     home
 }
 
-/// Where an element of which this was kept stands after a delivery that destroyed it or not.
+/// Where an element stands after a delivery, given what was kept of it before: nowhere, if that
+/// destroyed it.
 fn place_after(processors: u16, elem: Elem, element: &Element, is_destroyed: bool) -> Option<u16>
     requires { is_processor_count processors ≡ true }
     ensures { result ≡ (if is_destroyed then None

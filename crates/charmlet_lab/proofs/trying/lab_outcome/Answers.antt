@@ -2,18 +2,20 @@ use Rattle.std.proofs.Common.{sym, subst, ◌∙◌}
 use Rattle.std.proofs.lemmas.Result.{IfOk-weaker}
 use Rattle.charmlet_model.specs.declared.kind.Kind.{Kind}
 use Rattle.charmlet_model.specs.Shelves.{count_of}
-use Rattle.charmlet_recovery.specs.Restarts.{restart_refusal}
+use Rattle.charmlet_recovery.specs.Restarts.{engine_refusal}
 use Rattle.charmlet_stock.specs.Stock.{blanks_in}
-use Rattle.charmlet_engine.specs.Engine.{recovered_or_not}
-use Rattle.charmlet_recover.specs.Restart.{AnswersBy, bytes_on, restarted_or_refused}
+use Rattle.charmlet_engine.specs.Restarted.{core_or_refusal}
+use Rattle.charmlet_recover.specs.Restart.{AnswersBy, bytes_on}
 use Rattle.charmlet_recover.specs.Wanted as wants
-use Rattle.charmlet_lab.specs.Judged.{came_to}
 use Rattle.charmlet_lab.specs.Restarts.{IsRestart}
 use Rattle.charmlet_lab.specs.Rounds.{arrays_of}
-use Rattle.charmlet_lab.proofs.Restarts.{all_why, is_restart, told_enough, told_lack}
+use Rattle.charmlet_lab.proofs.Restarts.{all_why, goes_on_newest, is_restart, told_enough, told_lack}
 use Rattle.charmlet_lab.proofs.Rounds.{all_blanks}
 use Rattle.charmlet_lab.proofs.Tried.{good_is_lawful, good_is_nothing_or_lawful}
 use Rattle.charmlet_lab.proofs.trying.lab_outcome.Goals as goal
+
+pub lab_bad-requires-clause-newest : goal.lab_bad-requires-clause-newest
+lab_bad-requires-clause-newest g c κs within = goes_on_newest {G = g.D.Disk} {H = g.C.Chare} (blanks_in c.in-Ok.stock) c.restart-answer.result c.restart-answer.ensures.read
 
 pub returns : goal.returns
 returns g c =
@@ -25,11 +27,11 @@ returns g c =
     let has = λ (kind : Kind). all_blanks stock c.in-Ok.ensures.unused kind ∙ c.in-Ok.ensures.supplied kind in
     let answer = c.restart-answer.result in
     let answers = c.restart-answer.ensures in
-    let restart = subst (λ processors. IsRestart g.D.Disk processors given disk (came_to answer)) c.processors.ensures
+    let restart = subst (λ processors. IsRestart g.D.Disk processors given disk (core_or_refusal answer)) c.processors.ensures
     (is_restart {G = g.D.Disk} {H = g.C.Chare} c.processors.result given disk stock answer answers.opens answers.found answers.bad answers.only_bad
-    (λ honest good. subst (λ blanks. AnswersBy (restart_refusal blanks (bytes_on (g.D.Disk.file disk))) (restarted_or_refused (recovered_or_not answer))) (λ i kind. has kind i) (answers.answer honest good)) answers.err) in
+    (λ honest good. subst (λ blanks. AnswersBy (engine_refusal blanks (bytes_on (g.D.Disk.file disk))) (core_or_refusal answer)) (λ i kind. has kind i) (answers.answer honest good)) answers.err) in
     record {
-      ok = IfOk-weaker c.lab_bad.result _ _ (λ bad judged. record { back = came_to answer; restart = restart; judged = judged }) c.lab_bad.ensures.ok;
+      ok = IfOk-weaker c.lab_bad.result _ _ (λ bad judged. record { back = core_or_refusal answer; restart = restart; judged = judged }) c.lab_bad.ensures.ok;
       enough = IfOk-weaker c.lab_bad.result _ _ (λ bad judged. told_enough g.D.Disk script disk given wanted (blanks_in stock) has (sym c.lacking.ensures ∙ c.in_default-lacking.is)) c.lab_bad.ensures.ok;
       sound = λ honest.
           IfOk-weaker c.lab_bad.result _ _ (λ bad judged no n is.
@@ -39,7 +41,7 @@ returns g c =
           IfOk-weaker c.lab_bad.result _ _ (λ bad judged no is.
           good_is_nothing_or_lawful {G = g.D.Disk} {H = g.C.Chare} (arrays_of script) c.args.events.now c.args.durable c.processors.result _ (bytes_on (g.D.Disk.file disk)) _ _ answer is
           answers.opens (answers.found honest) answers.bad (answers.answer honest) (judged.0 no)) c.lab_bad.ensures.ok;
-      err = all_why g.D.Disk script disk given wanted c.lab_bad.result (came_to answer) restart c.lab_bad.ensures.err;
+      err = all_why g.D.Disk script disk given wanted c.lab_bad.result (core_or_refusal answer) restart c.lab_bad.ensures.err;
     }
 
 pub returns-in-Some-clause-err : goal.returns-in-Some-clause-err

@@ -1,29 +1,29 @@
-use Rattle.std.proofs.Common.{◌≡◌, refl, sym, subst}
+use Rattle.std.proofs.Common.{◌≡◌, true, refl, sym, subst}
 use Rattle.std.specs.Prelude.{Err}
 use Rattle.charmlet_disk.specs.Disk.{IsSettled}
 use Rattle.charmlet_recovery.specs.Recovered as files
 use Rattle.charmlet_stock.specs.Stock.{blanks_in}
 use Rattle.charmlet_store.specs.Store.{IsStoreConsistent}
-use Rattle.charmlet_journal.specs.Rest.{GoesOn, IsKept}
+use Rattle.charmlet_journal.specs.Rest.{GoesOn, IsCurrent, IsKept}
 use Rattle.charmlet_recover.specs.declared.restarting.Recovered.{Recovered}
 use Rattle.charmlet_replay.specs.Replayed.{IsReplayed}
-use Rattle.charmlet_recover.specs.Restart.{IsOpenedOn, IsReadFrom, IsTakenFrom, ReadsSame, bytes_on, core_of, restarted_or_refused}
+use Rattle.charmlet_recover.specs.Restart.{IsOpenedOn, IsReadFrom, IsTakenFrom, ReadsSame, bytes_on, core_of, replayed_in, restarted_or_refused}
 use Rattle.charmlet_recover.proofs.Answered.{taken_answers, unfound_answers}
 use Rattle.charmlet_recover.proofs.Crashed.{answers_after_crash}
 use Rattle.charmlet_recover.proofs.Kept.{survey_found}
-use Rattle.charmlet_recover.proofs.Restarted.{as_answer, both_ok, came_found, came_goes_on, came_keeps, came_opens, came_read, came_short, came_taken, then_ok}
+use Rattle.charmlet_recover.proofs.Restarted.{as_answer, both_ok, came_current, came_found, came_goes_on, came_keeps, came_opens, came_read, came_short, came_taken, then_ok}
 use Rattle.charmlet_recover.proofs.restarting.restart.Goals as goal
 
 pub returns-in-Ok-clause-consistent : goal.returns-in-Ok-clause-consistent
 returns-in-Ok-clause-consistent g c =
     let read = c.in-Ok.ensures.reads.0 in
-    then_ok (λ back. IsReplayed c.args.processors (blanks_in c.args.blanks) read.0 back.store) (λ back. IsStoreConsistent {G = g.C.Chare} back.store) c.restart_from.result
+    then_ok (λ back. IsReplayed c.args.processors (blanks_in c.args.blanks) read.0 (replayed_in back)) (λ back. IsStoreConsistent {G = g.C.Chare} back.store) c.restart_from.result
     (λ back is. is.ready.consistent) (c.restart_from.ensures.ok read.0 read.1.found)
 
 pub returns-in-Ok-clause-opens : goal.returns-in-Ok-clause-opens
 returns-in-Ok-clause-opens g c =
     let reads = c.in-Ok.ensures.reads in
-    both_ok (λ back. back.halves ≡ c.in-Ok.opened.halves) (λ back. IsReplayed c.args.processors (blanks_in c.args.blanks) reads.0.0 back.store) (λ back. IsOpenedOn c.args.processors back) c.restart_from.result
+    both_ok (λ back. back.halves ≡ c.in-Ok.opened.halves) (λ back. IsReplayed c.args.processors (blanks_in c.args.blanks) reads.0.0 (replayed_in back)) (λ back. IsOpenedOn c.args.processors back) c.restart_from.result
     (λ back same is. came_opens c.in-Ok.opened reads.0.0 reads.0.1 reads.1 c.args.processors (blanks_in c.args.blanks) back same is)
     c.restart_from.ensures.halves (c.restart_from.ensures.ok reads.0.0 reads.0.1.found)
 
@@ -31,7 +31,7 @@ pub returns-in-Ok-clause-found : goal.returns-in-Ok-clause-found
 returns-in-Ok-clause-found g c = λ honest.
     let reads = c.in-Ok.ensures.reads in
     let old = g.D.Disk.file c.args.disk in
-    both_ok (λ back. back.halves ≡ c.in-Ok.opened.halves) (λ back. IsReplayed c.args.processors (blanks_in c.args.blanks) reads.0.0 back.store)
+    both_ok (λ back. back.halves ≡ c.in-Ok.opened.halves) (λ back. IsReplayed c.args.processors (blanks_in c.args.blanks) reads.0.0 (replayed_in back))
     (λ back. files.recovered (bytes_on old) ≡ files.Found (core_of back).opening (core_of back).before (core_of back).generation) c.restart_from.result
     (λ back same is. came_found c.in-Ok.opened reads.0.0 reads.0.1 reads.1 c.args.processors (blanks_in c.args.blanks) back same is old (c.in-Ok.ensures.finds honest))
     c.restart_from.ensures.halves (c.restart_from.ensures.ok reads.0.0 reads.0.1.found)
@@ -40,7 +40,7 @@ pub returns-in-Ok-clause-taken : goal.returns-in-Ok-clause-taken
 returns-in-Ok-clause-taken g c = λ honest.
     let reads = c.in-Ok.ensures.reads in
     let old = g.D.Disk.file c.args.disk in
-    both_ok (λ back. back.halves ≡ c.in-Ok.opened.halves) (λ back. IsReplayed c.args.processors (blanks_in c.args.blanks) reads.0.0 back.store)
+    both_ok (λ back. back.halves ≡ c.in-Ok.opened.halves) (λ back. IsReplayed c.args.processors (blanks_in c.args.blanks) reads.0.0 (replayed_in back))
     (λ back. IsTakenFrom (blanks_in c.args.blanks) (bytes_on old) back) c.restart_from.result
     (λ back same is. came_taken c.in-Ok.opened reads.0.0 reads.0.1 reads.1 c.args.processors (blanks_in c.args.blanks) back same is old (c.in-Ok.ensures.finds honest))
     c.restart_from.ensures.halves (c.restart_from.ensures.ok reads.0.0 reads.0.1.found)
@@ -48,7 +48,7 @@ returns-in-Ok-clause-taken g c = λ honest.
 pub returns-in-Ok-clause-read : goal.returns-in-Ok-clause-read
 returns-in-Ok-clause-read g c =
     let reads = c.in-Ok.ensures.reads in
-    both_ok (λ back. back.halves ≡ c.in-Ok.opened.halves) (λ back. IsReplayed c.args.processors (blanks_in c.args.blanks) reads.0.0 back.store)
+    both_ok (λ back. back.halves ≡ c.in-Ok.opened.halves) (λ back. IsReplayed c.args.processors (blanks_in c.args.blanks) reads.0.0 (replayed_in back))
     (λ back. IsReadFrom (blanks_in c.args.blanks) back) c.restart_from.result
     (λ back same is. came_read c.in-Ok.opened reads.0.0 reads.0.1 reads.1 c.args.processors (blanks_in c.args.blanks) back same is)
     c.restart_from.ensures.halves (c.restart_from.ensures.ok reads.0.0 reads.0.1.found)
@@ -56,7 +56,7 @@ returns-in-Ok-clause-read g c =
 pub returns-in-Ok-clause-goes_on : goal.returns-in-Ok-clause-goes_on
 returns-in-Ok-clause-goes_on g c =
     let reads = c.in-Ok.ensures.reads in
-    both_ok (λ back. back.halves ≡ c.in-Ok.opened.halves) (λ back. IsReplayed c.args.processors (blanks_in c.args.blanks) reads.0.0 back.store)
+    both_ok (λ back. back.halves ≡ c.in-Ok.opened.halves) (λ back. IsReplayed c.args.processors (blanks_in c.args.blanks) reads.0.0 (replayed_in back))
     (λ back. GoesOn {G = g.D.Disk} (core_of back) back.halves) c.restart_from.result
     (λ back same is. came_goes_on c.in-Ok.opened reads.0.0 reads.0.1 reads.1 c.args.processors (blanks_in c.args.blanks) back same is)
     c.restart_from.ensures.halves (c.restart_from.ensures.ok reads.0.0 reads.0.1.found)
@@ -65,10 +65,20 @@ pub returns-in-Ok-clause-keeps : goal.returns-in-Ok-clause-keeps
 returns-in-Ok-clause-keeps g c = λ honest.
     let reads = c.in-Ok.ensures.reads in
     let old = g.D.Disk.file c.args.disk in
-    both_ok (λ back. back.halves ≡ c.in-Ok.opened.halves) (λ back. IsReplayed c.args.processors (blanks_in c.args.blanks) reads.0.0 back.store)
+    both_ok (λ back. back.halves ≡ c.in-Ok.opened.halves) (λ back. IsReplayed c.args.processors (blanks_in c.args.blanks) reads.0.0 (replayed_in back))
     (λ back. IsKept {G = g.D.Disk} (core_of back) back.halves) c.restart_from.result
     (λ back same is. came_keeps c.in-Ok.opened reads.0.0 reads.0.1 reads.1 c.args.processors (blanks_in c.args.blanks) back same is old (c.in-Ok.ensures.finds honest)
     (c.in-Ok.ensures.same honest) (c.in-Ok.ensures.text honest reads.0.0 reads.0.1) (c.in-Ok.ensures.honest.0 honest))
+    c.restart_from.ensures.halves (c.restart_from.ensures.ok reads.0.0 reads.0.1.found)
+
+pub returns-in-Ok-clause-current : goal.returns-in-Ok-clause-current
+returns-in-Ok-clause-current g c = λ honest.
+    let reads = c.in-Ok.ensures.reads in
+    let old = g.D.Disk.file c.args.disk in
+    both_ok (λ back. back.halves ≡ c.in-Ok.opened.halves) (λ back. IsReplayed c.args.processors (blanks_in c.args.blanks) reads.0.0 (replayed_in back))
+    (λ back. back.is_current ≡ true → IsCurrent {G = g.D.Disk} back.halves) c.restart_from.result
+    (λ back same is. came_current c.in-Ok.opened reads.0.0 reads.0.1 reads.1 c.args.processors (blanks_in c.args.blanks) back same is old (c.in-Ok.ensures.finds honest)
+    (c.in-Ok.ensures.text honest reads.0.0 reads.0.1))
     c.restart_from.ensures.halves (c.restart_from.ensures.ok reads.0.0 reads.0.1.found)
 
 pub returns-in-Ok-clause-answer : goal.returns-in-Ok-clause-answer

@@ -1,13 +1,39 @@
 use Rattle.charmlet_history.specs.Kept.{core_in}
-use Rattle.charmlet_engine.specs.Engine.{disk_in}
-use Rattle.std.proofs.Common.{ap, refl, ◌≡◌, ◌+◌, [], length, subst, sym}
+use Rattle.charmlet_checkpoint.specs.Showing.{IsShown}
+use Rattle.charmlet_engine.specs.Engine.{IsEngineConsistent, disk_in}
+use Rattle.std.proofs.Common.{ap, refl, ◌≡◌, ◌+◌, [], length, subst, sym, ◌∙◌}
 use Rattle.charmlet_model.specs.Core.{Core, present}
 use Rattle.charmlet_image.specs.Images.{spell_half}
 use Rattle.charmlet_recovery.specs.Stores.{saved_of}
 use Rattle.charmlet_halves.specs.Halves.{disk_of, text_of}
 use Rattle.charmlet_engine.proofs.Onward.{apart, onward_checkpoint}
 use Rattle.charmlet_engine.proofs.Lawful.{leaves_image, leaves_lawful}
+use Rattle.charmlet_engine.proofs.Written.{imaged_consistent, refused_current, same_items}
 use Rattle.charmlet_engine.proofs.engine.Engine.checkpoint.Goals as goal
+
+pub returns-in-Ok-clause-consistent : goal.returns-in-Ok-clause-consistent
+returns-in-Ok-clause-consistent g c =
+    let old = c.args.self.now in
+    let done = c.checkpoint.ensures in
+    let history = c.checkpoint.new.history in
+    let halves = c.checkpoint.new.halves in
+    let items = done.same ∙ c.as_mut_slice-shelves.ensures.value in
+    let whole = imaged_consistent {G = g.D.Disk} {H = g.C.Chare} old c.requires history halves (subst (IsShown history) items done.shown) done.agrees (λ honest. done.kept (done.honest.1 honest))
+    (λ honest _. c.in-Ok.ensures.current (done.honest.1 honest)) in
+    subst (λ shelves. IsEngineConsistent {G = g.D.Disk} {H = g.C.Chare} (record { store = record old.store { history = history; shelves = shelves }; halves = halves }))
+    (sym (same_items old.store.shelves c.checkpoint.new.shelves items)) whole
+
+pub returns-in-Err-clause-consistent : goal.returns-in-Err-clause-consistent
+returns-in-Err-clause-consistent g c =
+    let old = c.args.self.now in
+    let done = c.checkpoint.ensures in
+    let history = c.checkpoint.new.history in
+    let halves = c.checkpoint.new.halves in
+    let items = done.same ∙ c.as_mut_slice-shelves.ensures.value in
+    let current = refused_current {G = g.D.Disk} {H = g.C.Chare} old c.requires history halves c.in-Err.refusal c.in-Err.ensures.refused c.in-Err.ensures.device done.agrees done.honest.1 in
+    let whole = imaged_consistent {G = g.D.Disk} {H = g.C.Chare} old c.requires history halves (subst (IsShown history) items done.shown) done.agrees (λ honest. done.kept (done.honest.1 honest)) current in
+    subst (λ shelves. IsEngineConsistent {G = g.D.Disk} {H = g.C.Chare} (record { store = record old.store { history = history; shelves = shelves }; halves = halves }))
+    (sym (same_items old.store.shelves c.checkpoint.new.shelves items)) whole
 
 pub returns-in-Ok-clause-image : goal.returns-in-Ok-clause-image
 returns-in-Ok-clause-image g c = λ honest _.

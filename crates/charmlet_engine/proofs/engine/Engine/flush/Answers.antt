@@ -11,11 +11,13 @@ pub returns-in-Ok-clause-consistent : goal.returns-in-Ok-clause-consistent
 returns-in-Ok-clause-consistent g c =
     flushed_consistent {G = g.D.Disk} {H = g.C.Chare} c.args.self.now c.requires c.flush.new.history c.flush.new.halves (counts_or_refused c.flush.result)
     c.flush.ensures.consistent (c.flush.ensures.steps (λ _. 0)) c.flush.ensures.agrees (λ honest. c.flush.ensures.kept (c.flush.ensures.honest.1 honest))
+    (λ honest. c.flush.ensures.current (c.flush.ensures.honest.1 honest))
 
 pub returns-in-Err-clause-consistent : goal.returns-in-Err-clause-consistent
 returns-in-Err-clause-consistent g c =
     flushed_consistent {G = g.D.Disk} {H = g.C.Chare} c.args.self.now c.requires c.flush.new.history c.flush.new.halves (counts_or_refused c.flush.result)
     c.flush.ensures.consistent (c.flush.ensures.steps (λ _. 0)) c.flush.ensures.agrees (λ honest. c.flush.ensures.kept (c.flush.ensures.honest.1 honest))
+    (λ honest. c.flush.ensures.current (c.flush.ensures.honest.1 honest))
 
 pub returns-in-Ok-clause-advances : goal.returns-in-Ok-clause-advances
 returns-in-Ok-clause-advances g c =

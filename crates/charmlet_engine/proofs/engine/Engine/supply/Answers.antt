@@ -1,7 +1,11 @@
 use Rattle.std.proofs.Common.{refl}
 use Rattle.charmlet_engine.specs.Engine.{disk_in}
 use Rattle.charmlet_engine.proofs.Advancing.{advances_still}
+use Rattle.charmlet_engine.proofs.Written.{core_consistent}
 use Rattle.charmlet_engine.proofs.engine.Engine.supply.Goals as goal
+
+pub returns-clause-consistent : goal.returns-clause-consistent
+returns-clause-consistent g c = core_consistent {G = g.D.Disk} {H = g.C.Chare} c.args.self.now c.requires c.supply.new.self c.supply.ensures.consistent c.supply.ensures.core
 
 pub returns-clause-advances : goal.returns-clause-advances
 returns-clause-advances g c =

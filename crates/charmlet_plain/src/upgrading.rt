@@ -1,0 +1,64 @@
+//! States, and what is kept of elements, in the newest versions of their kinds.
+
+ghost use Rattle.std.specs.Prelude.{◌≡◌, true, option_map};
+ghost use Rattle.charmlet_model.specs.Upgrade.{up, up_record, up_records};
+
+use charmlet_model::{Elem, Record, State};
+use std::collections::BTreeMap;
+
+/// What is kept of each element goes on in the newest version of its kind. It takes no memory.
+pub(crate) fn upgrade_records(records: &mut BTreeMap<Elem, Record>)
+    ensures { records.new.entries ≡ up_records records.old.entries }
+{
+    records.retain(
+        |_elem: &Elem, record: &mut Record| -> bool
+            ensures { (result ≡ true) × (record.new ≡ up_record record.old) }
+        {
+            upgrade_record(record);
+            true
+        },
+    );
+}
+
+/// What is kept of an element goes on in the newest version: its state does, if it is there.
+fn upgrade_record(record: &mut Record)
+    ensures { record.new ≡ up_record record.old }
+{
+    record.state = newest_of(record.state.take());
+}
+
+/// The state in the newest version of its kind, if there is one.
+fn newest_of(state: Option<State>) -> Option<State>
+    ensures { result ≡ option_map up state }
+{
+    match state {
+        Some(state) => Some(newest(state)),
+        None => None,
+    }
+}
+
+/// The state in the newest version of its kind. A counter of version 1 has its count as its peak
+/// then, and each other state is as it was.
+fn newest(state: State) -> State
+    ensures { result ≡ up state }
+{
+    match state {
+        State::FirstCounter { count } => State::Counter { count, peak: count },
+        State::Counter { count, peak } => State::Counter { count, peak },
+        State::Ring { next, seen } => State::Ring { next, seen },
+        State::Account { balance } => State::Account { balance },
+        State::Sum {
+            want,
+            got,
+            total,
+            up,
+        } => State::Sum {
+            want,
+            got,
+            total,
+            up,
+        },
+        State::Tree { depth } => State::Tree { depth },
+        State::Tape { items } => State::Tape { items },
+    }
+}

@@ -1,0 +1,40 @@
+//! Stores that go on in the newest versions of their kinds.
+
+ghost use Rattle.std.specs.Prelude.{◌≡◌, []};
+ghost use Rattle.std.specs.List.{All};
+ghost use Rattle.charmlet_history.specs.Kept.{core_in};
+ghost use Rattle.charmlet_history.specs.Opened.{upgraded_core};
+ghost use Rattle.charmlet_migrate.specs.Moving.{IsIdle};
+ghost use Rattle.charmlet_store.specs.Store.{IsStoreConsistent};
+ghost use Rattle.charmlet_store.specs.Upgraded.{up_shelves};
+
+use crate::store::Store;
+use charmlet_chare::Chare;
+use charmlet_shelf::Shelf;
+
+impl<C: Chare> Store<C> {
+    /// A store in which nothing has happened since it opened goes on in the newest versions of its
+    /// kinds, each object by its own `upgrade`. It takes no memory.
+    pub fn upgrade(&mut self)
+        requires consistent { IsStoreConsistent self.old }
+        requires new { (core_in self.old.history).history ≡ [] }
+        requires unassigned { (core_in self.old.history).assigned ≡ [] }
+        ensures consistent { IsStoreConsistent self.new }
+        ensures core { core_in self.new.history ≡ upgraded_core (core_in self.old.history) }
+        ensures stock { self.new.stock ≡ self.old.stock }
+    {
+        upgrade_shelves(&mut self.shelves);
+        self.history.upgrade();
+    }
+}
+
+/// Has each object on the shelves, where no delivery is under way, go on in the newest version of
+/// its kind. It takes no memory.
+fn upgrade_shelves<C: Chare>(shelves: &mut Vec<Shelf<C>>)
+    requires { All IsIdle shelves.old.items }
+    ensures { shelves.new.items ≡ up_shelves shelves.old.items }
+{
+    for index in 0..shelves.len() {
+        shelves[index].upgrade();
+    }
+}
