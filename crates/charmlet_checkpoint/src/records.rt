@@ -8,7 +8,7 @@ ghost use Rattle.charmlet_model.specs.Core.{present};
 ghost use Rattle.charmlet_model.specs.Packed.{pupped};
 ghost use Rattle.charmlet_model.specs.Spelling.{spell_list};
 ghost use Rattle.charmlet_image.specs.Images.{spell_entry};
-ghost use Rattle.charmlet_history.specs.Kept.{core_in, kept_in};
+ghost use Rattle.charmlet_history.specs.Kept.{core_in};
 ghost use Rattle.charmlet_world.specs.Seen.{element_at};
 ghost use Rattle.charmlet_history.specs.Records.{record_with, records_from};
 ghost use Rattle.charmlet_world.specs.Seen.{has_record};
@@ -49,13 +49,14 @@ pub(crate) fn append_records<C: Chare>(
     shelves: &mut [Shelf<C>],
 ) -> Result<(), Refusal>
     requires shown { IsShown history.now shelves.old }
-    requires elements { elements.now.entries ≡ (kept_in history.now).elements }
+    requires elements { elements.now.entries ≡ history.now.elements }
     requires count { count ≡ length (present (core_in history.now)).records }
     ensures ok { OnOk result (out.new.items ≡ out.old.items
         ++ spell_list spell_entry (present (core_in history.now)).records) }
     ensures err { IfErr result (λ refusal. refusal ≡ refusals.Memory) }
     ensures same { shelves.new ≡ shelves.old }
 {
+    history.facts();
     out.reserve(4)?;
     write_u32(out, count);
     for (elem, element) in elements {
@@ -78,12 +79,13 @@ fn append_record<C: Chare>(
     element: &Element,
 ) -> Result<(), Refusal>
     requires shown { IsShown history.now shelves.old }
-    requires element { element.now ≡ element_at (kept_in history.now).elements elem }
+    requires element { element.now ≡ element_at history.now.elements elem }
     ensures ok { OnOk result (out.new.items ≡ out.old.items
         ++ spell_entry (elem, record_with (state_in history.now elem) element.now)) }
     ensures err { IfErr result (λ refusal. refusal ≡ refusals.Memory) }
     ensures same { shelves.new ≡ shelves.old }
 {
+    history.facts();
     let Some(place) = element.place else {
         append_entry(out, elem, element, None)?;
         return Ok(());

@@ -14,7 +14,7 @@ use Rattle.charmlet_chare.specs.declared.chare.Chare as chares
 use Rattle.charmlet_disk.specs.declared.disk.Disk as disks
 use Rattle.charmlet_disk.specs.File.{MayLeave, Outcome}
 use Rattle.charmlet_history.specs.declared.history.History.{History}
-use Rattle.charmlet_history.specs.Kept.{IsConsistent, core_in, kept_in, told_or_refused}
+use Rattle.charmlet_history.specs.Kept.{IsConsistent, core_in, told_or_refused}
 use Rattle.charmlet_journal.specs.Quiet.{Quiet}
 use Rattle.charmlet_migrate.specs.Moving.{records_on}
 use Rattle.charmlet_stock.specs.Stock.{keeping_of}
@@ -64,7 +64,7 @@ module _ {D C : Type 0} {G : disks.Ghosts D} {H : chares.Ghosts C} (old : Engine
         no_fault = no_fault;
       }
 
-  module _ (history : History) (same : IsConsistent (kept_in history)) (client number : ℕ) (to : Elem) (entry : ℕ) (words : List ℕ) (result : Result Told Refusal)
+  module _ (history : History) (same : IsConsistent history) (client number : ℕ) (to : Elem) (entry : ℕ) (words : List ℕ) (result : Result Told Refusal)
       (steps : (blanks : Blanks) → Steps (core_in old.store.history) blanks (core.Request client number to entry words)
       (record { answer = told_or_refused result; core = core_in history; blanks = blanks })) where
     abbrev pub asked : Store C H

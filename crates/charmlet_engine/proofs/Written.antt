@@ -12,7 +12,7 @@ use Rattle.charmlet_disk.specs.declared.disk.Disk as disks
 use Rattle.charmlet_halves.specs.declared.halves.Halves.{Halves}
 use Rattle.charmlet_halves.specs.Halves.{disk_of, is_halted}
 use Rattle.charmlet_history.specs.declared.history.History.{History}
-use Rattle.charmlet_history.specs.Kept.{IsConsistent, core_in, core_of, kept_in}
+use Rattle.charmlet_history.specs.Kept.{IsConsistent, core_in}
 use Rattle.charmlet_journal.specs.Quiet.{Quiet}
 use Rattle.charmlet_journal.specs.Rest.{Agrees, IsCurrent, IsKept}
 use Rattle.charmlet_journal.proofs.Quietness.{stays, still_agrees, still_kept}
@@ -30,7 +30,7 @@ module _ {D C : Type 0} {G : disks.Ghosts D} {H : chares.Ghosts C} (old : Engine
   written = record { store = record old.store { history = history }; halves = halves }
 
   -- a flush changes no object
-  pub flushed_consistent : (answer : CoreAnswer) → IsConsistent (kept_in history) →
+  pub flushed_consistent : (answer : CoreAnswer) → IsConsistent history →
       Steps (core_in old.store.history) (λ _. 0) Flush (record { answer = answer; core = core_in history; blanks = λ _. 0 }) → Agrees (core_in history) halves →
       (G.honest (disk_of halves) → IsKept (core_in history) halves) → (G.honest (disk_of halves) → (core_in history).halted ≡ false → IsCurrent halves) → IsEngineConsistent written
   flushed_consistent answer same steps agrees kept current =
@@ -52,11 +52,11 @@ module _ {D C : Type 0} {G : disks.Ghosts D} {H : chares.Ghosts C} (old : Engine
       }
 
   -- nor does an image
-  pub imaged_consistent : IsShown history old.store.shelves.items → Agrees (core_in history) halves → (G.honest (disk_of halves) → IsKept (core_in history) halves) →
+  pub imaged_consistent : IsConsistent history → IsShown history old.store.shelves.items → Agrees (core_in history) halves → (G.honest (disk_of halves) → IsKept (core_in history) halves) →
       (G.honest (disk_of halves) → (core_in history).halted ≡ false → IsCurrent halves) → IsEngineConsistent written
-  imaged_consistent shown agrees kept current = record {
+  imaged_consistent whole shown agrees kept current = record {
     shows = record {
-      history = shown.consistent;
+      history = whole;
       count = shown.count;
       numbers = consistent.shows.numbers;
       idle = shown.idle;
@@ -79,9 +79,9 @@ module _ {D C : Type 0} {G : disks.Ghosts D} {H : chares.Ghosts C} (old : Engine
   ]
 
   -- it isn't another one where what is kept is the same
-  pub same_consistent : kept_in history ≡ kept_in old.store.history → IsEngineConsistent {G = G} (record { store = record old.store { history = history }; halves = old.halves })
+  pub same_consistent : history ≡ old.store.history → IsEngineConsistent {G = G} (record { store = record old.store { history = history }; halves = old.halves })
   same_consistent same =
-      let core : core_in history ≡ core_in old.store.history = ap core_of same in
+      let core : core_in history ≡ core_in old.store.history = ap core_in same in
       let shows = subst (ShowsCore (records_on old.store.shelves.items) (core_in old.store.history).processors) (sym core) (record { processors = refl; shows = consistent.shows.objects }) in
       record {
         shows = record {
@@ -115,9 +115,9 @@ module _ {D C : Type 0} {G : disks.Ghosts D} {H : chares.Ghosts C} (old : Engine
   core_consistent shows same = quiet_consistent shows (subst (Quiet (core_in old.store.history)) (sym same) (stays (core_in old.store.history)))
 
 -- a store whose history was written, and whose shelves show it, is as consistent as it was
-pub imaged_store : {C : Type 0} {H : chares.Ghosts C} (store : Store C H) (history : History) → IsStoreConsistent store → IsShown history store.shelves.items → IsStoreConsistent (record store { history = history })
-imaged_store store history was shown = record {
-  history = shown.consistent;
+pub imaged_store : {C : Type 0} {H : chares.Ghosts C} (store : Store C H) (history : History) → IsStoreConsistent store → IsConsistent history → IsShown history store.shelves.items → IsStoreConsistent (record store { history = history })
+imaged_store store history was whole shown = record {
+  history = whole;
   count = shown.count;
   numbers = was.numbers;
   idle = shown.idle;

@@ -56,7 +56,9 @@ impl<D: Disk, C: Chare> Engine<D, C> {
         ensures up_to_date { IsUpToDate pass.old (core_of self.old) →
             IsUpToDate pass.new (core_of self.new) }
     {
-        request(&mut self.store.history, pass, number, to, entry, words)
+        let told = request(&mut self.store.history, pass, number, to, entry, words);
+        self.store.history.facts();
+        told
     }
 
     /// Takes a request of a client that has no pass, as [`Engine::step`] does.
@@ -115,7 +117,7 @@ impl<D: Disk, C: Chare> Engine<D, C> {
         ensures up_to_date { IsUpToDate pass.old (core_of self.old) →
             IsUpToDate pass.new (core_of self.new) }
     {
-        call(
+        let told = call(
             &mut self.store.history,
             pass,
             handlers,
@@ -123,7 +125,9 @@ impl<D: Disk, C: Chare> Engine<D, C> {
             name,
             index,
             words,
-        )
+        );
+        self.store.history.facts();
+        told
     }
 
     /// Tells the pass's client what is durable of its request, as [`Engine::step`] does, and the

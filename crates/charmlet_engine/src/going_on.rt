@@ -102,7 +102,9 @@ fn renew<D: Disk, C: Chare>(
         (is_no_failure (core_or_refusal result)) (D.faults (disk_of halves)) }
 {
     let shelves = store.shelves.as_mut_slice();
-    match checkpoint(store.alloc, &mut store.history, &mut halves, shelves) {
+    let taken = checkpoint(store.alloc, &mut store.history, &mut halves, shelves);
+    store.history.facts();
+    match taken {
         Ok(_) => {
             store.drop_retired();
             Ok(Engine { store, halves })

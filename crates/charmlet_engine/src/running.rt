@@ -80,7 +80,9 @@ impl<D: Disk, C: Chare> Engine<D, C> {
         ensures counted { D.faults (disk_in self.new) ≡ faults_after (is_no_fault result)
             (D.faults (disk_in self.old)) }
     {
-        match flush(&mut self.store.history, &mut self.halves) {
+        let flushed = flush(&mut self.store.history, &mut self.halves);
+        self.store.history.facts();
+        match flushed {
             Ok(durable) => Answer::Flushed(durable),
             Err(refusal) => Answer::Refused(refusal),
         }
@@ -102,12 +104,14 @@ impl<D: Disk, C: Chare> Engine<D, C> {
             (D.faults (disk_in self.old)) }
     {
         let shelves = self.store.shelves.as_mut_slice();
-        match checkpoint(
+        let taken = checkpoint(
             self.store.alloc,
             &mut self.store.history,
             &mut self.halves,
             shelves,
-        ) {
+        );
+        self.store.history.facts();
+        match taken {
             Ok(generation) => Answer::Checkpointed(generation),
             Err(refusal) => Answer::Refused(refusal),
         }

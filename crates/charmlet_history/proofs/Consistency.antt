@@ -14,14 +14,14 @@ use Rattle.charmlet_model.specs.World.{World, world, after, client_of}
 use Rattle.charmlet_model.specs.Core.{present}
 use Rattle.charmlet_model.proofs.Histories.{manifest-after}
 use Rattle.charmlet_world.specs.Client.{Rows}
-use Rattle.charmlet_history.specs.Kept.{Kept, IsConsistent, core_of}
+use Rattle.charmlet_history.specs.Kept.{Kept, IsConsistent, core_in}
 use Rattle.charmlet_world.specs.Seen.{client_at, new_client}
 
 manifest-world : (w : World) (history : List Event) → (world w history).manifest ≡ w.manifest
 manifest-world w [] = refl
 manifest-world w (e ∷ es) = manifest-world (after w e) es ∙ manifest-after w e
 
-pub manifest_is : (k : Kept) → (present (core_of k)).manifest ≡ k.opening.manifest
+pub manifest_is : (k : Kept) → (present (core_in k)).manifest ≡ k.opening.manifest
 manifest_is k = manifest-world k.opening k.events
 
 -- ---- rows
@@ -36,7 +36,7 @@ some_map f (Some x) = refl
 
 module _ (k : Kept) (consistent : IsConsistent k) where
   abbrev w : World
-  w = present (core_of k)
+  w = present (core_in k)
 
   lookup_row : (c : ℕ) → lookup (is_at (nat_cmp c)) w.clients ≡ option_map (λ (client : Rows). client.present) (lookup (is_at (nat_cmp c)) k.clients)
   lookup_row c = ap (lookup (is_at (nat_cmp c))) (sym consistent.clients) ∙ lookup-map_values (λ (client : Rows). client.present) (is_at (nat_cmp c)) k.clients

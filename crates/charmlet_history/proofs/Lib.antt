@@ -16,3 +16,5 @@ pub mod Rooms
 pub mod Unwritten
 pub mod Upgrades
 pub mod RecordLists
+pub mod Entries
+pub mod Committing

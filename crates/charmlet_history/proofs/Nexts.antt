@@ -18,7 +18,7 @@ use Rattle.charmlet_model.specs.Core.{present, place_or_home}
 use Rattle.charmlet_model.proofs.Fits.{same_id-is}
 use Rattle.charmlet_model.proofs.SoundLemmas.{sound_fit}
 use Rattle.charmlet_world.specs.Seen.{is_deliverable, next_due}
-use Rattle.charmlet_history.specs.Kept.{Kept, IsConsistent, core_of, due_on, processor_for, next_in, place_or_home_in, seen_of}
+use Rattle.charmlet_history.specs.Kept.{Kept, IsConsistent, core_in, due_on, processor_for, next_in, place_or_home_in, seen_of}
 use Rattle.charmlet_history.proofs.Assigning.{place_or_home_is, there_is}
 
 -- ---- ids
@@ -51,17 +51,17 @@ all_named (m ∷ ms) h = (ap (λ b. cond b (Some m) (message_among m.id ms)) (sa
 
 module _ (k : Kept) (consistent : IsConsistent k) where
   abbrev w : World
-  w = present (core_of k)
+  w = present (core_in k)
 
   deliverable_is : (m : Message) → is_deliverable (seen_of k) m ≡ can_deliver w (Some m)
   deliverable_is m =
       let counts = consistent.counts m.to in
       λ i. (sym (there_is k consistent m.to) i || (m.entry == CONSTRUCT)) && nat_le (counts.received i + 1) greatest && nat_le (counts.sent i + 16) greatest
 
-  same_next : (ms : List Message) → AllByRecursion (λ m. message_among m.id w.pending ≡ Some m) ms → next_due (seen_of k) ms ≡ option_and_then (due_on (core_of k)) (oldest_deliverable w ms)
+  same_next : (ms : List Message) → AllByRecursion (λ m. message_among m.id w.pending ≡ Some m) ms → next_due (seen_of k) ms ≡ option_and_then (due_on (core_in k)) (oldest_deliverable w ms)
   same_next [] named = refl
   same_next (m ∷ ms) named =
-      let core = core_of k in
+      let core = core_in k in
       let here : Option (ℕ × MsgId) = Some (place_or_home_in k m.to, m.id) in
       let due : due_on core m.id ≡ here =
       ap (option_map (λ n. (place_or_home core n.to, m.id))) named.0 ∙ ap (λ p. Some (p, m.id)) (place_or_home_is k consistent m.to) in
@@ -71,11 +71,11 @@ module _ (k : Kept) (consistent : IsConsistent k) where
         | false ↦ same_next ms named.1
       ]
 
-  pub next_is : next_due (seen_of k) k.pending ≡ next_in (core_of k)
-  next_is = ap (next_due (seen_of k)) consistent.pending ∙ same_next w.pending (all_named w.pending (sound_fit (core_of k) consistent.sound).distinct)
+  pub next_is : next_due (seen_of k) k.pending ≡ next_in (core_in k)
+  next_is = ap (next_due (seen_of k)) consistent.pending ∙ same_next w.pending (all_named w.pending (sound_fit (core_in k) consistent.sound).distinct)
 
   -- the processor of any pending message
-  pub due_is : (id : MsgId) (m : Message) → message_among id k.pending ≡ Some m → Some (place_or_home_in k m.to) ≡ processor_for (core_of k) id
+  pub due_is : (id : MsgId) (m : Message) → message_among id k.pending ≡ Some m → Some (place_or_home_in k m.to) ≡ processor_for (core_in k) id
   due_is id m found =
-      sym (ap (option_map (λ n. place_or_home (core_of k) n.to)) (ap (message_among id) (sym consistent.pending) ∙ found)
+      sym (ap (option_map (λ n. place_or_home (core_in k) n.to)) (ap (message_among id) (sym consistent.pending) ∙ found)
       ∙ ap (λ p. Some p) (place_or_home_is k consistent m.to))

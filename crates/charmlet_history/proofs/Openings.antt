@@ -23,7 +23,7 @@ use Rattle.charmlet_model.proofs.SoundLemmas.{sound_fit}
 use Rattle.charmlet_world.specs.declared.element.Element.{Element}
 use Rattle.charmlet_world.specs.Client.{Rows, same_rows}
 use Rattle.charmlet_record.specs.Backlog.{Batched, IsBacklog}
-use Rattle.charmlet_history.specs.Kept.{Kept, IsConsistent, core_of}
+use Rattle.charmlet_history.specs.Kept.{Kept, IsConsistent, core_in}
 use Rattle.charmlet_world.specs.Seen.{IsCountedBy, client_at, element_at, new_client, no_element, present_rows}
 use Rattle.charmlet_world.specs.Standing.{places_of, with_place}
 use Rattle.charmlet_history.specs.Flushed.{all_durable}
@@ -97,7 +97,7 @@ module _ (processors : ℕ) (w : World) (before generation log_end : ℕ) (backl
   }
 
   -- it is the core of a store that opens so
-  pub opened_core : core_of opened_kept ≡ opened processors w before generation log_end
+  pub opened_core : core_in opened_kept ≡ opened processors w before generation log_end
   opened_core = λ i. record (opened processors w before generation log_end) { places = places_are_homes processors w.records i }
 
   pub opened_consistent : IsFit w → 1 ≤ processors → processors ≤ 64 → before ≤ 2 ^ 40 → 1 ≤ generation → generation ≤ 2 ^ 40 → IsBacklog backlog [] → IsConsistent opened_kept
@@ -116,11 +116,11 @@ module _ (processors : ℕ) (w : World) (before generation log_end : ℕ) (backl
 
 -- what is kept once all events count as before the opening world
 abbrev pub renewed_kept : Kept → Batched → Kept
-renewed_kept k backlog = record (all_durable k k.log_end backlog) { opening = present (core_of k); before = k.before + length k.events; events = []; durable = 0 }
+renewed_kept k backlog = record (all_durable k k.log_end backlog) { opening = present (core_in k); before = k.before + length k.events; events = []; durable = 0 }
 
 pub renewed_consistent : (k : Kept) (backlog : Batched) → IsConsistent k → IsBacklog backlog [] → IsConsistent (renewed_kept k backlog)
 renewed_consistent k backlog consistent empty =
-    let core = core_of k in
+    let core = core_in k in
     let w = present core in
     let sound = consistent.sound in
     let new = drop k.durable k.events in
@@ -137,7 +137,7 @@ renewed_consistent k backlog consistent empty =
         rising_places = sound.rising_places;
         rising_assigned = sound.rising_assigned;
         placed = λ x. let p = sound.placed x in record { there = p.there; on_processor = p.on_processor };
-        assigned = λ processor. IfSome-map (IsAssigned core processor) (IsAssigned (core_of (renewed_kept k backlog)) processor) (assigned_to core processor)
+        assigned = λ processor. IfSome-map (IsAssigned core processor) (IsAssigned (core_in (renewed_kept k backlog)) processor) (assigned_to core processor)
             (λ id a. record { on_processor = a.on_processor; can_be = a.can_be; receiver = a.receiver }) (sound.assigned processor);
       };
       rising = consistent.rising;

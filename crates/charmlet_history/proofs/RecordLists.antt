@@ -20,7 +20,7 @@ use Rattle.charmlet_model.specs.Core.{present}
 use Rattle.charmlet_model.proofs.Maps.{elem_total, elem_exact, absent, same_maps}
 use Rattle.charmlet_model.proofs.SoundLemmas.{sound_fit}
 use Rattle.charmlet_world.specs.declared.element.Element.{Element}
-use Rattle.charmlet_history.specs.Kept.{Kept, IsConsistent, core_of}
+use Rattle.charmlet_history.specs.Kept.{Kept, IsConsistent, core_in}
 use Rattle.charmlet_world.specs.Seen.{element_at, no_element}
 use Rattle.charmlet_history.specs.Records.{record_with, records_from}
 use Rattle.charmlet_world.specs.Seen.{has_record}
@@ -90,10 +90,10 @@ found_or_not None h = refl
 found_or_not (Some r) h = ap (λ b. if b then Some r else None) (is_kept r h)
 
 -- they are the world's records
-pub records_are : (k : Kept) → IsConsistent k → records_from (λ x. (record_of (present (core_of k)) x).state) k.elements ≡ (present (core_of k)).records
+pub records_are : (k : Kept) → IsConsistent k → records_from (λ x. (record_of (present (core_in k)) x).state) k.elements ≡ (present (core_in k)).records
 records_are k consistent =
-    let w : World = present (core_of k) in
-    let fit = sound_fit (core_of k) consistent.sound in
+    let w : World = present (core_in k) in
+    let fit = sound_fit (core_in k) consistent.sound in
     let state : Elem → Option State = λ x. (record_of w x).state in
     same_maps elem_cmp elem_total elem_exact (records_from state k.elements) w.records (rising_from state k.elements consistent.rising) fit.rising_records (λ x.
     let counts = consistent.counts x in

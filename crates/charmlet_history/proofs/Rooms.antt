@@ -19,15 +19,15 @@ use Rattle.charmlet_model.proofs.Fits.{IfSome-map}
 use Rattle.charmlet_model.proofs.Removals.{lookup-removed}
 use Rattle.charmlet_world.specs.declared.element.Element.{Element}
 use Rattle.charmlet_world.specs.Seen.{Seen}
-use Rattle.charmlet_history.specs.Kept.{Kept, IsConsistent, core_of}
+use Rattle.charmlet_history.specs.Kept.{Kept, IsConsistent, core_in}
 
 -- the message's receiver has an entry
 abbrev pub HasEntry : List (Elem × Element) → Message → Type 0
 HasEntry elements m = is_some (lookup (is_at (elem_cmp m.to)) elements) ≡ true
 
 -- the receiver of a pending message has one
-abbrev pub HasReceiver : MsgId → Seen → Type 0
-HasReceiver id s = IfSome (message_among id s.pending) (HasEntry s.elements)
+abbrev pub HasReceiverIn : MsgId → Seen → Type 0
+HasReceiverIn id s = IfSome (message_among id s.pending) (HasEntry s.elements)
 
 -- an entry stays where another one is written
 pub entry_stays : (es : List (Elem × Element)) (y : Elem) (e : Element) (m : Message) → HasEntry es m → HasEntry (insert_entry elem_cmp es y e) m
@@ -52,24 +52,9 @@ still_among id (n ∷ ms) ns m is =
 pub assigned_pending : (k : Kept) → IsConsistent k → (processor : ℕ) (id : MsgId) → lookup (is_at (nat_cmp processor)) k.assigned ≡ Some id →
     (m : Message) × (message_among id k.pending ≡ Some m)
 assigned_pending k consistent processor id has =
-    let core = core_of k in
+    let core = core_in k in
     let m = message_of (present core) id (subst (λ o. IfSome o (IsAssigned core processor)) has (consistent.sound.assigned processor)).can_be in
     (m.0, ap (message_among id) consistent.pending ∙ m.1)
-
--- so its receiver keeps its entry where more messages come
-pub receiver_stays : (k : Kept) → IsConsistent k → (processor : ℕ) (more : List Message) (P : MsgId → Type 0) →
-    IfSome (lookup (is_at (nat_cmp processor)) k.assigned) (λ id. P id × IfSome (message_among id k.pending) (HasEntry k.elements)) →
-    IfSome (lookup (is_at (nat_cmp processor)) k.assigned) (λ id. P id × IfSome (message_among id (k.pending ++ more)) (HasEntry k.elements))
-receiver_stays k consistent processor more P =
-    elim (lookup (is_at (nat_cmp processor)) k.assigned) as (λ o. lookup (is_at (nat_cmp processor)) k.assigned ≡ o →
-    IfSome o (λ id. P id × IfSome (message_among id k.pending) (HasEntry k.elements)) →
-    IfSome o (λ id. P id × IfSome (message_among id (k.pending ++ more)) (HasEntry k.elements))) [
-      | None ↦ λ _ _. tt
-      | Some id ↦ λ has h.
-          let m = assigned_pending k consistent processor id has in
-          let entry : HasEntry k.elements m.0 = subst (λ o. IfSome o (HasEntry k.elements)) m.1 h.1 in
-          (h.0, subst (λ o. IfSome o (HasEntry k.elements)) (sym (still_among id k.pending more m.0 m.1)) entry)
-    ] refl
 
 -- a message that is there
 pub the_message : (o : Option Message) → IsSome o → (m : Message) × (o ≡ Some m)

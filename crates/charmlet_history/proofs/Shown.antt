@@ -2,12 +2,12 @@
 use Rattle.std.proofs.Common.{ℕ, sym}
 use Rattle.charmlet_model.specs.Core.{present}
 use Rattle.charmlet_world.specs.Seen.{Seen, Shows}
-use Rattle.charmlet_history.specs.Kept.{Kept, IsConsistent, core_of, seen_of}
+use Rattle.charmlet_history.specs.Kept.{Kept, IsConsistent, core_in, seen_of}
 use Rattle.charmlet_history.specs.Opened.{with_arrays}
 use Rattle.charmlet_history.proofs.Assigning.{there_is}
 use Rattle.charmlet_history.proofs.Consistency.{manifest_is}
 
-pub shows : (k : Kept) → IsConsistent k → Shows (seen_of k) (present (core_of k))
+pub shows : (k : Kept) → IsConsistent k → Shows (seen_of k) (present (core_in k))
 shows k consistent = record {
   manifest = sym (manifest_is k);
   there = λ x. sym (there_is k consistent x);

@@ -1,5 +1,5 @@
 -- What a store keeps that goes on in the newest versions before anything has happened in it.
-use Rattle.std.proofs.Common.{◌≡◌, ℕ, zero, suc, List, [], ◌∷◌, take, drop, length, arith, refl, sym, ap, subst, ◌∙◌}
+use Rattle.std.proofs.Common.{◌≡◌, ℕ, zero, suc, List, [], take, drop, arith, refl, sym, ap, subst, ◌∙◌}
 use Rattle.std.specs.Prelude.{Option, Some, None, IfSome, is_some, option_map}
 use Rattle.std.specs.Ordering.{nat_cmp}
 use Rattle.std.specs.BTreeMap.{is_at}
@@ -7,7 +7,6 @@ use Rattle.std.specs.Map.{lookup}
 use Rattle.charmlet_model.specs.declared.names.Elem.{Elem}
 use Rattle.charmlet_model.specs.declared.names.MsgId.{MsgId}
 use Rattle.charmlet_model.specs.declared.event.Event.{Event}
-use Rattle.charmlet_model.specs.declared.logged.Logged.{Logged}
 use Rattle.charmlet_model.specs.declared.state.State.{State}
 use Rattle.charmlet_model.specs.declared.state.Record.{Record}
 use Rattle.charmlet_model.specs.Core.{durable_world, present, unwritten}
@@ -17,7 +16,7 @@ use Rattle.charmlet_model.specs.Upgrade.{up, up_record, up_world}
 use Rattle.charmlet_model.specs.World.{World, world, client_of, record_of, IsLegal}
 use Rattle.charmlet_model.proofs.Upgrades.{fit-up, record-up}
 use Rattle.charmlet_record.specs.Backlog.{IsBacklog}
-use Rattle.charmlet_history.specs.Kept.{Kept, IsConsistent, core_of}
+use Rattle.charmlet_history.specs.Kept.{Kept, IsConsistent, core_in}
 
 -- it keeps the same, but for its opening world
 abbrev pub upgraded_kept : Kept → Kept
@@ -38,18 +37,18 @@ none_left w (suc n) = refl
 
 module _ (k : Kept) (consistent : IsConsistent k) (new : k.events ≡ []) (unassigned : k.assigned ≡ []) where
   abbrev w : World
-  w = present (core_of k)
+  w = present (core_in k)
 
   abbrev v : World
-  v = present (core_of (upgraded_kept k))
+  v = present (core_in (upgraded_kept k))
 
   goes_on : v ≡ up_world w
   goes_on = subst (λ (es : List Event). world (up_world k.opening) es ≡ up_world (world k.opening es)) (sym new) refl
 
-  durable_goes_on : durable_world (core_of (upgraded_kept k)) ≡ up_world (durable_world (core_of k))
+  durable_goes_on : durable_world (core_in (upgraded_kept k)) ≡ up_world (durable_world (core_in k))
   durable_goes_on = subst (λ (es : List Event). world (up_world k.opening) (take k.durable es) ≡ up_world (world k.opening (take k.durable es))) (sym new) (still k.opening k.durable)
 
-  unwritten_same : unwritten (core_of (upgraded_kept k)) ≡ unwritten (core_of k)
+  unwritten_same : unwritten (core_in (upgraded_kept k)) ≡ unwritten (core_in k)
   unwritten_same =
       subst (λ (es : List Event). logged_all (world (up_world k.opening) (take k.durable es)) (drop k.durable es) ≡ logged_all (world k.opening (take k.durable es)) (drop k.durable es)) (sym new)
       (none_left k.opening k.durable)
@@ -76,7 +75,7 @@ module _ (k : Kept) (consistent : IsConsistent k) (new : k.events ≡ []) (unass
           rising_places = sound.rising_places;
           rising_assigned = sound.rising_assigned;
           placed = λ x. let p = sound.placed x in record { there = p.there ∙ sym (there_same x); on_processor = p.on_processor };
-          assigned = λ processor. subst (λ (es : List (ℕ × MsgId)). IfSome (lookup (is_at (nat_cmp processor)) es) (IsAssigned (core_of (upgraded_kept k)) processor)) (sym unassigned) tt;
+          assigned = λ processor. subst (λ (es : List (ℕ × MsgId)). IfSome (lookup (is_at (nat_cmp processor)) es) (IsAssigned (core_in (upgraded_kept k)) processor)) (sym unassigned) tt;
         };
         rising = consistent.rising;
         counts = λ x. let c = consistent.counts x in record { sent = c.sent ∙ sym (ap (λ (r : Record). r.sent) (record_is x)); received = c.received ∙ sym (ap (λ (r : Record). r.received) (record_is x)) };

@@ -8,6 +8,7 @@ pub mod Records
 pub mod Delivered
 pub mod Opened
 pub mod Parts
+pub mod Whole
 pub use Rattle.charmlet_model.specs.Core
 pub use Rattle.charmlet_model.specs.Fit
 pub use Rattle.charmlet_model.specs.Reaction

@@ -2,7 +2,7 @@
 
 ghost use Rattle.std.specs.Prelude.{◌≡◌, length};
 ghost use Rattle.charmlet_model.specs.Core.{present};
-ghost use Rattle.charmlet_history.specs.Kept.{IsConsistent, core_in, kept_in, next_in, processor_for};
+ghost use Rattle.charmlet_history.specs.Kept.{core_in, next_in, processor_for};
 
 use crate::history::History;
 use charmlet_model::MsgId;
@@ -11,7 +11,6 @@ use charmlet_world::Messages;
 impl History {
     /// How many messages are pending.
     pub fn pending_count(&self) -> usize
-        requires { IsConsistent (kept_in self.now) }
         ensures { result ≡ length (present (core_in self.now)).pending }
     {
         self.present.pending_count()
@@ -20,7 +19,6 @@ impl History {
     /// The pending messages, in order of birth, each as its id and what is kept under it. It takes
     /// no memory.
     pub fn messages(&self) -> Messages<'_>
-        requires { IsConsistent (kept_in self.now) }
         ensures { result ≡ (present (core_in self.now)).pending }
     {
         self.present.messages()
@@ -30,7 +28,6 @@ impl History {
     /// processor that is to deliver it: the place of its receiver, or the home of one that isn't
     /// there.
     pub fn next(&self) -> Option<(u16, MsgId)>
-        requires { IsConsistent (kept_in self.now) }
         ensures { result ≡ next_in (core_in self.now) }
     {
         self.present.next()
@@ -39,7 +36,6 @@ impl History {
     /// The processor that is to deliver a pending message: the place of its receiver, or the home
     /// of one that isn't there. None where no such message is pending.
     pub fn due_on(&self, id: MsgId) -> Option<u16>
-        requires { IsConsistent (kept_in self.now) }
         ensures { result ≡ processor_for (core_in self.now) id }
     {
         let letter = self.present.find(id)?;

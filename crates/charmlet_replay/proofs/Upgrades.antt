@@ -1,14 +1,13 @@
 -- A store that goes on in the newest versions is what its half means.
-use Rattle.std.proofs.Common.{◌≡◌, ℕ, ◌+◌, Bool, true, false, List, [], ◌∷◌, length, refl, sym, ap, subst, ◌∙◌}
+use Rattle.std.proofs.Common.{◌≡◌, ℕ, ◌+◌, Bool, List, [], ◌∷◌, length, refl, sym, ap, subst, ◌∙◌}
 use Rattle.std.specs.Prelude.{Option, Some, None, is_some, option_map, if◌then◌else◌}
-use Rattle.charmlet_model.specs.declared.kind.Kind.{Kind}
 use Rattle.charmlet_model.specs.declared.names.Elem.{Elem}
 use Rattle.charmlet_model.specs.declared.state.State.{State}
 use Rattle.charmlet_model.specs.declared.state.Record.{Record}
 use Rattle.charmlet_model.specs.Core.{Blanks, Core, home}
 use Rattle.charmlet_model.specs.Edition.{are_newest}
 use Rattle.charmlet_model.specs.Sound.{homes, opened}
-use Rattle.charmlet_model.specs.Upgrade.{up, up_record, up_records, up_world}
+use Rattle.charmlet_model.specs.Upgrade.{up, up_records, up_world}
 use Rattle.charmlet_model.specs.World.{World}
 use Rattle.charmlet_image.specs.Images.{Saved}
 use Rattle.charmlet_recovery.specs.Bases.{base, events_of, recovered_world}

@@ -3,7 +3,7 @@
 ghost use Rattle.std.specs.Prelude.{◌≡◌, ℕ, IfOk, OnErr};
 ghost use Rattle.charmlet_model.specs.Core as core;
 ghost use Rattle.charmlet_model.specs.Core.{Blanks, Steps};
-ghost use Rattle.charmlet_history.specs.Kept.{IsConsistent, KeepsRoom, core_in, kept_in, told_or_refused};
+ghost use Rattle.charmlet_history.specs.Kept.{core_in, told_or_refused};
 ghost use Rattle.charmlet_requests.specs.Pass.{IsHeard, IsUpToDate, with_accept, with_told};
 
 use crate::pass::ClientPass;
@@ -24,12 +24,9 @@ pub fn request(
     entry: u16,
     words: &[u64],
 ) -> Result<Told, Refusal>
-    requires consistent { IsConsistent (kept_in history.old) }
-    ensures consistent { IsConsistent (kept_in history.new) }
     ensures steps { (blanks : Blanks) → Steps (core_in history.old) blanks
         (core.Request pass.old.client number to entry words.now)
         (record { answer = told_or_refused result; core = core_in history.new; blanks = blanks }) }
-    ensures room { KeepsRoom history.old history.new }
     ensures ok { IfOk result (λ told. pass.new
         ≡ with_accept (with_told pass.old number told) number) }
     ensures heard { IsHeard pass.old pass.new (core_in history.old) (core_in history.new)
@@ -38,6 +35,7 @@ pub fn request(
         IsUpToDate pass.new (core_in history.new) }
     ensures same { OnErr result (core_in history.new ≡ core_in history.old) }
 {
+    history.facts();
     let request = Request {
         client: pass.client(),
         number,
@@ -58,7 +56,6 @@ pub fn request(
 /// Where all that the pass knows is true of the durable events, so it is afterwards; and the client
 /// is told no less of the request than it knew, nor other words.
 pub fn status(history: &History, pass: &mut ClientPass, number: u64) -> Result<Told, Refusal>
-    requires consistent { IsConsistent (kept_in history.now) }
     ensures steps { (blanks : Blanks) → Steps (core_in history.now) blanks
         (core.Status pass.old.client number)
         (record { answer = told_or_refused result; core = core_in history.now; blanks = blanks }) }
@@ -66,6 +63,7 @@ pub fn status(history: &History, pass: &mut ClientPass, number: u64) -> Result<T
     ensures heard { IsHeard pass.old pass.new (core_in history.now) (core_in history.now)
         number result }
 {
+    history.facts();
     let told = history.status(pass.client(), number)?;
     pass.hear(number, &told)?;
     Ok(told)

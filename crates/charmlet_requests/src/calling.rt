@@ -8,7 +8,7 @@ ghost use Rattle.std.specs.Ordering.{nat_cmp};
 ghost use Rattle.charmlet_model.specs.declared.names.Elem as names;
 ghost use Rattle.charmlet_model.specs.Core as core;
 ghost use Rattle.charmlet_model.specs.Core.{Blanks, Steps, present};
-ghost use Rattle.charmlet_history.specs.Kept.{IsConsistent, KeepsRoom, core_in, kept_in, told_or_refused};
+ghost use Rattle.charmlet_history.specs.Kept.{core_in, told_or_refused};
 ghost use Rattle.charmlet_requests.specs.Handlers.{IsTarget, handler_of};
 ghost use Rattle.charmlet_requests.specs.Pass.{IsHeard, IsUpToDate, with_accept, with_told};
 
@@ -31,14 +31,11 @@ pub fn call(
     index: u64,
     words: &[u64],
 ) -> Result<Told, Refusal>
-    requires consistent { IsConsistent (kept_in history.old) }
-    ensures consistent { IsConsistent (kept_in history.new) }
     ensures steps { (to : names.Elem) × (entry : ℕ)
         × IsTarget (present (core_in history.old)) index (handler_of handlers.now name.now) to entry
         × ((blanks : Blanks) → Steps (core_in history.old) blanks
         (core.Request pass.old.client number to entry words.now)
         (record { answer = told_or_refused result; core = core_in history.new; blanks = blanks })) }
-    ensures room { KeepsRoom history.old history.new }
     ensures ok { IfOk result (λ told. pass.new
         ≡ with_accept (with_told pass.old number told) number) }
     ensures heard { IsHeard pass.old pass.new (core_in history.old) (core_in history.new)
@@ -58,11 +55,11 @@ pub fn call(
 /// The handler of a name, or one of an array that isn't there, so that a request to it is refused
 /// as `NoArray`, at that refusal's place in the order. It takes no memory.
 pub fn target(history: &History, handlers: &Handlers, name: &str) -> Handler
-    requires consistent { IsConsistent (kept_in history.now) }
     ensures { (index : ℕ) → IsTarget (present (core_in history.now)) index
         (handler_of handlers.now name.now) (record { array = result.array; index = index })
         result.entry }
 {
+    history.facts();
     match handlers.find(name) {
         Some(handler) => handler,
         None => Handler {

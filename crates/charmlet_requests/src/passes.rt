@@ -3,7 +3,7 @@
 ghost use Rattle.std.specs.Prelude.{◌≡◌};
 ghost use Rattle.charmlet_model.specs.Core.{present};
 ghost use Rattle.charmlet_model.specs.World.{client_of};
-ghost use Rattle.charmlet_history.specs.Kept.{IsConsistent, core_in, kept_in};
+ghost use Rattle.charmlet_history.specs.Kept.{core_in};
 
 use crate::pass::ClientPass;
 use charmlet_history::History;
@@ -58,7 +58,6 @@ impl Passes {
     /// Lends a client its pass over this history. `PassOut` where it is out, else `Memory`; and
     /// then nothing changes.
     pub fn lend(&mut self, history: &History, client: u32) -> Result<ClientPass, Refusal>
-        requires consistent { IsConsistent (kept_in history.now) }
         ensures lent { IfOk result (λ pass. pass
             ≡ lent client (client_of (present (core_in history.now)) client).last) }
         ensures out { OnOk result (self.new ≡ insert_key nat_cmp self.old client) }
@@ -83,7 +82,6 @@ impl Passes {
 
 /// The client's last number, or 0.
 fn last_of(history: &History, client: u32) -> u64
-    requires { IsConsistent (kept_in history.now) }
     ensures { result ≡ (client_of (present (core_in history.now)) client).last }
 {
     match history.clients().get(&client) {

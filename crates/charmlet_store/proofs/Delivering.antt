@@ -30,7 +30,7 @@ use Rattle.charmlet_model.proofs.Histories.{record_at-insert}
 use Rattle.charmlet_model.proofs.SoundLemmas.{sound_fit}
 use Rattle.charmlet_chare.specs.declared.chare.Chare.{Ghosts}
 use Rattle.charmlet_history.specs.declared.history.History.{History}
-use Rattle.charmlet_history.specs.Kept.{Kept, IsConsistent, assigned_message, core_in, core_of, kept_in}
+use Rattle.charmlet_history.specs.Kept.{Kept, IsConsistent, assigned_message, core_in}
 use Rattle.charmlet_shelf.specs.Due.{Due, newcomer_due, reaction_in, record_after}
 use Rattle.charmlet_shelf.specs.Shelf.{Assigns, IsDueAt, View, done_by, has_newcomer, is_idle, refusal_at, performed as performed_phase, receiver_edition, settled, with_record, without_output}
 use Rattle.charmlet_shelf.proofs.Records.{found_with, rising_with}
@@ -62,7 +62,7 @@ seen_there (Some q) p other r on some = ap (λ n. is_some (if_here (Some n) p r)
 
 module _ (k : Kept) (consistent : IsConsistent k) (p : ℕ) where
   abbrev core : Core
-  core = core_of k
+  core = core_in k
 
   abbrev w : World
   w = present core
@@ -229,9 +229,9 @@ module _ {C : Type 0} {G : Ghosts C} (old : Desk C G) (due : Due) where
   commits busy = is_committed its_core (blanks_in old.stock) on (has_assigned its_core on due busy.delivering.under_way) busy.running
 
   pub releases : {phase : Phase} (busy : IsBusyAt old due phase) →
-      Goes its_store (Release on) Done (record { core = next_core its_core (Release on); blanks = with_given (blank_taken (kept_in old.history) busy.history on due busy.delivering.under_way) (blanks_in old.stock) })
+      Goes its_store (Release on) Done (record { core = next_core its_core (Release on); blanks = with_given (blank_taken old.history busy.history on due busy.delivering.under_way) (blanks_in old.stock) })
   releases busy =
-      subst (λ o. Goes its_store (Release on) Done (record { core = next_core its_core (Release on); blanks = with_given o (blanks_in old.stock) })) (blank_is (kept_in old.history) busy.history on due busy.delivering.under_way)
+      subst (λ o. Goes its_store (Release on) Done (record { core = next_core its_core (Release on); blanks = with_given o (blanks_in old.stock) })) (blank_is old.history busy.history on due busy.delivering.under_way)
       (goes_back its_core (blanks_in old.stock) on (has_assigned its_core on due busy.delivering.under_way) busy.running)
 
   -- ---- a delivery that was performed
@@ -258,7 +258,7 @@ module _ {C : Type 0} {G : Ghosts C} (old : Desk C G) (due : Due) where
         ap (λ phase. settled (record old.shelf { phase = without_output phase })) (busy.delivering.phase_is ∙ ap (done_by due) made.1)
 
     -- once it is settled the desk is consistent
-    pub settled_consistent : (new : Desk C G) → IsConsistent (kept_in new.history) → core_in new.history ≡ next_core its_core (Commit on) → new.shelf ≡ settled taken → IsWithin new.shelf new.stock → IsDeskConsistent new
+    pub settled_consistent : (new : Desk C G) → IsConsistent new.history → core_in new.history ≡ next_core its_core (Commit on) → new.shelf ≡ settled taken → IsWithin new.shelf new.stock → IsDeskConsistent new
     settled_consistent new consistent committed shelf census =
         let is = shelf ∙ settled_is in
         let number : new.shelf.number ≡ on = ap (λ (v : View). v.number) is in
@@ -269,7 +269,7 @@ module _ {C : Type 0} {G : Ghosts C} (old : Desk C G) (due : Due) where
                 (subst (λ n. n < (next_core its_core (Commit on)).processors) (sym number) (subst (λ n. on < n) (sym (same_processors its_core on)) busy.delivering.part.on));
             objects = subst (λ (core : Core). ShowsOn new.shelf.number new.shelf.records core.places (present core)) (sym committed)
                 (subst (λ (v : View). ShowsOn v.number v.records (next_core its_core (Commit on)).places (present (next_core its_core (Commit on)))) (sym is)
-                (shows_settled (kept_in old.history) busy.history on due busy.delivering.under_way old.shelf.records busy.delivering.part.objects));
+                (shows_settled old.history busy.history on due busy.delivering.under_way old.shelf.records busy.delivering.part.objects));
           };
           idle = ap (λ (v : View). v.phase) is;
           census = census;
@@ -286,7 +286,7 @@ module _ {C : Type 0} {G : Ghosts C} (old : Desk C G) (due : Due) where
     edition_is edition is = let both : Some edition ≡ Some due.edition = is ∙ ap receiver_edition busy.delivering.phase_is in cc
 
   -- a blank was taken for a newcomer
-  pub takes_blank : {phase : Phase} (busy : IsBusyAt old due phase) → is_none due.receiver.state ≡ true → blank_taken (kept_in old.history) busy.history on due busy.delivering.under_way ≡ Some due.edition
+  pub takes_blank : {phase : Phase} (busy : IsBusyAt old due phase) → is_none due.receiver.state ≡ true → blank_taken old.history busy.history on due busy.delivering.under_way ≡ Some due.edition
   takes_blank busy none = by due.receiver.state none
     where
       by : (o : Option State) → is_none o ≡ true → (if is_some o then None else Some due.edition) ≡ Some due.edition
@@ -323,11 +323,11 @@ performed_objects old shelf is = λ i kind. each kind i
 
 -- ---- a message that is assigned on the shelf
 
-module _ (history : History) (consistent : IsConsistent (kept_in history)) (old shelf : View) (shows : ShowsPart history old) (idle : old.phase ≡ phases.Idle) (m : Message) (here : assigned_message (core_in history) old.number ≡ Some m) where
+module _ (history : History) (consistent : IsConsistent history) (old shelf : View) (shows : ShowsPart history old) (idle : old.phase ≡ phases.Idle) (m : Message) (here : assigned_message (core_in history) old.number ≡ Some m) where
   -- it isn't refused where no blank is wanted for it
   pub not_refused : blank_of_id (core_in history) (assigned_to (core_in history) old.number) ≡ None → refusal_at old m.to ≡ None
   not_refused unwanted =
-      let seen = receiver_seen (kept_in history) consistent old.number m here unwanted old.records shows.objects in
+      let seen = receiver_seen history consistent old.number m here unwanted old.records shows.objects in
       λ i. if is_idle (idle i) then (if seen i then None else Some refusals.Absent) else Some refusals.Uncommitted
 
   -- with a receiver that is there
@@ -343,7 +343,7 @@ module _ (history : History) (consistent : IsConsistent (kept_in history)) (old 
       due_there,
       subst (λ (v : View). IsDelivering history v due_there (phases.Assigned due_there)) (sym is_there) (record {
         phase_is = refl;
-        under_way = under_way_there (kept_in history) consistent old.number m here old.records shows.objects due_there assigns.1;
+        under_way = under_way_there history consistent old.number m here old.records shows.objects due_there assigns.1;
         part = record { on = shows.on; objects = shows.objects };
       }),
     )
@@ -359,7 +359,7 @@ module _ (history : History) (consistent : IsConsistent (kept_in history)) (old 
       due_new,
       subst (λ (v : View). IsDelivering history v due_new (phases.Assigned due_new)) (sym is) (record {
         phase_is = refl;
-        under_way = under_way_new (kept_in history) consistent old.number m here (edition_of (state blank)) wanted sent received sends receives;
+        under_way = under_way_new history consistent old.number m here (edition_of (state blank)) wanted sent received sends receives;
         part = record { on = shows.on; objects = shows.objects };
       }),
     )

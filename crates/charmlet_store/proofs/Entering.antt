@@ -9,7 +9,7 @@ use Rattle.charmlet_model.specs.Core.{Commit, next_core}
 use Rattle.charmlet_model.specs.Shelves.{there_in}
 use Rattle.charmlet_chare.specs.declared.chare.Chare.{Ghosts}
 use Rattle.charmlet_chare.specs.declared.output.Output.{Output}
-use Rattle.charmlet_history.specs.Kept.{IsConsistent, core_in, kept_in}
+use Rattle.charmlet_history.specs.Kept.{IsConsistent, core_in}
 use Rattle.charmlet_shelf.specs.Count.{came_out, comes_as, is_newcomer_of, objects_on}
 use Rattle.charmlet_shelf.specs.Due.{Due, reaction_in}
 use Rattle.charmlet_shelf.specs.Shelf.{View, done_by, settled}
@@ -60,7 +60,6 @@ module _ {C : Type 0} {G : Ghosts C} (state : C → State) (old : Desk C G) (due
   busy_as_done = record {
     history = entered.history;
     running = entered.running;
-    room = entered.room;
     delivering = record { phase_is = refl; under_way = entered.under_way; part = record { on = entered.part.on; objects = entered.part.objects } };
     census = still_within old.shelf done_desk.shelf old.stock old.stock (moved_held old.shelf done_desk.shelf old.stock same_objects) refl entered.census;
   }
@@ -71,7 +70,7 @@ module _ {C : Type 0} {G : Ghosts C} (state : C → State) (old : Desk C G) (due
       ∙ sym (settled_is done_desk due busy_as_done)
 
   -- once it is added the desk is consistent
-  pub added_consistent : (new : Desk C G) → IsConsistent (kept_in new.history) → core_in new.history ≡ next_core (core_in old.history) (Commit old.shelf.number) → new.shelf ≡ after →
+  pub added_consistent : (new : Desk C G) → IsConsistent new.history → core_in new.history ≡ next_core (core_in old.history) (Commit old.shelf.number) → new.shelf ≡ after →
       held_in new.shelf new.stock ≡ held_in old.shelf old.stock → supplied_to new.stock ≡ supplied_to old.stock → IsDeskConsistent new
   added_consistent new consistent committed is held supplied =
       settled_consistent done_desk due busy_as_done new consistent committed (is ∙ settled_after)

@@ -21,7 +21,7 @@ use Rattle.charmlet_model.specs.Shelves.{record_in, records_of}
 use Rattle.charmlet_model.specs.World.{World, record_of}
 use Rattle.charmlet_model.proofs.Maps.{absent, elem_exact, tied_elem}
 use Rattle.charmlet_history.specs.declared.history.History.{History}
-use Rattle.charmlet_history.specs.Kept.{IsConsistent, core_in, kept_in}
+use Rattle.charmlet_history.specs.Kept.{IsConsistent, core_in}
 use Rattle.charmlet_shelf.specs.Shelf.{View}
 use Rattle.charmlet_migrate.specs.Copying.{empty_shelf, shelf_at}
 use Rattle.charmlet_migrate.specs.Moving.{IsIdle, ShowsPresent}
@@ -155,7 +155,7 @@ module _ {C : Type 0} (state : C → State) (w : World) (total left : List (Elem
 
 -- ---- before the first
 
-pub none_taken : {C : Type 0} (state : C → State) (history : History) (shelves : List View) → IsConsistent (kept_in history) → length shelves ≡ (core_in history).processors → All IsIdle shelves → ShowsPresent shelves history →
+pub none_taken : {C : Type 0} (state : C → State) (history : History) (shelves : List View) → IsConsistent history → length shelves ≡ (core_in history).processors → All IsIdle shelves → ShowsPresent shelves history →
     (residents : List (Elem × Resident C)) → residents ≡ [] → IsTaken state (present (core_in history)) (core_in history).places (core_in history).places shelves residents
 none_taken state history shelves consistent count idle shows residents none =
     let core = core_in history in

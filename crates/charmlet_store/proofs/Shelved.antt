@@ -25,7 +25,7 @@ use Rattle.charmlet_model.specs.Sound.{new_world, opened}
 use Rattle.charmlet_model.specs.Shelves.{Shows, if_here, shelf_of, there_in}
 use Rattle.charmlet_chare.specs.declared.chare.Chare.{Ghosts}
 use Rattle.charmlet_history.specs.declared.history.History.{History}
-use Rattle.charmlet_history.specs.Kept.{IsConsistent, core_in, kept_in}
+use Rattle.charmlet_history.specs.Kept.{IsConsistent, core_in}
 use Rattle.charmlet_shelf.specs.Count.{is_newcomer_of, objects_on}
 use Rattle.charmlet_shelf.specs.Shelf.{View}
 use Rattle.charmlet_shelf.specs.declared.phase.Phase.TheVariants.{Idle}
@@ -178,7 +178,7 @@ module _ {C : Type 0} {G : Ghosts C} (old new : Store C G) (consistent : IsStore
 
 -- ---- the store once an element was moved
 
-pub moved_consistent : {C : Type 0} {G : Ghosts C} (old new : Store C G) → IsStoreConsistent old → (shelves : List View) → new.shelves.items ≡ shelves → numbers_of shelves ≡ numbers_of old.shelves.items → IsConsistent (kept_in new.history) →
+pub moved_consistent : {C : Type 0} {G : Ghosts C} (old new : Store C G) → IsStoreConsistent old → (shelves : List View) → new.shelves.items ≡ shelves → numbers_of shelves ≡ numbers_of old.shelves.items → IsConsistent new.history →
     (core_in new.history).processors ≡ (core_in old.history).processors → All IsIdle shelves → ShowsPresent shelves new.history → IsCountedAmong shelves new.stock → IsStoreConsistent new
 moved_consistent old new consistent shelves is numbers history processors idle shows counted =
     let number = λ (v : View). v.number in
@@ -239,7 +239,7 @@ bare_shows shelves processors manifest log_end bare core opens =
       shown = λ q x. ap (lookup (is_at (elem_cmp x))) (bare_records shelves bare q);
     })
 
-pub new_consistent : {C : Type 0} {G : Ghosts C} (store : Store C G) → IsNew (core_in store.history) → IsConsistent (kept_in store.history) → AreEmpty (core_in store.history).processors store.shelves.items →
+pub new_consistent : {C : Type 0} {G : Ghosts C} (store : Store C G) → IsNew (core_in store.history) → IsConsistent store.history → AreEmpty (core_in store.history).processors store.shelves.items →
     ((kind : Kind) → tally_in store.stock kind ≡ nothing) → IsStoreConsistent store
 new_consistent store new history empty none =
     let processors = (core_in store.history).processors in

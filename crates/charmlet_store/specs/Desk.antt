@@ -12,7 +12,7 @@ use Rattle.charmlet_model.specs.Core.{present}
 use Rattle.charmlet_model.specs.Shelves.{if_here}
 use Rattle.charmlet_chare.specs.declared.chare.Chare.{Ghosts}
 use Rattle.charmlet_history.specs.declared.history.History.{History}
-use Rattle.charmlet_history.specs.Kept.{IsConsistent, core_in, kept_in}
+use Rattle.charmlet_history.specs.Kept.{IsConsistent, core_in}
 use Rattle.charmlet_shelf.specs.Count.{objects_on}
 use Rattle.charmlet_shelf.specs.Shelf.{View}
 use Rattle.charmlet_shelf.specs.declared.phase.Phase.TheVariants.{Idle}
@@ -55,7 +55,7 @@ pub record ShowsPart (history : History) (shelf : View) : Type 0 where
 -- The history is consistent, the shelf shows its part of the world and has no delivery under way,
 -- and the objects were supplied.
 pub record IsDeskConsistent {C : Type 0} {G : Ghosts C} (desk : Desk C G) : Type 0 where
-  pub history : IsConsistent (kept_in desk.history)
+  pub history : IsConsistent desk.history
   pub shelf : ShowsPart desk.history desk.shelf
   pub idle : desk.shelf.phase ≡ Idle
   pub census : IsWithin desk.shelf desk.stock

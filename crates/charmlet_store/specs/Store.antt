@@ -8,7 +8,7 @@ use Rattle.charmlet_model.specs.Core.{Core, present}
 use Rattle.charmlet_model.specs.Run.{StoreView}
 use Rattle.charmlet_model.specs.Sound.{new_world, opened}
 use Rattle.charmlet_chare.specs.declared.chare.Chare.{Ghosts}
-use Rattle.charmlet_history.specs.Kept.{IsConsistent, core_in, kept_in}
+use Rattle.charmlet_history.specs.Kept.{IsConsistent, core_in}
 use Rattle.charmlet_shelf.specs.Shelf.{View}
 use Rattle.charmlet_store.specs.declared.store.Store.{Store}
 use Rattle.charmlet_migrate.specs.Moving.{IsCountedAmong, IsIdle, ShowsPresent, store_with}
@@ -41,7 +41,7 @@ AreNumbered shelves = (processor : ℕ) (shelf : View) → processor < length sh
 -- Its history is consistent; it has a shelf for each processor, with no delivery under way; the
 -- shelves show the present world; and the census adds up.
 pub record IsStoreConsistent {C : Type 0} {G : Ghosts C} (store : Store C G) : Type 0 where
-  pub history : IsConsistent (kept_in store.history)
+  pub history : IsConsistent store.history
   pub count : length store.shelves.items ≡ (core_in store.history).processors
   pub numbers : AreNumbered store.shelves.items
   pub idle : All IsIdle store.shelves.items

@@ -7,7 +7,7 @@ use Rattle.charmlet_model.specs.Core.{Core, Assign, Done, present}
 use Rattle.charmlet_model.specs.Run.{StoreView, Goes, IsDelivered, IsNotDelivered}
 use Rattle.charmlet_chare.specs.declared.chare.Chare.{Ghosts}
 use Rattle.charmlet_history.specs.declared.history.History.{History}
-use Rattle.charmlet_history.specs.Kept.{HasRoom, IsConsistent, assigned_message, core_in, kept_in}
+use Rattle.charmlet_history.specs.Kept.{IsConsistent, assigned_message, core_in}
 use Rattle.charmlet_model.specs.declared.state.State.{State}
 use Rattle.charmlet_chare.specs.declared.output.Output.{Output}
 use Rattle.charmlet_shelf.specs.Lending.{IsCarriedOut}
@@ -33,22 +33,20 @@ pub record IsDelivering (history : History) (shelf : View) (due : Due)
   pub under_way : IsUnderWay (core_in history) shelf.number due
   pub part : ShowsPart history shelf
 
--- and there is room for it in the history, which is consistent and isn't halted
+-- and the history is consistent, and isn't halted
 pub record IsBusyAt {C : Type 0} {G : Ghosts C} (desk : Desk C G) (due : Due)
     (phase : Phase) : Type 0 where
-  pub history : IsConsistent (kept_in desk.history)
+  pub history : IsConsistent desk.history
   pub running : (core_in desk.history).halted ≡ false
-  pub room : HasRoom desk.history desk.shelf.number
   pub delivering : IsDelivering desk.history desk.shelf due phase
   pub census : IsWithin desk.shelf desk.stock
 
 -- the receiver of the delivery, which was there, has reacted and was counted on the shelf, which
--- before that showed the history's world; the history has room for the delivery
+-- before that showed the history's world
 pub record IsEntered {C : Type 0} {G : Ghosts C} (look : C → State) (desk : Desk C G) (due : Due)
     (output : Output) (destroyed : Option C) (after : View) : Type 0 where
-  pub history : IsConsistent (kept_in desk.history)
+  pub history : IsConsistent desk.history
   pub running : (core_in desk.history).halted ≡ false
-  pub room : HasRoom desk.history desk.shelf.number
   pub under_way : IsUnderWay (core_in desk.history) desk.shelf.number due
   pub part : ShowsPart desk.history desk.shelf
   pub idle : desk.shelf.phase ≡ Idle

@@ -8,7 +8,7 @@ ghost use Rattle.std.specs.Vec.{vec_capacity, vec_len};
 ghost use Rattle.charmlet_model.specs.Core.{present};
 ghost use Rattle.charmlet_model.specs.Names.{elem_cmp};
 ghost use Rattle.charmlet_model.specs.Shelves.{ShowsAll, record_in, records_of};
-ghost use Rattle.charmlet_history.specs.Kept.{IsConsistent, core_in, kept_in};
+ghost use Rattle.charmlet_history.specs.Kept.{core_in};
 ghost use Rattle.charmlet_migrate.specs.Copying.{shelf_at};
 ghost use Rattle.charmlet_migrate.specs.Moving.{IsIdle, ShowsPresent};
 ghost use Rattle.charmlet_store.specs.Dismantled.{IsCountedIn, IsOnShelf, standing, without};
@@ -65,20 +65,20 @@ impl<C: Chare> Store<C> {
 /// places of the history. The list has room for them.
 fn lift_all<C: Chare>(
     residents: &mut Vec<(Elem, Resident<C>)>,
-    _history: &History,
+    history: &History,
     places: &BTreeMap<Elem, u16>,
     shelves: &mut [Shelf<C>],
 )
     requires empty { residents.old.items ≡ [] }
-    requires places { places.now.entries ≡ (core_in _history.now).places }
-    requires room { length (core_in _history.now).places ≤ vec_capacity residents.old }
-    requires consistent { IsConsistent (kept_in _history.now) }
-    requires count { length shelves.old ≡ (core_in _history.now).processors }
+    requires places { places.now.entries ≡ (core_in history.now).places }
+    requires room { length (core_in history.now).places ≤ vec_capacity residents.old }
+    requires count { length shelves.old ≡ (core_in history.now).processors }
     requires idle { All IsIdle shelves.old }
-    requires shows { ShowsPresent shelves.old _history.now }
+    requires shows { ShowsPresent shelves.old history.now }
     ensures { records_of C.state residents.new.items
-        ≡ standing (present (core_in _history.now)) (core_in _history.now).places }
+        ≡ standing (present (core_in history.now)) (core_in history.now).places }
 {
+    history.facts();
     for (elem, place) in places {
         let resident = lift_from(shelves, *place, *elem);
         push_within(residents, (*elem, resident));

@@ -9,7 +9,7 @@ ghost use Rattle.charmlet_model.specs.Run.{Goes};
 ghost use Rattle.charmlet_model.specs.Shelves.{count_of};
 ghost use Rattle.charmlet_model.specs.Sound.{new_world, opened};
 ghost use Rattle.charmlet_locate.specs.Locations.{is_processor_count};
-ghost use Rattle.charmlet_history.specs.Kept.{IsConsistent, core_in, kept_in, next_in, told_or_refused};
+ghost use Rattle.charmlet_history.specs.Kept.{core_in, next_in, told_or_refused};
 ghost use Rattle.charmlet_migrate.specs.Moving.{move_answer};
 ghost use Rattle.charmlet_stock.specs.ByKind.{for_all, with_at};
 ghost use Rattle.charmlet_stock.specs.Pile.{with_out};
@@ -41,7 +41,6 @@ impl<C: Chare> Store<C> {
     /// A store of a history in which nothing has happened, over shelves on which nothing stands,
     /// one for each processor. Its stock is empty. It takes no memory.
     pub fn new(alloc: Global, history: History, shelves: Vec<Shelf<C>>) -> Self
-        requires consistent { IsConsistent (kept_in history) }
         requires new { IsNew (core_in history) }
         requires empty { AreEmpty (core_in history).processors shelves.items }
         ensures core { core_in result.history ≡ core_in history }
@@ -50,6 +49,7 @@ impl<C: Chare> Store<C> {
         ensures keeping { keeping_of result.stock ≡ for_all false }
         ensures consistent { IsStoreConsistent result }
     {
+        history.facts();
         Store {
             alloc,
             history,
@@ -138,7 +138,9 @@ impl<C: Chare> Store<C> {
         ensures supplied { supplied_in self.new ≡ supplied_in self.old }
         ensures keeping { keeping_of self.new.stock ≡ keeping_of self.old.stock }
     {
-        self.history.request(request)
+        let told = self.history.request(request);
+        self.history.facts();
+        told
     }
 
     /// A client is told what is durable of one of its requests. Nothing changes.
@@ -176,13 +178,15 @@ impl<C: Chare> Store<C> {
         ensures supplied { supplied_in self.new ≡ supplied_in self.old }
         ensures keeping { keeping_of self.new.stock ≡ keeping_of self.old.stock }
     {
-        move_to(
+        let moved = move_to(
             &mut self.history,
             self.shelves.as_mut_slice(),
             &mut self.stock,
             elem,
             processor,
-        )
+        );
+        self.history.facts();
+        moved
     }
 }
 

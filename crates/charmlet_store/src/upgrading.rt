@@ -25,6 +25,7 @@ impl<C: Chare> Store<C> {
     {
         upgrade_shelves(&mut self.shelves);
         self.history.upgrade();
+        self.history.facts();
     }
 }
 

@@ -2,7 +2,6 @@
 
 ghost use Rattle.charmlet_model.specs.Fit.{IsFit};
 ghost use Rattle.charmlet_model.specs.Sound.{new_world};
-ghost use Rattle.charmlet_history.specs.Kept.{IsConsistent, kept_in};
 
 use charmlet_history::History;
 use charmlet_model::{Manifest, Told, Words};
@@ -20,9 +19,7 @@ fn one_array(rt: &(impl AllocGlobal + Abort)) -> Manifest
 }
 
 // The history of a new store of counters.
-fn new_history(rt: &(impl AllocGlobal + Abort)) -> History
-    ensures { IsConsistent (kept_in result) }
-{
+fn new_history(rt: &(impl AllocGlobal + Abort)) -> History {
     let history = History::new(rt.alloc(), one_array(rt), 0, 1);
     history.ok().expect(rt, "one processor is right")
 }

@@ -1,7 +1,6 @@
 //! A history that opens with a small world in which much has happened already.
 
 ghost use Rattle.std.specs.Prelude.{◌≡◌, ◌≤◌, ◌<◌, ◌^◌, [], ◌∷◌, Some, None, IfOk};
-ghost use Rattle.charmlet_history.specs.Kept.{IsConsistent, kept_in};
 ghost use Rattle.charmlet_history.specs.Parts.{world_of};
 ghost use Rattle.charmlet_history_tests.specs.Opening.{array_editions, clients, counter_at, message, opening_world, pending, records};
 
@@ -29,7 +28,6 @@ pub fn opened(
     requires before { before ≤ 2 ^ 40 }
     requires some_generation { 1 ≤ generation }
     requires few_generations { generation ≤ 2 ^ 40 }
-    ensures { IfOk result (λ history. IsConsistent (kept_in history)) }
 {
     let parts = opening_parts(alloc)?;
     let opening = Opening::of(alloc, parts, processors)?;

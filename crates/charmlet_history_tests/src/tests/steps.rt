@@ -2,7 +2,7 @@
 
 ghost use Rattle.std.specs.Prelude.{◌≡◌, IsNone};
 ghost use Rattle.charmlet_chare.specs.Output.{empty_output};
-ghost use Rattle.charmlet_history.specs.Kept.{IsOutcome, IsConsistent, core_in, kept_in};
+ghost use Rattle.charmlet_history.specs.Kept.{IsOutcome, core_in};
 
 use super::opening::counter_at;
 use charmlet_chare::Output;
@@ -68,10 +68,7 @@ fn of_client(client: u32, number: u64) -> MsgId {
 }
 
 // Asks for an entry that counters lack.
-fn ask(history: &mut History, client: u32, number: u64) -> Result<Told, Refusal>
-    requires { IsConsistent (kept_in history.old) }
-    ensures { IsConsistent (kept_in history.new) }
-{
+fn ask(history: &mut History, client: u32, number: u64) -> Result<Told, Refusal> {
     let request = Request {
         client,
         number,
@@ -111,9 +108,7 @@ fn durable(answered: Result<u64, Refusal>) -> Answer {
 }
 
 // The answer to a step that changes nothing, if it is one.
-fn looked_up(history: &History, step: Step) -> Option<Answer>
-    requires { IsConsistent (kept_in history.now) }
-{
+fn looked_up(history: &History, step: Step) -> Option<Answer> {
     let found = match step {
         Step::Status(client, number) => told(history.status(client, number)),
         Step::Test(processor, client, number) => {
@@ -131,18 +126,13 @@ fn looked_up(history: &History, step: Step) -> Option<Answer>
     Some(found)
 }
 
-fn assigned(history: &History, processor: u16) -> Option<MsgId>
-    requires { IsConsistent (kept_in history.now) }
-{
+fn assigned(history: &History, processor: u16) -> Option<MsgId> {
     let (id, _letter) = history.assigned(processor)?;
     Some(id)
 }
 
 // The element moves to the processor, where it can.
-fn relocate(history: &mut History, elem: Elem, processor: u16) -> Option<Refusal>
-    requires { IsConsistent (kept_in history.old) }
-    ensures { IsConsistent (kept_in history.new) }
-{
+fn relocate(history: &mut History, elem: Elem, processor: u16) -> Option<Refusal> {
     match history.test_move(elem, processor) {
         Ok(_) => {
             history.relocate(elem, processor);
@@ -153,10 +143,7 @@ fn relocate(history: &mut History, elem: Elem, processor: u16) -> Option<Refusal
 }
 
 // Takes a step, and answers.
-fn answer_to(history: &mut History, alloc: Global, step: Step) -> Answer
-    requires { IsConsistent (kept_in history.old) }
-    ensures { IsConsistent (kept_in history.new) }
-{
+fn answer_to(history: &mut History, alloc: Global, step: Step) -> Answer {
     match step {
         Step::Ask(client, number) => told(ask(history, client, number)),
         Step::Flush => durable(history.flush()),
@@ -185,8 +172,6 @@ fn answer_to(history: &mut History, alloc: Global, step: Step) -> Answer
 // Assigns a message to a counter at an entry that it lacks, so that nothing comes of it. The counter of index 0 is there,
 // and processor 3 is idle.
 fn assign(history: &mut History, processor: u16, id: MsgId) -> Option<Refusal>
-    requires { IsConsistent (kept_in history.old) }
-    ensures consistent { IsConsistent (kept_in history.new) }
     ensures outcome { IsNone result → IsOutcome (core_in history.new) processor empty_output }
 {
     if let Err(refusal) = history.test_delivery(processor, id) {
@@ -202,6 +187,7 @@ fn assign(history: &mut History, processor: u16, id: MsgId) -> Option<Refusal>
     if history.assign(processor, id).is_err() {
         return Some(Refusal::Memory);
     }
+    history.facts();
     let Some((_id, letter)) = history.assigned(processor) else {
         return Some(Refusal::Strayed);
     };
@@ -222,10 +208,7 @@ fn nothing(alloc: Global) -> Output
     }
 }
 
-fn deliver(history: &mut History, alloc: Global, processor: u16, id: MsgId) -> Option<Refusal>
-    requires { IsConsistent (kept_in history.old) }
-    ensures { IsConsistent (kept_in history.new) }
-{
+fn deliver(history: &mut History, alloc: Global, processor: u16, id: MsgId) -> Option<Refusal> {
     let refused = assign(history, processor, id);
     if refused.is_some() {
         return refused;
@@ -237,10 +220,7 @@ fn deliver(history: &mut History, alloc: Global, processor: u16, id: MsgId) -> O
 }
 
 // Halts the store after such a message was assigned. The commit is refused, and what was handed in comes back.
-fn halt_assigned(history: &mut History, alloc: Global, processor: u16, id: MsgId) -> Answer
-    requires { IsConsistent (kept_in history.old) }
-    ensures { IsConsistent (kept_in history.new) }
-{
+fn halt_assigned(history: &mut History, alloc: Global, processor: u16, id: MsgId) -> Answer {
     let refused = assign(history, processor, id);
     if refused.is_some() {
         return done(refused);
@@ -313,10 +293,7 @@ fn write_answer(text: &mut String, answer: &Answer) -> Result<(), AllocError> {
 }
 
 // Takes the steps in order. What they answer is this text, a line each.
-pub fn run(rt: &(impl AllocGlobal + Abort), history: &mut History, steps: &[Step], wanted: &str)
-    requires { IsConsistent (kept_in history.old) }
-    ensures { IsConsistent (kept_in history.new) }
-{
+pub fn run(rt: &(impl AllocGlobal + Abort), history: &mut History, steps: &[Step], wanted: &str) {
     let mut text = String::new(rt.alloc());
     for step in steps {
         let answer = answer_to(history, rt.alloc(), *step);

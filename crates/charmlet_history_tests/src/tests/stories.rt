@@ -1,7 +1,6 @@
 //! What histories answer that open with a small world, at their limits, and after they were halted.
 
 ghost use Rattle.std.specs.Prelude.{◌≡◌, ◌≤◌, ◌<◌, ◌^◌};
-ghost use Rattle.charmlet_history.specs.Kept.{IsConsistent, kept_in};
 
 use super::opening::opened;
 use super::steps::{Step, run};
@@ -14,7 +13,6 @@ fn open(rt: &(impl AllocGlobal + Abort), before: u64, generation: u64, log_end: 
     requires before { before ≤ 2 ^ 40 }
     requires some_generation { 1 ≤ generation }
     requires few_generations { generation ≤ 2 ^ 40 }
-    ensures { IsConsistent (kept_in result) }
 {
     let history = opened(rt.alloc(), before, generation, log_end, 4);
     history.ok().expect(rt, "memory")

@@ -2,7 +2,6 @@
 //! store in memory says that its log ends near its limit.
 
 ghost use Rattle.std.specs.Prelude.{IfSome};
-ghost use Rattle.charmlet_history.specs.Kept.{IsConsistent, kept_in};
 ghost use Rattle.charmlet_store.specs.Store.{IsStoreConsistent};
 
 use charmlet_checkpoint::image_of;
@@ -41,7 +40,6 @@ fn request_of(client: u32) -> Request<'static> {
 // An image is taken of the store, and its log then begins after that.
 fn seal(rt: &(impl AllocGlobal + Abort), store: &mut Store<Counter>)
     requires { IsStoreConsistent store.old }
-    ensures { IsConsistent (kept_in store.new.history) }
 {
     assert!(rt; !store.history.is_halted());
     let image = image_of(rt.alloc(), &store.history, store.shelves.as_mut_slice());

@@ -9,7 +9,7 @@ use Rattle.charmlet_model.specs.declared.state.Record.{Record}
 use Rattle.charmlet_model.specs.Core.{present}
 use Rattle.charmlet_image.specs.Images.{spell_entry}
 use Rattle.charmlet_world.specs.declared.element.Element.{Element}
-use Rattle.charmlet_history.specs.Kept.{core_in, kept_in}
+use Rattle.charmlet_history.specs.Kept.{core_in}
 use Rattle.charmlet_history.specs.Records.{record_with, records_from}
 use Rattle.charmlet_history.proofs.RecordLists.{records_are}
 use Rattle.charmlet_checkpoint.specs.Showing.{state_in}
@@ -18,25 +18,25 @@ use Rattle.charmlet_checkpoint.proofs.records.append_records.Goals as goal
 
 pub loop-elem-init : goal.loop-elem-init
 loop-elem-init g c =
-    let elements = (kept_in c.args.history.now).elements in
+    let elements = c.args.history.now.elements in
     let state : Elem → Option State = state_in c.args.history.now in
     let entries : c.into_iter-elem-iterator.result ≡ elements = c.into_iter-elem-iterator.ensures.into_iter_gives.0 ∙ c.requires.elements in
     record {
       bytes = λ i. (c.write_u32.ensures.bytes ∙ (λ j. c.in_ok-reserve.ensures.items j ++ number_bytes 4 (c.requires.count j))) i ++ flat_map spell_entry (records_from state (entries i));
-      own = All-same (IsOwn elements) c.into_iter-elem-iterator.result elements entries (all_own elements c.requires.shown.consistent.rising);
+      own = All-same (IsOwn elements) c.into_iter-elem-iterator.result elements entries (all_own elements c.facts.ensures.rising);
       same = refl;
     }
 
 pub append_record-requires-clause-element : goal.append_record-requires-clause-element
 append_record-requires-clause-element g c κs within =
-    let elements = (kept_in c.args.history.now).elements in
+    let elements = c.args.history.now.elements in
     let e : Elem × Element = (c.in-Some.elem.now, c.in-Some.element.now) in
     let is : c.loop-elem.elem-iterator ≡ e ∷ c.next.new.self = c.in-Some.ensures.steps in
     All-head (IsOwn elements) e c.next.new.self (All-same (IsOwn elements) (e ∷ c.next.new.self) c.loop-elem.elem-iterator (sym is) c.loop-elem.invariant.own)
 
 pub loop-elem-preserved : goal.loop-elem-preserved
 loop-elem-preserved g c =
-    let elements = (kept_in c.args.history.now).elements in
+    let elements = c.args.history.now.elements in
     let state : Elem → Option State = state_in c.args.history.now in
     let e : Elem × Element = (c.in-Some.elem.now, c.in-Some.element.now) in
     let is : c.loop-elem.elem-iterator ≡ e ∷ c.next.new.self = c.in-Some.ensures.steps in
@@ -50,7 +50,7 @@ loop-elem-preserved g c =
 
 pub loop-elem-preserved-then-not-is_written : goal.loop-elem-preserved-then-not-is_written
 loop-elem-preserved-then-not-is_written g c =
-    let elements = (kept_in c.args.history.now).elements in
+    let elements = c.args.history.now.elements in
     let state : Elem → Option State = state_in c.args.history.now in
     let e : Elem × Element = (c.in-Some.elem.now, c.in-Some.element.now) in
     let is : c.loop-elem.elem-iterator ≡ e ∷ c.next.new.self = c.in-Some.ensures.steps in
@@ -62,10 +62,10 @@ loop-elem-preserved-then-not-is_written g c =
 
 pub returns-clause-ok : goal.returns-clause-ok
 returns-clause-ok g c =
-    let kept = kept_in c.args.history.now in
+    let kept = c.args.history.now in
     let state : Elem → Option State = state_in c.args.history.now in
     let is : c.loop-elem.elem-iterator ≡ [] = c.in-None.ensures.steps.0 in
     let count = number_bytes 4 (length (present (core_in c.args.history.now)).records) in
     all_appended spell_entry c.loop-elem.out.items _ (records_from state c.loop-elem.elem-iterator) (ap (records_from state) is) c.loop-elem.invariant.bytes
     ∙ append_assoc c.args.out.now.items count (flat_map spell_entry (records_from state kept.elements))
-    ∙ ap (λ (rs : List (Elem × Record)). c.args.out.now.items ++ (count ++ flat_map spell_entry rs)) (records_are kept c.requires.shown.consistent)
+    ∙ ap (λ (rs : List (Elem × Record)). c.args.out.now.items ++ (count ++ flat_map spell_entry rs)) (records_are kept c.facts.ensures)

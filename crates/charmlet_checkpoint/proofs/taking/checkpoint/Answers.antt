@@ -19,7 +19,7 @@ returns-in_err-bytes-clause-stored g c = λ honest going.
     let core = core_in c.args.history.now in
     let halves = c.args.halves.now in
     let disk = disk_of halves in
-    let sound = c.requires.shown.consistent.sound in
+    let sound = c.facts.ensures.sound in
     started g.D.Disk.moment g.D.Disk.since disk (HasOldOrSealed core)
     (λ o left. rests_sealed {G = g.D.Disk} core sound.legal sound.durable halves honest (c.requires.agrees going).going ((c.requires.kept honest).rest going) o (laws.only_now disk o honest left))
 

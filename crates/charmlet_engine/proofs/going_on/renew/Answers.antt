@@ -20,28 +20,28 @@ use Rattle.charmlet_engine.proofs.going_on.renew.Goals as goal
 pub drop_retired-requires-after_bounds : goal.drop_retired-requires-after_bounds
 drop_retired-requires-after_bounds g c κs within =
     let store = c.args.store in
-    let history = c.checkpoint.new.history in
-    let items = c.checkpoint.ensures.same ∙ c.as_mut_slice-shelves.ensures.value in
-    subst (λ shelves. IsStoreConsistent {G = g.C.Chare} (record store { history = history; shelves = shelves })) (sym (same_items store.shelves c.checkpoint.new.shelves items))
-    (imaged_store {H = g.C.Chare} store history c.requires.consistent (subst (IsShown history) items c.checkpoint.ensures.shown))
+    let history = c.checkpoint-taken.new.history in
+    let items = c.checkpoint-taken.ensures.same ∙ c.as_mut_slice-shelves.ensures.value in
+    subst (λ shelves. IsStoreConsistent {G = g.C.Chare} (record store { history = history; shelves = shelves })) (sym (same_items store.shelves c.checkpoint-taken.new.shelves items))
+    (imaged_store {H = g.C.Chare} store history c.requires.consistent c.facts.ensures (subst (IsShown history) items c.checkpoint-taken.ensures.shown))
 
 pub take_back-requires-clause-consistent : goal.take_back-requires-clause-consistent
 take_back-requires-clause-consistent g c κs within =
     let store = c.args.store in
-    let history = c.checkpoint.new.history in
-    let items = c.checkpoint.ensures.same ∙ c.as_mut_slice-shelves.ensures.value in
-    subst (λ shelves. IsStoreConsistent {G = g.C.Chare} (record store { history = history; shelves = shelves })) (sym (same_items store.shelves c.checkpoint.new.shelves items))
-    (imaged_store {H = g.C.Chare} store history c.requires.consistent (subst (IsShown history) items c.checkpoint.ensures.shown))
+    let history = c.checkpoint-taken.new.history in
+    let items = c.checkpoint-taken.ensures.same ∙ c.as_mut_slice-shelves.ensures.value in
+    subst (λ shelves. IsStoreConsistent {G = g.C.Chare} (record store { history = history; shelves = shelves })) (sym (same_items store.shelves c.checkpoint-taken.new.shelves items))
+    (imaged_store {H = g.C.Chare} store history c.requires.consistent c.facts.ensures (subst (IsShown history) items c.checkpoint-taken.ensures.shown))
 
 pub returns-in-Ok : goal.returns-in-Ok
 returns-in-Ok g c =
     let old = core_in c.args.store.history in
-    let halves = c.checkpoint.new.halves in
-    let done = c.checkpoint.ensures in
+    let halves = c.checkpoint-taken.new.halves in
+    let done = c.checkpoint-taken.ensures in
     let dropped = c.drop_retired.ensures in
-    let core : core_in c.drop_retired.new.self.history ≡ core_in c.checkpoint.new.history = ap (λ (v : StoreView). v.core) dropped.same in
+    let core : core_in c.drop_retired.new.self.history ≡ core_in c.checkpoint-taken.new.history = ap (λ (v : StoreView). v.core) dropped.same in
     let sealed = core ∙ c.in-Ok.ensures.sealed in
-    let answered = image_answers old.processors old c.requires.opens (λ _. 0) (core_in c.checkpoint.new.history) c.checkpoint.result (done.steps (λ _. 0)) in
+    let answered = image_answers old.processors old c.requires.opens (λ _. 0) (core_in c.checkpoint-taken.new.history) c.checkpoint-taken.result (done.steps (λ _. 0)) in
     record {
       consistent = record {
         shows = dropped.consistent;
@@ -67,11 +67,11 @@ pub returns-in-Err : goal.returns-in-Err
 returns-in-Err g c =
     let old = core_in c.args.store.history in
     let first = disk_of c.args.halves in
-    let done = c.checkpoint.ensures in
+    let done = c.checkpoint-taken.ensures in
     let disk = c.into_disk.ensures in
     let taken = c.take_back.ensures in
     let given = supplied_in c.args.store in
-    let answered = image_answers old.processors old c.requires.opens (λ _. 0) (core_in c.checkpoint.new.history) c.checkpoint.result (done.steps (λ _. 0)) in
+    let answered = image_answers old.processors old c.requires.opens (λ _. 0) (core_in c.checkpoint-taken.new.history) c.checkpoint-taken.result (done.steps (λ _. 0)) in
     record {
       consistent = tt;
       core = tt;

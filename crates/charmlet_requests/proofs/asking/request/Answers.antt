@@ -54,12 +54,12 @@ repeated c blanks =
     let then = told-then c blanks in
     let has : has_words c.in_ok-told.told ≡ true = subst (λ r. OnErr r (has_words c.in_ok-told.told ≡ true)) (c.in_err-hear.was {u = tt}) c.hear.ensures.words in
     repeat-of-words (core_in c.args.history.now) blanks c.args.pass.now.client c.args.number c.args.to c.args.entry c.args.words.now
-    c.requires.consistent.sound then.passes (ap has_words then.says ∙ has)
+    c.facts.ensures.sound then.passes (ap has_words then.says ∙ has)
 
 same-repeated : (c : goal.Joined-told) → core_in c.request.new.self ≡ core_in c.args.history.now
 same-repeated c =
     let then = told-then c plenty in
-    then.next ∙ again-same (core_in c.args.history.now) plenty c.args.pass.now.client c.args.number c.args.to c.args.entry c.args.words.now c.requires.consistent.sound then.passes (repeated c plenty)
+    then.next ∙ again-same (core_in c.args.history.now) plenty c.args.pass.now.client c.args.number c.args.to c.args.entry c.args.words.now c.facts.ensures.sound then.passes (repeated c plenty)
 
 same-pass : (c : goal.Joined-told) → c.hear.new.self ≡ c.args.pass.now
 same-pass c = subst (λ r. OnErr r (c.hear.new.self ≡ c.args.pass.now)) (c.in_err-hear.was {u = tt}) c.hear.ensures.err
@@ -67,7 +67,7 @@ same-pass c = subst (λ r. OnErr r (c.hear.new.self ≡ c.args.pass.now)) (c.in_
 pub returns-in_err-hear-clause-steps : goal.returns-in_err-hear-clause-steps
 returns-in_err-hear-clause-steps c blanks =
     let then = told-then c blanks in
-    let steps = lacks-memory (core_in c.args.history.now) blanks c.args.pass.now.client c.args.number c.args.to c.args.entry c.args.words.now c.requires.consistent.sound then.passes (repeated c blanks) in
+    let steps = lacks-memory (core_in c.args.history.now) blanks c.args.pass.now.client c.args.number c.args.to c.args.entry c.args.words.now c.facts.ensures.sound then.passes (repeated c blanks) in
     subst (λ (core : Core). Steps (core_in c.args.history.now) blanks (Request c.args.pass.now.client c.args.number c.args.to c.args.entry c.args.words.now)
     (record { answer = told_or_refused c.from_residual-in_err-hear.result; core = core; blanks = blanks })) (sym then.next)
     (subst (λ (answer : CoreAnswer). Steps (core_in c.args.history.now) blanks (Request c.args.pass.now.client c.args.number c.args.to c.args.entry c.args.words.now)
@@ -101,7 +101,7 @@ no_less-at : (c : goal.After-accept) → IsTold c.args.pass.now (core_in c.args.
 no_less-at c all =
     let then = told-at c in
     let before : IsNoLess (known c.args.pass.now c.args.number) c.in_ok-told.told =
-    subst (IsNoLess (known c.args.pass.now c.args.number)) then.says (told-known (core_in c.args.history.now) c.requires.consistent.sound c.args.pass.now c.args.number all) in
+    subst (IsNoLess (known c.args.pass.now c.args.number)) then.says (told-known (core_in c.args.history.now) c.facts.ensures.sound c.args.pass.now c.args.number all) in
     let heard : IsNoLess c.in_ok-told.told (known c.hear.new.self c.args.number) =
     subst (λ r. OnOk r (IsNoLess c.in_ok-told.told (known c.hear.new.self c.args.number))) (c.in_ok-hear.was {u = tt}) (c.hear.ensures.heard before) in
     (before, subst (λ (p : Pass). IsNoLess c.in_ok-told.told (known p c.args.number)) (sym c.accept.ensures) heard)
@@ -114,10 +114,10 @@ holds-at c all =
     let told_true : Holds old.opening (take old.durable old.history) client c.args.number c.in_ok-told.told =
     told_durable old plenty (Request client c.args.number c.args.to c.args.entry c.args.words.now) (record { answer = Tells c.in_ok-told.told; core = core_in c.request.new.self; blanks = plenty })
     client c.args.number c.in_ok-told.told (refl, refl) (steps-at c) refl in
-    let heard : IsTold c.hear.new.self old = c.hear.ensures.holds old c.requires.consistent.sound told_true all in
+    let heard : IsTold c.hear.new.self old = c.hear.ensures.holds old c.facts.ensures.sound told_true all in
     let kept : IsTold c.accept.new.self old = subst (λ (p : Pass). IsTold p old) (sym c.accept.ensures) heard in
     let later : IsTold c.accept.new.self (next_core old (Request client c.args.number c.args.to c.args.entry c.args.words.now)) =
-    still-told old plenty client c.args.number c.args.to c.args.entry c.args.words.now c.accept.new.self c.requires.consistent.sound kept in
+    still-told old plenty client c.args.number c.args.to c.args.entry c.args.words.now c.accept.new.self c.facts.ensures.sound kept in
     subst (IsTold c.accept.new.self) (sym then.next) later
 
 pub returns-clause-heard : goal.returns-clause-heard
@@ -138,6 +138,6 @@ returns-clause-up_to_date c is =
     let heard : IsUpToDate c.hear.new.self old = subst (λ (p : Pass). IsUpToDate p old) (sym heard_is) is in
     let own : c.hear.new.self.client ≡ client = ap (λ (p : Pass). p.client) heard_is in
     let later : IsUpToDate (with_accept c.hear.new.self c.args.number) (next_core old (Request client c.args.number c.args.to c.args.entry c.args.words.now)) =
-    still-up_to_date old plenty client c.args.number c.args.to c.args.entry c.args.words.now c.hear.new.self own c.requires.consistent.sound then.passes heard in
+    still-up_to_date old plenty client c.args.number c.args.to c.args.entry c.args.words.now c.hear.new.self own c.facts.ensures.sound then.passes heard in
     subst (λ (p : Pass). IsUpToDate p (core_in c.request.new.self)) (sym c.accept.ensures)
     (subst (IsUpToDate (with_accept c.hear.new.self c.args.number)) (sym then.next) later)

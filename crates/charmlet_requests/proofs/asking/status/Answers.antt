@@ -24,7 +24,7 @@ no_less-at c all =
     let core = core_in c.args.history.now in
     let says = status-says core plenty c.args.pass.now.client c.args.number core c.in_ok-told.told (steps-at c) in
     let before : IsNoLess (known c.args.pass.now c.args.number) c.in_ok-told.told =
-    subst (IsNoLess (known c.args.pass.now c.args.number)) says (told-known core c.requires.consistent.sound c.args.pass.now c.args.number all) in (
+    subst (IsNoLess (known c.args.pass.now c.args.number)) says (told-known core c.facts.ensures.sound c.args.pass.now c.args.number all) in (
       before,
       subst (λ r. OnOk r (IsNoLess c.in_ok-told.told (known c.hear.new.self c.args.number))) (c.in_ok-hear.was {u = tt}) (c.hear.ensures.heard before),
     )
@@ -35,7 +35,7 @@ holds-at c all =
     let told_true : Holds core.opening (take core.durable core.history) c.args.pass.now.client c.args.number c.in_ok-told.told =
     told_durable core plenty (Status c.args.pass.now.client c.args.number) (record { answer = Tells c.in_ok-told.told; core = core; blanks = plenty })
     c.args.pass.now.client c.args.number c.in_ok-told.told (refl, refl) (steps-at c) refl in
-    c.hear.ensures.holds core c.requires.consistent.sound told_true all
+    c.hear.ensures.holds core c.facts.ensures.sound told_true all
 
 pub returns-clause-heard : goal.returns-clause-heard
 returns-clause-heard c = record { no_less = no_less-at c; kept = c.hear.ensures.kept; holds = holds-at c; err = tt }

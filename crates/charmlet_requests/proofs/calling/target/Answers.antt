@@ -8,8 +8,8 @@ use Rattle.charmlet_requests.proofs.calling.target.Goals as goal
 
 pub array_not_in-requires-clause-rising : goal.array_not_in-requires-clause-rising
 array_not_in-requires-clause-rising c =
-    subst (λ manifest. IsStrictlySortedBy nat_cmp (keys_of manifest)) (sym c.manifest.ensures) (sound_fit (core_in c.args.history.now) c.requires.consistent.sound).rising_arrays
+    subst (λ manifest. IsStrictlySortedBy nat_cmp (keys_of manifest)) (sym c.manifest.ensures) (sound_fit (core_in c.args.history.now) c.facts.ensures.sound).rising_arrays
 
 pub array_not_in-requires-clause-few : goal.array_not_in-requires-clause-few
 array_not_in-requires-clause-few c =
-    subst (λ manifest. length manifest ≤ 64) (sym c.manifest.ensures) (sound_fit (core_in c.args.history.now) c.requires.consistent.sound).few_arrays
+    subst (λ manifest. length manifest ≤ 64) (sym c.manifest.ensures) (sound_fit (core_in c.args.history.now) c.facts.ensures.sound).few_arrays

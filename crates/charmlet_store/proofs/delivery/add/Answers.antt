@@ -53,7 +53,7 @@ returns-in-Some-clause-consistent g c =
     let committed : core_in c.commit.new.self ≡ next_core core (Commit before.number) =
     when_ok (core_in c.commit.new.self ≡ next_core core (Commit c.number-processor.result)) c.commit.result (sym c.is_err.ensures.value ∙ c.if-is_err.false) c.commit.ensures.ok ∙ ap (λ p. next_core core (Commit p)) on in
     let count = came_off state old due c.args.delivered.output c.args.delivered.destroyed last entered in
-    added_consistent state old due c.args.delivered.output c.args.delivered.destroyed last entered (desk_of c.commit.new.self last c.retire.new.self) c.commit.ensures.consistent committed refl
+    added_consistent state old due c.args.delivered.output c.args.delivered.destroyed last entered (desk_of c.commit.new.self last c.retire.new.self) c.facts.ensures committed refl
     (returns-in-Some-clause-held g c before count) (returns-in-Some-clause-supplied g c)
 
 pub returns-in-Some-clause-goes : goal.returns-in-Some-clause-goes
@@ -92,5 +92,5 @@ returns-in_default-clause-consistent g c =
     let committed : core_in c.commit.new.self ≡ next_core core (Commit before.number) =
     when_ok (core_in c.commit.new.self ≡ next_core core (Commit c.number-processor.result)) c.commit.result (sym c.is_err.ensures.value ∙ c.if-is_err.false) c.commit.ensures.ok ∙ ap (λ p. next_core core (Commit p)) on in
     let count = came_off state old due c.args.delivered.output c.args.delivered.destroyed last entered in
-    added_consistent state old due c.args.delivered.output c.args.delivered.destroyed last entered (desk_of c.commit.new.self last old.stock) c.commit.ensures.consistent committed refl
+    added_consistent state old due c.args.delivered.output c.args.delivered.destroyed last entered (desk_of c.commit.new.self last old.stock) c.facts.ensures committed refl
     (returns-in_default-clause-held g c before count) refl

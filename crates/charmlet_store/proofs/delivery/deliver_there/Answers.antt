@@ -18,8 +18,8 @@ enter-requires-clause-unwanted g c = λ κs within.
     let id = c.args.id in
     let core = core_in c.args.history.now in
     let next = next_core core (Assign on id) in
-    let assigned : core_in c.assign.new.self ≡ next =
-    when_ok (core_in c.assign.new.self ≡ next_core core (Assign c.number-processor.result id)) c.assign.result (sym c.is_err.ensures.value ∙ c.if-is_err.false) c.assign.ensures.ok ∙ ap (λ p. next_core core (Assign p id)) c.number-processor.ensures in
+    let assigned : core_in c.assign-assigned.new.self ≡ next =
+    when_ok (core_in c.assign-assigned.new.self ≡ next_core core (Assign c.number-processor.result id)) c.assign-assigned.result (sym c.is_err.ensures.value ∙ c.if-is_err.false) c.assign-assigned.ensures.ok ∙ ap (λ p. next_core core (Assign p id)) c.number-processor.ensures in
     ap (λ (core : Core). blank_of_id core (assigned_to core on)) assigned ∙ ap (blank_of_id next) (assigned_here core (blanks_in c.args.stock.now) on id c.requires.can) ∙ c.requires.there
 
 pub returns-in_default-clause-ends : goal.returns-in_default-clause-ends
@@ -29,8 +29,8 @@ returns-in_default-clause-ends g c =
     let core = core_in c.args.history.now in
     let blanks = blanks_in c.args.stock.now in
     let next = next_core core (Assign on id) in
-    let assigned : core_in c.assign.new.self ≡ next =
-    when_ok (core_in c.assign.new.self ≡ next_core core (Assign c.number-processor.result id)) c.assign.result (sym c.is_err.ensures.value ∙ c.if-is_err.false) c.assign.ensures.ok ∙ ap (λ p. next_core core (Assign p id)) c.number-processor.ensures in
+    let assigned : core_in c.assign-assigned.new.self ≡ next =
+    when_ok (core_in c.assign-assigned.new.self ≡ next_core core (Assign c.number-processor.result id)) c.assign-assigned.result (sym c.is_err.ensures.value ∙ c.if-is_err.false) c.assign-assigned.ensures.ok ∙ ap (λ p. next_core core (Assign p id)) c.number-processor.ensures in
     let last : core_in c.release.new.self ≡ next_core next (Release on) =
     c.release.ensures.released ∙ ap (λ core. next_core core (Release c.number-processor.result)) assigned ∙ ap (λ p. next_core next (Release p)) c.number-processor.ensures in
     subst (λ core. IsNotDelivered (store_with c.args.history.now c.args.stock.now) on id Memory (record { core = core; blanks = blanks })) (sym last)
@@ -43,11 +43,11 @@ returns-clause-ends g c =
     let core = core_in c.args.history.now in
     let blanks = blanks_in c.args.stock.now in
     let first = store_with c.args.history.now c.args.stock.now in
-    let middle = store_with c.assign.new.self c.args.stock.now in
+    let middle = store_with c.assign-assigned.new.self c.args.stock.now in
     let last = store_with c.add.new.history c.add.new.stock in
     let there : blank_of_id core (Some id) ≡ None = c.requires.there in
-    let assigned : core_in c.assign.new.self ≡ next_core core (Assign on id) =
-    when_ok (core_in c.assign.new.self ≡ next_core core (Assign c.number-processor.result id)) c.assign.result (sym c.is_err.ensures.value ∙ c.if-is_err.false) c.assign.ensures.ok ∙ ap (λ p. next_core core (Assign p id)) c.number-processor.ensures in
+    let assigned : core_in c.assign-assigned.new.self ≡ next_core core (Assign on id) =
+    when_ok (core_in c.assign-assigned.new.self ≡ next_core core (Assign c.number-processor.result id)) c.assign-assigned.result (sym c.is_err.ensures.value ∙ c.if-is_err.false) c.assign-assigned.ensures.ok ∙ ap (λ p. next_core core (Assign p id)) c.number-processor.ensures in
     let place : c.enter.new.shelf.number ≡ on = ap (λ (v : View). v.number) c.enter.ensures.others in (
       middle,
       subst (λ (s : StoreView). Goes first (Assign on id) Done s) (λ i. record { core = sym assigned i; blanks = ap (λ o. with_taken o blanks) there i })

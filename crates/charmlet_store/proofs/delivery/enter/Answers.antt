@@ -2,7 +2,7 @@ use Rattle.std.proofs.Common.{◌≡◌, List, ℕ, sym, ap, subst, ◌∙◌}
 use Rattle.std.specs.Prelude.{Some, is_some, option_map}
 use Rattle.charmlet_model.specs.declared.message.Message.{Message}
 use Rattle.charmlet_world.specs.Waiting.{shown_message}
-use Rattle.charmlet_history.specs.Kept.{assigned_message, core_in, kept_in}
+use Rattle.charmlet_history.specs.Kept.{assigned_message, core_in}
 use Rattle.charmlet_shelf.specs.Due.{Due}
 use Rattle.charmlet_shelf.specs.Lending.{IsCarriedOut}
 use Rattle.charmlet_shelf.specs.Shelf.{IsDueAt}
@@ -23,4 +23,4 @@ returns-clause-ok g c =
     c.as_slice-words.ensures (c.in-Ok.ensures.ok c.in-Some._id) in
     let due = done.0 in
     let at : IsDueAt old.records m due = done.1 in
-    (due, under_way_there (kept_in history) c.requires.history old.number m here old.records c.requires.shelf.objects due at, ap is_some at.2, done.2)
+    (due, under_way_there history c.facts.ensures old.number m here old.records c.requires.shelf.objects due at, ap is_some at.2, done.2)

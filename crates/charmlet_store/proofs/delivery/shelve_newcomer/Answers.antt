@@ -23,8 +23,8 @@ returns-in-Ok-assign_new-clause-ok g c =
     let m = c.in-Ok.message in
     let here : assigned_message (core_in history) old.number ≡ Some m =
     ap (assigned_message (core_in history)) (sym c.number.ensures) ∙ sym c.assigned.ensures ∙ ap (option_map shown_message) c.in-Some.is ∙ ap Some (sym c.in-Ok.ensures) in
-    let counts = c.requires.history.counts m.to in
+    let counts = c.facts.ensures.counts m.to in
     let sends : c.element-counts.result.sent ≡ (record_of (present (core_in history)) m.to).sent = ap (λ (e : Element). e.sent) c.element-counts.ensures ∙ counts.sent in
     let receives : c.element-counts.result.received ≡ (record_of (present (core_in history)) m.to).received = ap (λ (e : Element). e.received) c.element-counts.ensures ∙ counts.received in
-    delivering_new history c.requires.history old c.assign_new.new.self c.requires.shelf c.requires.idle m here g.C.Chare.state c.args.blank c.requires.wanted
+    delivering_new history c.facts.ensures old c.assign_new.new.self c.requires.shelf c.requires.idle m here g.C.Chare.state c.args.blank c.requires.wanted
     c.element-counts.result.sent c.element-counts.result.received c.in-Ok-assign_new.ensures.ok.1 sends receives

@@ -8,19 +8,19 @@ use Rattle.charmlet_store.proofs.dismantling.lift_all.Goals as goal
 
 pub loop-elem-init : goal.loop-elem-init
 loop-elem-init g c =
-    let history = c.args._history.now in
+    let history = c.args.history.now in
     let entries : c.into_iter-elem-iterator.result ≡ (core_in history).places = c.into_iter-elem-iterator.ensures.into_iter_gives.0 ∙ c.requires.places in
     let none : vec_len c.args.residents.now ≡ 0 = c.args.residents.now.ok.0 ∙ ap length c.requires.empty in
     let as_many : length c.into_iter-elem-iterator.result ≡ length (core_in history).places = ap (length {A = Elem × ℕ}) entries in
     record {
       taken = subst (λ es. IsTaken g.C.Chare.state (present (core_in history)) (core_in history).places es c.args.shelves.now c.args.residents.now.items) (sym entries)
-          (none_taken g.C.Chare.state history c.args.shelves.now c.requires.consistent c.requires.count c.requires.idle c.requires.shows c.args.residents.now.items c.requires.empty);
+          (none_taken g.C.Chare.state history c.args.shelves.now c.facts.ensures c.requires.count c.requires.idle c.requires.shows c.args.residents.now.items c.requires.empty);
       room = omega (arith, c.requires.room);
     }
 
 pub lift_from-resident-requires-clause-here : goal.lift_from-resident-requires-clause-here
 lift_from-resident-requires-clause-here g c κs within =
-    let core = core_in c.args._history.now in
+    let core = core_in c.args.history.now in
     let x = c.in-Some.elem.now in
     let place = c.in-Some.place.now in
     let is : c.loop-elem.elem-iterator ≡ (x, place) ∷ c.next.new.self = c.in-Some.ensures.steps in
@@ -28,7 +28,7 @@ lift_from-resident-requires-clause-here g c κs within =
 
 pub loop-elem-preserved : goal.loop-elem-preserved
 loop-elem-preserved g c =
-    let core = core_in c.args._history.now in
+    let core = core_in c.args.history.now in
     let x = c.in-Some.elem.now in
     let place = c.in-Some.place.now in
     let rest = c.next.new.self in

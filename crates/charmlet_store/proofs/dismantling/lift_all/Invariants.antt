@@ -8,6 +8,6 @@ use Rattle.charmlet_store.proofs.dismantling.lift_all.Given as goal
 -- what was taken is in the list, what is left is on the shelves, and there is room for it
 abbrev pub invariant-loop-elem : goal.invariant-loop-elem
 invariant-loop-elem g l = record {
-  taken : IsTaken g.C.Chare.state (present (core_in l._history)) (core_in l._history).places l.elem-iterator l.shelves l.residents.items;
+  taken : IsTaken g.C.Chare.state (present (core_in l.history)) (core_in l.history).places l.elem-iterator l.shelves l.residents.items;
   room : vec_len l.residents + length l.elem-iterator ≤ vec_capacity l.residents;
 }

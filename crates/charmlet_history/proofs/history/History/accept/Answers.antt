@@ -1,36 +1,82 @@
-use Rattle.std.proofs.Common.{◌++◌, ◌∷◌, [], sym, subst, arith}
-use Rattle.std.specs.Prelude.{IfSome}
-use Rattle.std.specs.Ordering.{nat_cmp}
-use Rattle.std.specs.BTreeMap.{is_at}
-use Rattle.std.specs.Map.{lookup}
-use Rattle.charmlet_model.specs.declared.message.Message.{Message}
-use Rattle.charmlet_model.specs.World.{message_among, request}
-use Rattle.charmlet_model.proofs.Fits.{IfSome-map}
-use Rattle.charmlet_world.specs.Seen.{Seen}
-use Rattle.charmlet_history.specs.Kept.{HasRoomFor, HasSpace, kept_in}
-use Rattle.charmlet_history.proofs.Rooms.{HasEntry, receiver_stays}
+use Rattle.std.proofs.Common.{◌≡◌, ◌+◌, ◌++◌, ◌∷◌, [], rules, false, length, sym, ap, subst, ◌∙◌, arith}
+use Rattle.std.specs.Prelude.{None}
+use Rattle.charmlet_model.specs.Core.{first_refusal, unwritten}
+use Rattle.charmlet_model.specs.World.{IsRequest, request}
+use Rattle.charmlet_model.specs.declared.event.Event.TheVariants.{Accept}
+use Rattle.charmlet_model.specs.declared.logged.Logged.TheVariants as log
+use Rattle.charmlet_record.specs.Backlog.{Batched, HasRoomFor, IsBacklog}
+use Rattle.charmlet_world.specs.Changed as worlds
+use Rattle.charmlet_world.specs.Seen.{Seen, client_at, seen}
+use Rattle.charmlet_history.specs.Kept.{Kept, IsConsistent, accepted, core_in, limit_gates, repeats, roomless, turn_gates}
+use Rattle.charmlet_history.specs.Whole.{HasReceivers, kept_of}
+use Rattle.charmlet_history.proofs.Entries.{receivers_with}
+use Rattle.charmlet_history.proofs.Requests.{accepted_consistent, request_new}
+use Rattle.charmlet_history.proofs.Shown.{kept_with}
+use Rattle.charmlet_history.proofs.Unwritten.{room_aside, room_back, same_roomless}
 use Rattle.charmlet_history.proofs.history.History.accept.Goals as goal
 
-pub returns-clause-room : goal.returns-clause-room
-returns-clause-room c = λ consistent processor room.
-    let h = c.args.self.now in
-    let k = kept_in h in
-    let new = record h { present = c.accept.new.self; events = c.push-2.new.self; backlog = c.push.new.self } in
-    let r = c.args.request.now in
-    let m : Message = request r.client r.number r.to r.entry c.in_ok-words.words in
-    let space : HasSpace new = (omega (arith, c.in_ok-reserve.ensures.ok, c.push-2.ensures.room), c.push.ensures.room 1 c.in_ok-reserve-2.ensures.room) in
-    let stay = receiver_stays k consistent processor (m ∷ []) (λ id. HasSpace new)
-    (IfSome-map (HasRoomFor h) (λ id. HasSpace new × IfSome (message_among id k.pending) (HasEntry k.elements)) (lookup (is_at (nat_cmp processor)) k.assigned)
-    (λ id room. (space, room.receiver)) room) in
-    IfSome-map (λ id. HasSpace new × IfSome (message_among id (k.pending ++ m ∷ [])) (HasEntry k.elements)) (HasRoomFor new) (lookup (is_at (nat_cmp processor)) k.assigned)
-    (λ id room. record { space = space; receiver = subst (λ (s : Seen). IfSome (message_among id s.pending) (HasEntry s.elements)) (sym c.in_ok-accept.ensures.ok) room.1 }) stay
+pub invariant_of-self-in_err-reserve-2 : goal.invariant_of-self-in_err-reserve-2
+invariant_of-self-in_err-reserve-2 c =
+    let h = c.self.inside in
+    let room = c.self.invariant.room in
+    let more = c.reserve.ensures.room in
+    let events = c.reserve.new.self in
+    record {
+      consistent = subst IsConsistent
+          (sym (λ i. record (kept_of (record h { events = record events { items = c.reserve.ensures.items i; durable = c.reserve.ensures.durable i } })) { backlog = same_roomless h.backlog c.reserve-2.new.self c.reserve-2.ensures.kept i }))
+          c.self.invariant.consistent;
+      room = record {
+        events = omega (arith, more, room.events);
+        bytes = c.reserve-2.ensures.stays (length h.assigned.entries) room.bytes;
+        receivers = room.receivers;
+      };
+    }
 
-pub returns-in_err-reserve-2-clause-room : goal.returns-in_err-reserve-2-clause-room
-returns-in_err-reserve-2-clause-room c = λ consistent processor room.
-    let h = c.args.self.now in
-    let new = record h { events = c.reserve.new.self; backlog = c.reserve-2.new.self } in
-    IfSome-map (HasRoomFor h) (HasRoomFor new) (lookup (is_at (nat_cmp processor)) h.assigned.entries)
-    (λ id r. record {
-      space = (omega (arith, r.space.0, c.reserve.ensures.room), c.reserve-2.ensures.stays 1 r.space.1);
-      receiver = r.receiver;
-    }) room
+pub accept-requires : goal.accept-requires
+accept-requires c =
+    let r = c.args.request.now in
+    let k = kept_of c.self.inside in
+    let same = sym c.self.view_is in
+    let running : k.halted ≡ false = ap (λ (k : Kept). k.halted) c.self.view_is ∙ c.requires.running in
+    let new : repeats k r.client r.number ≡ false = ap (λ k. repeats k r.client r.number) c.self.view_is ∙ c.requires.new in
+    let turns : None ≡ first_refusal (turn_gates (client_at k.clients r.client).present r.number) = subst (λ (k : Kept). None ≡ first_refusal (turn_gates (client_at k.clients r.client).present r.number)) same (sym c.requires.turn) in
+    let fits : None ≡ first_refusal (limit_gates k r.client r.to.array r.words.now) = subst (λ (k : Kept). None ≡ first_refusal (limit_gates k r.client r.to.array r.words.now)) same (sym c.requires.fits) in
+    let event : IsRequest r.client r.number r.to r.entry r.words.now = search rules in
+    record { apart = request_new k c.self.invariant.consistent running r.client r.number r.to r.entry r.words.now (λ _. 0) new turns fits event }
+
+pub invariant_of-self-2 : goal.invariant_of-self-2
+invariant_of-self-2 c =
+    let h = c.self.inside in
+    let r = c.args.request.now in
+    let k = kept_of h in
+    let consistent = c.self.invariant.consistent in
+    let room = c.self.invariant.room in
+    let same = sym c.self.view_is in
+    let running : k.halted ≡ false = ap (λ (k : Kept). k.halted) c.self.view_is ∙ c.requires.running in
+    let new : repeats k r.client r.number ≡ false = ap (λ k. repeats k r.client r.number) c.self.view_is ∙ c.requires.new in
+    let turns : None ≡ first_refusal (turn_gates (client_at k.clients r.client).present r.number) = subst (λ (k : Kept). None ≡ first_refusal (turn_gates (client_at k.clients r.client).present r.number)) same (sym c.requires.turn) in
+    let fits : None ≡ first_refusal (limit_gates k r.client r.to.array r.words.now) = subst (λ (k : Kept). None ≡ first_refusal (limit_gates k r.client r.to.array r.words.now)) same (sym c.requires.fits) in
+    let event : IsRequest r.client r.number r.to r.entry r.words.now = search rules in
+    let fresh = unwritten (core_in k) in
+    let b = c.push.new.self in
+    let seen_is : seen c.accept.new.self ≡ worlds.accepted (seen h.present) r.client r.number r.to r.entry r.words.now =
+    c.in_ok-accept.ensures.ok ∙ ap (worlds.accepted (seen h.present) r.client r.number r.to r.entry) c.in_ok-words.ensures.words in
+    let items : c.push-2.new.self.items ≡ k.events ++ Accept r.client r.number r.to r.entry r.words.now ∷ [] = search rules in
+    let durable : c.push-2.new.self.durable ≡ k.durable = c.push-2.ensures.durable ∙ c.reserve.ensures.durable in
+    let is : kept_of (record h { present = c.accept.new.self; events = c.push-2.new.self; backlog = b }) ≡ accepted k (roomless b) r.client r.number r.to r.entry r.words.now =
+    λ i. record (kept_with k (seen_is i) (c.accept.ensures.promised i)) { events = items i; durable = durable i; backlog = roomless b } in
+    let reserved = room_back c.reserve-2.new.self fresh (subst (λ (b : Batched). IsBacklog b fresh) (sym (same_roomless h.backlog c.reserve-2.new.self c.reserve-2.ensures.kept)) consistent.backlog) in
+    let holds = room_aside b (fresh ++ log.Accept r.client r.number r.to r.entry r.words.now ∷ [])
+    (subst (λ words. IsBacklog b (fresh ++ log.Accept r.client r.number r.to r.entry words ∷ [])) c.in_ok-from_slice.ensures.words (c.push.ensures.pushed fresh reserved)) in
+    let count = c.len-count.ensures.len in
+    let made = c.in_ok-reserve.ensures.ok in
+    let left = c.push-2.ensures.room in
+    record {
+      consistent = subst IsConsistent (sym is) (accepted_consistent k consistent running r.client r.number r.to r.entry r.words.now event new turns fits (roomless b) holds);
+      room = record {
+        events = omega (arith, count, made, left);
+        bytes = c.push.ensures.room (length h.assigned.entries) (subst (λ n. HasRoomFor c.reserve-2.new.self (n + 1)) count c.in_ok-reserve-2.ensures.room);
+        receivers = subst (λ (s : Seen). HasReceivers (record k { pending = s.pending; elements = s.elements })) (sym seen_is)
+            (receivers_with k consistent (request r.client r.number r.to r.entry r.words.now ∷ []) room.receivers);
+      };
+    }

@@ -1,29 +1,25 @@
-use Rattle.std.proofs.Common.{◌≡◌, sym, ap, subst}
-use Rattle.charmlet_model.specs.World.{World}
+use Rattle.std.proofs.Common.{◌≡◌, ◌∙◌, [], sym, ap, subst}
 use Rattle.charmlet_world.specs.Seen.{Held}
 use Rattle.charmlet_world.specs.Standing.{risen}
-use Rattle.charmlet_history.specs.Kept.{IsConsistent, Kept, core_of, kept_in}
+use Rattle.charmlet_history.specs.Kept.{IsConsistent, Kept}
 use Rattle.charmlet_history.specs.Opened.{with_arrays}
+use Rattle.charmlet_history.specs.Whole.{HasReceivers, kept_of}
 use Rattle.charmlet_history.proofs.Upgrades.{upgraded_consistent}
 use Rattle.charmlet_history.proofs.history.History.upgrade.Goals as goal
 
--- what is kept with this present world and this opening one
-abbrev kept_with : Kept → Held → World → Kept
-kept_with k held w = record k {
-  opening = with_arrays held.manifest w;
-  processors = held.processors;
-  elements = risen held.rows;
-  pending = held.pending;
-  clients = held.clients;
-  promised = held.promised;
-}
-
-pub returns-clause-consistent : goal.returns-clause-consistent
-returns-clause-consistent c =
-    let k = kept_in c.args.self.now in
-    subst IsConsistent (λ i. kept_with k (sym c.upgrade.ensures i) (sym c.of-opening.ensures i)) (upgraded_consistent k c.requires.consistent c.requires.new c.requires.unassigned)
-
-pub returns-clause-upgraded : goal.returns-clause-upgraded
-returns-clause-upgraded c =
-    let k = kept_in c.args.self.now in
-    λ i. core_of (kept_with k (c.upgrade.ensures i) (c.of-opening.ensures i))
+pub invariant_of-self : goal.invariant_of-self
+invariant_of-self c =
+    let h = c.self.inside in
+    let k = kept_of h in
+    let room = c.self.invariant.room in
+    let new : k.events ≡ [] = ap (λ (k : Kept). k.events) c.self.view_is ∙ c.requires.new in
+    let unassigned : k.assigned ≡ [] = ap (λ (k : Kept). k.assigned) c.self.view_is ∙ c.requires.unassigned in
+    record {
+      consistent = subst IsConsistent (sym (λ i. record (kept_of (record h { present = c.upgrade.ensures i })) { opening = with_arrays (c.upgrade.ensures i).manifest (c.of-opening.ensures i) }))
+          (upgraded_consistent k c.self.invariant.consistent new unassigned);
+      room = record {
+        events = room.events;
+        bytes = room.bytes;
+        receivers = subst (λ (p : Held). HasReceivers (record k { pending = p.pending; elements = risen p.rows })) (sym c.upgrade.ensures) room.receivers;
+      };
+    }

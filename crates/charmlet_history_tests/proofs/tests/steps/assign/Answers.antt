@@ -13,8 +13,8 @@ chosen : (b : Bool) (edition : Option Edition) → cond b None edition ≡ Some 
 chosen true edition h = absurd (let no : ⊥ = cc in no)
 chosen false edition h = h
 
-pub returns-clause-outcome : goal.returns-clause-outcome
-returns-clause-outcome c =
+pub returns : goal.returns
+returns c =
     let old = core_in c.args.history.now in
     let new = core_in c.assign.new.self in
     let m = message_of c.in-Some._id c.in-Some.letter.now in
@@ -25,4 +25,4 @@ returns-clause-outcome c =
     let blank : blank_of_move old (counter_at 0) 3 ≡ Some editions.Counter = search rules in
     let edition : edition_of_array (present new) m.to.array ≡ Some editions.Counter =
     ap (λ (core : Core). edition_of_array (present core) m.to.array) assigned ∙ ap (edition_of_array (present old)) array ∙ chosen _ _ blank in
-    λ _. plain_outcome new c.assign.ensures.consistent.sound c.args.processor m entry edition is
+    record { outcome = λ _. plain_outcome new c.facts.ensures.sound c.args.processor m entry edition is }

@@ -1,4 +1,3 @@
-use Rattle.std.proofs.Common.{◌≡◌, sym, ap, ◌∙◌}
 use Rattle.charmlet_history.specs.Kept.{core_in}
 use Rattle.charmlet_store.proofs.Upgrades.{dropped_blanks, dropped_consistent, dropped_supplied}
 use Rattle.charmlet_store.proofs.store.Store.drop_retired.Goals as goal

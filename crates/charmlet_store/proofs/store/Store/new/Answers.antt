@@ -11,4 +11,4 @@ returns-clause-supplied g c = λ kind. ap (λ (t : Tally). t.supplied) (c.new.en
 
 pub returns-clause-consistent : goal.returns-clause-consistent
 returns-clause-consistent g c =
-    new_consistent (record { alloc = c.args.alloc; history = c.args.history; shelves = c.args.shelves; stock = c.new.result }) c.requires.new c.requires.consistent c.requires.empty c.new.ensures.tally
+    new_consistent (record { alloc = c.args.alloc; history = c.args.history; shelves = c.args.shelves; stock = c.new.result }) c.requires.new c.facts.ensures c.requires.empty c.new.ensures.tally

@@ -12,12 +12,12 @@ pub returns-clause-consistent : goal.returns-clause-consistent
 returns-clause-consistent g c =
     let old = c.args.self.now in
     let first = old.shelves.items in
-    let last = c.move_to.new.shelves in
-    let new = record old { history = c.move_to.new.history; shelves = with_items old.shelves last; stock = c.move_to.new.stock } in
+    let last = c.move_to-moved.new.shelves in
+    let new = record old { history = c.move_to-moved.new.history; shelves = with_items old.shelves last; stock = c.move_to-moved.new.stock } in
     let number = λ (v : View). v.number in
-    let numbers : numbers_of last ≡ numbers_of first = c.move_to.ensures.numbers ∙ ap numbers_of c.as_mut_slice.ensures.value in
+    let numbers : numbers_of last ≡ numbers_of first = c.move_to-moved.ensures.numbers ∙ ap numbers_of c.as_mut_slice.ensures.value in
     let fits : length last ≡ old.shelves.len = sym (length-map last number) ∙ ap length numbers ∙ length-map first number ∙ sym old.shelves.ok.0 in
     let counted : IsCountedAmong c.as_mut_slice.result.now old.stock = subst (λ shelves. IsCountedAmong shelves old.stock) (sym c.as_mut_slice.ensures.value) c.requires.census in
     let processors = move_processors (core_in old.history) (blanks_in old.stock) c.args.elem c.args.processor
-    (record { answer = move_answer c.move_to.result; core = core_in new.history; blanks = blanks_in new.stock }) c.move_to.ensures.goes in
-    moved_consistent old new c.requires last (with_items_is old.shelves last fits) numbers c.move_to.ensures.consistent processors c.move_to.ensures.idle c.move_to.ensures.shows (c.move_to.ensures.census counted)
+    (record { answer = move_answer c.move_to-moved.result; core = core_in new.history; blanks = blanks_in new.stock }) c.move_to-moved.ensures.goes in
+    moved_consistent old new c.requires last (with_items_is old.shelves last fits) numbers c.facts.ensures processors c.move_to-moved.ensures.idle c.move_to-moved.ensures.shows (c.move_to-moved.ensures.census counted)

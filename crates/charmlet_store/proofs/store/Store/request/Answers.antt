@@ -10,10 +10,10 @@ returns-clause-consistent g c =
     let before = core_in old.history in
     let r = c.args.request.now in
     let shows = request_shows (records_on old.shelves.items) before.processors before (λ _. 0)
-    (record { answer = told_or_refused c.request.result; core = core_in c.request.new.self; blanks = λ _. 0 }) (record { processors = refl; shows = c.requires.objects })
-    r.client r.number r.to r.entry r.words.now (c.request.ensures.steps (λ _. 0)) in
+    (record { answer = told_or_refused c.request-told.result; core = core_in c.request-told.new.self; blanks = λ _. 0 }) (record { processors = refl; shows = c.requires.objects })
+    r.client r.number r.to r.entry r.words.now (c.request-told.ensures.steps (λ _. 0)) in
     record {
-      history = c.request.ensures.consistent;
+      history = c.facts.ensures;
       count = c.requires.count ∙ sym shows.processors;
       numbers = c.requires.numbers;
       idle = c.requires.idle;

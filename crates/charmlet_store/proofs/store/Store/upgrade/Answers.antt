@@ -26,7 +26,7 @@ returns-clause-consistent g c =
     let goes : core_in c.upgrade.new.self ≡ upgraded_core core = c.upgrade.ensures.upgraded in
     let counted : objects_among now ≡ objects_among shelves = λ i (kind : Kind). (ap (λ (vs : List View). objects_among vs kind) is ∙ count_up shelves kind) i in
     record {
-      history = c.upgrade.ensures.consistent;
+      history = c.facts.ensures;
       count = ap (length {A = View}) is ∙ length-map shelves up_shelf ∙ was.count ∙ sym (ap (λ (k : Core). k.processors) goes);
       numbers = subst AreNumbered (sym is) (numbers_up shelves was.numbers);
       idle = subst (All IsIdle) (sym is) (idle_up shelves was.idle);

@@ -1,5 +1,0 @@
-use Rattle.charmlet_history.specs.Kept.{IsConsistent, kept_in}
-use Rattle.charmlet_history_tests.proofs.tests.steps.run.Given as goal
-
-abbrev pub invariant-loop-step : goal.invariant-loop-step
-invariant-loop-step g l = IsConsistent (kept_in l.history)
