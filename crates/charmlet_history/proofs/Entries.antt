@@ -14,7 +14,7 @@ use Rattle.charmlet_model.specs.World.{message_among, without}
 use Rattle.charmlet_model.specs.Core.{Core, pending_message, place_or_home}
 use Rattle.charmlet_model.specs.Sound.{IsAssigned}
 use Rattle.charmlet_model.proofs.Maps.{elem_exact, tied_elem}
-use Rattle.charmlet_model.proofs.Deliveries.{message-append, receiver_is}
+use Rattle.charmlet_model.proofs.Deliveries.{apart_ids, apart_receivers, message-append, message-without}
 use Rattle.charmlet_model.proofs.Fits.{IfSome-map, found-id, same_id-is}
 use Rattle.charmlet_model.proofs.Removals.{lookup-removed}
 use Rattle.charmlet_chare.specs.declared.output.Output.{Output}
@@ -24,36 +24,6 @@ use Rattle.charmlet_history.specs.Delivered.{advanced_by, delivered_in, with_rec
 use Rattle.charmlet_history.specs.Kept.{Kept, IsConsistent, core_in}
 use Rattle.charmlet_history.specs.Whole.{HasReceiver, HasReceivers}
 use Rattle.charmlet_history.proofs.Rooms.{HasEntry, assigned_pending, entry_stays}
-
-message-without : (id gone : MsgId) (ms : List Message) → same_id id gone ≡ false → message_among id (without gone ms) ≡ message_among id ms
-message-without id gone [] apart = refl
-message-without id gone (n ∷ ms) apart =
-    elim (same_id gone n.id) as (λ b. same_id gone n.id ≡ b → message_among id (if b then ms else n ∷ without gone ms) ≡ message_among id (n ∷ ms)) [
-      | true ↦ λ same. ap (λ b. if b then Some n else message_among id ms) (sym (subst (λ i. same_id id i ≡ false) (same_id-is gone n.id same) apart))
-      | false ↦ λ _. ap (λ o. if same_id id n.id then Some n else o) (message-without id gone ms apart)
-    ] refl
-
--- messages assigned to two processors have two receivers
-apart_receivers : (core : Core) (p q : ℕ) (id other : MsgId) (m n : Message) → IsAssigned core p id → IsAssigned core q other →
-    pending_message core id ≡ Some m → pending_message core other ≡ Some n → eq_by_cmp nat_cmp q p ≡ false → eq_by_cmp elem_cmp n.to m.to ≡ false
-apart_receivers core p q id other m n a b is_m is_n apart =
-    elim (eq_by_cmp elem_cmp n.to m.to) as (λ t. eq_by_cmp elem_cmp n.to m.to ≡ t → t ≡ false) [
-      | true ↦ λ same.
-          let place = sym (receiver_is core q other n b is_n) ∙ ap (place_or_home core) (tells_apart elem_exact n.to m.to same) ∙ receiver_is core p id m a is_m in
-          sym (ap is_eq (tied_itself nat_cmp_total p)) ∙ ap (λ k. eq_by_cmp nat_cmp k p) (sym place) ∙ apart
-      | false ↦ λ _. refl
-    ] refl
-
--- and two ids
-apart_ids : (core : Core) (id other : MsgId) (m n : Message) → pending_message core id ≡ Some m → pending_message core other ≡ Some n →
-    eq_by_cmp elem_cmp n.to m.to ≡ false → same_id other id ≡ false
-apart_ids core id other m n is_m is_n apart =
-    elim (same_id other id) as (λ t. same_id other id ≡ t → t ≡ false) [
-      | true ↦ λ same.
-          let one = ap (λ o. (unwrap_or o m).to) (sym is_n ∙ ap (pending_message core) (same_id-is other id same) ∙ is_m) in
-          sym (tied_elem m.to) ∙ ap (λ x. eq_by_cmp elem_cmp x m.to) (sym one) ∙ apart
-      | false ↦ λ _. refl
-    ] refl
 
 -- fewer are fewer bytes
 pub fewer_bytes : (b : Batched) (n m : ℕ) → n ≤ m → HasRoomFor b m → HasRoomFor b n

@@ -24,9 +24,9 @@ only_lack : (lack : Option (Kind × ℕ)) (refusal : Refusal) → lack_refusal l
 only_lack None refusal e = absurd cc
 only_lack (Some lack) refusal e = let same : refusals.BlanksWanted lack.0 lack.1 ≡ refusal = cc in ap is_lack (sym same)
 
-module _ {D C : Type 0} {G : disks.Ghosts D} {H : chares.Ghosts C} (w : World) (before : ℕ) (history : List Event) (durable : ℕ) (outcome : Half → List ℕ) (lawful : IsLawful w before history durable outcome) where
+module _ {D C : Type 0} {G : disks.Ghosts D} (w : World) (before : ℕ) (history : List Event) (durable : ℕ) (outcome : Half → List ℕ) (lawful : IsLawful w before history durable outcome) where
   -- a store that opens with what the files recover to opens with what was
-  pub opens_within : (back : Recovered D C G H) → recovered outcome ≡ files.Found (core_of back).opening (core_of back).before (core_of back).generation → OpensWithin w before history durable (core_of back)
+  pub opens_within : (back : Recovered D C G) → recovered outcome ≡ files.Found (core_of back).opening (core_of back).before (core_of back).generation → OpensWithin w before history durable (core_of back)
   opens_within back e =
       let core = core_of back in
       let same : files.Found core.opening core.before core.generation ≡ files.Found (world w (take lawful.kept history)) (before + lawful.kept) lawful.generation = sym e ∙ lawful.is in
@@ -39,11 +39,11 @@ module _ {D C : Type 0} {G : disks.Ghosts D} {H : chares.Ghosts C} (w : World) (
       }
 
   -- what answers by the files and the blanks answers as a restart after a crash may
-  pub answers_after_crash : (given : Blanks) (answer : Result (Recovered D C G H) Refusal) → AnswersBy (restart_refusal given outcome) answer →
+  pub answers_after_crash : (given : Blanks) (answer : Result (Recovered D C G) Refusal) → AnswersBy (restart_refusal given outcome) answer →
       IfOk answer (λ back. recovered outcome ≡ files.Found (core_of back).opening (core_of back).before (core_of back).generation) → AnswersAfterCrash w before history durable answer
   answers_after_crash given (Ok back) so e = opens_within back e
   answers_after_crash given (Err refusal) so e =
       let alone = lawful_lacks_blanks_alone given w before history durable outcome lawful in
       ⊎_elim (λ memory. ap is_lack memory)
       (λ more. ⊎_elim (λ device. ap is_lack device) (λ why. only_lack (least_short given (wanted_of alone.saved)) refusal (sym alone.refusal ∙ why)) more)
-      (has_cause (Recovered D C G H) (restart_refusal given outcome) refusal so)
+      (has_cause (Recovered D C G) (restart_refusal given outcome) refusal so)

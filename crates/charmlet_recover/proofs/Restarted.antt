@@ -30,6 +30,7 @@ use Rattle.charmlet_recover.specs.Restart.{AnswersBy, IsOpenedOn, IsReadFrom, Is
 use Rattle.charmlet_recover.proofs.Answered.{half_is_short, taken_is_recovered}
 use Rattle.charmlet_recover.proofs.Kept.{opened_goes_on, opened_keeps, survey_found}
 use Rattle.charmlet_recover.proofs.Left.{left_unwanted}
+use Rattle.charmlet_store.specs.Store.{blanks_of}
 
 -- ---- what is true where two facts are
 
@@ -137,23 +138,24 @@ half_no_failure X refusals.Strayed e = absurd cc
 
 module _ {D C : Type 0} {G : disks.Ghosts D} {H : chares.Ghosts C} where
   -- a half that is refused is no failure of the device
-  pub came_no_failure : (result : Result (Recovered D C G H) (NotRestarted D C H)) → IfErr result (λ refused. is_half_refusal refused.refusal ≡ true) → is_no_failure (restarted_or_refused result) ≡ true
+  pub came_no_failure : (result : Result (Recovered D C G) (NotRestarted D C H)) → IfErr result (λ refused. is_half_refusal refused.refusal ≡ true) → is_no_failure (restarted_or_refused result) ≡ true
   came_no_failure (Ok back) is = refl
-  came_no_failure (Err refused) is = half_no_failure (Recovered D C G H) refused.refusal is
+  came_no_failure (Err refused) is = half_no_failure (Recovered D C G) refused.refusal is
 
   -- a fact of what came back is one of the answer
-  pub as_answer : (P : Recovered D C G H → Type 0) (result : Result (Recovered D C G H) (NotRestarted D C H)) → IfOk result P → IfOk (restarted_or_refused result) P
+  pub as_answer : (P : Recovered D C G → Type 0) (result : Result (Recovered D C G) (NotRestarted D C H)) → IfOk result P → IfOk (restarted_or_refused result) P
   as_answer P (Ok back) is = is
   as_answer P (Err refused) is = tt
 
   -- where blanks lack, some half needs more
-  pub came_short : (given : Blanks) (half : Half) (bytes : List ℕ) (s : Saved) → found bytes ≡ Open s → (result : Result (Recovered D C G H) (NotRestarted D C H)) →
+  pub came_short : (given : Blanks) (half : Half) (bytes : List ℕ) (s : Saved) → found bytes ≡ Open s → (result : Result (Recovered D C G) (NotRestarted D C H)) →
       AnswersBy (taken_refusal given (Takes half s)) (restarted_or_refused result) → IfErr result (λ refused. IsShortOfSome given refused.refusal)
   came_short given half bytes s is (Ok back) so = tt
-  came_short given half bytes s is (Err refused) so = half_is_short (Recovered D C G H) given half bytes s refused.refusal is so
+  came_short given half bytes s is (Err refused) so = half_is_short (Recovered D C G) given half bytes s refused.refusal is so
 
+module _ {D C : Type 0} {G : disks.Ghosts D} where
   module _ (opened : Opened D G) (s : Saved) (says : Says opened.survey.bytes.items opened.survey.contents s) (opens_as : OpensAs opened) (processors : ℕ) (given : Blanks)
-      (back : Recovered D C G H) (same : back.halves ≡ opened.halves) (is : IsReplayed processors given s (replayed_in back)) where
+      (back : Recovered D C G) (same : back.halves ≡ opened.halves) (is : IsReplayed processors given s (replayed_in back)) where
     abbrev core : Core
     core = core_of back
 
@@ -169,7 +171,7 @@ module _ {D C : Type 0} {G : disks.Ghosts D} {H : chares.Ghosts C} where
       current = is.current;
       generation = is.generation;
       log_end = is.log_end;
-      left = left_unwanted s core.opening core.before says.good is.means given (blanks_in back.store.stock) is.left;
+      left = left_unwanted s core.opening core.before says.good is.means given (blanks_of back.store) is.left;
     }
 
     pub came_read : IsReadFrom given back

@@ -28,6 +28,7 @@ use Rattle.charmlet_replay.specs.declared.replaying.Replayed.{Replayed}
 use Rattle.charmlet_recover.specs.declared.reopening.NotReopened.{NotReopened}
 use Rattle.charmlet_recover.specs.declared.restarting.Recovered.{Recovered}
 use Rattle.charmlet_recover.specs.declared.restarting.NotRestarted.{NotRestarted}
+use Rattle.charmlet_store.specs.Store.{blanks_of}
 
 -- ---- what is handed in, and back
 
@@ -100,35 +101,18 @@ pub record OpensWithin (w : World) (before : ℕ) (history : List Event) (durabl
   pub opening : core.opening ≡ world w (take kept history)
   pub count : core.before ≡ before + kept
 
-module _ {D C : Type 0} {G : disks.Ghosts D} {H : chares.Ghosts C} where
+module _ {D C : Type 0} {G : disks.Ghosts D} where
   -- the core of the store that came back
-  abbrev pub core_of : Recovered D C G H → Core
+  abbrev pub core_of : Recovered D C G → Core
   core_of back = core_in back.store.history
 
   -- the store that came back, and whether events may be appended to the half
-  abbrev pub replayed_in : Recovered D C G H → Replayed C H
+  abbrev pub replayed_in : Recovered D C G → Replayed C
   replayed_in back = record { store = back.store; is_current = back.is_current }
-
-  -- the disk afterwards, which the halves own or which was handed back
-  abbrev pub disk_after : Result (Recovered D C G H) (NotRestarted D C H) → D
-  disk_after (Ok back) = disk_of back.halves
-  disk_after (Err refused) = refused.disk
-
-  -- that the store came back, or why not
-  abbrev pub restarted_or_refused : Result (Recovered D C G H) (NotRestarted D C H) →
-      Result (Recovered D C G H) Refusal
-  restarted_or_refused (Ok back) = Ok back
-  restarted_or_refused (Err refused) = Err refused.refusal
-
-  -- the number of processors is refused before anything is done: what was handed in comes back
-  abbrev pub IsHandedBack : D → Stock C H → Result (Recovered D C G H) (NotRestarted D C H) → Type 0
-  IsHandedBack disk blanks (Ok back) = ⊥
-  IsHandedBack disk blanks (Err refused) = (refused.refusal ≡ refusals.BadPes)
-      × (refused.disk ≡ disk) × (refused.blanks ≡ blanks)
 
   -- nothing has happened in the store since it opened, and each element that is there has its home
   -- for its place
-  abbrev pub IsOpenedOn : ℕ → Recovered D C G H → Type 0
+  abbrev pub IsOpenedOn : ℕ → Recovered D C G → Type 0
   IsOpenedOn processors back = core_of back
       ≡ opened processors (core_of back).opening (core_of back).before (core_of back).generation
       (core_of back).log_end
@@ -136,20 +120,20 @@ module _ {D C : Type 0} {G : disks.Ghosts D} {H : chares.Ghosts C} where
   -- The store opens with what a half means: its world, which came after so many events, at its
   -- generation. Its log ends where that of the half does, and of each kind the stock has what the
   -- half didn't want of the blanks.
-  pub record OpensWith (given : Blanks) (back : Recovered D C G H) (s : Saved) : Type 0 where
+  pub record OpensWith (given : Blanks) (back : Recovered D C G) (s : Saved) : Type 0 where
     pub means : meaning_of s ≡ Whole (core_of back).opening (core_of back).before
     pub current : back.is_current ≡ is_current s
     pub generation : (core_of back).generation ≡ s.header.generation
     pub log_end : (core_of back).log_end ≡ length (spell_half s)
-    pub left : (kind : Kind) → blanks_in back.store.stock kind + wanted_of s kind ≡ given kind
+    pub left : (kind : Kind) → blanks_of back.store kind + wanted_of s kind ≡ given kind
 
   -- on any disk, the store opens with what the bytes of some half mean
-  abbrev pub IsReadFrom : Blanks → Recovered D C G H → Type 0
+  abbrev pub IsReadFrom : Blanks → Recovered D C G → Type 0
   IsReadFrom given back = (bytes : List ℕ) × (s : Saved) × (found bytes ≡ Open s)
       × OpensWith given back s
 
   -- on an honest one, with what the half means that is taken
-  abbrev pub IsTakenFrom : Blanks → Outcome → Recovered D C G H → Type 0
+  abbrev pub IsTakenFrom : Blanks → Outcome → Recovered D C G → Type 0
   IsTakenFrom given outcome back = (s : Saved)
       × (taken (outcome Zero) (outcome One) ≡ Takes (taken_half back.halves) s)
       × OpensWith given back s
@@ -157,10 +141,28 @@ module _ {D C : Type 0} {G : disks.Ghosts D} {H : chares.Ghosts C} where
   -- a restart after a crash comes to such a store, or lacks memory, blanks or a device, or is asked
   -- for a wrong number of processors
   abbrev pub AnswersAfterCrash : World → ℕ → List Event → ℕ →
-      Result (Recovered D C G H) Refusal → Type 0
+      Result (Recovered D C G) Refusal → Type 0
   AnswersAfterCrash w before history durable (Ok back) =
       OpensWithin w before history durable (core_of back)
   AnswersAfterCrash w before history durable (Err refusal) = is_lack refusal ≡ true
+
+module _ {D C : Type 0} {G : disks.Ghosts D} {H : chares.Ghosts C} where
+  -- the disk afterwards, which the halves own or which was handed back
+  abbrev pub disk_after : Result (Recovered D C G) (NotRestarted D C H) → D
+  disk_after (Ok back) = disk_of back.halves
+  disk_after (Err refused) = refused.disk
+
+  -- that the store came back, or why not
+  abbrev pub restarted_or_refused : Result (Recovered D C G) (NotRestarted D C H) →
+      Result (Recovered D C G) Refusal
+  restarted_or_refused (Ok back) = Ok back
+  restarted_or_refused (Err refused) = Err refused.refusal
+
+  -- the number of processors is refused before anything is done: what was handed in comes back
+  abbrev pub IsHandedBack : D → Stock C H → Result (Recovered D C G) (NotRestarted D C H) → Type 0
+  IsHandedBack disk blanks (Ok back) = ⊥
+  IsHandedBack disk blanks (Err refused) = (refused.refusal ≡ refusals.BadPes)
+      × (refused.disk ≡ disk) × (refused.blanks ≡ blanks)
 
 -- on any disk, blanks lack of what the bytes of some half want: of the least such kind, and the
 -- count is all that are wanted
@@ -173,7 +175,7 @@ IsShortOfSome given _ = Unit {0}
 
 -- that the store of a half came back, or why not
 abbrev pub reopened_or_refused : {C : Type 0} {G : chares.Ghosts C} →
-    Result (Replayed C G) (NotReopened C G) → Result (Replayed C G) Refusal
+    Result (Replayed C) (NotReopened C G) → Result (Replayed C) Refusal
 reopened_or_refused (Ok replayed) = Ok replayed
 reopened_or_refused (Err refused) = Err refused.refusal
 

@@ -16,15 +16,14 @@ use Rattle.charmlet_recovery.specs.Faults.{Place, first_fault}
 use Rattle.charmlet_recovery.specs.Meanings.{Whole, meaning, unless_faulty}
 use Rattle.charmlet_recovery.specs.Recovered.{log_of, upgraded}
 use Rattle.charmlet_recovery.proofs.Recovered.{manifest-world}
-use Rattle.charmlet_chare.specs.declared.chare.Chare.{Ghosts}
 use Rattle.charmlet_history.specs.Kept.{core_in}
 use Rattle.charmlet_history.specs.Opened.{upgraded_core}
-use Rattle.charmlet_stock.specs.declared.stock.Stock.{Stock}
-use Rattle.charmlet_stock.specs.Stock.{blanks_in}
-use Rattle.charmlet_store.specs.declared.store.Store.{Store}
-use Rattle.charmlet_store.specs.Store.{IsStoreConsistent}
+use Rattle.charmlet_stock.specs.declared.by_kind.ByKind.{ByKind}
+use Rattle.charmlet_stock.specs.declared.pile.Tally.{Tally}
+use Rattle.charmlet_stock.specs.ByKind.{at}
 use Rattle.charmlet_replay.specs.Ready.{IsOpened}
 use Rattle.charmlet_replay.specs.Replayed.{IsRepeated, IsReplayed}
+use Rattle.charmlet_store.specs.Store.{StoreShown}
 
 -- ---- each element stands where it stood
 
@@ -54,15 +53,15 @@ gives-arrays s w count gives =
 
 -- ---- the store
 
-module _ {C : Type 0} {G : Ghosts C} (processors : ℕ) (given : Blanks) (s : Saved) (old new : Store C G) (current : Bool) (repeated : IsRepeated processors given s old) (consistent : IsStoreConsistent new)
-    (core : core_in new.history ≡ upgraded_core (core_in old.history)) (stock : new.stock ≡ old.stock) (newest : current ≡ are_newest (core_in old.history).opening.manifest) where
-  pub is_upgraded : IsReplayed processors given s (record { store = new; is_current = current })
+module _ (C : Type 0) (processors : ℕ) (given : Blanks) (s : Saved) (old new : StoreShown) (current : Bool) (repeated : IsRepeated processors given s old)
+    (core : core_in new.history ≡ upgraded_core (core_in old.history)) (census : new.census ≡ old.census) (newest : current ≡ are_newest (core_in old.history).opening.manifest) where
+  pub is_upgraded : IsReplayed {C = C} processors given s (record { store = new; is_current = current })
   is_upgraded = record {
-    ready = record { consistent = consistent; opened = subst IsOpened (sym core) (opened-up (core_in old.history) repeated.ready.opened) };
+    ready = record { opened = subst IsOpened (sym core) (opened-up (core_in old.history) repeated.ready.opened) };
     on = ap (λ (k : Core). k.processors) core ∙ repeated.on;
     means = ap upgraded repeated.gives ∙ (λ i. Whole ((sym core i).opening) ((sym core i).before));
     current = newest ∙ ap are_newest (gives-arrays s (core_in old.history).opening (core_in old.history).before repeated.gives);
     generation = ap (λ (k : Core). k.generation) core ∙ repeated.generation;
     log_end = ap (λ (k : Core). k.log_end) core ∙ repeated.log_end;
-    left = λ kind. subst (λ (its : Stock C G). blanks_in its kind + made s.image (log_of s) kind ≡ given kind) (sym stock) (repeated.left kind);
+    left = λ kind. subst (λ (its : ByKind Tally). (at its kind).in_stock + made s.image (log_of s) kind ≡ given kind) (sym census) (repeated.left kind);
   }

@@ -8,7 +8,7 @@ ghost use Rattle.charmlet_requests.specs.Pass.{IsHeard, IsUpToDate, with_accept,
 
 use crate::pass::ClientPass;
 use charmlet_history::{History, Request};
-use charmlet_model::{Elem, Refusal, Told};
+use charmlet_model::{Refusal, Told};
 
 /// A request of the pass's client, as [`History::request`] takes it, with the same refusals in the
 /// same order. Where it isn't refused the pass keeps that it was accepted, and what was told of it.
@@ -19,33 +19,24 @@ use charmlet_model::{Elem, Refusal, Told};
 pub fn request(
     history: &mut History,
     pass: &mut ClientPass,
-    number: u64,
-    to: Elem,
-    entry: u16,
-    words: &[u64],
+    request: &Request<'_>,
 ) -> Result<Told, Refusal>
     ensures steps { (blanks : Blanks) → Steps (core_in history.old) blanks
-        (core.Request pass.old.client number to entry words.now)
+        (core.Request pass.old.client request.now.number request.now.to request.now.entry
+        request.now.words.now)
         (record { answer = told_or_refused result; core = core_in history.new; blanks = blanks }) }
     ensures ok { IfOk result (λ told. pass.new
-        ≡ with_accept (with_told pass.old number told) number) }
+        ≡ with_accept (with_told pass.old request.now.number told) request.now.number) }
     ensures heard { IsHeard pass.old pass.new (core_in history.old) (core_in history.new)
-        number result }
+        request.now.number result }
     ensures up_to_date { IsUpToDate pass.old (core_in history.old) →
         IsUpToDate pass.new (core_in history.new) }
     ensures same { OnErr result (core_in history.new ≡ core_in history.old) }
 {
     history.facts();
-    let request = Request {
-        client: pass.client(),
-        number,
-        to,
-        entry,
-        words,
-    };
-    let told = history.request(&request)?;
-    pass.hear(number, &told)?;
-    pass.accept(number);
+    let told = history.request(pass.client(), request)?;
+    pass.hear(request.number, &told)?;
+    pass.accept(request.number);
     Ok(told)
 }
 

@@ -15,7 +15,7 @@ ghost use Rattle.charmlet_requests.specs.Pass.{IsHeard, IsUpToDate, with_accept,
 use crate::asking::request;
 use crate::handlers::{Handler, Handlers};
 use crate::pass::ClientPass;
-use charmlet_history::History;
+use charmlet_history::{History, Request};
 use charmlet_model::{Elem, MAX_ARRAYS, Manifest, Refusal, Told};
 
 /// A request of the pass's client, as [`request`] takes it, at the entry of a named handler, to the
@@ -45,11 +45,16 @@ pub fn call(
     ensures same { OnErr result (core_in history.new ≡ core_in history.old) }
 {
     let handler = target(history, handlers, name);
-    let to = Elem {
-        array: handler.array,
-        index,
+    let asked = Request {
+        number,
+        to: Elem {
+            array: handler.array,
+            index,
+        },
+        entry: handler.entry,
+        words,
     };
-    request(history, pass, number, to, handler.entry, words)
+    request(history, pass, &asked)
 }
 
 /// The handler of a name, or one of an array that isn't there, so that a request to it is refused

@@ -15,3 +15,4 @@ pub use crate::handlers::{Handler, Handlers};
 pub use crate::laws::{accepts_are_numbered, told_rises};
 pub use crate::pass::ClientPass;
 pub use crate::passes::Passes;
+pub use charmlet_history::Request;

@@ -177,12 +177,11 @@ impl Script {
         self.lines.as_slice()
     }
 
-    /// The manifest of the arrays, each in the newest version of its kind, with which a new world
-    /// is fit. It fails only when out of memory.
+    /// The manifest of the arrays, each in the newest version of its kind. It fails only when out
+    /// of memory.
     pub fn manifest(&self, alloc: Global) -> Result<Manifest, AllocError>
         ensures manifest { IfOk result (λ manifest. manifest_of (pairs_of self.now.arrays)
             ≡ Some manifest) }
-        ensures fit { IfOk result (λ manifest. IsFit (new_world manifest)) }
         ensures newest { IfOk result AreNewest }
     {
         let pairs = pairs_of(alloc, &self.arrays)?;

@@ -21,13 +21,13 @@ use Rattle.charmlet_model.proofs.Maps.{elem_exact}
 use Rattle.charmlet_model.proofs.ShelfCounts.{shelves_count}
 use Rattle.charmlet_model.proofs.SoundLemmas.{sound_fit}
 use Rattle.charmlet_chare.specs.declared.chare.Chare.{Ghosts}
-use Rattle.charmlet_history.specs.Kept.{core_in}
+use Rattle.charmlet_history.specs.Kept.{IsConsistent, core_in}
 use Rattle.charmlet_shelf.proofs.Counts.{by_shown}
 use Rattle.charmlet_stock.specs.Stock.{blanks_in, supplied_to, tally_in}
 use Rattle.charmlet_migrate.specs.Moving.{objects_among}
-use Rattle.charmlet_store.specs.declared.store.Store.{Store}
+use Rattle.charmlet_store.specs.declared.store.Store.TheInside.{Inside}
 use Rattle.charmlet_store.specs.Dismantled.{standing}
-use Rattle.charmlet_store.specs.Store.{IsStoreConsistent, world_in}
+use Rattle.charmlet_store.proofs.Shelved.{IsTogether, world_of}
 use Rattle.charmlet_store.proofs.Lifting.{Rising, at}
 use Rattle.charmlet_store.proofs.Theres.{shelves_count_there}
 
@@ -94,16 +94,16 @@ module _ (records : List (Elem × Record)) (w : World) (all : ShowsAll records w
 
 -- ---- a store that is taken apart
 
-module _ {C : Type 0} {G : Ghosts C} (state : C → State) (store : Store C G) (consistent : IsStoreConsistent store) (residents : List (Elem × Resident C))
-    (is : records_of state residents ≡ standing (world_in store) (core_in store.history).places) where
-  pub residents_show : ShowsAll (records_of state residents) (world_in store)
-  residents_show = subst (λ rs. ShowsAll rs (world_in store)) (sym is) (shows_all (world_in store) (core_in store.history).places consistent.history.sound.rising_places consistent.objects.placed)
+module _ {C : Type 0} {G : Ghosts C} (state : C → State) (store : Inside C G) (history : IsConsistent store.history) (consistent : IsTogether store) (residents : List (Elem × Resident C))
+    (is : records_of state residents ≡ standing (world_of store) (core_in store.history).places) where
+  pub residents_show : ShowsAll (records_of state residents) (world_of store)
+  residents_show = subst (λ rs. ShowsAll rs (world_of store)) (sym is) (shows_all (world_of store) (core_in store.history).places history.sound.rising_places consistent.objects.placed)
 
   as_many : (kind : Kind) → count_of state (objects_of residents) kind ≡ objects_among store.shelves.items kind
   as_many kind =
       by_shown kind state residents
-      ∙ counts_all (records_of state residents) (world_in store) residents_show (sound_fit (core_in store.history) consistent.history.sound).rising_records kind
-      ∙ sym (shelves_count_there store consistent kind)
+      ∙ counts_all (records_of state residents) (world_of store) residents_show (sound_fit (core_in store.history) history.sound).rising_records kind
+      ∙ sym (shelves_count_there store history consistent kind)
 
   pub residents_counted : (kind : Kind) → supplied_to store.stock kind ≡ count_of state (objects_of residents) kind + blanks_in store.stock kind + (tally_in store.stock kind).retired
   residents_counted kind = consistent.census kind ∙ ap (λ n. n + blanks_in store.stock kind + (tally_in store.stock kind).retired) (sym (as_many kind))

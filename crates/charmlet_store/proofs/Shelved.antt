@@ -19,7 +19,7 @@ use Rattle.charmlet_model.specs.declared.kind.Kind.{Kind}
 use Rattle.charmlet_model.specs.declared.edition.Edition.{Edition}
 use Rattle.charmlet_model.specs.declared.state.Record.{Record}
 use Rattle.charmlet_model.specs.Names.{elem_cmp}
-use Rattle.charmlet_model.specs.World.{record_of}
+use Rattle.charmlet_model.specs.World.{World, record_of}
 use Rattle.charmlet_model.specs.Core.{Blanks, Core, Move, Stepped, Steps, place_of, present, place_or_home}
 use Rattle.charmlet_model.specs.Sound.{new_world, opened}
 use Rattle.charmlet_model.specs.Shelves.{Shows, if_here, shelf_of, there_in}
@@ -36,10 +36,19 @@ use Rattle.charmlet_stock.specs.Stock.{tally_in, supplied_to}
 use Rattle.charmlet_migrate.specs.Moving.{IsCountedAmong, IsIdle, ShowsPresent, numbers_of, objects_among, records_on}
 use Rattle.charmlet_migrate.proofs.CarriedShelves as carried
 use Rattle.charmlet_store.specs.Desk.{IsWithin, ShowsOn, IsDeskConsistent, desk_of, held_in}
-use Rattle.charmlet_store.specs.Store.{AreEmpty, AreNumbered, IsNew, IsStoreConsistent, world_in}
-use Rattle.charmlet_store.specs.declared.store.Store.{Store}
+use Rattle.charmlet_store.specs.Store.{AreEmpty, IsNew}
+use Rattle.charmlet_store.specs.Together.{AreNumbered, FitTogether}
+use Rattle.charmlet_store.specs.declared.store.Store.TheInside.{Inside}
 use Rattle.charmlet_store.proofs.Places.{Stays, stepped_core}
 use Rattle.charmlet_migrate.specs.Copying.{empty_shelf}
+
+-- the parts of a store fit together
+abbrev pub IsTogether : {C : Type 0} {G : Ghosts C} → Inside C G → Type 0
+IsTogether store = FitTogether store.history store.shelves.items store.stock
+
+-- the world after its whole history
+abbrev pub world_of : {C : Type 0} {G : Ghosts C} → Inside C G → World
+world_of store = present (core_in store.history)
 
 -- ---- a list with one element written over
 
@@ -96,12 +105,12 @@ module _ {C : Type 0} {G : Ghosts C} (history : History) (shelves : List View) (
       omega arith
 
 -- a shelf of a store that stands
-pub consistent_at : {C : Type 0} {G : Ghosts C} (store : Store C G) → IsStoreConsistent store → (p : ℕ) (shelf : View) → p < length store.shelves.items → shelf ≡ get_or store.shelves.items p shelf → IsDeskConsistent (desk_of store.history shelf store.stock)
-consistent_at store consistent p shelf within is =
+pub consistent_at : {C : Type 0} {G : Ghosts C} (store : Inside C G) → IsConsistent store.history → IsTogether store → (p : ℕ) (shelf : View) → p < length store.shelves.items → shelf ≡ get_or store.shelves.items p shelf → IsDeskConsistent (desk_of store.history shelf store.stock)
+consistent_at store history consistent p shelf within is =
     let shelves = store.shelves.items in
     let number = number_is store.history shelves store.stock consistent.numbers consistent.count consistent.objects p within shelf is in
     record {
-      history = consistent.history;
+      history = history;
       shelf = record {
         on = let count = consistent.count in omega arith;
         objects = shows_on store.history shelves store.stock consistent.numbers consistent.count consistent.objects p within shelf is;
@@ -111,15 +120,15 @@ consistent_at store consistent p shelf within is =
     }
 
 -- what it shows of an element whose place is this processor
-pub seen_at : {C : Type 0} {G : Ghosts C} (store : Store C G) → IsStoreConsistent store → (p : ℕ) (shelf : View) → p < length store.shelves.items → shelf ≡ get_or store.shelves.items p shelf → (x : Elem) (place : ℕ) → p ≡ place →
-    place_of (core_in store.history) x ≡ Some place → lookup (is_at (elem_cmp x)) shelf.records ≡ if_here (Some place) place (record_of (world_in store) x)
-seen_at store consistent p shelf within is x place same on =
+pub seen_at : {C : Type 0} {G : Ghosts C} (store : Inside C G) → IsConsistent store.history → IsTogether store → (p : ℕ) (shelf : View) → p < length store.shelves.items → shelf ≡ get_or store.shelves.items p shelf → (x : Elem) (place : ℕ) → p ≡ place →
+    place_of (core_in store.history) x ≡ Some place → lookup (is_at (elem_cmp x)) shelf.records ≡ if_here (Some place) place (record_of (world_of store) x)
+seen_at store history consistent p shelf within is x place same on =
     let number = number_is store.history store.shelves.items store.stock consistent.numbers consistent.count consistent.objects p within shelf is in
-    (consistent_at store consistent p shelf within is).shelf.objects.shown x ∙ (λ i. if_here (on i) ((number ∙ same) i) (record_of (world_in store) x))
+    (consistent_at store history consistent p shelf within is).shelf.objects.shown x ∙ (λ i. if_here (on i) ((number ∙ same) i) (record_of (world_of store) x))
 
 -- ---- the store once a delivery has ended on one of its shelves
 
-module _ {C : Type 0} {G : Ghosts C} (old new : Store C G) (consistent : IsStoreConsistent old) (p : ℕ) (within : p < length old.shelves.items) (before shelf : View)
+module _ {C : Type 0} {G : Ghosts C} (old new : Inside C G) (consistent : IsTogether old) (p : ℕ) (within : p < length old.shelves.items) (before shelf : View)
     (is : before ≡ get_or old.shelves.items p before) (written : new.shelves.items ≡ slice_set old.shelves.items p shelf)
     (now : IsDeskConsistent (desk_of new.history shelf new.stock)) (number : shelf.number ≡ before.number) where
   abbrev first : List View
@@ -166,9 +175,8 @@ module _ {C : Type 0} {G : Ghosts C} (old new : Store C G) (consistent : IsStore
       let counted = consistent.census kind in
       omega arith
 
-  pub delivered_consistent : Stays p (core_in old.history) (core_in new.history) → held_in shelf new.stock ≡ held_in before old.stock → supplied_to new.stock ≡ supplied_to old.stock → IsStoreConsistent new
+  pub delivered_consistent : Stays p (core_in old.history) (core_in new.history) → held_in shelf new.stock ≡ held_in before old.stock → supplied_to new.stock ≡ supplied_to old.stock → IsTogether new
   delivered_consistent stays held supplied = record {
-    history = now.history;
     count = ap length written ∙ length-set first p shelf ∙ consistent.count ∙ sym stays.processors;
     numbers = subst AreNumbered (sym written) still_numbered;
     idle = subst (All IsIdle) (sym written) still_idle;
@@ -178,13 +186,12 @@ module _ {C : Type 0} {G : Ghosts C} (old new : Store C G) (consistent : IsStore
 
 -- ---- the store once an element was moved
 
-pub moved_consistent : {C : Type 0} {G : Ghosts C} (old new : Store C G) → IsStoreConsistent old → (shelves : List View) → new.shelves.items ≡ shelves → numbers_of shelves ≡ numbers_of old.shelves.items → IsConsistent new.history →
-    (core_in new.history).processors ≡ (core_in old.history).processors → All IsIdle shelves → ShowsPresent shelves new.history → IsCountedAmong shelves new.stock → IsStoreConsistent new
-moved_consistent old new consistent shelves is numbers history processors idle shows counted =
+pub moved_consistent : {C : Type 0} {G : Ghosts C} (old new : Inside C G) → IsTogether old → (shelves : List View) → new.shelves.items ≡ shelves → numbers_of shelves ≡ numbers_of old.shelves.items →
+    (core_in new.history).processors ≡ (core_in old.history).processors → All IsIdle shelves → ShowsPresent shelves new.history → IsCountedAmong shelves new.stock → IsTogether new
+moved_consistent old new consistent shelves is numbers processors idle shows counted =
     let number = λ (v : View). v.number in
     let same : length shelves ≡ length old.shelves.items = sym (length-map shelves number) ∙ ap length numbers ∙ length-map old.shelves.items number in
     record {
-      history = history;
       count = ap length is ∙ same ∙ consistent.count ∙ sym processors;
       numbers = subst AreNumbered (sym is)
           (λ p shelf less.
@@ -239,14 +246,13 @@ bare_shows shelves processors manifest log_end bare core opens =
       shown = λ q x. ap (lookup (is_at (elem_cmp x))) (bare_records shelves bare q);
     })
 
-pub new_consistent : {C : Type 0} {G : Ghosts C} (store : Store C G) → IsNew (core_in store.history) → IsConsistent store.history → AreEmpty (core_in store.history).processors store.shelves.items →
-    ((kind : Kind) → tally_in store.stock kind ≡ nothing) → IsStoreConsistent store
-new_consistent store new history empty none =
+pub new_consistent : {C : Type 0} {G : Ghosts C} (store : Inside C G) → IsNew (core_in store.history) → AreEmpty (core_in store.history).processors store.shelves.items →
+    ((kind : Kind) → tally_in store.stock kind ≡ nothing) → IsTogether store
+new_consistent store new empty none =
     let processors = (core_in store.history).processors in
     let shelves = store.shelves.items in
     let bare = all_bare processors shelves empty in
     record {
-      history = history;
       count = empty.count;
       numbers = λ p shelf less. ap (λ (v : View). v.number) (empty.empty p shelf (let count = empty.count in omega arith));
       idle = λ p shelf less. ap (λ (v : View). v.phase) (empty.empty p shelf (let count = empty.count in omega arith));

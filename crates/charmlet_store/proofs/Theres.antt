@@ -7,13 +7,13 @@ use Rattle.charmlet_model.specs.declared.kind.Kind.{Kind}
 use Rattle.charmlet_model.specs.Shelves.{on_shelves, there_in}
 use Rattle.charmlet_model.proofs.SoundLemmas.{sound_fit}
 use Rattle.charmlet_chare.specs.declared.chare.Chare.{Ghosts}
-use Rattle.charmlet_history.specs.Kept.{core_in}
+use Rattle.charmlet_model.specs.Core.{present}
+use Rattle.charmlet_history.specs.Kept.{IsConsistent, core_in}
 use Rattle.charmlet_shelf.specs.Count.{is_newcomer_of, objects_on}
 use Rattle.charmlet_shelf.specs.Shelf.{View}
 use Rattle.charmlet_migrate.specs.Moving.{IsIdle, objects_among, records_on}
-use Rattle.charmlet_store.specs.declared.store.Store.{Store}
-use Rattle.charmlet_store.specs.Census.{census_in}
-use Rattle.charmlet_store.specs.Store.{IsStoreConsistent, world_in}
+use Rattle.charmlet_store.specs.declared.store.Store.TheInside.{Inside}
+use Rattle.charmlet_store.proofs.Shelved.{IsTogether}
 use Rattle.charmlet_store.specs.There.{there_of}
 use Rattle.charmlet_model.proofs.ShelfCounts.{shelves_count}
 
@@ -27,7 +27,7 @@ idle_objects kind (shelf ∷ shelves) idle =
     ∙ sym (sum_by-cons (λ records. there_in records kind) shelf.records (records_on shelves))
 
 -- a store that stands has as many objects of the kind on its shelves as elements of it are there
-pub shelves_count_there : {C : Type 0} {G : Ghosts C} (store : Store C G) → IsStoreConsistent store → (kind : Kind) → (census_in store kind).on_shelves ≡ there_of (world_in store) kind
-shelves_count_there store consistent kind =
+pub shelves_count_there : {C : Type 0} {G : Ghosts C} (store : Inside C G) → IsConsistent store.history → IsTogether store → (kind : Kind) → objects_among store.shelves.items kind ≡ there_of (present (core_in store.history)) kind
+shelves_count_there store history consistent kind =
     idle_objects kind store.shelves.items (recursion_from_All IsIdle store.shelves.items consistent.idle)
-    ∙ shelves_count (records_on store.shelves.items) (core_in store.history).places (world_in store) kind (sound_fit (core_in store.history) consistent.history.sound).rising_records consistent.objects
+    ∙ shelves_count (records_on store.shelves.items) (core_in store.history).places (present (core_in store.history)) kind (sound_fit (core_in store.history) history.sound).rising_records consistent.objects

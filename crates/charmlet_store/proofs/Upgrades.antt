@@ -33,8 +33,9 @@ use Rattle.charmlet_stock.specs.declared.stock.Stock.{Stock}
 use Rattle.charmlet_stock.specs.ByKind.{at}
 use Rattle.charmlet_stock.specs.Stock.{blanks_in, census_of, supplied_to}
 use Rattle.charmlet_migrate.specs.Moving.{IsIdle, objects_among, records_on}
-use Rattle.charmlet_store.specs.declared.store.Store.{Store}
-use Rattle.charmlet_store.specs.Store.{AreNumbered, IsStoreConsistent}
+use Rattle.charmlet_store.specs.declared.store.Store.TheInside.{Inside}
+use Rattle.charmlet_store.proofs.Shelved.{IsTogether}
+use Rattle.charmlet_store.specs.Together.{AreNumbered}
 use Rattle.charmlet_store.specs.Upgraded.{up_shelf, up_shelves}
 
 -- ---- the first so many shelves
@@ -156,11 +157,10 @@ count_up (shelf ∷ shelves) kind =
 
 -- ---- a stock that drops what it kept
 
-module _ {C : Type 0} {G : Ghosts C} (store : Store C G) (stock : Stock C G) (same : census_of stock ≡ census_of store.stock) where
+module _ {C : Type 0} {G : Ghosts C} (store : Inside C G) (stock : Stock C G) (same : census_of stock ≡ census_of store.stock) where
   -- the store is as consistent as it was
-  pub dropped_consistent : IsStoreConsistent store → IsStoreConsistent (record store { stock = stock })
+  pub dropped_consistent : IsTogether store → IsTogether (record store { stock = stock })
   dropped_consistent h = record {
-    history = h.history;
     count = h.count;
     numbers = h.numbers;
     idle = h.idle;

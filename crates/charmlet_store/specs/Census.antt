@@ -1,16 +1,15 @@
 -- The census of a store.
 use Rattle.charmlet_model.specs.declared.kind.Kind.{Kind}
-use Rattle.charmlet_chare.specs.declared.chare.Chare.{Ghosts}
-use Rattle.charmlet_stock.specs.Stock.{tally_in}
+use Rattle.charmlet_stock.specs.ByKind.{at}
 use Rattle.charmlet_store.specs.declared.census.Census.{Census}
-use Rattle.charmlet_store.specs.declared.store.Store.{Store}
-use Rattle.charmlet_migrate.specs.Moving.{objects_among}
+use Rattle.charmlet_store.specs.Store.{StoreShown, world_in}
+use Rattle.charmlet_store.specs.There.{there_of}
 
--- what is counted of a kind
-abbrev pub census_in : {C : Type 0} {G : Ghosts C} → Store C G → Kind → Census
+-- what is counted of a kind: on the shelves are as many as elements are there
+abbrev pub census_in : StoreShown → Kind → Census
 census_in store kind = record {
-  supplied = (tally_in store.stock kind).supplied;
-  on_shelves = objects_among store.shelves.items kind;
-  in_stock = (tally_in store.stock kind).in_stock;
-  retired = (tally_in store.stock kind).retired;
+  supplied = (at store.census kind).supplied;
+  on_shelves = there_of (world_in store) kind;
+  in_stock = (at store.census kind).in_stock;
+  retired = (at store.census kind).retired;
 }

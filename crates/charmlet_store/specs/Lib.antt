@@ -2,6 +2,7 @@
 pub mod Desk
 pub mod UnderWay
 pub mod Store
+pub mod Together
 pub mod Census
 pub mod Look
 pub mod There

@@ -4,7 +4,6 @@ ghost use Rattle.std.specs.Prelude.{◌≡◌, ◌+◌, ◌≤◌};
 ghost use Rattle.charmlet_model.specs.Reaction.{greatest};
 ghost use Rattle.charmlet_migrate.specs.Moving.{objects_among};
 ghost use Rattle.charmlet_store.specs.Census.{census_in};
-ghost use Rattle.charmlet_store.specs.Store.{IsStoreConsistent};
 
 use crate::store::Store;
 use charmlet_chare::Chare;
@@ -26,10 +25,10 @@ impl<C: Chare> Store<C> {
     /// retired. Those on the shelves are counted there. Each object that was supplied is in one of
     /// the three.
     pub fn census(&self, kind: Kind) -> Census
-        requires { IsStoreConsistent self.now }
         ensures counts { result ≡ census_in self.now kind }
         ensures adds_up { result.supplied ≡ result.on_shelves + result.in_stock + result.retired }
     {
+        self.history.facts();
         let stock = self.stock.census();
         let tally = stock.get(kind);
         Census {

@@ -12,7 +12,8 @@ ghost use Rattle.charmlet_history.specs.Kept.{core_in};
 ghost use Rattle.charmlet_migrate.specs.Copying.{shelf_at};
 ghost use Rattle.charmlet_migrate.specs.Moving.{IsIdle, ShowsPresent};
 ghost use Rattle.charmlet_store.specs.Dismantled.{IsCountedIn, IsOnShelf, standing, without};
-ghost use Rattle.charmlet_store.specs.Store.{IsStoreConsistent, world_in};
+ghost use Rattle.charmlet_stock.specs.Stock.{census_of, keeping_of};
+ghost use Rattle.charmlet_store.specs.Store.{world_in};
 
 use crate::store::Store;
 use charmlet_chare::Chare;
@@ -36,14 +37,15 @@ impl<C: Chare> Store<C> {
     /// the places and of the residents take, and so not where no element is there; then the store
     /// comes back as it was.
     pub fn dismantle(self) -> Result<Dismantled<C>, Store<C>>
-        requires { IsStoreConsistent self }
         ensures shows { IfOk result (λ parts.
             ShowsAll (records_of C.state parts.residents.items) (world_in self)) }
-        ensures stock { IfOk result (λ parts. parts.stock ≡ self.stock) }
+        ensures stock { IfOk result (λ parts. (census_of parts.stock ≡ self.census)
+            × (keeping_of parts.stock ≡ self.keeping)) }
         ensures counted { IfOk result (IsCountedIn C.state) }
         ensures nothing { (core_in self.history).places ≡ [] → IsOk result }
         ensures err { IfErr result (λ back. back ≡ self) }
     {
+        self.history.facts();
         let Ok(places) = self.history.places() else {
             return Err(self);
         };

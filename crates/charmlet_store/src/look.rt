@@ -5,7 +5,7 @@ ghost use Rattle.charmlet_model.specs.Core.{place_of};
 ghost use Rattle.charmlet_model.specs.World.{record_of};
 ghost use Rattle.charmlet_history.specs.Kept.{core_in};
 ghost use Rattle.charmlet_store.specs.Look.{IsLook, StandsWith};
-ghost use Rattle.charmlet_store.specs.Store.{IsStoreConsistent, world_in};
+ghost use Rattle.charmlet_store.specs.Store.{world_in};
 
 use crate::store::Store;
 use charmlet_chare::Chare;
@@ -31,7 +31,6 @@ pub struct Standing {
 impl<C: Chare> Store<C> {
     /// How many messages are pending.
     pub fn pending_count(&self) -> usize
-        requires { IsStoreConsistent self.now }
         ensures { result ≡ length (world_in self.now).pending }
     {
         self.history.pending_count()
@@ -39,7 +38,6 @@ impl<C: Chare> Store<C> {
 
     /// The ids of the pending messages, in order of birth.
     pub fn pending(&self) -> Result<Vec<MsgId>, AllocError>
-        requires { IsStoreConsistent self.now }
         ensures { IfOk result (λ ids. ids.items ≡ map (λ m. m.id) (world_in self.now).pending) }
     {
         let mut ids = Vec::with_capacity(self.alloc, self.pending_count())?;
@@ -52,12 +50,12 @@ impl<C: Chare> Store<C> {
     /// What is seen of an element. It fails only when out of memory, which the packed state takes,
     /// and so not where the element isn't there. Nothing changes.
     pub fn look(&mut self, elem: Elem) -> Result<Look, AllocError>
-        requires { IsStoreConsistent self.old }
         ensures same { self.new ≡ self.old }
         ensures ok { IfOk result (IsLook (place_of (core_in self.old.history) elem)
             (record_of (world_in self.old) elem)) }
         ensures absent { (record_of (world_in self.old) elem).state ≡ None → IsOk result }
     {
+        self.history.facts();
         let counts = self.history.element(elem);
         let standing = self.standing_of(elem)?;
         Ok(Look {
@@ -69,12 +67,12 @@ impl<C: Chare> Store<C> {
 
     /// Where an element stands, if it is there. It fails only when out of memory. Nothing changes.
     fn standing_of(&mut self, elem: Elem) -> Result<Option<Standing>, AllocError>
-        requires { IsStoreConsistent self.old }
         ensures same { self.new ≡ self.old }
         ensures ok { IfOk result (StandsWith (place_of (core_in self.old.history) elem)
             (record_of (world_in self.old) elem).state) }
         ensures absent { (record_of (world_in self.old) elem).state ≡ None → IsOk result }
     {
+        self.history.facts();
         let Some(processor) = self.history.where_is(elem) else {
             return Ok(None);
         };

@@ -14,7 +14,7 @@ ghost use Rattle.charmlet_migrate.specs.Moving.{move_answer};
 ghost use Rattle.charmlet_stock.specs.ByKind.{for_all, with_at};
 ghost use Rattle.charmlet_stock.specs.Pile.{with_out};
 ghost use Rattle.charmlet_stock.specs.Stock.{blanks_in, census_of, keeping_of, part_of, tally_in};
-ghost use Rattle.charmlet_store.specs.Store.{AreEmpty, IsNew, IsStoreConsistent, store_in, supplied_in};
+ghost use Rattle.charmlet_store.specs.Store.{AreEmpty, IsNew, store_in, supplied_in};
 ghost use Rattle.charmlet_store.specs.UnderWay.{Ends};
 
 use crate::delivery::deliver_on;
@@ -25,9 +25,11 @@ use charmlet_model::{Elem, Kind, MsgId, Refusal, Told};
 use charmlet_shelf::Shelf;
 use charmlet_stock::Stock;
 use std::alloc::{AllocError, Global};
+use std::marker::Model;
 
 /// A history, a shelf for each processor with the objects that it made, and a stock of blank ones.
-/// It knows no disk: whoever writes the history to one takes care that the shelves still show it.
+/// It knows no disk: whoever writes the history to one shows that its parts still fit together. A
+/// contract sees what the history keeps, the census of the objects, and which retired ones are kept.
 #[derive(Drop)]
 pub struct Store<C: Chare> {
     pub alloc: Global,
@@ -35,6 +37,17 @@ pub struct Store<C: Chare> {
     /// The shelf of each processor. They count from 0.
     pub shelves: Vec<Shelf<C>>,
     pub stock: Stock<C>,
+}
+
+impl<C: Chare> Model for Store<C> {
+    ghost use Rattle.charmlet_store.specs.Store.{StoreShown};
+    ghost use Rattle.charmlet_store.specs.Together.{FitTogether, shown_by};
+
+    ghost Value = { StoreShown };
+
+    ghost view = { λ s. shown_by s.history s.stock };
+
+    ghost invariant = { λ s. FitTogether s.history s.shelves.items s.stock };
 }
 
 impl<C: Chare> Store<C> {
@@ -46,10 +59,8 @@ impl<C: Chare> Store<C> {
         ensures core { core_in result.history ≡ core_in history }
         ensures blanks { (kind : kinds.Kind) → (store_in result).blanks kind ≡ 0 }
         ensures supplied { (kind : kinds.Kind) → supplied_in result kind ≡ 0 }
-        ensures keeping { keeping_of result.stock ≡ for_all false }
-        ensures consistent { IsStoreConsistent result }
+        ensures keeping { result.keeping ≡ for_all false }
     {
-        history.facts();
         Store {
             alloc,
             history,
@@ -61,8 +72,6 @@ impl<C: Chare> Store<C> {
     /// Takes blank objects into the stock. Where memory is refused it hands all of them back, and
     /// nothing has changed.
     pub fn supply(&mut self, blanks: Vec<C>) -> Result<(), Vec<C>>
-        requires { IsStoreConsistent self.old }
-        ensures consistent { IsStoreConsistent self.new }
         ensures core { (store_in self.new).core ≡ (store_in self.old).core }
         ensures ok { OnOk result ((kind : kinds.Kind) →
             (store_in self.new).blanks kind
@@ -73,7 +82,7 @@ impl<C: Chare> Store<C> {
         ensures err { IfErr result (λ objects. (objects.items ≡ blanks.items)
             × ((store_in self.new).blanks ≡ (store_in self.old).blanks)
             × (supplied_in self.new ≡ supplied_in self.old)) }
-        ensures keeping { keeping_of self.new.stock ≡ keeping_of self.old.stock }
+        ensures keeping { self.new.keeping ≡ self.old.keeping }
     {
         self.stock.supply(blanks)
     }
@@ -86,9 +95,7 @@ impl<C: Chare> Store<C> {
         kind: Kind,
         count: usize,
     ) -> Result<(), AllocError>
-        requires consistent { IsStoreConsistent self.old }
         requires enough { count ≤ blanks_in source.old kind }
-        ensures consistent { IsStoreConsistent self.new }
         ensures core { (store_in self.new).core ≡ (store_in self.old).core }
         ensures drawn { OnOk result ((k : kinds.Kind) →
             (store_in self.new).blanks k ≡ (store_in self.old).blanks k + part_of kind count k) }
@@ -101,7 +108,7 @@ impl<C: Chare> Store<C> {
         ensures err { OnErr result ((store_in self.new ≡ store_in self.old)
             × (supplied_in self.new ≡ supplied_in self.old)
             × (census_of source.new ≡ census_of source.old)) }
-        ensures keeping { keeping_of self.new.stock ≡ keeping_of self.old.stock }
+        ensures keeping { self.new.keeping ≡ self.old.keeping }
         ensures source_keeping { keeping_of source.new ≡ keeping_of source.old }
     {
         self.stock.draw(source, kind, count)
@@ -109,11 +116,9 @@ impl<C: Chare> Store<C> {
 
     /// From now on the stock drops what is retired, and first what it kept. It takes no memory.
     pub fn drop_retired(&mut self)
-        requires { IsStoreConsistent self.old }
-        ensures consistent { IsStoreConsistent self.new }
         ensures same { store_in self.new ≡ store_in self.old }
         ensures supplied { supplied_in self.new ≡ supplied_in self.old }
-        ensures dropping { keeping_of self.new.stock ≡ for_all false }
+        ensures dropping { self.new.keeping ≡ for_all false }
     {
         self.stock.drop_retired();
     }
@@ -121,7 +126,6 @@ impl<C: Chare> Store<C> {
     /// The oldest message that can be delivered, and before it the processor that is to deliver it:
     /// the place of its receiver, or the home of one that isn't there.
     pub fn next(&self) -> Option<(u16, MsgId)>
-        requires { IsStoreConsistent self.now }
         ensures { result ≡ next_in (core_in self.now.history) }
     {
         self.history.next()
@@ -129,23 +133,18 @@ impl<C: Chare> Store<C> {
 
     /// A client asks for a delivery, and is told what is durable of it. A repeat of a request of
     /// its window changes nothing. A refusal leaves all as it was.
-    pub fn request(&mut self, request: &Request<'_>) -> Result<Told, Refusal>
-        requires { IsStoreConsistent self.old }
-        ensures consistent { IsStoreConsistent self.new }
-        ensures goes { Goes (store_in self.old) (core.Request request.now.client request.now.number
+    pub fn request(&mut self, client: u32, request: &Request<'_>) -> Result<Told, Refusal>
+        ensures goes { Goes (store_in self.old) (core.Request client request.now.number
             request.now.to request.now.entry request.now.words.now) (told_or_refused result)
             (store_in self.new) }
         ensures supplied { supplied_in self.new ≡ supplied_in self.old }
-        ensures keeping { keeping_of self.new.stock ≡ keeping_of self.old.stock }
+        ensures keeping { self.new.keeping ≡ self.old.keeping }
     {
-        let told = self.history.request(request);
-        self.history.facts();
-        told
+        self.history.request(client, request)
     }
 
     /// A client is told what is durable of one of its requests. Nothing changes.
     pub fn status(&self, client: u32, number: u64) -> Result<Told, Refusal>
-        requires { IsStoreConsistent self.now }
         ensures { Goes (store_in self.now) (core.Status client number) (told_or_refused result)
             (store_in self.now) }
     {
@@ -154,12 +153,11 @@ impl<C: Chare> Store<C> {
 
     /// Delivers a pending message on a processor. Where it is refused, all is as before.
     pub fn deliver(&mut self, processor: u16, id: MsgId) -> Result<(), Refusal>
-        requires { IsStoreConsistent self.old }
-        ensures consistent { IsStoreConsistent self.new }
         ensures ends { Ends (store_in self.old) processor id result (store_in self.new) }
         ensures supplied { supplied_in self.new ≡ supplied_in self.old }
-        ensures keeping { keeping_of self.new.stock ≡ keeping_of self.old.stock }
+        ensures keeping { self.new.keeping ≡ self.old.keeping }
     {
+        self.history.facts();
         if self.history.is_halted() {
             return Err(Refusal::Halted);
         }
@@ -171,22 +169,18 @@ impl<C: Chare> Store<C> {
 
     /// Moves an element to a processor. Where it is refused, all is as before.
     pub fn relocate(&mut self, elem: Elem, processor: u16) -> Result<(), Refusal>
-        requires { IsStoreConsistent self.old }
-        ensures consistent { IsStoreConsistent self.new }
         ensures goes { Goes (store_in self.old) (core.Move elem processor) (move_answer result)
             (store_in self.new) }
         ensures supplied { supplied_in self.new ≡ supplied_in self.old }
-        ensures keeping { keeping_of self.new.stock ≡ keeping_of self.old.stock }
+        ensures keeping { self.new.keeping ≡ self.old.keeping }
     {
-        let moved = move_to(
+        move_to(
             &mut self.history,
             self.shelves.as_mut_slice(),
             &mut self.stock,
             elem,
             processor,
-        );
-        self.history.facts();
-        moved
+        )
     }
 }
 

@@ -5,7 +5,6 @@ ghost use Rattle.std.specs.List.{All};
 ghost use Rattle.charmlet_history.specs.Kept.{core_in};
 ghost use Rattle.charmlet_history.specs.Opened.{upgraded_core};
 ghost use Rattle.charmlet_migrate.specs.Moving.{IsIdle};
-ghost use Rattle.charmlet_store.specs.Store.{IsStoreConsistent};
 ghost use Rattle.charmlet_store.specs.Upgraded.{up_shelves};
 
 use crate::store::Store;
@@ -16,16 +15,14 @@ impl<C: Chare> Store<C> {
     /// A store in which nothing has happened since it opened goes on in the newest versions of its
     /// kinds, each object by its own `upgrade`. It takes no memory.
     pub fn upgrade(&mut self)
-        requires consistent { IsStoreConsistent self.old }
         requires new { (core_in self.old.history).history ≡ [] }
         requires unassigned { (core_in self.old.history).assigned ≡ [] }
-        ensures consistent { IsStoreConsistent self.new }
         ensures core { core_in self.new.history ≡ upgraded_core (core_in self.old.history) }
-        ensures stock { self.new.stock ≡ self.old.stock }
+        ensures census { self.new.census ≡ self.old.census }
+        ensures keeping { self.new.keeping ≡ self.old.keeping }
     {
         upgrade_shelves(&mut self.shelves);
         self.history.upgrade();
-        self.history.facts();
     }
 }
 

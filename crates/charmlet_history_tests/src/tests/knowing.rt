@@ -9,9 +9,7 @@ use charmlet_requests::{ClientPass, Passes};
 use std::process::Abort;
 
 // An array of counters.
-fn one_array(rt: &(impl AllocGlobal + Abort)) -> Manifest
-    ensures { IsFit (new_world result) }
-{
+fn one_array(rt: &(impl AllocGlobal + Abort)) -> Manifest {
     match Manifest::of(rt.alloc(), &[(0, 1)]) {
         Ok(Some(manifest)) => manifest,
         _ => panic!(rt; "there is an array"),

@@ -70,13 +70,12 @@ fn of_client(client: u32, number: u64) -> MsgId {
 // Asks for an entry that counters lack.
 fn ask(history: &mut History, client: u32, number: u64) -> Result<Told, Refusal> {
     let request = Request {
-        client,
         number,
         to: counter_at(0),
         entry: 4,
         words: &[4],
     };
-    history.request(&request)
+    history.request(client, &request)
 }
 
 fn told(answered: Result<Told, Refusal>) -> Answer {

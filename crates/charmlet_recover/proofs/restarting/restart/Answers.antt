@@ -3,7 +3,6 @@ use Rattle.std.specs.Prelude.{Err}
 use Rattle.charmlet_disk.specs.Disk.{IsSettled}
 use Rattle.charmlet_recovery.specs.Recovered as files
 use Rattle.charmlet_stock.specs.Stock.{blanks_in}
-use Rattle.charmlet_store.specs.Store.{IsStoreConsistent}
 use Rattle.charmlet_journal.specs.Rest.{GoesOn, IsCurrent, IsKept}
 use Rattle.charmlet_recover.specs.declared.restarting.Recovered.{Recovered}
 use Rattle.charmlet_replay.specs.Replayed.{IsReplayed}
@@ -13,12 +12,6 @@ use Rattle.charmlet_recover.proofs.Crashed.{answers_after_crash}
 use Rattle.charmlet_recover.proofs.Kept.{survey_found}
 use Rattle.charmlet_recover.proofs.Restarted.{as_answer, both_ok, came_current, came_found, came_goes_on, came_keeps, came_opens, came_read, came_short, came_taken, then_ok}
 use Rattle.charmlet_recover.proofs.restarting.restart.Goals as goal
-
-pub returns-in-Ok-clause-consistent : goal.returns-in-Ok-clause-consistent
-returns-in-Ok-clause-consistent g c =
-    let read = c.in-Ok.ensures.reads.0 in
-    then_ok (λ back. IsReplayed c.args.processors (blanks_in c.args.blanks) read.0 (replayed_in back)) (λ back. IsStoreConsistent {G = g.C.Chare} back.store) c.restart_from.result
-    (λ back is. is.ready.consistent) (c.restart_from.ensures.ok read.0 read.1.found)
 
 pub returns-in-Ok-clause-opens : goal.returns-in-Ok-clause-opens
 returns-in-Ok-clause-opens g c =
@@ -112,10 +105,10 @@ returns-in-Ok-clause-same g c = λ honest.
 
 pub returns-in-Err-clause-answer : goal.returns-in-Err-clause-answer
 returns-in-Err-clause-answer g c = λ honest good.
-    unfound_answers (Recovered g.row.D.Denot g.row.C.Denot g.D.Disk g.C.Chare) (blanks_in c.args.blanks) (bytes_on (g.D.Disk.file c.args.disk)) c.in-Err.field-0.refusal (c.in-Err.ensures.finds honest)
+    unfound_answers (Recovered g.row.D.Denot g.row.C.Denot g.D.Disk) (blanks_in c.args.blanks) (bytes_on (g.D.Disk.file c.args.disk)) c.in-Err.field-0.refusal (c.in-Err.ensures.finds honest)
 
 pub returns-in-Err-clause-lawful : goal.returns-in-Err-clause-lawful
 returns-in-Err-clause-lawful g c = λ honest w before history durable lawful.
     let outcome = bytes_on (g.D.Disk.file c.args.disk) in
-    answers_after_crash {D = g.row.D.Denot} {C = g.row.C.Denot} {G = g.D.Disk} {H = g.C.Chare} w before history durable outcome lawful (blanks_in c.args.blanks) (Err c.in-Err.field-0.refusal)
-    (unfound_answers (Recovered g.row.D.Denot g.row.C.Denot g.D.Disk g.C.Chare) (blanks_in c.args.blanks) outcome c.in-Err.field-0.refusal (c.in-Err.ensures.finds honest)) tt
+    answers_after_crash {D = g.row.D.Denot} {C = g.row.C.Denot} {G = g.D.Disk} w before history durable outcome lawful (blanks_in c.args.blanks) (Err c.in-Err.field-0.refusal)
+    (unfound_answers (Recovered g.row.D.Denot g.row.C.Denot g.D.Disk) (blanks_in c.args.blanks) outcome c.in-Err.field-0.refusal (c.in-Err.ensures.finds honest)) tt

@@ -18,7 +18,6 @@ use Rattle.charmlet_recovery.specs.Restarts.{wanted_of}
 use Rattle.charmlet_history.specs.Kept.{core_in}
 use Rattle.charmlet_stock.specs.Pile.{nothing, supplied_more}
 use Rattle.charmlet_stock.specs.Stock.{blanks_in, supplied_to, tally_in}
-use Rattle.charmlet_store.specs.declared.store.Store.{Store}
 use Rattle.charmlet_replay.specs.declared.reopening.NotReplayed.{NotReplayed}
 use Rattle.charmlet_replay.specs.Lists.{AreMade, HasBlanksFor, IsFirstFault, events_in, places_in}
 use Rattle.charmlet_replay.specs.Ready.{IsReady}
@@ -26,6 +25,7 @@ use Rattle.charmlet_replay.specs.Replayed.{IsFaultAt, IsRepeated}
 use Rattle.charmlet_replay.proofs.Results.{all_then, refused_then}
 use Rattle.charmlet_replay.proofs.OpenHalves.{blanks_for_image, event_at_fault, few_before, few_generations, fit, good_bytes, good_events, has_blanks, image_at_fault, is_repeated, some_generation, supplied_back, unused_back}
 use Rattle.charmlet_replay.proofs.replaying.repeat.Goals as goal
+use Rattle.charmlet_store.specs.Store.{blanks_of, StoreShown}
 
 pub bring_image_back-requires-clause-blanks : goal.bring_image_back-requires-clause-blanks
 bring_image_back-requires-clause-blanks g c κs within =
@@ -73,16 +73,16 @@ returns-in-Ok-opening-clause-ok g c = λ bytes s is.
     let rest = half.log.rest.now in
     let world : c.in-Ok-opening.opening.world ≡ base (image_said half.image) = c.in-Ok-opening.ensures.world ∙ c.of-seen.ensures in
     all_then c.replay_log.result
-    (λ (store : Store _ _). IsReady store)
-    (λ (store : Store _ _). AreMade (opened c.in-Ok-opening.opening.processors c.in-Ok-opening.opening.world half.header.events half.header.generation half.log.ends) (events_in c.in-Ok-opening.opening.world.manifest rest) (core_in store.history))
-    (λ (store : Store _ _). (kind : Kind) → blanks_in store.stock kind + made_by_events kind c.in-Ok-opening.opening.world (events_of (events_in c.in-Ok-opening.opening.world.manifest rest)) ≡ blanks_in r.stock kind)
+    (λ (store : StoreShown). IsReady store)
+    (λ (store : StoreShown). AreMade (opened c.in-Ok-opening.opening.processors c.in-Ok-opening.opening.world half.header.events half.header.generation half.log.ends) (events_in c.in-Ok-opening.opening.world.manifest rest) (core_in store.history))
+    (λ (store : StoreShown). (kind : Kind) → blanks_of store kind + made_by_events kind c.in-Ok-opening.opening.world (events_of (events_in c.in-Ok-opening.opening.world.manifest rest)) ≡ blanks_in r.stock kind)
     (IsRepeated n (blanks_in c.args.blanks) s)
     (λ store ready made left.
     subst (λ (b : Blanks). IsRepeated n b s store) c.in-Ok.ensures.blanks
     (is_repeated bytes s half is (blanks_in c.in-Ok.restored.stock) r _ c.in-Ok-bring_image_back.ensures.ok n store ready
     (subst (λ (m : ℕ). AreMade (opened m (base (image_said half.image)) half.header.events half.header.generation half.log.ends) (events_in (base (image_said half.image)).manifest rest) (core_in store.history)) c.in-Ok-opening.ensures.on
     (subst (λ (w : World). AreMade (opened c.in-Ok-opening.opening.processors w half.header.events half.header.generation half.log.ends) (events_in w.manifest rest) (core_in store.history)) world made))
-    (λ kind. subst (λ (w : World). blanks_in store.stock kind + made_by_events kind w (events_of (events_in w.manifest rest)) ≡ blanks_in r.stock kind) world (left kind))))
+    (λ kind. subst (λ (w : World). blanks_of store kind + made_by_events kind w (events_of (events_in w.manifest rest)) ≡ blanks_in r.stock kind) world (left kind))))
     c.replay_log.ensures.ready c.replay_log.ensures.made c.replay_log.ensures.blanks
 
 pub returns-in-Ok-opening-clause-fault : goal.returns-in-Ok-opening-clause-fault

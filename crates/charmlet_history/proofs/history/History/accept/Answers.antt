@@ -38,11 +38,11 @@ accept-requires c =
     let k = kept_of c.self.inside in
     let same = sym c.self.view_is in
     let running : k.halted ≡ false = ap (λ (k : Kept). k.halted) c.self.view_is ∙ c.requires.running in
-    let new : repeats k r.client r.number ≡ false = ap (λ k. repeats k r.client r.number) c.self.view_is ∙ c.requires.new in
-    let turns : None ≡ first_refusal (turn_gates (client_at k.clients r.client).present r.number) = subst (λ (k : Kept). None ≡ first_refusal (turn_gates (client_at k.clients r.client).present r.number)) same (sym c.requires.turn) in
-    let fits : None ≡ first_refusal (limit_gates k r.client r.to.array r.words.now) = subst (λ (k : Kept). None ≡ first_refusal (limit_gates k r.client r.to.array r.words.now)) same (sym c.requires.fits) in
-    let event : IsRequest r.client r.number r.to r.entry r.words.now = search rules in
-    record { apart = request_new k c.self.invariant.consistent running r.client r.number r.to r.entry r.words.now (λ _. 0) new turns fits event }
+    let new : repeats k c.args.client r.number ≡ false = ap (λ k. repeats k c.args.client r.number) c.self.view_is ∙ c.requires.new in
+    let turns : None ≡ first_refusal (turn_gates (client_at k.clients c.args.client).present r.number) = subst (λ (k : Kept). None ≡ first_refusal (turn_gates (client_at k.clients c.args.client).present r.number)) same (sym c.requires.turn) in
+    let fits : None ≡ first_refusal (limit_gates k c.args.client r.to.array r.words.now) = subst (λ (k : Kept). None ≡ first_refusal (limit_gates k c.args.client r.to.array r.words.now)) same (sym c.requires.fits) in
+    let event : IsRequest c.args.client r.number r.to r.entry r.words.now = search rules in
+    record { apart = request_new k c.self.invariant.consistent running c.args.client r.number r.to r.entry r.words.now (λ _. 0) new turns fits event }
 
 pub invariant_of-self-2 : goal.invariant_of-self-2
 invariant_of-self-2 c =
@@ -53,30 +53,30 @@ invariant_of-self-2 c =
     let room = c.self.invariant.room in
     let same = sym c.self.view_is in
     let running : k.halted ≡ false = ap (λ (k : Kept). k.halted) c.self.view_is ∙ c.requires.running in
-    let new : repeats k r.client r.number ≡ false = ap (λ k. repeats k r.client r.number) c.self.view_is ∙ c.requires.new in
-    let turns : None ≡ first_refusal (turn_gates (client_at k.clients r.client).present r.number) = subst (λ (k : Kept). None ≡ first_refusal (turn_gates (client_at k.clients r.client).present r.number)) same (sym c.requires.turn) in
-    let fits : None ≡ first_refusal (limit_gates k r.client r.to.array r.words.now) = subst (λ (k : Kept). None ≡ first_refusal (limit_gates k r.client r.to.array r.words.now)) same (sym c.requires.fits) in
-    let event : IsRequest r.client r.number r.to r.entry r.words.now = search rules in
+    let new : repeats k c.args.client r.number ≡ false = ap (λ k. repeats k c.args.client r.number) c.self.view_is ∙ c.requires.new in
+    let turns : None ≡ first_refusal (turn_gates (client_at k.clients c.args.client).present r.number) = subst (λ (k : Kept). None ≡ first_refusal (turn_gates (client_at k.clients c.args.client).present r.number)) same (sym c.requires.turn) in
+    let fits : None ≡ first_refusal (limit_gates k c.args.client r.to.array r.words.now) = subst (λ (k : Kept). None ≡ first_refusal (limit_gates k c.args.client r.to.array r.words.now)) same (sym c.requires.fits) in
+    let event : IsRequest c.args.client r.number r.to r.entry r.words.now = search rules in
     let fresh = unwritten (core_in k) in
     let b = c.push.new.self in
-    let seen_is : seen c.accept.new.self ≡ worlds.accepted (seen h.present) r.client r.number r.to r.entry r.words.now =
-    c.in_ok-accept.ensures.ok ∙ ap (worlds.accepted (seen h.present) r.client r.number r.to r.entry) c.in_ok-words.ensures.words in
-    let items : c.push-2.new.self.items ≡ k.events ++ Accept r.client r.number r.to r.entry r.words.now ∷ [] = search rules in
+    let seen_is : seen c.accept.new.self ≡ worlds.accepted (seen h.present) c.args.client r.number r.to r.entry r.words.now =
+    c.in_ok-accept.ensures.ok ∙ ap (worlds.accepted (seen h.present) c.args.client r.number r.to r.entry) c.in_ok-words.ensures.words in
+    let items : c.push-2.new.self.items ≡ k.events ++ Accept c.args.client r.number r.to r.entry r.words.now ∷ [] = search rules in
     let durable : c.push-2.new.self.durable ≡ k.durable = c.push-2.ensures.durable ∙ c.reserve.ensures.durable in
-    let is : kept_of (record h { present = c.accept.new.self; events = c.push-2.new.self; backlog = b }) ≡ accepted k (roomless b) r.client r.number r.to r.entry r.words.now =
+    let is : kept_of (record h { present = c.accept.new.self; events = c.push-2.new.self; backlog = b }) ≡ accepted k (roomless b) c.args.client r.number r.to r.entry r.words.now =
     λ i. record (kept_with k (seen_is i) (c.accept.ensures.promised i)) { events = items i; durable = durable i; backlog = roomless b } in
     let reserved = room_back c.reserve-2.new.self fresh (subst (λ (b : Batched). IsBacklog b fresh) (sym (same_roomless h.backlog c.reserve-2.new.self c.reserve-2.ensures.kept)) consistent.backlog) in
-    let holds = room_aside b (fresh ++ log.Accept r.client r.number r.to r.entry r.words.now ∷ [])
-    (subst (λ words. IsBacklog b (fresh ++ log.Accept r.client r.number r.to r.entry words ∷ [])) c.in_ok-from_slice.ensures.words (c.push.ensures.pushed fresh reserved)) in
+    let holds = room_aside b (fresh ++ log.Accept c.args.client r.number r.to r.entry r.words.now ∷ [])
+    (subst (λ words. IsBacklog b (fresh ++ log.Accept c.args.client r.number r.to r.entry words ∷ [])) c.in_ok-from_slice.ensures.words (c.push.ensures.pushed fresh reserved)) in
     let count = c.len-count.ensures.len in
     let made = c.in_ok-reserve.ensures.ok in
     let left = c.push-2.ensures.room in
     record {
-      consistent = subst IsConsistent (sym is) (accepted_consistent k consistent running r.client r.number r.to r.entry r.words.now event new turns fits (roomless b) holds);
+      consistent = subst IsConsistent (sym is) (accepted_consistent k consistent running c.args.client r.number r.to r.entry r.words.now event new turns fits (roomless b) holds);
       room = record {
         events = omega (arith, count, made, left);
         bytes = c.push.ensures.room (length h.assigned.entries) (subst (λ n. HasRoomFor c.reserve-2.new.self (n + 1)) count c.in_ok-reserve-2.ensures.room);
         receivers = subst (λ (s : Seen). HasReceivers (record k { pending = s.pending; elements = s.elements })) (sym seen_is)
-            (receivers_with k consistent (request r.client r.number r.to r.entry r.words.now ∷ []) room.receivers);
+            (receivers_with k consistent (request c.args.client r.number r.to r.entry r.words.now ∷ []) room.receivers);
       };
     }

@@ -9,6 +9,6 @@ returns-clause-blanks g c = λ kind. ap (λ (t : Tally). t.in_stock) (c.new.ensu
 pub returns-clause-supplied : goal.returns-clause-supplied
 returns-clause-supplied g c = λ kind. ap (λ (t : Tally). t.supplied) (c.new.ensures.tally kind)
 
-pub returns-clause-consistent : goal.returns-clause-consistent
-returns-clause-consistent g c =
-    new_consistent (record { alloc = c.args.alloc; history = c.args.history; shelves = c.args.shelves; stock = c.new.result }) c.requires.new c.facts.ensures c.requires.empty c.new.ensures.tally
+pub invariant_of-result : goal.invariant_of-result
+invariant_of-result g c =
+    new_consistent (record { alloc = c.args.alloc; history = c.args.history; shelves = c.args.shelves; stock = c.new.result }) c.requires.new c.requires.empty c.new.ensures.tally
