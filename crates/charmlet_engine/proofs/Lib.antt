@@ -1,6 +1,7 @@
 pub mod Onward
 pub mod Lawful
-pub mod Written
+pub mod Fitting
+pub mod Tied
 pub mod Quiets
 pub mod Fresh
 pub mod Advancing

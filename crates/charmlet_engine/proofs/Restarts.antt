@@ -1,6 +1,7 @@
 -- Engines that come back.
 use Rattle.std.proofs.Common.{◌≡◌, ◌≢◌, inl, inr, ℕ, ◌+◌, Bool, true, false, not, None, Result, Ok, Err, IfErr, IfOk, List, [], length, take, refl, sym, ap, subst, ◌∙◌, arith, if◌then◌else◌}
 use Rattle.charmlet_model.specs.declared.event.Event.{Event}
+use Rattle.charmlet_model.specs.declared.half.Half.{Half}
 use Rattle.charmlet_model.specs.declared.refusal.Refusal.{Refusal}
 use Rattle.charmlet_model.specs.declared.refusal.Refusal.TheVariants as refusals
 use Rattle.charmlet_model.specs.Core.{Blanks, Core, durable_world}
@@ -17,12 +18,12 @@ use Rattle.charmlet_recovery.specs.Meanings.{Whole}
 use Rattle.charmlet_recovery.specs.Recovered.{Found, meaning_of, recovered}
 use Rattle.charmlet_recovery.specs.Restarts.{either_refusal, engine_refusal, image_end, image_refusal, is_old, limit_refusal, restart_refusal, taken_image_refusal, wanted_of, wants_image}
 use Rattle.charmlet_recovery.proofs.Restarting.{engine_is_refused_as_restart, engine_refusals_are_taken, images_are_wanted}
-use Rattle.charmlet_locate.specs.Locations.{is_processor_count}
 use Rattle.charmlet_stock.specs.declared.stock.Stock.{Stock}
 use Rattle.charmlet_stock.specs.Stock.{blanks_in, supplied_to}
 use Rattle.charmlet_halves.specs.declared.halves.Halves.{Halves}
 use Rattle.charmlet_halves.specs.Halves.{disk_of, taken_half}
 use Rattle.charmlet_journal.specs.Rest.{HasOldOrSealed}
+use Rattle.charmlet_store.specs.Store.{blanks_of}
 use Rattle.charmlet_replay.specs.Unused.{IsUnused}
 use Rattle.charmlet_recover.specs.declared.restarting.NotRestarted.{NotRestarted}
 use Rattle.charmlet_recover.specs.declared.restarting.Recovered.{Recovered}
@@ -30,12 +31,10 @@ use Rattle.charmlet_recover.specs.Restart as recovers
 use Rattle.charmlet_recover.specs.Restart.{AnswersBy, IsSameStock, IsShortOfSome, OpensWithin, ReadsSame, bytes_on, is_after_sync, is_lack, is_restart_refusal}
 use Rattle.charmlet_recover.proofs.Answered.{answers_so, has_cause}
 use Rattle.charmlet_recover.proofs.Stocks.{unused_is_same}
-use Rattle.charmlet_engine.specs.declared.engine.Engine.{Engine}
-use Rattle.charmlet_engine.specs.Engine.{IsEngineConsistent, core_of, disk_in, half_of, supplied_of, view_of}
+use Rattle.charmlet_engine.specs.Engine.{EngineShown, HasImage, core_of, supplied_of, view_of}
 use Rattle.charmlet_engine.specs.Lives.{ComesBack, Past, Remembers}
 use Rattle.charmlet_engine.specs.Outcomes.{Onward, is_lawful_now}
-use Rattle.charmlet_engine.specs.Restarted.{AnswersAfterCrash, ComesFrom, IsFound, IsFullOfSome, IsLackOrFull, IsLeftByRestart, IsOn, IsOpenedOn, IsReadFrom, IsSameOrNext, IsTaken, IsTakenFrom, IsUnwritten, core_or_refusal, disk_after, going_refusal, gone_on, is_engine_refusal}
-use Rattle.charmlet_engine.proofs.Lawful.{lawful_now}
+use Rattle.charmlet_engine.specs.Restarted.{AnswersAfterCrash, CameBack, CameFromFiles, ComesFrom, IsOn, IsRefused, IsFound, IsFullOfSome, IsLackOrFull, IsLeftByRestart, CameBackOn, IsOpenedOn, IsReadFrom, IsSameOrNext, IsTaken, IsTakenFrom, IsUnwritten, core_or_refusal, disk_after, going_refusal, gone_on, is_engine_refusal}
 use Rattle.charmlet_engine.proofs.Lives.{comes_back}
 use Rattle.charmlet_engine.proofs.Onward.{old_or_image}
 use Rattle.charmlet_engine.proofs.Renewed.{IsGoingRefusal, going_is, going_refused, gone_opened, opened_is, opened_present}
@@ -119,7 +118,7 @@ not_turns false m n = refl
 
 -- ---- the half that was taken
 
-module _ {D C : Type 0} {G : disks.Ghosts D} {H : chares.Ghosts C} (given : Blanks) (outcome : Outcome) (back : Recovered D C G H) (its : recovers.IsTakenFrom given outcome back) where
+module _ {D C : Type 0} {G : disks.Ghosts D} (given : Blanks) (outcome : Outcome) (back : Recovered D C G) (its : recovers.IsTakenFrom given outcome back) where
   -- an image is wanted where it isn't current
   wants_is : wants_image outcome ≡ not back.is_current
   wants_is = images_are_wanted outcome ∙ ap is_old its.1 ∙ ap not (sym its.2.current)
@@ -134,13 +133,12 @@ module _ {D C : Type 0} {G : disks.Ghosts D} {H : chares.Ghosts C} (given : Blan
   wanted_where old = wants_is ∙ ap not old
 
   -- where it stays, it is the engine's
-  pub stays_taken : (r : Result (Engine D C G H) (NotRestarted D C H)) → IsOn back.halves r → IfOk r (λ engine. IsTaken outcome (half_of engine))
-  stays_taken (Ok engine) same = (its.0, its.1 ∙ ap (λ (halves : Halves D G). Takes (taken_half halves) its.0) (sym same))
-  stays_taken (Err refused) never = tt
+  stays_taken : (engine : EngineShown D) → IsOn back.halves engine → IsTaken outcome engine.half
+  stays_taken engine same = (its.0, its.1 ∙ ap (λ (half : Half). Takes half its.0) (sym same.half))
 
 -- ---- a store that came back
 
-module _ {D C : Type 0} {G : disks.Ghosts D} {H : chares.Ghosts C} (processors : ℕ) (back : Recovered D C G H) (opens : recovers.IsOpenedOn processors back) where
+module _ {D C : Type 0} {G : disks.Ghosts D} (processors : ℕ) (back : Recovered D C G) (opens : recovers.IsOpenedOn processors back) where
   abbrev old : Core
   old = recovers.core_of back
 
@@ -165,6 +163,10 @@ module _ {D C : Type 0} {G : disks.Ghosts D} {H : chares.Ghosts C} (processors :
   pub going_full : (given : Blanks) → recovers.IsReadFrom given back → (refusal : Refusal) → AnswersBy {X = Core} (going_refusal back.is_current old) (Err refusal) → IsFullOfSome refusal
   going_full given read refusal so = full_by Core given read refusal so
 
+  -- it is refused as a full image, or as memory or the device
+  why : (refusal : Refusal) → AnswersBy {X = Core} (going_refusal back.is_current old) (Err refusal) → IsGoingRefusal back.is_current old refusal
+  why refusal so = going_refused Core back.is_current old refusal so
+
   -- a crash while its image is written leaves the same world
   pub sealed_same : (first outcome : Outcome) → recovered first ≡ Found old.opening old.before old.generation → HasOldOrSealed old outcome → IsSameOrNext first outcome
   sealed_same first outcome found has =
@@ -182,7 +184,7 @@ module _ {D C : Type 0} {G : disks.Ghosts D} {H : chares.Ghosts C} (processors :
         ];
       }
 
-  module _ (engine : Engine D C G H) (gone : core_of engine ≡ gone_on back.is_current old) where
+  module _ (engine : EngineShown D) (gone : core_of engine ≡ gone_on back.is_current old) where
     abbrev next_generation : ℕ
     next_generation = if back.is_current then old.generation else old.generation + 1
 
@@ -227,7 +229,7 @@ module _ {D C : Type 0} {G : disks.Ghosts D} {H : chares.Ghosts C} (processors :
           ∙ ap (λ (b : Bool). if b then old.generation + 1 else old.generation) (sym (wants_is given outcome back its));
     }
 
-    module _ (given : Blanks) (blanks : (view_of engine).blanks ≡ blanks_in back.store.stock) where
+    module _ (given : Blanks) (blanks : (view_of engine).blanks ≡ blanks_of back.store) where
       came_from : (s : Saved) → recovers.OpensWith given back s → ComesFrom given (view_of engine) s
       came_from s its = record {
         means = its.means ∙ (λ i. Whole (sym opening_is i) (sym before_is i));
@@ -244,71 +246,62 @@ module _ {D C : Type 0} {G : disks.Ghosts D} {H : chares.Ghosts C} (processors :
 
 -- ---- what is answered
 
-module _ {D C : Type 0} {G : disks.Ghosts D} {H : chares.Ghosts C} where
+-- an engine that came back, or why none did
+abbrev pub Answer : (D C : Type 0) → chares.Ghosts C → Type 0
+Answer D C H = Result (EngineShown D) (NotRestarted D C H)
+
+module _ {D C : Type 0} {H : chares.Ghosts C} where
   -- the disk is that of halves that stay as they were
-  pub on_disk : (halves : Halves D G) (r : Result (Engine D C G H) (NotRestarted D C H)) → IsOn halves r → disk_after r ≡ disk_of halves
-  on_disk halves (Ok engine) same = ap (λ (its : Halves D G). disk_of its) same
+  pub on_disk : {G : disks.Ghosts D} (halves : Halves D G) (r : Answer D C H) → CameBackOn halves r → disk_after r ≡ disk_of halves
+  on_disk halves (Ok engine) same = same.disk
   on_disk halves (Err refused) never = absurd never
 
-  -- each crash is lawful from then on
-  pub all_now : (r : Result (Engine D C G H) (NotRestarted D C H)) → IfOk r (λ engine. IsEngineConsistent engine) → G.honest (disk_after r) →
-      IfOk r (λ engine. (o : Outcome) → MayLeave (G.file (disk_in engine)) o → is_lawful_now (core_of engine) o)
-  all_now (Ok engine) consistent honest = λ o left. lawful_now {G = G} (core_of engine) engine.halves (consistent.keeps honest) o left
-  all_now (Err refused) consistent honest = tt
-
-  -- the blanks are those that came
-  pub all_supplied : (supplied given : Blanks) → supplied ≡ given → (r : Result (Engine D C G H) (NotRestarted D C H)) → IfOk r (λ engine. supplied_of engine ≡ supplied) → IfOk r (λ engine. supplied_of engine ≡ given)
-  all_supplied supplied given same (Ok engine) is = is ∙ same
-  all_supplied supplied given same (Err refused) is = tt
-
-  pub all_back : (blanks : Stock C H) → IsUnused blanks → (supplied : Blanks) → supplied ≡ supplied_to blanks → (r : Result (Engine D C G H) (NotRestarted D C H)) →
+  pub all_back : (blanks : Stock C H) → IsUnused blanks → (supplied : Blanks) → supplied ≡ supplied_to blanks → (r : Result (EngineShown D) (NotRestarted D C H)) →
       IfErr r (λ refused. IsUnused refused.blanks) → IfErr r (λ refused. supplied_to refused.blanks ≡ supplied) → IfErr r (λ refused. IsSameStock blanks refused.blanks)
   all_back blanks was supplied same (Ok engine) unused kept = tt
   all_back blanks was supplied same (Err refused) unused kept = unused_is_same blanks refused.blanks was unused (kept ∙ same)
 
   -- once both halves were synced they are settled, and so they are after an image
-  pub all_settled : (processors : ℕ) (halves : Halves D G) (r : Result (Engine D C G H) (NotRestarted D C H)) → IsSettled (G.file (disk_of halves)) → G.honest (disk_after r) →
-      IfOk r (λ engine. IsEngineConsistent engine) → IfOk r (λ engine. IsOpenedOn processors (core_of engine)) →
+  pub all_settled : {G : disks.Ghosts D} (halves : Halves D G) (r : Result (EngineShown D) (NotRestarted D C H)) → IsSettled (G.file (disk_of halves)) →
+      IfOk r (λ engine. IsSettled (G.file engine.disk)) →
       IfErr r (λ refused. refused.refusal ≢ refusals.Device → refused.disk ≡ disk_of halves) → is_after_sync (core_or_refusal r) ≡ true → IsSettled (G.file (disk_after r))
-  all_settled processors halves (Ok engine) settled honest consistent opens still after =
-      let going = (consistent.agrees (ap (λ (k : Core). k.halted) opens)).going in
-      let ready = engine.halves.ready honest going in
-      ready.settled
-  all_settled processors halves (Err refused) settled honest consistent opens still after =
+  all_settled {G = G} halves (Ok engine) settled next still after = next
+  all_settled {G = G} halves (Err refused) settled next still after =
       subst (λ (d : D). IsSettled (G.file d)) (sym (still (sure_apart refused.refusal after))) settled
 
-module _ {D C : Type 0} {G : disks.Ghosts D} {H : chares.Ghosts C} (processors : ℕ) (back : Recovered D C G H) (opens : recovers.IsOpenedOn processors back) where
-  abbrev Answer : Type 0
-  Answer = Result (Engine D C G H) (NotRestarted D C H)
-
+module _ {D C : Type 0} {G : disks.Ghosts D} (processors : ℕ) (back : Recovered D C G) (opens : recovers.IsOpenedOn processors back) where
   abbrev was : Core
   was = recovers.core_of back
 
-  abbrev HasGone : Answer → Type 0
+  abbrev HasGone : {H : chares.Ghosts C} → Answer D C H → Type 0
   HasGone r = IfOk r (λ engine. core_of engine ≡ gone_on back.is_current was)
 
-  abbrev HasLeft : Answer → Type 0
-  HasLeft r = IfOk r (λ engine. (view_of engine).blanks ≡ blanks_in back.store.stock)
+  abbrev HasLeft : {H : chares.Ghosts C} → Answer D C H → Type 0
+  HasLeft r = IfOk r (λ engine. (view_of engine).blanks ≡ blanks_of back.store)
 
-  pub all_open : (r : Answer) → HasGone r → IfOk r (λ engine. IsOpenedOn processors (core_of engine))
-  all_open (Ok engine) gone = came_opens processors back opens engine gone
-  all_open (Err refused) gone = tt
+  pub all_came_back : {H : chares.Ghosts C} (given was supplied : Blanks) → recovers.IsReadFrom given back → was ≡ supplied → (r : Answer D C H) → HasGone r → HasLeft r →
+      IfOk r (λ engine. supplied_of engine ≡ was) → IfOk r (CameBack processors given supplied)
+  all_came_back given was supplied read same (Ok engine) gone left is = record {
+    opens = came_opens processors back opens engine gone;
+    read = came_read processors back opens engine gone given left read;
+    supplied_are = is ∙ same;
+  }
+  all_came_back given was supplied read same (Err refused) gone left is = tt
 
-  pub all_found : (given : Blanks) (outcome : Outcome) → recovers.IsTakenFrom given outcome back → recovered outcome ≡ Found was.opening was.before was.generation → (r : Answer) → HasGone r →
-      IfOk r (λ engine. IsFound outcome (core_of engine))
-  all_found given outcome its found (Ok engine) gone = came_found processors back opens engine gone given outcome its found
-  all_found given outcome its found (Err refused) gone = tt
-
-  pub all_taken : (given : Blanks) (outcome : Outcome) → recovers.IsTakenFrom given outcome back → (r : Answer) → HasGone r → HasLeft r → IfOk r (λ engine. IsTakenFrom given outcome (view_of engine))
-  all_taken given outcome its (Ok engine) gone left = came_taken processors back opens engine gone given left outcome its
-  all_taken given outcome its (Err refused) gone left = tt
-
-  pub all_read : (given : Blanks) → recovers.IsReadFrom given back → (r : Answer) → HasGone r → HasLeft r → IfOk r (λ engine. IsReadFrom given (view_of engine))
-  all_read given read (Ok engine) gone left = came_read processors back opens engine gone given left read
-  all_read given read (Err refused) gone left = tt
+  pub all_from_files : {H : chares.Ghosts C} (given : Blanks) (outcome : Outcome) → recovers.IsTakenFrom given outcome back → recovered outcome ≡ Found was.opening was.before was.generation →
+      (r : Answer D C H) → HasGone r → HasLeft r → (back.is_current ≡ true → CameBackOn back.halves r) → (back.is_current ≡ false → IfOk r (HasImage G)) →
+      IfOk r (λ engine. (o : Outcome) → MayLeave (G.file engine.disk) o → is_lawful_now (core_of engine) o) → IfOk r (CameFromFiles G given outcome)
+  all_from_files given outcome its found (Ok engine) gone left stays image now = record {
+    found = came_found processors back opens engine gone given outcome its found;
+    taken_from = came_taken processors back opens engine gone given left outcome its;
+    stays = λ none. stays_taken given outcome back its engine (stays (current_where given outcome back its none));
+    image = λ wanted. image (old_where given outcome back its wanted);
+    now = now;
+  }
+  all_from_files given outcome its found (Err refused) gone left stays image now = tt
 
   -- what was told in earlier lives is remembered
-  pub all_remember : (past : Past) (old new : Core) → Remembers past old → Onward old new → IsSound new → OpensWithin new.opening new.before new.history old.durable was → (r : Answer) → HasGone r →
+  pub all_remember : {H : chares.Ghosts C} (past : Past) (old new : Core) → Remembers past old → Onward old new → IsSound new → OpensWithin new.opening new.before new.history old.durable was → (r : Answer D C H) → HasGone r →
       IfOk r (λ engine. ComesBack past old new (core_of engine))
   all_remember past old new remembers on sound within (Ok engine) gone =
       comes_back past old new (core_of engine) remembers on sound (came_within processors back opens engine gone new.opening new.before new.history old.durable within) (came_nothing processors back opens engine gone)
@@ -316,34 +309,27 @@ module _ {D C : Type 0} {G : disks.Ghosts D} {H : chares.Ghosts C} (processors :
 
   -- ---- and what is refused
 
-  abbrev HasAnswered : Answer → Type 0
+  abbrev HasAnswered : {H : chares.Ghosts C} → Answer D C H → Type 0
   HasAnswered r = AnswersBy (going_refusal back.is_current was) (core_or_refusal r)
 
-  -- as a full image, or as memory or the device
-  why : (refusal : Refusal) → AnswersBy {X = Core} (going_refusal back.is_current was) (Err refusal) → IsGoingRefusal back.is_current was refusal
-  why refusal so = going_refused Core back.is_current was refusal so
-
-  pub all_lawful : (w : World) (before : ℕ) (history : List Event) (durable : ℕ) (given : Blanks) (outcome : Outcome) → recovers.IsTakenFrom given outcome back → OpensWithin w before history durable was →
-      (r : Answer) → HasGone r → HasAnswered r → AnswersAfterCrash w before history durable outcome (core_or_refusal r)
+  pub all_lawful : {H : chares.Ghosts C} (w : World) (before : ℕ) (history : List Event) (durable : ℕ) (given : Blanks) (outcome : Outcome) → recovers.IsTakenFrom given outcome back → OpensWithin w before history durable was →
+      (r : Answer D C H) → HasGone r → HasAnswered r → AnswersAfterCrash w before history durable outcome (core_or_refusal r)
   all_lawful w before history durable given outcome its within (Ok engine) gone so = came_within processors back opens engine gone w before history durable within
   all_lawful w before history durable given outcome its within (Err refused) gone so =
-      going_lacks back.is_current was refused.refusal (why refused.refusal so) outcome (wanted_where given outcome back its)
+      going_lacks back.is_current was refused.refusal (why processors back opens refused.refusal so) outcome (wanted_where given outcome back its)
 
-  pub none_is_bad : (r : Answer) → HasAnswered r → IfErr r (λ refused. refused.refusal ≡ refusals.BadPes → is_processor_count processors ≡ false)
-  none_is_bad (Ok engine) so = tt
-  none_is_bad (Err refused) so = λ bad. absurd (going_is_not_bad back.is_current was refused.refusal (why refused.refusal so) bad)
-
-  pub all_are_refusals : (r : Answer) → HasAnswered r → IfErr r (λ refused. is_engine_refusal refused.refusal ≡ true)
-  all_are_refusals (Ok engine) so = tt
-  all_are_refusals (Err refused) so = going_is_engine back.is_current was refused.refusal (why refused.refusal so)
-
-  pub none_is_short : (given : Blanks) (r : Answer) → HasAnswered r → IfErr r (λ refused. IsShortOfSome given refused.refusal)
-  none_is_short given (Ok engine) so = tt
-  none_is_short given (Err refused) so = going_is_not_short back.is_current was refused.refusal (why refused.refusal so) given
-
-  pub all_are_full : (given : Blanks) → recovers.IsReadFrom given back → (r : Answer) → HasAnswered r → IfErr r (λ refused. IsFullOfSome refused.refusal)
-  all_are_full given read (Ok engine) so = tt
-  all_are_full given read (Err refused) so = going_full processors back opens given read refused.refusal so
+  pub all_refused : {H : chares.Ghosts C} (blanks : Stock C H) → recovers.IsReadFrom (blanks_in blanks) back → (r : Answer D C H) → HasAnswered r → IfErr r (λ refused. IsSameStock blanks refused.blanks) →
+      IfErr r (IsRefused processors blanks)
+  all_refused blanks read (Ok engine) so same = tt
+  all_refused blanks read (Err refused) so same =
+      let cause = why processors back opens refused.refusal so in
+      record {
+        bad = λ bad. absurd (going_is_not_bad back.is_current was refused.refusal cause bad);
+        known = going_is_engine back.is_current was refused.refusal cause;
+        short = going_is_not_short back.is_current was refused.refusal cause (blanks_in blanks);
+        full = going_full processors back opens (blanks_in blanks) read refused.refusal so;
+        back = same;
+      }
 
 -- ---- the disk
 
@@ -364,7 +350,7 @@ module _ {D : Type 0} (G : disks.Ghosts D) (disk mid : D) (same : ReadsSame (G.f
       after_that G.moment G.since disk mid last (MayLeave (G.file disk)) (HasOldOrSealed core) (IsLeftByRestart (G.file disk)) leaves (stored refl) (λ o left. inl left) (λ o has. inr (same_world o has))
 
   -- nor is it at a refusal where it does
-  pub all_unwritten : {C : Type 0} {H : chares.Ghosts C} (r : Result (Engine D C G H) (NotRestarted D C H)) → IfErr r (λ refused. refused.refusal ≢ refusals.Device → refused.disk ≡ mid) →
+  pub all_unwritten : {C : Type 0} {H : chares.Ghosts C} (r : Result (EngineShown D) (NotRestarted D C H)) → IfErr r (λ refused. refused.refusal ≢ refusals.Device → refused.disk ≡ mid) →
       IfErr r (λ refused. refused.refusal ≢ refusals.Device → IsUnwritten G disk refused.disk)
   all_unwritten (Ok engine) still = tt
   all_unwritten (Err refused) still = λ other. unwritten_at refused.disk (still other)

@@ -1,9 +1,11 @@
 -- The definitions that contracts cite.
 pub mod Outcomes
 pub mod Engine
+pub mod Together
 pub mod Advances
 pub mod Lives
 pub mod Taken
+pub mod Created
 pub mod Restarted
 pub use Rattle.charmlet_model.specs.Core
 pub use Rattle.charmlet_model.specs.Edition

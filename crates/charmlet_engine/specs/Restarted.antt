@@ -1,5 +1,5 @@
 -- Engines that come back, and what is given back where none does.
-use Rattle.std.specs.Prelude.{◌≡◌, ◌⊎◌, ℕ, ◌+◌, Bool, true, false, List, length, if◌then◌else◌, Option, Some, None, Result, Ok, Err}
+use Rattle.std.specs.Prelude.{◌≡◌, ◌≢◌, ◌⊎◌, ℕ, ◌+◌, Bool, true, false, List, length, if◌then◌else◌, IfErr, Option, Some, None, Result, Ok, Err}
 use Rattle.charmlet_model.specs.declared.half.Half.{Half}
 use Rattle.charmlet_model.specs.declared.half.Half.TheVariants.{Zero, One}
 use Rattle.charmlet_model.specs.declared.event.Event.{Event}
@@ -12,7 +12,7 @@ use Rattle.charmlet_model.specs.Run.{StoreView}
 use Rattle.charmlet_model.specs.Sound.{opened}
 use Rattle.charmlet_chare.specs.declared.chare.Chare as chares
 use Rattle.charmlet_disk.specs.declared.disk.Disk as disks
-use Rattle.charmlet_disk.specs.Disk.{LeavesOnly}
+use Rattle.charmlet_disk.specs.Disk.{IsSettled, LeavesOnly}
 use Rattle.charmlet_disk.specs.File.{File, MayLeave, Outcome}
 use Rattle.charmlet_image.specs.Images.{Saved, spell_half}
 use Rattle.charmlet_image.specs.Halves.{Open, Takes, found, taken}
@@ -20,11 +20,14 @@ use Rattle.charmlet_recovery.specs.Meanings.{Whole}
 use Rattle.charmlet_recovery.specs.Recovered.{Found, is_current, meaning_of, recovered}
 use Rattle.charmlet_recovery.specs.Restarts.{image_end, image_refusal, limit_refusal, wanted_of, wants_image}
 use Rattle.charmlet_halves.specs.declared.halves.Halves.{Halves}
+use Rattle.charmlet_halves.specs.Halves.{disk_of, end_of, taken_half}
+use Rattle.charmlet_locate.specs.Locations.{is_processor_count}
 use Rattle.charmlet_stock.specs.declared.stock.Stock.{Stock}
+use Rattle.charmlet_stock.specs.Stock.{blanks_in}
 use Rattle.charmlet_recover.specs.declared.restarting.NotRestarted.{NotRestarted}
-use Rattle.charmlet_recover.specs.Restart.{OpensWithin, ReadsSame, bytes_on, is_lack, is_restart_refusal}
-use Rattle.charmlet_engine.specs.declared.engine.Engine.{Engine}
-use Rattle.charmlet_engine.specs.Engine.{core_of, disk_in}
+use Rattle.charmlet_recover.specs.Restart.{IsSameStock, IsShortOfSome, OpensWithin, ReadsSame, bytes_on, is_after_sync, is_lack, is_restart_refusal}
+use Rattle.charmlet_engine.specs.Engine.{EngineShown, HasImage, core_of, supplied_of, view_of}
+use Rattle.charmlet_engine.specs.Outcomes.{is_lawful_now}
 
 -- ---- what comes back
 
@@ -131,24 +134,78 @@ abbrev pub going_refusal : Bool → Core → Option Refusal
 going_refusal true core = None
 going_refusal false core = limit_refusal core.generation (present core)
 
-module _ {D C : Type 0} {G : disks.Ghosts D} {H : chares.Ghosts C} where
+-- the engine is on these halves
+pub record IsOn {D : Type 0} {G : disks.Ghosts D} (halves : Halves D G) (engine : EngineShown D)
+    : Type 0 where
+  pub disk : engine.disk ≡ disk_of halves
+  pub half : engine.half ≡ taken_half halves
+  pub log_end : engine.log_end ≡ end_of halves
+
+module _ {D C : Type 0} {H : chares.Ghosts C} where
   -- the core of the engine that came back, or why none did
-  abbrev pub core_or_refusal : Result (Engine D C G H) (NotRestarted D C H) → Result Core Refusal
+  abbrev pub core_or_refusal : Result (EngineShown D) (NotRestarted D C H) → Result Core Refusal
   core_or_refusal (Ok engine) = Ok (core_of engine)
   core_or_refusal (Err refused) = Err refused.refusal
 
   -- the disk afterwards, which the engine owns or which was handed back
-  abbrev pub disk_after : Result (Engine D C G H) (NotRestarted D C H) → D
-  disk_after (Ok engine) = disk_in engine
+  abbrev pub disk_after : Result (EngineShown D) (NotRestarted D C H) → D
+  disk_after (Ok engine) = engine.disk
   disk_after (Err refused) = refused.disk
 
+  -- an engine came back on these halves
+  abbrev pub CameBackOn : {G : disks.Ghosts D} → Halves D G →
+      Result (EngineShown D) (NotRestarted D C H) → Type 0
+  CameBackOn halves (Ok engine) = IsOn halves engine
+  CameBackOn halves (Err refused) = ⊥
+
   -- the number of processors is refused before anything is done: what was handed in comes back
-  abbrev pub IsHandedBack : D → Stock C H → Result (Engine D C G H) (NotRestarted D C H) → Type 0
+  abbrev pub IsHandedBack : D → Stock C H → Result (EngineShown D) (NotRestarted D C H) → Type 0
   IsHandedBack disk blanks (Ok engine) = ⊥
   IsHandedBack disk blanks (Err refused) = (refused.refusal ≡ refusals.BadPes)
       × (refused.disk ≡ disk) × (refused.blanks ≡ blanks)
 
-  -- the engine came back on these halves, as they were
-  abbrev pub IsOn : Halves D G → Result (Engine D C G H) (NotRestarted D C H) → Type 0
-  IsOn halves (Ok engine) = engine.halves ≡ halves
-  IsOn halves (Err refused) = ⊥
+  -- ---- the promises of a restart
+
+  -- No refusal is one that isn't due: BadPes comes exactly where there aren't so many processors;
+  -- each other one has its cause in some half; and the objects come back as blanks.
+  pub record IsRefused (processors : ℕ) (blanks : Stock C H) (refused : NotRestarted D C H)
+      : Type 0 where
+    pub bad : refused.refusal ≡ refusals.BadPes → is_processor_count processors ≡ false
+    pub known : is_engine_refusal refused.refusal ≡ true
+    pub short : IsShortOfSome (blanks_in blanks) refused.refusal
+    pub full : IsFullOfSome refused.refusal
+    pub back : IsSameStock blanks refused.blanks
+
+  -- What a restart leaves of an honest disk: once both halves were synced they are settled; nothing
+  -- is written where no image is wanted, and at each refusal but Device; and a crash leaves the
+  -- world that was there.
+  pub record LeavesTaken (G : disks.Ghosts D) (disk : D)
+      (result : Result (EngineShown D) (NotRestarted D C H)) : Type 0 where
+    pub settled : is_after_sync (core_or_refusal result) ≡ true →
+        IsSettled (G.file (disk_after result))
+    pub still : wants_image (bytes_on (G.file disk)) ≡ false →
+        IsUnwritten G disk (disk_after result)
+    pub unwritten : IfErr result (λ refused. refused.refusal ≢ refusals.Device →
+        IsUnwritten G disk refused.disk)
+    pub any_moment : LeavesOnly G.moment G.since disk (disk_after result)
+        (IsLeftByRestart (G.file disk))
+
+module _ {D : Type 0} where
+  -- The engine came back on so many processors, from the bytes of some half, with the objects that
+  -- were handed in.
+  pub record CameBack (processors : ℕ) (given supplied : Blanks) (engine : EngineShown D)
+      : Type 0 where
+    pub opens : IsOpenedOn processors (core_of engine)
+    pub read : IsReadFrom given (view_of engine)
+    pub supplied_are : supplied_of engine ≡ supplied
+
+  -- On an honest disk it came from what the files recover to, and from the half that is taken. It
+  -- goes on in that half, or, where an image is wanted, in one of it; and each crash is lawful.
+  pub record CameFromFiles (G : disks.Ghosts D) (given : Blanks) (outcome : Outcome)
+      (engine : EngineShown D) : Type 0 where
+    pub found : IsFound outcome (core_of engine)
+    pub taken_from : IsTakenFrom given outcome (view_of engine)
+    pub stays : wants_image outcome ≡ false → IsTaken outcome engine.half
+    pub image : wants_image outcome ≡ true → HasImage G engine
+    pub now : (left : Outcome) → MayLeave (G.file engine.disk) left →
+        is_lawful_now (core_of engine) left

@@ -1,9 +1,11 @@
 //! The end of an engine.
 
-ghost use Rattle.std.specs.Prelude.{◌≡◌, [], IfErr, IfOk, IsOk};
+ghost use Rattle.std.specs.Prelude.{◌≡◌, [], false, IfErr, IfOk, IsOk};
 ghost use Rattle.charmlet_model.specs.Shelves.{ShowsAll, records_of};
+ghost use Rattle.charmlet_stock.specs.ByKind.{for_all};
+ghost use Rattle.charmlet_stock.specs.Stock.{census_of, keeping_of};
 ghost use Rattle.charmlet_store.specs.Dismantled.{IsCountedIn};
-ghost use Rattle.charmlet_engine.specs.Engine.{IsEngineConsistent, core_of, disk_in, world_of};
+ghost use Rattle.charmlet_engine.specs.Engine.{core_of, world_of};
 
 use crate::engine::Engine;
 use charmlet_chare::Chare;
@@ -26,11 +28,11 @@ impl<D: Disk, C: Chare> Engine<D, C> {
     /// isn't durable is lost with the objects. It fails only when out of memory, and not where no
     /// element is there; then the engine comes back as it was.
     pub fn close(self) -> Result<Closed<D, C>, Engine<D, C>>
-        requires { IsEngineConsistent self }
-        ensures disk { IfOk result (λ closed. closed.disk ≡ disk_in self) }
+        ensures disk { IfOk result (λ closed. closed.disk ≡ self.disk) }
         ensures shows { IfOk result (λ closed.
             ShowsAll (records_of C.state closed.parts.residents.items) (world_of self)) }
-        ensures stock { IfOk result (λ closed. closed.parts.stock ≡ self.store.stock) }
+        ensures stock { IfOk result (λ closed. (census_of closed.parts.stock ≡ self.store.census)
+            × (keeping_of closed.parts.stock ≡ for_all false)) }
         ensures counted { IfOk result (λ closed. IsCountedIn C.state closed.parts) }
         ensures nothing { (core_of self).places ≡ [] → IsOk result }
         ensures err { IfErr result (λ engine. engine ≡ self) }
@@ -48,7 +50,7 @@ impl<D: Disk, C: Chare> Engine<D, C> {
     /// The disk alone. The objects are dropped, and what isn't durable with them. It makes no call
     /// of the disk, and takes no memory.
     pub fn into_disk(self) -> D
-        ensures { result ≡ disk_in self }
+        ensures { result ≡ self.disk }
     {
         self.halves.into_disk()
     }

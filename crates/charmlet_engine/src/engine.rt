@@ -1,9 +1,17 @@
 //! A store on the two files of a disk.
 
+ghost use Rattle.std.specs.Prelude.{◌≡◌, false};
+ghost use Rattle.charmlet_model.specs.Sound.{IsSound};
+ghost use Rattle.charmlet_disk.specs.File.{MayLeave, Outcome};
+ghost use Rattle.charmlet_stock.specs.ByKind.{for_all};
+ghost use Rattle.charmlet_engine.specs.Engine.{core_of};
+ghost use Rattle.charmlet_engine.specs.Outcomes.{is_lawful_now};
+
 use charmlet_chare::Chare;
 use charmlet_disk::Disk;
 use charmlet_halves::Halves;
 use charmlet_store::Store;
+use std::marker::Model;
 
 /// A store and the two halves of the disk that it is on. Its shelves show the world after the whole
 /// history. On an honest disk a crash at any moment leaves files that recover to the world after
@@ -15,4 +23,30 @@ use charmlet_store::Store;
 pub struct Engine<D: Disk, C: Chare> {
     pub(crate) store: Store<C>,
     pub(crate) halves: Halves<D>,
+}
+
+impl<D: Disk, C: Chare> Model for Engine<D, C> {
+    ghost use Rattle.charmlet_engine.specs.Engine.{EngineShown};
+    ghost use Rattle.charmlet_engine.specs.Together.{AreTied, shown_by};
+
+    ghost Value = { EngineShown D };
+
+    ghost view = { λ e. shown_by e.store e.halves };
+
+    ghost invariant = { λ e. AreTied e.store e.halves };
+}
+
+impl<D: Disk, C: Chare> Engine<D, C> {
+    /// States what always holds of an engine: its history was made by events, each in its turn; its
+    /// stock drops what is retired; and on an honest disk a crash now leaves the world after some
+    /// of the history, with all durable events among it.
+    pub fn facts(&self)
+        ensures sound { IsSound (core_of self.now) }
+        ensures dropping { self.now.store.keeping ≡ for_all false }
+        ensures lawful { D.honest self.now.disk → (outcome : Outcome) →
+            MayLeave (D.file self.now.disk) outcome → is_lawful_now (core_of self.now) outcome }
+    {
+        self.store.history.facts();
+        let _ = &self.halves;
+    }
 }

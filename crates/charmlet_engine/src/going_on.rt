@@ -2,18 +2,20 @@
 
 ghost use Rattle.std.specs.Prelude.{◌≡◌, ◌≢◌, false, true, IfErr, IfOk};
 ghost use Rattle.charmlet_model.specs.declared.refusal.Refusal.TheVariants as refusals;
-ghost use Rattle.charmlet_disk.specs.Disk.{LeavesOnly, faults_after};
+ghost use Rattle.charmlet_disk.specs.Disk.{IsSettled, LeavesOnly, faults_after};
+ghost use Rattle.charmlet_disk.specs.File.{MayLeave, Outcome};
 ghost use Rattle.charmlet_halves.specs.Answers.{is_no_failure};
 ghost use Rattle.charmlet_halves.specs.Halves.{disk_of};
 ghost use Rattle.charmlet_history.specs.Kept.{core_in};
 ghost use Rattle.charmlet_journal.specs.Rest.{GoesOn, HasOldOrSealed, IsCurrent, IsKept};
 ghost use Rattle.charmlet_stock.specs.ByKind.{for_all};
-ghost use Rattle.charmlet_stock.specs.Stock.{blanks_in, keeping_of, supplied_to};
-ghost use Rattle.charmlet_store.specs.Store.{IsStoreConsistent, supplied_in};
+ghost use Rattle.charmlet_stock.specs.Stock.{supplied_to};
+ghost use Rattle.charmlet_store.specs.Store.{blanks_of, supplied_in};
 ghost use Rattle.charmlet_replay.specs.Unused.{IsUnused};
 ghost use Rattle.charmlet_recover.specs.Restart.{AnswersBy};
-ghost use Rattle.charmlet_engine.specs.Engine.{HasImage, IsEngineConsistent, core_of, keeping_in, supplied_of, view_of};
-ghost use Rattle.charmlet_engine.specs.Restarted.{IsOn, IsOpenedOn, core_or_refusal, disk_after, going_refusal, gone_on};
+ghost use Rattle.charmlet_engine.specs.Engine.{HasImage, core_of, supplied_of, view_of};
+ghost use Rattle.charmlet_engine.specs.Outcomes.{is_lawful_now};
+ghost use Rattle.charmlet_engine.specs.Restarted.{CameBackOn, IsOpenedOn, core_or_refusal, disk_after, going_refusal, gone_on};
 
 use crate::engine::Engine;
 use charmlet_chare::Chare;
@@ -35,21 +37,22 @@ pub(crate) fn go_on<D: Disk, C: Chare>(
     halves: Halves<D>,
     is_current: bool,
 ) -> Result<Engine<D, C>, NotRestarted<D, C>>
-    requires consistent { IsStoreConsistent store }
     requires opens { IsOpenedOn (core_in store.history).processors (core_in store.history) }
-    requires keeping { keeping_of store.stock ≡ for_all true }
+    requires keeping { store.keeping ≡ for_all true }
     requires goes_on { GoesOn (core_in store.history) halves }
     requires keeps { D.honest (disk_of halves) → IsKept (core_in store.history) halves }
     requires current { D.honest (disk_of halves) → is_current ≡ true → IsCurrent halves }
-    ensures consistent { IfOk result (λ engine. IsEngineConsistent engine) }
     ensures core { IfOk result (λ engine. core_of engine
         ≡ gone_on is_current (core_in store.history)) }
-    ensures blanks { IfOk result (λ engine. (view_of engine).blanks ≡ blanks_in store.stock) }
+    ensures blanks { IfOk result (λ engine. (view_of engine).blanks ≡ blanks_of store) }
     ensures supplied { IfOk result (λ engine. supplied_of engine ≡ supplied_in store) }
-    ensures keeping { IfOk result (λ engine. keeping_in engine ≡ for_all false) }
-    ensures stays { is_current ≡ true → IsOn halves result }
+    ensures stays { is_current ≡ true → CameBackOn halves result }
     ensures image { D.honest (disk_of halves) → is_current ≡ false →
-        IfOk result (λ engine. HasImage engine) }
+        IfOk result (λ engine. HasImage D.Disk engine) }
+    ensures now { D.honest (disk_of halves) → IfOk result (λ engine. (outcome : Outcome) →
+        MayLeave (D.file engine.disk) outcome → is_lawful_now (core_of engine) outcome) }
+    ensures settled { D.honest (disk_of halves) → IfOk result (λ engine.
+        IsSettled (D.file engine.disk)) }
     ensures answer { AnswersBy (going_refusal is_current (core_in store.history))
         (core_or_refusal result) }
     ensures back { IfErr result (λ refused. IsUnused refused.blanks) }
@@ -76,18 +79,19 @@ fn renew<D: Disk, C: Chare>(
     mut store: Store<C>,
     mut halves: Halves<D>,
 ) -> Result<Engine<D, C>, NotRestarted<D, C>>
-    requires consistent { IsStoreConsistent store }
     requires opens { IsOpenedOn (core_in store.history).processors (core_in store.history) }
-    requires keeping { keeping_of store.stock ≡ for_all true }
+    requires keeping { store.keeping ≡ for_all true }
     requires goes_on { GoesOn (core_in store.history) halves }
     requires keeps { D.honest (disk_of halves) → IsKept (core_in store.history) halves }
-    ensures consistent { IfOk result (λ engine. IsEngineConsistent engine) }
     ensures core { IfOk result (λ engine. core_of engine
         ≡ gone_on false (core_in store.history)) }
-    ensures blanks { IfOk result (λ engine. (view_of engine).blanks ≡ blanks_in store.stock) }
+    ensures blanks { IfOk result (λ engine. (view_of engine).blanks ≡ blanks_of store) }
     ensures supplied { IfOk result (λ engine. supplied_of engine ≡ supplied_in store) }
-    ensures keeping { IfOk result (λ engine. keeping_in engine ≡ for_all false) }
-    ensures image { D.honest (disk_of halves) → IfOk result (λ engine. HasImage engine) }
+    ensures image { D.honest (disk_of halves) → IfOk result (λ engine. HasImage D.Disk engine) }
+    ensures now { D.honest (disk_of halves) → IfOk result (λ engine. (outcome : Outcome) →
+        MayLeave (D.file engine.disk) outcome → is_lawful_now (core_of engine) outcome) }
+    ensures settled { D.honest (disk_of halves) → IfOk result (λ engine.
+        IsSettled (D.file engine.disk)) }
     ensures answer { AnswersBy (going_refusal false (core_in store.history))
         (core_or_refusal result) }
     ensures back { IfErr result (λ refused. IsUnused refused.blanks) }
@@ -103,7 +107,6 @@ fn renew<D: Disk, C: Chare>(
 {
     let shelves = store.shelves.as_mut_slice();
     let taken = checkpoint(store.alloc, &mut store.history, &mut halves, shelves);
-    store.history.facts();
     match taken {
         Ok(_) => {
             store.drop_retired();

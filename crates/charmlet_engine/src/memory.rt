@@ -5,8 +5,7 @@ ghost use Rattle.charmlet_model.specs.declared.step.Step.TheVariants as steps;
 ghost use Rattle.charmlet_model.specs.Run.{Does};
 ghost use Rattle.charmlet_history.specs.Kept.{core_in};
 ghost use Rattle.charmlet_journal.specs.Quiet.{Quiet};
-ghost use Rattle.charmlet_stock.specs.Stock.{keeping_of};
-ghost use Rattle.charmlet_store.specs.Store.{IsStoreConsistent, store_in, supplied_in};
+ghost use Rattle.charmlet_store.specs.Store.{store_in, supplied_in};
 ghost use Rattle.charmlet_engine.specs.Engine.{client_answer};
 ghost use Rattle.charmlet_engine.specs.Outcomes.{is_image, is_no_fault, is_still};
 
@@ -18,8 +17,6 @@ use charmlet_store::Store;
 /// Runs a step that writes nothing to the disk, and answers it. None where the step does write;
 /// then nothing is done.
 pub(crate) fn answer_in_memory<C: Chare>(store: &mut Store<C>, step: &Step) -> Option<Answer>
-    requires { IsStoreConsistent store.old }
-    ensures consistent { IsStoreConsistent store.new }
     ensures does { IfSome result (λ answer. Does (store_in store.old) step.now answer
         (store_in store.new)) }
     ensures quiet { Quiet (core_in store.old.history) (core_in store.new.history) }
@@ -31,7 +28,7 @@ pub(crate) fn answer_in_memory<C: Chare>(store: &mut Store<C>, step: &Step) -> O
         × (step.now ≢ steps.Checkpoint)) }
     ensures none { result ≡ None → store.new ≡ store.old }
     ensures supplied { supplied_in store.new ≡ supplied_in store.old }
-    ensures keeping { keeping_of store.new.stock ≡ keeping_of store.old.stock }
+    ensures keeping { store.new.keeping ≡ store.old.keeping }
 {
     match step {
         Step::Request {
@@ -42,13 +39,12 @@ pub(crate) fn answer_in_memory<C: Chare>(store: &mut Store<C>, step: &Step) -> O
             words,
         } => {
             let request = Request {
-                client: *client,
                 number: *number,
                 to: *to,
                 entry: *entry,
                 words: words.as_slice(),
             };
-            Some(told_or_refused(store.request(&request)))
+            Some(told_or_refused(store.request(*client, &request)))
         }
         Step::Status { client, number } => Some(told_or_refused(store.status(*client, *number))),
         Step::Deliver { processor, id } => match store.deliver(*processor, *id) {

@@ -1,25 +1,21 @@
 //! Engines that come back.
 
-ghost use Rattle.std.specs.Prelude.{◌≡◌, ◌≢◌, ℕ, List, false, true, IfErr, IfOk};
+ghost use Rattle.std.specs.Prelude.{◌≡◌, ℕ, List, false, true, IfErr, IfOk};
 ghost use Rattle.charmlet_model.specs.declared.event.Event.{Event};
-ghost use Rattle.charmlet_model.specs.declared.refusal.Refusal.TheVariants as refusals;
 ghost use Rattle.charmlet_model.specs.Core.{Core};
 ghost use Rattle.charmlet_model.specs.Sound.{IsSound};
 ghost use Rattle.charmlet_model.specs.World.{World};
-ghost use Rattle.charmlet_disk.specs.Disk.{IsSettled, LeavesOnly, faults_after};
-ghost use Rattle.charmlet_disk.specs.File.{MayLeave, Outcome};
 ghost use Rattle.charmlet_halves.specs.Answers.{is_no_failure};
 ghost use Rattle.charmlet_locate.specs.Locations.{is_processor_count};
 ghost use Rattle.charmlet_recovery.specs.Outcomes.{IsLawful};
-ghost use Rattle.charmlet_recovery.specs.Restarts.{engine_refusal, wants_image};
-ghost use Rattle.charmlet_stock.specs.ByKind.{for_all};
+ghost use Rattle.charmlet_recovery.specs.Restarts.{engine_refusal};
 ghost use Rattle.charmlet_stock.specs.Stock.{blanks_in, supplied_to};
 ghost use Rattle.charmlet_replay.specs.Unused.{IsUnused};
-ghost use Rattle.charmlet_recover.specs.Restart.{AnswersBy, IsSameStock, IsShortOfSome, bytes_on, is_after_sync};
-ghost use Rattle.charmlet_engine.specs.Engine.{HasImage, IsEngineConsistent, core_of, disk_in, half_of, keeping_in, supplied_of, view_of};
+ghost use Rattle.charmlet_recover.specs.Restart.{AnswersBy, bytes_on};
+ghost use Rattle.charmlet_engine.specs.Engine.{core_of};
 ghost use Rattle.charmlet_engine.specs.Lives.{ComesBack, Past, Remembers};
-ghost use Rattle.charmlet_engine.specs.Outcomes.{Onward, is_lawful_now, is_lawful_since};
-ghost use Rattle.charmlet_engine.specs.Restarted.{AnswersAfterCrash, IsFound, IsFullOfSome, IsHandedBack, IsLeftByRestart, IsOpenedOn, IsReadFrom, IsTaken, IsTakenFrom, IsUnwritten, core_or_refusal, disk_after, is_engine_refusal};
+ghost use Rattle.charmlet_engine.specs.Outcomes.{AfterCall, Onward, is_lawful_since};
+ghost use Rattle.charmlet_engine.specs.Restarted.{AnswersAfterCrash, CameBack, CameFromFiles, IsHandedBack, IsRefused, LeavesTaken, core_or_refusal, disk_after};
 
 use crate::engine::Engine;
 use crate::going_on::go_on;
@@ -60,21 +56,9 @@ impl<D: Disk, C: Chare> Engine<D, C> {
         processors: u16,
     ) -> Result<Self, NotRestarted<D, C>>
         requires unused { IsUnused blanks }
-        ensures consistent { IfOk result (λ engine. IsEngineConsistent engine) }
-        ensures opens { IfOk result (λ engine. IsOpenedOn processors (core_of engine)) }
-        ensures found { D.honest disk → IfOk result (λ engine.
-            IsFound (bytes_on (D.file disk)) (core_of engine)) }
-        ensures taken { D.honest disk → IfOk result (λ engine.
-            IsTakenFrom (blanks_in blanks) (bytes_on (D.file disk)) (view_of engine)) }
-        ensures read { IfOk result (λ engine. IsReadFrom (blanks_in blanks) (view_of engine)) }
-        ensures which { D.honest disk → wants_image (bytes_on (D.file disk)) ≡ false →
-            IfOk result (λ engine. IsTaken (bytes_on (D.file disk)) (half_of engine)) }
-        ensures image { D.honest disk → wants_image (bytes_on (D.file disk)) ≡ true →
-            IfOk result (λ engine. HasImage engine) }
-        ensures supplied { IfOk result (λ engine. supplied_of engine ≡ supplied_to blanks) }
-        ensures keeping { IfOk result (λ engine. keeping_in engine ≡ for_all false) }
-        ensures now { D.honest disk → IfOk result (λ engine. (outcome : Outcome) →
-            MayLeave (D.file (disk_in engine)) outcome → is_lawful_now (core_of engine) outcome) }
+        ensures ok { IfOk result (CameBack processors (blanks_in blanks) (supplied_to blanks)) }
+        ensures files { D.honest disk → IfOk result
+            (CameFromFiles D.Disk (blanks_in blanks) (bytes_on (D.file disk))) }
         ensures remembers { D.honest disk → (past : Past) (old new : Core) →
             Remembers past old → Onward old new → IsSound new →
             is_lawful_since old new (bytes_on (D.file disk)) →
@@ -87,25 +71,10 @@ impl<D: Disk, C: Chare> Engine<D, C> {
             AnswersBy (engine_refusal (blanks_in blanks) (bytes_on (D.file disk)))
             (core_or_refusal result) }
         ensures bad { is_processor_count processors ≡ false → IsHandedBack disk blanks result }
-        ensures only_bad { IfErr result (λ refused. refused.refusal ≡ refusals.BadPes →
-            is_processor_count processors ≡ false) }
-        ensures err { IfErr result (λ refused. is_engine_refusal refused.refusal ≡ true) }
-        ensures short { IfErr result (λ refused.
-            IsShortOfSome (blanks_in blanks) refused.refusal) }
-        ensures full { IfErr result (λ refused. IsFullOfSome refused.refusal) }
-        ensures back { IfErr result (λ refused. IsSameStock blanks refused.blanks) }
-        ensures settled { D.honest disk → is_after_sync (core_or_refusal result) ≡ true →
-            IsSettled (D.file (disk_after result)) }
-        ensures still { D.honest disk → wants_image (bytes_on (D.file disk)) ≡ false →
-            IsUnwritten D.Disk disk (disk_after result) }
-        ensures refused { D.honest disk → IfErr result (λ refused.
-            refused.refusal ≢ refusals.Device → IsUnwritten D.Disk disk refused.disk) }
-        ensures any_moment { D.honest disk → LeavesOnly D.moment D.since disk
-            (disk_after result) (IsLeftByRestart (D.file disk)) }
-        ensures honest { (D.honest disk → D.honest (disk_after result))
-            × (D.honest (disk_after result) → D.honest disk) }
-        ensures counted { D.faults (disk_after result) ≡ faults_after
-            (is_no_failure (core_or_refusal result)) (D.faults disk) }
+        ensures err { IfErr result (IsRefused processors blanks) }
+        ensures leaves { D.honest disk → LeavesTaken D.Disk disk result }
+        ensures disk { AfterCall D.Disk disk (disk_after result)
+            (is_no_failure (core_or_refusal result)) }
     {
         match restart(alloc, disk, blanks, processors) {
             Ok(

@@ -8,9 +8,8 @@ ghost use Rattle.charmlet_model.specs.Run.{Does, Runs};
 ghost use Rattle.charmlet_model.specs.RunLaws.{AllTold, IsToldTrue};
 ghost use Rattle.charmlet_disk.specs.Disk.{LeavesOnly, faults_after};
 ghost use Rattle.charmlet_disk.specs.File.{MayLeave, Outcome};
-ghost use Rattle.charmlet_migrate.specs.Moving.{ShowsPresent};
 ghost use Rattle.charmlet_engine.specs.Advances.{Advances};
-ghost use Rattle.charmlet_engine.specs.Engine.{HasImage, IsEngineConsistent, core_of, disk_in, supplied_of, view_of};
+ghost use Rattle.charmlet_engine.specs.Engine.{HasImage, core_of, supplied_of, view_of};
 ghost use Rattle.charmlet_engine.specs.Lives.{Past, Remembers, with_run};
 ghost use Rattle.charmlet_engine.specs.Outcomes.{AreFlushedAnyway, IsFlushedAnyway, IsOldOrImage, ends_with_image, faults_through, is_image, is_lawful_now, is_no_fault, is_still};
 
@@ -35,34 +34,42 @@ impl<D: Disk, C: Chare> Engine<D, C> {
     /// on with all that are durable after it. What a client is told stays true over each crash and
     /// restart to come.
     pub fn step(&mut self, step: &Step) -> Answer
-        requires { IsEngineConsistent self.old }
-        ensures consistent { IsEngineConsistent self.new }
         ensures does { Does (view_of self.old) step.now result (view_of self.new) }
         ensures told { IsToldTrue (core_of self.new).opening
             (take (core_of self.new).durable (core_of self.new).history) step.now result }
         ensures remembers { (past : Past) → Remembers past (core_of self.old) → Remembers
             (with_run past (step.now ∷ []) (result ∷ [])) (core_of self.new) }
-        ensures advances { Advances self.old self.new }
-        ensures now { D.honest (disk_in self.old) → (outcome : Outcome) →
-            MayLeave (D.file (disk_in self.new)) outcome →
+        ensures advances { Advances D.Disk self.old self.new }
+        ensures now { D.honest self.old.disk → (outcome : Outcome) →
+            MayLeave (D.file self.new.disk) outcome →
             is_lawful_now (core_of self.new) outcome }
-        ensures image { D.honest (disk_in self.old) → is_image result ≡ true → HasImage self.new }
-        ensures stored { D.honest (disk_in self.old) → (core_of self.old).halted ≡ false →
-            step.now ≡ steps.Checkpoint → LeavesOnly D.moment D.since (disk_in self.old)
-            (disk_in self.new) (IsOldOrImage (core_of self.old)) }
+        ensures image { D.honest self.old.disk → is_image result ≡ true → HasImage D.Disk self.new }
+        ensures stored { D.honest self.old.disk → (core_of self.old).halted ≡ false →
+            step.now ≡ steps.Checkpoint → LeavesOnly D.moment D.since self.old.disk
+            self.new.disk (IsOldOrImage (core_of self.old)) }
         ensures flushed { IsFlushedAnyway step.now result }
-        ensures still { is_still result ≡ true → disk_in self.new ≡ disk_in self.old }
+        ensures still { is_still result ≡ true → self.new.disk ≡ self.old.disk }
         ensures supplied { supplied_of self.new ≡ supplied_of self.old }
-        ensures counted { D.faults (disk_in self.new) ≡ faults_after (is_no_fault result)
-            (D.faults (disk_in self.old)) }
+        ensures counted { D.faults self.new.disk ≡ faults_after (is_no_fault result)
+            (D.faults self.old.disk) }
     {
+        self.facts();
         match step {
-            Step::Flush => self.flush(),
-            Step::Checkpoint => self.checkpoint(),
+            Step::Flush => {
+                let answer = self.flush();
+                self.facts();
+                answer
+            }
+            Step::Checkpoint => {
+                let answer = self.checkpoint();
+                self.facts();
+                answer
+            }
             _ => {
                 let Some(answer) = answer_in_memory(&mut self.store, step) else {
                     unreachable!()
                 };
+                self.facts();
                 answer
             }
         }
@@ -70,19 +77,16 @@ impl<D: Disk, C: Chare> Engine<D, C> {
 
     /// Makes all events durable, for which it takes no memory.
     fn flush(&mut self) -> Answer
-        requires { IsEngineConsistent self.old }
-        ensures consistent { IsEngineConsistent self.new }
         ensures does { Does (view_of self.old) steps.Flush result (view_of self.new) }
         ensures memory { result ≢ answers.Refused refusals.Memory }
-        ensures advances { Advances self.old self.new }
-        ensures still { is_still result ≡ true → disk_in self.new ≡ disk_in self.old }
+        ensures advances { Advances D.Disk self.old self.new }
+        ensures still { is_still result ≡ true → self.new.disk ≡ self.old.disk }
         ensures supplied { supplied_of self.new ≡ supplied_of self.old }
-        ensures counted { D.faults (disk_in self.new) ≡ faults_after (is_no_fault result)
-            (D.faults (disk_in self.old)) }
+        ensures counted { D.faults self.new.disk ≡ faults_after (is_no_fault result)
+            (D.faults self.old.disk) }
     {
-        let flushed = flush(&mut self.store.history, &mut self.halves);
-        self.store.history.facts();
-        match flushed {
+        self.facts();
+        match flush(&mut self.store.history, &mut self.halves) {
             Ok(durable) => Answer::Flushed(durable),
             Err(refusal) => Answer::Refused(refusal),
         }
@@ -90,19 +94,18 @@ impl<D: Disk, C: Chare> Engine<D, C> {
 
     /// Makes all events durable by an image, which takes the place of the store.
     fn checkpoint(&mut self) -> Answer
-        requires { IsEngineConsistent self.old }
-        ensures consistent { IsEngineConsistent self.new }
         ensures does { Does (view_of self.old) steps.Checkpoint result (view_of self.new) }
-        ensures advances { Advances self.old self.new }
-        ensures image { D.honest (disk_in self.old) → is_image result ≡ true → HasImage self.new }
-        ensures stored { D.honest (disk_in self.old) → (core_of self.old).halted ≡ false →
-            LeavesOnly D.moment D.since (disk_in self.old) (disk_in self.new)
+        ensures advances { Advances D.Disk self.old self.new }
+        ensures image { D.honest self.old.disk → is_image result ≡ true → HasImage D.Disk self.new }
+        ensures stored { D.honest self.old.disk → (core_of self.old).halted ≡ false →
+            LeavesOnly D.moment D.since self.old.disk self.new.disk
             (IsOldOrImage (core_of self.old)) }
-        ensures still { is_still result ≡ true → disk_in self.new ≡ disk_in self.old }
+        ensures still { is_still result ≡ true → self.new.disk ≡ self.old.disk }
         ensures supplied { supplied_of self.new ≡ supplied_of self.old }
-        ensures counted { D.faults (disk_in self.new) ≡ faults_after (is_no_fault result)
-            (D.faults (disk_in self.old)) }
+        ensures counted { D.faults self.new.disk ≡ faults_after (is_no_fault result)
+            (D.faults self.old.disk) }
     {
+        self.facts();
         let shelves = self.store.shelves.as_mut_slice();
         let taken = checkpoint(
             self.store.alloc,
@@ -110,7 +113,6 @@ impl<D: Disk, C: Chare> Engine<D, C> {
             &mut self.halves,
             shelves,
         );
-        self.store.history.facts();
         match taken {
             Ok(generation) => Answer::Checkpointed(generation),
             Err(refusal) => Answer::Refused(refusal),
@@ -126,8 +128,6 @@ impl<D: Disk, C: Chare> Engine<D, C> {
     /// then on with all that are durable when it ends. `Device` is answered only where the disk's
     /// count of failures grew.
     pub fn run(&mut self, steps: &[Step]) -> Result<Vec<Answer>, AllocError>
-        requires { IsEngineConsistent self.old }
-        ensures consistent { IsEngineConsistent self.new }
         ensures ok { IfOk result (λ answers. Runs (view_of self.old) steps.now answers.items
             (view_of self.new)) }
         ensures told { IfOk result (λ answers. AllTold (core_of self.new).opening
@@ -135,22 +135,23 @@ impl<D: Disk, C: Chare> Engine<D, C> {
         ensures remembers { (past : Past) → Remembers past (core_of self.old) →
             IfOk result (λ answers. Remembers (with_run past steps.now answers.items)
             (core_of self.new)) }
-        ensures advances { Advances self.old self.new }
-        ensures now { D.honest (disk_in self.old) → (outcome : Outcome) →
-            MayLeave (D.file (disk_in self.new)) outcome →
+        ensures advances { Advances D.Disk self.old self.new }
+        ensures now { D.honest self.old.disk → (outcome : Outcome) →
+            MayLeave (D.file self.new.disk) outcome →
             is_lawful_now (core_of self.new) outcome }
-        ensures image { D.honest (disk_in self.old) → IfOk result (λ answers.
-            ends_with_image answers.items ≡ true → HasImage self.new) }
+        ensures image { D.honest self.old.disk → IfOk result (λ answers.
+            ends_with_image answers.items ≡ true → HasImage D.Disk self.new) }
         ensures flushed { IfOk result (λ answers. AreFlushedAnyway steps.now answers.items) }
-        ensures shows { ShowsPresent self.new.store.shelves.items self.new.store.history }
         ensures supplied { supplied_of self.new ≡ supplied_of self.old }
-        ensures counted { IfOk result (λ answers. D.faults (disk_in self.new)
-            ≡ faults_through answers.items (D.faults (disk_in self.old))) }
+        ensures counted { IfOk result (λ answers. D.faults self.new.disk
+            ≡ faults_through answers.items (D.faults self.old.disk)) }
         ensures err { OnErr result (self.new ≡ self.old) }
     {
+        self.facts();
         let mut answers = Vec::with_capacity(self.store.alloc, steps.len())?;
         for step in steps {
             let answer = self.step(step);
+            self.facts();
             answers.push_reserved(answer);
         }
         Ok(answers)

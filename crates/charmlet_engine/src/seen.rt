@@ -13,7 +13,7 @@ ghost use Rattle.charmlet_stock.specs.Stock.{blanks_in, census_of, keeping_of, p
 ghost use Rattle.charmlet_store.specs.Census.{census_in};
 ghost use Rattle.charmlet_store.specs.Look.{IsLook};
 ghost use Rattle.charmlet_engine.specs.Advances.{Advances};
-ghost use Rattle.charmlet_engine.specs.Engine.{IsEngineConsistent, core_of, disk_in, keeping_in, supplied_of, view_of, world_of};
+ghost use Rattle.charmlet_engine.specs.Engine.{core_of, supplied_of, view_of, world_of};
 
 use crate::engine::Engine;
 use charmlet_chare::Chare;
@@ -28,8 +28,6 @@ impl<D: Disk, C: Chare> Engine<D, C> {
     /// Takes blank objects into the stock. Where memory is refused it hands all of them back, and
     /// nothing has changed. It makes no call of the disk.
     pub fn supply(&mut self, blanks: Vec<C>) -> Result<(), Vec<C>>
-        requires { IsEngineConsistent self.old }
-        ensures consistent { IsEngineConsistent self.new }
         ensures core { core_of self.new ≡ core_of self.old }
         ensures ok { OnOk result ((kind : kinds.Kind) → (view_of self.new).blanks kind
             ≡ (view_of self.old).blanks kind + count_of C.state blanks.items kind) }
@@ -38,8 +36,8 @@ impl<D: Disk, C: Chare> Engine<D, C> {
         ensures err { IfErr result (λ objects. (objects.items ≡ blanks.items)
             × ((view_of self.new).blanks ≡ (view_of self.old).blanks)
             × (supplied_of self.new ≡ supplied_of self.old)) }
-        ensures disk { disk_in self.new ≡ disk_in self.old }
-        ensures advances { Advances self.old self.new }
+        ensures disk { self.new.disk ≡ self.old.disk }
+        ensures advances { Advances D.Disk self.old self.new }
     {
         self.store.supply(blanks)
     }
@@ -52,9 +50,7 @@ impl<D: Disk, C: Chare> Engine<D, C> {
         kind: Kind,
         count: usize,
     ) -> Result<(), AllocError>
-        requires consistent { IsEngineConsistent self.old }
         requires enough { count ≤ blanks_in source.old kind }
-        ensures consistent { IsEngineConsistent self.new }
         ensures core { core_of self.new ≡ core_of self.old }
         ensures drawn { OnOk result ((k : kinds.Kind) → (view_of self.new).blanks k
             ≡ (view_of self.old).blanks k + part_of kind count k) }
@@ -68,8 +64,8 @@ impl<D: Disk, C: Chare> Engine<D, C> {
             × (supplied_of self.new ≡ supplied_of self.old)
             × (census_of source.new ≡ census_of source.old)) }
         ensures source_keeping { keeping_of source.new ≡ keeping_of source.old }
-        ensures disk { disk_in self.new ≡ disk_in self.old }
-        ensures advances { Advances self.old self.new }
+        ensures disk { self.new.disk ≡ self.old.disk }
+        ensures advances { Advances D.Disk self.old self.new }
     {
         self.store.draw(source, kind, count)
     }
@@ -78,7 +74,6 @@ impl<D: Disk, C: Chare> Engine<D, C> {
     /// the place of its receiver, or the home of one that isn't there. None exactly where no
     /// message can be delivered.
     pub fn next(&self) -> Option<(u16, MsgId)>
-        requires { IsEngineConsistent self.now }
         ensures { result ≡ next_in (core_of self.now) }
     {
         self.store.next()
@@ -86,7 +81,6 @@ impl<D: Disk, C: Chare> Engine<D, C> {
 
     /// How many messages are pending.
     pub fn pending_count(&self) -> usize
-        requires { IsEngineConsistent self.now }
         ensures { result ≡ length (world_of self.now).pending }
     {
         self.store.pending_count()
@@ -94,7 +88,6 @@ impl<D: Disk, C: Chare> Engine<D, C> {
 
     /// The ids of the pending messages, in order of birth. It fails only when out of memory.
     pub fn pending(&self) -> Result<Vec<MsgId>, AllocError>
-        requires { IsEngineConsistent self.now }
         ensures { IfOk result (λ ids. ids.items ≡ map (λ m. m.id) (world_of self.now).pending) }
     {
         self.store.pending()
@@ -103,9 +96,8 @@ impl<D: Disk, C: Chare> Engine<D, C> {
     /// What is seen of an element. It fails only when out of memory, which the packed state takes,
     /// and so not where the element isn't there. Nothing changes.
     pub fn look(&mut self, elem: Elem) -> Result<Look, AllocError>
-        requires { IsEngineConsistent self.old }
         ensures same { self.new ≡ self.old }
-        ensures advances { Advances self.old self.new }
+        ensures advances { Advances D.Disk self.old self.new }
         ensures ok { IfOk result (IsLook (place_of (core_of self.old) elem)
             (record_of (world_of self.old) elem)) }
         ensures absent { (record_of (world_of self.old) elem).state ≡ None → IsOk result }
@@ -116,7 +108,6 @@ impl<D: Disk, C: Chare> Engine<D, C> {
     /// How many objects of the kind were supplied, are on the shelves, are in the stock, and were
     /// retired. Each object that was supplied is in one of the three.
     pub fn census(&self, kind: Kind) -> Census
-        requires { IsEngineConsistent self.now }
         ensures counts { result ≡ census_in self.now.store kind }
         ensures adds_up { result.supplied ≡ result.on_shelves + result.in_stock + result.retired }
     {
@@ -135,20 +126,16 @@ impl<D: Disk, C: Chare> Engine<D, C> {
     /// message is assigned. Without it none is kept, since an engine can do without. It makes no
     /// call of the disk, and takes no memory.
     pub fn note_events(&mut self)
-        requires { IsEngineConsistent self.old }
-        ensures consistent { IsEngineConsistent self.new }
         ensures core { core_of self.new ≡ core_of self.old }
         ensures blanks { (view_of self.new).blanks ≡ (view_of self.old).blanks }
         ensures supplied { supplied_of self.new ≡ supplied_of self.old }
-        ensures keeping { keeping_in self.new ≡ keeping_in self.old }
-        ensures disk { disk_in self.new ≡ disk_in self.old }
+        ensures disk { self.new.disk ≡ self.old.disk }
     {
         self.store.history.note_events();
     }
 
     /// How many events there are, those before the opening world among them.
     pub fn event_count(&self) -> u64
-        requires { IsEngineConsistent self.now }
         ensures { result ≡ (core_of self.now).before + length (core_of self.now).history }
     {
         self.store.history.event_count()
@@ -159,9 +146,8 @@ impl<D: Disk, C: Chare> Engine<D, C> {
     /// and no call of the disk is made. `Memory` where memory is lacking; `ImageFull` where the
     /// next generation would be past 2^40, or the file past 2^31 bytes.
     pub fn image(&mut self) -> Result<Vec<u8>, Refusal>
-        requires { IsEngineConsistent self.old }
         ensures same { self.new ≡ self.old }
-        ensures advances { Advances self.old self.new }
+        ensures advances { Advances D.Disk self.old self.new }
         ensures ok { IfOk result (λ bytes. IsImageOf (core_of self.old) bytes.items) }
         ensures within { IfOk result (λ _. IsWithinLimits (core_of self.old)) }
         ensures err { IfErr result (IsRefusal (core_of self.old)) }
@@ -172,7 +158,6 @@ impl<D: Disk, C: Chare> Engine<D, C> {
 
     /// The generation of the image in the half that is taken.
     pub fn generation(&self) -> u64
-        requires { IsEngineConsistent self.now }
         ensures { result ≡ (core_of self.now).generation }
     {
         self.store.history.generation()
@@ -180,7 +165,6 @@ impl<D: Disk, C: Chare> Engine<D, C> {
 
     /// How many events are durable, those before the opening world among them.
     pub fn durable(&self) -> u64
-        requires { IsEngineConsistent self.now }
         ensures { result ≡ (core_of self.now).before + (core_of self.now).durable }
     {
         self.store.history.durable_count()

@@ -1,92 +1,71 @@
-use Rattle.std.proofs.Common.{◌≡◌, ℕ, ◌+◌, false, Result, [], length, sym, ap, subst, ◌∙◌}
+use Rattle.std.proofs.Common.{◌≡◌, ℕ, false, Result, Ok, Err, sym, ap, subst, ◌∙◌}
 use Rattle.charmlet_model.specs.declared.refusal.Refusal.{Refusal}
-use Rattle.charmlet_model.specs.Core.{Core, present}
+use Rattle.charmlet_model.specs.Core.{Core}
 use Rattle.charmlet_model.specs.Run.{StoreView}
-use Rattle.charmlet_disk.specs.Disk.{LeavesOnly, faults_after}
-use Rattle.charmlet_image.specs.Images.{spell_half}
-use Rattle.charmlet_halves.specs.Halves.{disk_of, text_of}
 use Rattle.charmlet_history.specs.Kept.{core_in}
-use Rattle.charmlet_journal.specs.Rest.{Agrees, HasOldOrSealed, IsKept}
-use Rattle.charmlet_recovery.specs.Stores.{saved_of}
-use Rattle.charmlet_store.specs.Store.{IsStoreConsistent, supplied_in}
+use Rattle.charmlet_store.specs.Store.{StoreShown, blanks_of, supplied_in}
+use Rattle.charmlet_store.specs.Together as stores
 use Rattle.charmlet_replay.proofs.OpenHalves.{supplied_back, unused_back}
 use Rattle.charmlet_recover.specs.Restart.{AnswersBy}
-use Rattle.charmlet_engine.specs.Restarted.{going_refusal}
-use Rattle.charmlet_checkpoint.specs.Showing.{IsShown}
-use Rattle.charmlet_engine.proofs.Written.{imaged_store, same_items}
-use Rattle.charmlet_engine.proofs.Renewed.{failed_alike, image_answers, refused_alike}
+use Rattle.charmlet_engine.specs.Outcomes.{is_lawful_now}
+use Rattle.charmlet_engine.specs.Restarted.{IsOpenedOn, going_refusal}
+use Rattle.charmlet_engine.proofs.Fitting.{imaged_fit}
+use Rattle.charmlet_engine.proofs.Lawful.{lawful_now}
+use Rattle.charmlet_engine.proofs.Renewed.{image_answers, refused_alike}
+use Rattle.charmlet_engine.proofs.Tied.{same_items}
 use Rattle.charmlet_engine.proofs.going_on.renew.Goals as goal
 
-pub drop_retired-requires-after_bounds : goal.drop_retired-requires-after_bounds
-drop_retired-requires-after_bounds g c κs within =
-    let store = c.args.store in
-    let history = c.checkpoint-taken.new.history in
-    let items = c.checkpoint-taken.ensures.same ∙ c.as_mut_slice-shelves.ensures.value in
-    subst (λ shelves. IsStoreConsistent {G = g.C.Chare} (record store { history = history; shelves = shelves })) (sym (same_items store.shelves c.checkpoint-taken.new.shelves items))
-    (imaged_store {H = g.C.Chare} store history c.requires.consistent c.facts.ensures (subst (IsShown history) items c.checkpoint-taken.ensures.shown))
+pub invariant_of-store : goal.invariant_of-store
+invariant_of-store g c =
+    let its = c.store.inside in
+    imaged_fit its.history its.shelves.items its.stock c.store.invariant c.checkpoint-taken.new.history c.checkpoint-taken.new.shelves _ (c.checkpoint-taken.ensures.same ∙ c.as_mut_slice-shelves.ensures.value)
+    (ap (λ v. v.items) (same_items its.shelves c.checkpoint-taken.new.shelves (c.checkpoint-taken.ensures.same ∙ c.as_mut_slice-shelves.ensures.value))) c.checkpoint-taken.ensures.shown
 
-pub take_back-requires-clause-consistent : goal.take_back-requires-clause-consistent
-take_back-requires-clause-consistent g c κs within =
-    let store = c.args.store in
-    let history = c.checkpoint-taken.new.history in
-    let items = c.checkpoint-taken.ensures.same ∙ c.as_mut_slice-shelves.ensures.value in
-    subst (λ shelves. IsStoreConsistent {G = g.C.Chare} (record store { history = history; shelves = shelves })) (sym (same_items store.shelves c.checkpoint-taken.new.shelves items))
-    (imaged_store {H = g.C.Chare} store history c.requires.consistent c.facts.ensures (subst (IsShown history) items c.checkpoint-taken.ensures.shown))
+pub invariant_of-store-in-Err : goal.invariant_of-store-in-Err
+invariant_of-store-in-Err g c =
+    let its = c.store.inside in
+    imaged_fit its.history its.shelves.items its.stock c.store.invariant c.checkpoint-taken.new.history c.checkpoint-taken.new.shelves _ (c.checkpoint-taken.ensures.same ∙ c.as_mut_slice-shelves.ensures.value)
+    (ap (λ v. v.items) (same_items its.shelves c.checkpoint-taken.new.shelves (c.checkpoint-taken.ensures.same ∙ c.as_mut_slice-shelves.ensures.value))) c.checkpoint-taken.ensures.shown
 
-pub returns-in-Ok : goal.returns-in-Ok
-returns-in-Ok g c =
-    let old = core_in c.args.store.history in
-    let halves = c.checkpoint-taken.new.halves in
+pub returns-in-Ok-clause-blanks : goal.returns-in-Ok-clause-blanks
+returns-in-Ok-clause-blanks g c = ap (λ (v : StoreView). v.blanks) c.drop_retired.ensures.same ∙ ap blanks_of c.store.view_is
+
+pub returns-in-Ok-clause-supplied : goal.returns-in-Ok-clause-supplied
+returns-in-Ok-clause-supplied g c = c.drop_retired.ensures.supplied ∙ ap supplied_in c.store.view_is
+
+pub returns-in-Ok-clause-now : goal.returns-in-Ok-clause-now
+returns-in-Ok-clause-now g c = λ honest o left.
+    let core : core_in c.drop_retired.new.self.history ≡ core_in c.checkpoint-taken.new.history = ap (λ (v : StoreView). v.core) c.drop_retired.ensures.same in
+    subst (λ (k : Core). is_lawful_now k o) (sym core) (lawful_now {G = g.D.Disk} (core_in c.checkpoint-taken.new.history) c.checkpoint-taken.new.halves (c.checkpoint-taken.ensures.kept honest) o left)
+
+pub returns-in-Ok-clause-settled : goal.returns-in-Ok-clause-settled
+returns-in-Ok-clause-settled g c = λ honest.
+    let opens = subst (λ (s : StoreShown). IsOpenedOn (core_in s.history).processors (core_in s.history)) (sym c.store.view_is) c.requires.opens in
     let done = c.checkpoint-taken.ensures in
-    let dropped = c.drop_retired.ensures in
-    let core : core_in c.drop_retired.new.self.history ≡ core_in c.checkpoint-taken.new.history = ap (λ (v : StoreView). v.core) dropped.same in
-    let sealed = core ∙ c.in-Ok.ensures.sealed in
-    let answered = image_answers old.processors old c.requires.opens (λ _. 0) (core_in c.checkpoint-taken.new.history) c.checkpoint-taken.result (done.steps (λ _. 0)) in
-    record {
-      consistent = record {
-        shows = dropped.consistent;
-        agrees = subst (λ (k : Core). Agrees {G = g.D.Disk} k halves) (sym core) done.agrees;
-        keeps = λ honest. subst (λ (k : Core). IsKept {G = g.D.Disk} k halves) (sym core) (done.kept (done.honest.1 honest));
-        current = λ honest _. c.in-Ok.ensures.current (done.honest.1 honest);
-      };
-      core = sealed;
-      blanks = ap (λ (v : StoreView). v.blanks) dropped.same;
-      supplied = dropped.supplied;
-      keeping = dropped.dropping;
-      image = λ honest. subst (λ (k : Core). text_of halves ≡ spell_half (saved_of (present k) (k.before + length k.history) k.generation [])) (sym sealed) (c.in-Ok.ensures.text honest);
-      answer = subst (λ (r : Result ℕ Refusal). AnswersBy {X = ℕ} (going_refusal false old) r) c.in-Ok.is answered;
-      back = tt;
-      kept = tt;
-      refused = tt;
-      stored = λ honest. done.stored honest (ap (λ (k : Core). k.halted) c.requires.opens);
-      honest = done.honest;
-      counted = c.in-Ok.ensures.counted;
-    }
+    let going = (done.agrees (ap (λ (k : Core). k.halted) c.in-Ok.ensures.sealed ∙ ap (λ (k : Core). k.halted) opens)).going in
+    (c.checkpoint-taken.new.halves.ready (done.honest.0 honest) going).settled
 
-pub returns-in-Err : goal.returns-in-Err
-returns-in-Err g c =
-    let old = core_in c.args.store.history in
-    let first = disk_of c.args.halves in
-    let done = c.checkpoint-taken.ensures in
-    let disk = c.into_disk.ensures in
-    let taken = c.take_back.ensures in
-    let given = supplied_in c.args.store in
-    let answered = image_answers old.processors old c.requires.opens (λ _. 0) (core_in c.checkpoint-taken.new.history) c.checkpoint-taken.result (done.steps (λ _. 0)) in
-    record {
-      consistent = tt;
-      core = tt;
-      blanks = tt;
-      supplied = tt;
-      keeping = tt;
-      image = λ honest. tt;
-      answer = refused_alike ℕ Core (going_refusal false old) c.in-Err.refusal (subst (λ (r : Result ℕ Refusal). AnswersBy {X = ℕ} (going_refusal false old) r) c.in-Err.is answered);
-      back = unused_back c.take_back.result given taken.tally taken.keeping;
-      kept = supplied_back c.take_back.result given taken.tally;
-      refused = λ other. disk ∙ ap (disk_of {G = g.D.Disk}) (c.in-Err.ensures.refused other).1;
-      stored = λ honest. subst (λ d. LeavesOnly g.D.Disk.moment g.D.Disk.since first d (HasOldOrSealed old)) (sym disk) (done.stored honest (ap (λ (k : Core). k.halted) c.requires.opens));
-      honest = (
-        (λ h. subst g.D.Disk.honest (sym disk) (done.honest.0 h)),
-        (λ h. done.honest.1 (subst g.D.Disk.honest disk h)),
-      );
-      counted = ap g.D.Disk.faults disk ∙ c.in-Err.ensures.counted ∙ ap (λ b. faults_after b (g.D.Disk.faults first)) (failed_alike ℕ Core c.in-Err.refusal);
-    }
+pub returns-in-Ok-clause-answer : goal.returns-in-Ok-clause-answer
+returns-in-Ok-clause-answer g c =
+    let its = c.store.inside in
+    let opens = subst (λ (s : StoreShown). IsOpenedOn (core_in s.history).processors (core_in s.history)) (sym c.store.view_is) c.requires.opens in
+    let old = core_in its.history in
+    let answered = image_answers old.processors old opens (λ _. 0) (core_in c.checkpoint-taken.new.history) c.checkpoint-taken.result (c.checkpoint-taken.ensures.steps (λ _. 0)) in
+    subst (λ (s : StoreShown). AnswersBy {X = Core} (going_refusal false (core_in s.history)) (Ok (core_in c.drop_retired.new.self.history))) c.store.view_is
+    (subst (λ (r : Result ℕ Refusal). AnswersBy {X = ℕ} (going_refusal false old) r) c.in-Ok.is answered)
+
+pub returns-in-Err-clause-answer : goal.returns-in-Err-clause-answer
+returns-in-Err-clause-answer g c =
+    let its = c.store.inside in
+    let opens = subst (λ (s : StoreShown). IsOpenedOn (core_in s.history).processors (core_in s.history)) (sym c.store.view_is) c.requires.opens in
+    let old = core_in its.history in
+    let answered = image_answers old.processors old opens (λ _. 0) (core_in c.checkpoint-taken.new.history) c.checkpoint-taken.result (c.checkpoint-taken.ensures.steps (λ _. 0)) in
+    subst (λ (s : StoreShown). AnswersBy {X = Core} (going_refusal false (core_in s.history)) (Err c.in-Err.refusal)) c.store.view_is
+    (refused_alike ℕ Core (going_refusal false old) c.in-Err.refusal (subst (λ (r : Result ℕ Refusal). AnswersBy {X = ℕ} (going_refusal false old) r) c.in-Err.is answered))
+
+pub returns-in-Err-clause-back : goal.returns-in-Err-clause-back
+returns-in-Err-clause-back g c = unused_back c.take_back.result (supplied_in (stores.shown_by c.checkpoint-taken.new.history c.store.inside.stock)) c.take_back.ensures.tally c.take_back.ensures.keeping
+
+pub returns-in-Err-clause-kept : goal.returns-in-Err-clause-kept
+returns-in-Err-clause-kept g c =
+    supplied_back c.take_back.result (supplied_in (stores.shown_by c.checkpoint-taken.new.history c.store.inside.stock)) c.take_back.ensures.tally ∙ ap supplied_in c.store.view_is
