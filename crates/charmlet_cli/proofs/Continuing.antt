@@ -2,29 +2,19 @@
 use Rattle.std.proofs.Common.{List, [], ◌∷◌, ◌++◌, refl, sym, ap, subst, ◌∙◌, append_assoc}
 use Rattle.std.proofs.lemmas.List.{append-nil}
 use Rattle.charmlet_model.specs.Texts.{Text}
-use Rattle.charmlet_chare.specs.declared.chare.Chare as chares
 use Rattle.charmlet_disk.specs.declared.disk.Disk as disks
-use Rattle.charmlet_disk.specs.File.{MayLeave, Outcome}
 use Rattle.charmlet_script.specs.declared.script.Line.{Line}
-use Rattle.charmlet_engine.specs.declared.engine.Engine.{Engine}
 use Rattle.charmlet_engine.specs.Advances.{Advances}
-use Rattle.charmlet_engine.specs.Engine.{IsEngineConsistent, disk_in}
-use Rattle.charmlet_engine.proofs.Advancing.{advances_still}
+use Rattle.charmlet_engine.specs.Engine.{EngineShown}
 use Rattle.charmlet_engine.proofs.Lawful.{leaves_more}
 use Rattle.charmlet_engine.proofs.Onward.{onward_after}
 use Rattle.charmlet_cli.specs.Lines.{Continues, Follows, Ledger, Names, Prints, ledger_in}
 
-module _ {D C : Type 0} {G : disks.Ghosts D} {H : chares.Ghosts C} where
+module _ {D : Type 0} (G : disks.Ghosts D) where
   -- an engine that advances
-  pub continued : (old new : Engine D C G H) → Advances old new → Continues G (ledger_in old) (ledger_in new)
+  pub continued : (old new : EngineShown D) → Advances G old new → Continues G (ledger_in old) (ledger_in new)
   continued old new advances = record { onward = advances.onward; any_moment = advances.any_moment; honest = advances.honest }
 
-  -- from now on
-  pub continues_now : (engine : Engine D C G H) → IsEngineConsistent engine →
-      (G.honest (disk_in engine) → (o : Outcome) → G.since (disk_in engine) (G.moment (disk_in engine)) o → MayLeave (G.file (disk_in engine)) o) → Continues G (ledger_in engine) (ledger_in engine)
-  continues_now engine consistent only_now = continued engine engine (advances_still {G = G} {H = H} engine engine consistent refl refl refl only_now)
-
-module _ {D : Type 0} (G : disks.Ghosts D) where
   -- one after another
   pub continues_after : (first mid last : Ledger D) → Continues G first mid → Continues G mid last → Continues G first last
   continues_after first mid last a b = record {

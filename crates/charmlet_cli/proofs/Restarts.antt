@@ -26,9 +26,8 @@ use Rattle.charmlet_replay.specs.Unused.{IsUnused}
 use Rattle.charmlet_recover.specs.declared.restarting.NotRestarted.{NotRestarted}
 use Rattle.charmlet_recover.specs.Restart.{AnswersBy, bytes_on, is_after_sync}
 use Rattle.charmlet_script.specs.Script.{RestartContents}
-use Rattle.charmlet_engine.specs.declared.engine.Engine.{Engine}
 use Rattle.charmlet_engine.specs.Advances.{Advances}
-use Rattle.charmlet_engine.specs.Engine.{IsEngineConsistent, core_of, disk_in, supplied_of, view_of}
+use Rattle.charmlet_engine.specs.Engine.{EngineShown, core_of, supplied_of, view_of}
 use Rattle.charmlet_engine.specs.Lives.{ComesBack, Past, Remembers}
 use Rattle.charmlet_engine.specs.Outcomes.{Onward, is_lawful_now, is_lawful_since}
 use Rattle.charmlet_engine.specs.Restarted.{IsFound, IsHandedBack, IsLackOrFull, IsLeftByRestart, IsOpenedOn, IsSameOrNext, IsTakenFrom, IsUnwritten, is_engine_refusal}
@@ -37,7 +36,7 @@ use Rattle.charmlet_cli.specs.declared.restarting.RestartError.TheVariants as en
 use Rattle.charmlet_cli.specs.Lines.{AreEnough, in_lines, ledger_in}
 use Rattle.charmlet_cli.specs.Restarted.{EndsRestart, EndsRestartWrite, IsBack, RestartLeaves, WasNotRestarted, given_of, is_left_by, restarted_line_text, restarted_text}
 use Rattle.charmlet_cli.specs.Run.{IsEarlierOrLawful, Stands}
-use Rattle.charmlet_cli.proofs.Standings.{failure_said, stands_after}
+use Rattle.charmlet_cli.proofs.Standings.{IsLawfulDisk, failure_said, stands_after}
 
 -- files recover to one world and one count of events
 same_found : (v w : World) (n m g h : ℕ) → Found v n g ≡ Found w m h → (v ≡ w) × (n ≡ m)
@@ -65,18 +64,17 @@ module _ (files : Half → File) (back last : Core) (found : IsFound (bytes_on f
   from_restart : (o : Outcome) → IsLeftByRestart files o → IsEarlierOrLawful (MayLeave files) last o
   from_restart o left = ⊎_elim (λ old. inl old) (λ same. inr (same_is_lawful o same)) left
 
-module _ {D C : Type 0} {G : disks.Ghosts D} {H : chares.Ghosts C} where
+module _ {D : Type 0} (G : disks.Ghosts D) where
   -- an engine that came back
-  pub is_back : (processors : ℕ) (given : Blanks) (first : D) (engine : Engine D C G H) → IsOpenedOn processors (core_of engine) →
+  pub is_back : (processors : ℕ) (given : Blanks) (first : D) (engine : EngineShown D) → IsOpenedOn processors (core_of engine) →
       (G.honest first → IsFound (bytes_on (G.file first)) (core_of engine)) →
       (G.honest first → IsTakenFrom given (bytes_on (G.file first)) (view_of engine)) →
       supplied_of engine ≡ given →
       (G.honest first → (past : Past) (old new : Core) → Remembers past old → Onward old new → IsSound new → is_lawful_since old new (bytes_on (G.file first)) → ComesBack past old new (core_of engine)) →
-      G.faults (disk_in engine) ≡ G.faults first → (G.honest first → G.honest (disk_in engine)) × (G.honest (disk_in engine) → G.honest first) →
-      (G.honest first → IsSettled (G.file (disk_in engine))) →
-      (G.honest first → (o : Outcome) → MayLeave (G.file (disk_in engine)) o → is_lawful_now (core_of engine) o) →
-      (G.honest first → wants_image (bytes_on (G.file first)) ≡ false → IsUnwritten G first (disk_in engine)) →
-      (G.honest first → LeavesOnly G.moment G.since first (disk_in engine) (IsLeftByRestart (G.file first))) → IsBack G processors given first (ledger_in engine)
+      G.faults engine.disk ≡ G.faults first → (G.honest first → G.honest engine.disk) × (G.honest engine.disk → G.honest first) → (G.honest first → IsSettled (G.file engine.disk)) →
+      (G.honest first → (o : Outcome) → MayLeave (G.file engine.disk) o → is_lawful_now (core_of engine) o) →
+      (G.honest first → wants_image (bytes_on (G.file first)) ≡ false → IsUnwritten G first engine.disk) →
+      (G.honest first → LeavesOnly G.moment G.since first engine.disk (IsLeftByRestart (G.file first))) → IsBack G processors given first (ledger_in engine)
   is_back processors given first engine opens found taken supplied remembers counted honest settled now still any_moment = record {
     opens = opens;
     found = found;
@@ -92,11 +90,11 @@ module _ {D C : Type 0} {G : disks.Ghosts D} {H : chares.Ghosts C} where
   }
 
   -- and what it stands on, after some lines
-  pub stands_back : (disk end : D) (first last : Engine D C G H) → IsEngineConsistent last → Advances first last → (G.honest disk → G.honest (disk_in first)) →
-      (G.honest disk → IsFound (bytes_on (G.file disk)) (core_of first)) →
-      (G.honest disk → LeavesOnly G.moment G.since disk (disk_in first) (IsLeftByRestart (G.file disk))) → end ≡ disk_in last → Stands G (is_left_by G disk) disk end (ledger_in last)
-  stands_back disk end first last consistent advances honest found leaves is =
-      stands_after {G = G} {H = H} (MayLeave (G.file disk)) (IsLeftByRestart (G.file disk)) disk end first last consistent advances honest leaves
+  pub stands_back : (disk end : D) (first last : EngineShown D) → IsLawfulDisk G last → Advances G first last → (G.honest disk → G.honest first.disk) →
+      (G.honest disk → IsFound (bytes_on (G.file disk)) (core_of first)) → (G.honest disk → LeavesOnly G.moment G.since disk first.disk (IsLeftByRestart (G.file disk))) → end ≡ last.disk →
+      Stands G (is_left_by G disk) disk end (ledger_in last)
+  stands_back disk end first last lawful advances honest found leaves is =
+      stands_after G (MayLeave (G.file disk)) (IsLeftByRestart (G.file disk)) disk end first last lawful advances honest leaves
       (λ still. from_restart (G.file disk) (core_of first) (core_of last) (found still) advances.onward) is
 
 -- there are 1 to 64 processors where a store came back
@@ -139,10 +137,10 @@ all_given stock unused =
     let each : (kind : Kind) → blanks_in stock kind ≡ supplied_to stock kind = λ kind. ap (λ (t : Tally). t.in_stock) (unused.all kind) ∙ omega arith in
     λ i kind. each kind i
 
-module _ {D C : Type 0} {G : disks.Ghosts D} {H : chares.Ghosts C} where
+module _ {D C : Type 0} (G : disks.Ghosts D) {H : chares.Ghosts C} where
   -- no store came back
   pub was_not_restarted : (processors : ℕ) (given : Blanks) (first : D) (blanks : Stock C H) (refused : NotRestarted D C H) →
-      is_engine_refusal refused.refusal ≡ true → (is_processor_count processors ≡ false → IsHandedBack {G = G} first blanks (Err refused)) → (refused.refusal ≡ refusals.BadPes → is_processor_count processors ≡ false) →
+      is_engine_refusal refused.refusal ≡ true → (is_processor_count processors ≡ false → IsHandedBack first blanks (Err refused)) → (refused.refusal ≡ refusals.BadPes → is_processor_count processors ≡ false) →
       (G.honest first → is_processor_count processors ≡ true → AnswersBy {X = Core} (engine_refusal given (bytes_on (G.file first))) (Err refused.refusal)) →
       (G.honest first → (w : World) (before : ℕ) (history : List Event) (durable : ℕ) → IsLawful w before history durable (bytes_on (G.file first)) → IsLackOrFull (bytes_on (G.file first)) refused.refusal) →
       (G.honest first → wants_image (bytes_on (G.file first)) ≡ false → IsUnwritten G first refused.disk) →

@@ -13,18 +13,15 @@ use Rattle.charmlet_script.specs.Script.{Contents, pairs_of}
 use Rattle.charmlet_model.specs.Core.{Core}
 use Rattle.charmlet_model.specs.Sound.{new_world}
 use Rattle.charmlet_model.specs.World.{World}
-use Rattle.charmlet_chare.specs.declared.chare.Chare as chares
 use Rattle.charmlet_disk.specs.declared.disk.Disk as disks
 use Rattle.charmlet_disk.specs.Disk.{LeavesOnly, SameFiles, faults_after}
 use Rattle.charmlet_disk.specs.File.{MayLeave, Outcome}
 use Rattle.charmlet_disk.proofs.Moments.{after_that}
 use Rattle.charmlet_journal.specs.NewStores.{new_core}
 use Rattle.charmlet_recovery.specs.Recovered.{Found}
-use Rattle.charmlet_engine.specs.declared.engine.Engine.{Engine}
 use Rattle.charmlet_engine.specs.Advances.{Advances}
-use Rattle.charmlet_engine.specs.Engine.{IsEngineConsistent, core_of, disk_in}
-use Rattle.charmlet_engine.specs.Outcomes.{IsNothingOrNew, Onward, is_lawful_since, not_device}
-use Rattle.charmlet_engine.proofs.Lawful.{lawful_now}
+use Rattle.charmlet_engine.specs.Engine.{EngineShown, core_of}
+use Rattle.charmlet_engine.specs.Outcomes.{IsNothingOrNew, Onward, is_lawful_now, is_lawful_since, not_device}
 use Rattle.charmlet_cli.specs.Lines.{kinds_of, ledger_in}
 use Rattle.charmlet_cli.specs.Run.{IsCreated, IsEarlierOrLawful, IsHandedBack, IsNothing, Stands}
 
@@ -55,30 +52,33 @@ from_lawful earlier old new o lawful = inr (record {
   is = lawful.is;
 })
 
-module _ {D C : Type 0} {G : disks.Ghosts D} {H : chares.Ghosts C} where
+module _ {D : Type 0} (G : disks.Ghosts D) where
+  -- on an honest disk each crash now leaves the world after some of the history, with all durable events among it
+  abbrev pub IsLawfulDisk : EngineShown D → Type 0
+  IsLawfulDisk engine = G.honest engine.disk → (o : Outcome) → MayLeave (G.file engine.disk) o → is_lawful_now (core_of engine) o
+
   -- what it stands on is the disk at the end
-  pub stands_after : (earlier before : Outcome → Type 0) (disk end : D) (first last : Engine D C G H) → IsEngineConsistent last → Advances first last → (G.honest disk → G.honest (disk_in first)) →
-      (G.honest disk → LeavesOnly G.moment G.since disk (disk_in first) before) → (G.honest disk → (o : Outcome) → before o → IsEarlierOrLawful earlier (core_of last) o) → end ≡ disk_in last →
+  pub stands_after : (earlier before : Outcome → Type 0) (disk end : D) (first last : EngineShown D) → IsLawfulDisk last → Advances G first last → (G.honest disk → G.honest first.disk) →
+      (G.honest disk → LeavesOnly G.moment G.since disk first.disk before) → (G.honest disk → (o : Outcome) → before o → IsEarlierOrLawful earlier (core_of last) o) → end ≡ last.disk →
       Stands G earlier disk end (ledger_in last)
-  stands_after earlier before disk end first last consistent advances honest leaves goes is =
+  stands_after earlier before disk end first last lawful advances honest leaves goes is =
       subst (λ (d : D). Stands G earlier disk d (ledger_in last)) (sym is) (record {
         disk = refl;
         any_moment = λ still.
-            after_that G.moment G.since disk (disk_in first) (disk_in last) before (is_lawful_since (core_of first) (core_of last)) (IsEarlierOrLawful earlier (core_of last))
+            after_that G.moment G.since disk first.disk last.disk before (is_lawful_since (core_of first) (core_of last)) (IsEarlierOrLawful earlier (core_of last))
             (leaves still) (advances.any_moment (honest still)) (goes still) (from_lawful earlier (core_of first) (core_of last));
-        now = λ still o left. lawful_now {G = G} (core_of last) last.halves (consistent.keeps (advances.honest.0 (honest still))) o left;
+        now = λ still. lawful (advances.honest.0 (honest still));
       })
 
   -- of a new store
-  pub stands : (manifest : List (ℕ × Edition)) (processors : ℕ) (disk end : D) (first last : Engine D C G H) → core_of first ≡ new_core processors manifest → IsEngineConsistent last → Advances first last →
-      (G.honest disk → G.honest (disk_in first)) → (G.honest disk → LeavesOnly G.moment G.since disk (disk_in first) (IsNothingOrNew manifest)) → end ≡ disk_in last →
-      Stands G IsNothing disk end (ledger_in last)
-  stands manifest processors disk end first last opens consistent advances honest leaves is =
-      stands_after IsNothing (IsNothingOrNew manifest) disk end first last consistent advances honest leaves
+  pub stands : (manifest : List (ℕ × Edition)) (processors : ℕ) (disk end : D) (first last : EngineShown D) → core_of first ≡ new_core processors manifest → IsLawfulDisk last → Advances G first last →
+      (G.honest disk → G.honest first.disk) → (G.honest disk → LeavesOnly G.moment G.since disk first.disk (IsNothingOrNew manifest)) → end ≡ last.disk → Stands G IsNothing disk end (ledger_in last)
+  stands manifest processors disk end first last opens lawful advances honest leaves is =
+      stands_after IsNothing (IsNothingOrNew manifest) disk end first last lawful advances honest leaves
       (λ still. from_new manifest processors (core_of first) (core_of last) opens advances.onward) is
 
   -- and it is as honest as the first one was
-  pub stays_honest : (disk end : D) (first last : Engine D C G H) → (G.honest disk → G.honest (disk_in first)) × (G.honest (disk_in first) → G.honest disk) → Advances first last → end ≡ disk_in last →
+  pub stays_honest : (disk end : D) (first last : EngineShown D) → (G.honest disk → G.honest first.disk) × (G.honest first.disk → G.honest disk) → Advances G first last → end ≡ last.disk →
       (G.honest disk → G.honest end) × (G.honest end → G.honest disk)
   stays_honest disk end first last honest advances is = (
     (λ h. subst G.honest (sym is) (advances.honest.0 (honest.0 h))),

@@ -12,10 +12,8 @@ pub mod Stop
 pub mod Writing
 pub use Rattle.charmlet_model.specs.Core
 pub use Rattle.charmlet_model.specs.Edition
-pub use Rattle.charmlet_model.specs.Fit
 pub use Rattle.charmlet_model.specs.Manifest
 pub use Rattle.charmlet_model.specs.Shelves
-pub use Rattle.charmlet_model.specs.Sound
 pub use Rattle.charmlet_model.specs.Texts
 pub use Rattle.charmlet_model.specs.World
 pub use Rattle.charmlet_disk.specs.Disk
@@ -24,7 +22,6 @@ pub use Rattle.charmlet_halves.specs.Answers
 pub use Rattle.charmlet_stock.specs.Stock
 pub use Rattle.charmlet_locate.specs.Locations
 pub use Rattle.charmlet_requests.specs.Handlers
-pub use Rattle.charmlet_store.specs.Census
 pub use Rattle.charmlet_replay.specs.Unused
 pub use Rattle.charmlet_recover.specs.Found
 pub use Rattle.charmlet_recover.specs.Wanted

@@ -28,14 +28,12 @@ use Rattle.charmlet_model.specs.declared.state.State as states
 use Rattle.charmlet_model.specs.Core.{present, place_or_home}
 use Rattle.charmlet_model.specs.Shelves.{count_of}
 use Rattle.charmlet_model.specs.World.{record_of}
-use Rattle.charmlet_chare.specs.declared.chare.Chare as chares
 use Rattle.charmlet_chare.specs.declared.chare.Chare.{Ghosts}
 use Rattle.charmlet_disk.specs.declared.disk.Disk as disks
 use Rattle.charmlet_disk.specs.Disk.{LeavesOnly, faults_after}
 use Rattle.charmlet_record.specs.Reading.{Kinds}
 use Rattle.charmlet_journal.specs.NewStores.{new_core}
-use Rattle.charmlet_engine.specs.declared.engine.Engine.{Engine}
-use Rattle.charmlet_engine.specs.Engine.{disk_in, supplied_of, view_of}
+use Rattle.charmlet_engine.specs.Engine.{EngineShown, supplied_of, view_of}
 use Rattle.charmlet_engine.specs.Outcomes.{IsFlushedAnyway, IsOldOrImage, Onward, is_lawful_since, is_no_fault, is_still}
 use Rattle.charmlet_stock.specs.declared.stock.Stock.{Stock}
 use Rattle.charmlet_stock.specs.Stock.{blanks_in, part_of}
@@ -58,12 +56,11 @@ pub record Ledger (D : Type 0) : Type 0 where
   pub disk : D
 
 -- of an engine that runs
-abbrev pub ledger_in : {D C : Type 0} {G : disks.Ghosts D} {H : chares.Ghosts C} →
-    Engine D C G H → Ledger D
+abbrev pub ledger_in : {D : Type 0} → EngineShown D → Ledger D
 ledger_in engine = record {
   store = view_of engine;
   supplied = supplied_of engine;
-  disk = disk_in engine;
+  disk = engine.disk;
 }
 
 -- the script's arrays, each in the newest version of its kind

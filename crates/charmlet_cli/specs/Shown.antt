@@ -12,11 +12,9 @@ use Rattle.charmlet_model.specs.Run.{StoreView}
 use Rattle.charmlet_model.specs.Texts.{Text}
 use Rattle.charmlet_script.specs.declared.printed.Counted.{Counted}
 use Rattle.charmlet_script.specs.Printed.{absent_text, counted_text, standing_text}
-use Rattle.charmlet_chare.specs.declared.chare.Chare as chares
-use Rattle.charmlet_disk.specs.declared.disk.Disk as disks
-use Rattle.charmlet_engine.specs.declared.engine.Engine.{Engine}
 use Rattle.charmlet_store.specs.Census.{census_in}
 use Rattle.charmlet_store.specs.There.{there_of}
+use Rattle.charmlet_engine.specs.Engine.{EngineShown}
 
 -- an element on this processor, if it is there, with this state and these counts; the digits are
 -- those of its packed state
@@ -45,8 +43,7 @@ counted_in store supplied retired kind = record {
 }
 
 -- the numbers of a kind that an engine counts
-abbrev pub counted_of : {D C : Type 0} {G : disks.Ghosts D} {H : chares.Ghosts C} → Engine D C G H →
-    Kind → Counted
+abbrev pub counted_of : {D : Type 0} → EngineShown D → Kind → Counted
 counted_of engine kind = record {
   kind = kind;
   supplied = (census_in engine.store kind).supplied;

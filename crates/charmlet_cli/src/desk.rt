@@ -1,10 +1,10 @@
 //! Where clients ask: the handlers that are registered, and the clients' passes.
 
-ghost use Rattle.std.specs.Prelude.{◌≡◌, ℕ, List, IfOk};
+ghost use Rattle.std.specs.Prelude.{◌≡◌, ℕ, List, IfOk, IfSome};
 ghost use Rattle.charmlet_model.specs.declared.names.Elem as names;
 ghost use Rattle.charmlet_model.specs.declared.step.Step.TheVariants as steps;
 ghost use Rattle.charmlet_requests.specs.Handlers.{IsTarget, handler_of};
-ghost use Rattle.charmlet_engine.specs.Engine.{IsEngineConsistent, client_answer, world_of};
+ghost use Rattle.charmlet_engine.specs.Engine.{client_answer, world_of};
 ghost use Rattle.charmlet_engine.specs.Taken.{Takes};
 ghost use Rattle.charmlet_cli.specs.Lines.{named_at, named_by};
 
@@ -52,44 +52,44 @@ impl Desk {
         })
     }
 
-    /// Lends the client its pass, if it has none yet and there is memory for it.
-    fn lend<D: Disk, C: Chare>(&mut self, engine: &Engine<D, C>, client: u32)
-        requires { IsEngineConsistent engine.now }
+    /// Lends the client its pass, if it isn't out and there is memory for it.
+    fn lend<D: Disk, C: Chare>(&mut self, engine: &Engine<D, C>, client: u32) -> Option<ClientPass>
+        ensures client { IfSome result (λ pass. pass.client ≡ client) }
+        ensures handlers { self.new.handlers ≡ self.old.handlers }
+    {
+        engine.lend(&mut self.passes, client).ok()
+    }
+
+    /// Holds a client's pass. One for which there is no memory is dropped, and isn't lent again.
+    fn hold(&mut self, pass: ClientPass)
         ensures { self.new.handlers ≡ self.old.handlers }
     {
-        if self.held.contains_key(&client) {
-            return;
-        }
-        if let Ok(pass) = engine.lend(&mut self.passes, client) {
-            // A pass that can't be held is dropped, and isn't lent again.
-            let _ = self.held.insert(client, pass);
-        }
+        let client = pass.client();
+        let _ = self.held.insert(client, pass);
     }
 
     /// A client's request, by its pass.
     pub(crate) fn request<D: Disk, C: Chare>(
         &mut self,
         engine: &mut Engine<D, C>,
+        client: u32,
         request: &Request<'_>,
     ) -> Result<Told, Refusal>
-        requires { IsEngineConsistent engine.old }
-        ensures consistent { IsEngineConsistent engine.new }
-        ensures takes { Takes engine.old engine.new (steps.Request request.now.client
+        ensures takes { Takes D.Disk engine.old engine.new (steps.Request client
             request.now.number request.now.to request.now.entry request.now.words.now)
             (client_answer result) }
         ensures handlers { self.new.handlers ≡ self.old.handlers }
     {
-        self.lend(engine, request.client);
-        match self.held.get_mut(&request.client) {
-            Some(pass) if pass.client() == request.client => engine.request(
-                pass,
-                request.number,
-                request.to,
-                request.entry,
-                request.words,
-            ),
-            _ => engine.ask(request),
+        match self.held.get_mut(&client) {
+            Some(pass) if pass.client() == client => return engine.request(pass, request),
+            _ => {}
         }
+        let Some(mut pass) = self.lend(engine, client) else {
+            return engine.ask(client, request);
+        };
+        let told = engine.request(&mut pass, request);
+        self.hold(pass);
+        told
     }
 
     /// What is durable of a client's request, by its pass.
@@ -99,17 +99,20 @@ impl Desk {
         client: u32,
         number: u64,
     ) -> Result<Told, Refusal>
-        requires { IsEngineConsistent engine.old }
-        ensures consistent { IsEngineConsistent engine.new }
-        ensures takes { Takes engine.old engine.new (steps.Status client number)
+        ensures takes { Takes D.Disk engine.old engine.new (steps.Status client number)
             (client_answer result) }
         ensures handlers { self.new.handlers ≡ self.old.handlers }
     {
-        self.lend(engine, client);
         match self.held.get_mut(&client) {
-            Some(pass) if pass.client() == client => engine.status(pass, number),
-            _ => engine.tell(client, number),
+            Some(pass) if pass.client() == client => return engine.status(pass, number),
+            _ => {}
         }
+        let Some(mut pass) = self.lend(engine, client) else {
+            return engine.tell(client, number);
+        };
+        let told = engine.status(&mut pass, number);
+        self.hold(pass);
+        told
     }
 
     /// A client's request to a named handler, by its pass. A repeat is answered before the name is
@@ -119,18 +122,15 @@ impl Desk {
         engine: &mut Engine<D, C>,
         call: &Call<'_>,
     ) -> Result<Told, Refusal>
-        requires { IsEngineConsistent engine.old }
-        ensures consistent { IsEngineConsistent engine.new }
         ensures takes { (to : names.Elem) × (entry : ℕ)
             × IsTarget (world_of engine.old) call.now.index
             (named_at self.old call.now.name.now) to entry
-            × Takes engine.old engine.new (steps.Request call.now.client call.now.number to entry
-            call.now.words.now) (client_answer result) }
+            × Takes D.Disk engine.old engine.new (steps.Request call.now.client call.now.number to
+            entry call.now.words.now) (client_answer result) }
         ensures handlers { self.new.handlers ≡ self.old.handlers }
     {
         let handler = engine.target(&self.handlers, call.name);
         let request = Request {
-            client: call.client,
             number: call.number,
             to: Elem {
                 array: handler.array,
@@ -139,7 +139,7 @@ impl Desk {
             entry: handler.entry,
             words: call.words,
         };
-        self.request(engine, &request)
+        self.request(engine, call.client, &request)
     }
 }
 

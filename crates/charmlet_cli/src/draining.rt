@@ -3,10 +3,11 @@
 ghost use Rattle.std.specs.Prelude.{◌≡◌};
 ghost use Rattle.charmlet_script.specs.declared.script.Line.TheVariants as lines;
 ghost use Rattle.charmlet_engine.specs.Advances.{Advances};
-ghost use Rattle.charmlet_engine.specs.Engine.{IsEngineConsistent, disk_in, supplied_of, view_of};
+ghost use Rattle.charmlet_engine.specs.Engine.{supplied_of, view_of};
 ghost use Rattle.charmlet_cli.specs.Drain.{DeliversNext, DrainsUpTo};
 ghost use Rattle.charmlet_cli.specs.Lines.{IsPrinted, no_names, ledger_in};
 
+use crate::still::still_facts;
 use crate::writing::{write_answer, write_line};
 use charmlet_chare::Chare;
 use charmlet_disk::Disk;
@@ -26,9 +27,7 @@ pub fn drain_line<D: Disk, C: Chare, W: Write>(
     most: u32,
     writer: &mut W,
 ) -> io::Result<()>
-    requires { IsEngineConsistent engine.old }
-    ensures consistent { IsEngineConsistent engine.new }
-    ensures advances { Advances engine.old engine.new }
+    ensures advances { Advances D.Disk engine.old engine.new }
     ensures prints { IsPrinted D.Disk no_names result (ledger_in engine.old) (lines.Drain most)
         (ledger_in engine.new) (W.contents writer.old) (W.contents writer.new) }
 {
@@ -44,13 +43,12 @@ pub fn drain_line<D: Disk, C: Chare, W: Write>(
 /// Delivers the oldest message that can be delivered, up to `most` times. Returns how often it did,
 /// and the refusal that ended it, if one did.
 fn drain<D: Disk, C: Chare>(engine: &mut Engine<D, C>, most: u32) -> (u32, Option<Refusal>)
-    requires { IsEngineConsistent engine.old }
-    ensures consistent { IsEngineConsistent engine.new }
-    ensures advances { Advances engine.old engine.new }
+    ensures advances { Advances D.Disk engine.old engine.new }
     ensures drains { DrainsUpTo (view_of engine.old) most result.0 result.1 (view_of engine.new) }
     ensures supplied { supplied_of engine.new ≡ supplied_of engine.old }
-    ensures disk { disk_in engine.new ≡ disk_in engine.old }
+    ensures disk { engine.new.disk ≡ engine.old.disk }
 {
+    still_facts(engine);
     for delivered in 0..most {
         match deliver_next(engine) {
             Ok(true) => {}
@@ -64,13 +62,12 @@ fn drain<D: Disk, C: Chare>(engine: &mut Engine<D, C>, most: u32) -> (u32, Optio
 /// Delivers the oldest message that can be delivered, if there is one, on the processor of its
 /// receiver.
 fn deliver_next<D: Disk, C: Chare>(engine: &mut Engine<D, C>) -> Result<bool, Refusal>
-    requires { IsEngineConsistent engine.old }
-    ensures consistent { IsEngineConsistent engine.new }
-    ensures advances { Advances engine.old engine.new }
+    ensures advances { Advances D.Disk engine.old engine.new }
     ensures delivers { DeliversNext (view_of engine.old) result (view_of engine.new) }
     ensures supplied { supplied_of engine.new ≡ supplied_of engine.old }
-    ensures disk { disk_in engine.new ≡ disk_in engine.old }
+    ensures disk { engine.new.disk ≡ engine.old.disk }
 {
+    still_facts(engine);
     let Some((processor, id)) = engine.next() else {
         return Ok(false);
     };

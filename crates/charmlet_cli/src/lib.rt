@@ -11,6 +11,7 @@ mod restarting;
 mod running;
 mod show;
 mod showing;
+mod still;
 mod stop;
 mod writing;
 

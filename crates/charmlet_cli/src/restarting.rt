@@ -16,12 +16,13 @@ ghost use Rattle.charmlet_recover.specs.declared.finding.Found.{Found};
 ghost use Rattle.charmlet_recover.specs.Found.{IsFoundIn, IsRead};
 ghost use Rattle.charmlet_recover.specs.Wanted.{blanks_in};
 ghost use Rattle.charmlet_engine.specs.Advances.{Advances};
-ghost use Rattle.charmlet_engine.specs.Engine.{IsEngineConsistent, core_of};
+ghost use Rattle.charmlet_engine.specs.Engine.{core_of};
 ghost use Rattle.charmlet_cli.specs.Lines.{AreEnough, blanks_left, ledger_in, named_at, named_by};
 ghost use Rattle.charmlet_cli.specs.Restarted.{BreaksOffRestart, EndsRestart, IsRestarted, PrintsRestart, RestartLeaves, TellsWanted, given_of};
 
 use crate::desk::Desk;
 use crate::running::{has_enough, run_lines, stock_of};
+use crate::still::still_facts;
 use crate::writing::{write_answer, write_line};
 use charmlet_chare::Chare;
 use charmlet_disk::Disk;
@@ -269,7 +270,7 @@ fn restart_with<D: Disk, C: Chare, W: Write>(
     } = prepared;
     match Engine::restart(alloc, disk, given, processors) {
         Ok(mut engine) => {
-            match run_restarted(
+            let ran = run_restarted(
                 alloc,
                 &mut engine,
                 processors,
@@ -277,7 +278,9 @@ fn restart_with<D: Disk, C: Chare, W: Write>(
                 &mut source,
                 script,
                 writer,
-            ) {
+            );
+            engine.facts();
+            match ran {
                 Ok(()) => Restarted {
                     disk: engine.into_disk(),
                     result: Ok(()),
@@ -313,19 +316,18 @@ fn run_restarted<D: Disk, C: Chare, W: Write>(
     script: &RestartScript,
     writer: &mut W,
 ) -> io::Result<()>
-    requires consistent { IsEngineConsistent engine.old }
     requires processors { (core_of engine.old).processors ≡ processors }
     requires durable { (core_of engine.old).durable ≡ 0 }
     requires named { (name : List ℕ) → named_at desk.old name ≡ named_by script.now.handlers name }
     requires enough { (kind : Kind) → blanks_of kind script.now.lines
         ≤ blanks_left source.old kind }
-    ensures consistent { IsEngineConsistent engine.new }
     ensures prints { OnOk result (PrintsRestart D.Disk (ledger_in engine.old) script.now
         (ledger_in engine.new) (W.contents writer.old) (W.contents writer.new)) }
     ensures breaks_off { OnErr result (BreaksOffRestart D.Disk (ledger_in engine.old) script.now
         (ledger_in engine.new) (W.contents writer.old) (W.contents writer.new)) }
-    ensures advances { Advances engine.old engine.new }
+    ensures advances { Advances D.Disk engine.old engine.new }
 {
+    still_facts(engine);
     let line = RestartedLine {
         generation: engine.generation(),
         events: engine.durable(),

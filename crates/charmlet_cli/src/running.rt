@@ -3,16 +3,14 @@
 ghost use Rattle.std.specs.Prelude.{◌≡◌, ◌↔◌, ◌+◌, ◌≤◌, ℕ, List, Some, true, OnOk, OnErr, IfErr, IfOk};
 ghost use Rattle.charmlet_model.specs.declared.kind.Kind.{Kind};
 ghost use Rattle.charmlet_model.specs.Edition.{AreNewest};
-ghost use Rattle.charmlet_model.specs.Fit.{IsFit};
 ghost use Rattle.charmlet_model.specs.Manifest.{manifest_of};
 ghost use Rattle.charmlet_model.specs.Shelves.{count_of};
-ghost use Rattle.charmlet_model.specs.Sound.{new_world};
 ghost use Rattle.charmlet_script.specs.Script.{blanks_in, blanks_of, pairs_of};
 ghost use Rattle.charmlet_script.specs.declared.script.Line.TheVariants as lines;
 ghost use Rattle.charmlet_model.specs.declared.names.Elem as names;
 ghost use Rattle.charmlet_model.specs.declared.step.Step.TheVariants as steps;
 ghost use Rattle.charmlet_requests.specs.Handlers.{IsTarget};
-ghost use Rattle.charmlet_engine.specs.Engine.{IsEngineConsistent, client_answer, world_of};
+ghost use Rattle.charmlet_engine.specs.Engine.{client_answer, world_of};
 ghost use Rattle.charmlet_recover.specs.Wanted as wants;
 ghost use Rattle.charmlet_stock.specs.Stock.{part_of};
 ghost use Rattle.charmlet_cli.specs.Lines.{AreEnough, AreRun, BreakOff, IsAnswered, IsPrinted, blanks_left, ledger_in, named_at, named_by, no_names};
@@ -25,6 +23,7 @@ ghost use Rattle.charmlet_cli.specs.declared.running.RunError.TheVariants as err
 use crate::desk::{Call, Desk};
 use crate::draining::drain_line;
 use crate::showing::{census_line, pending_line, state_line};
+use crate::still::still_facts;
 use crate::writing::{write_answer, write_line, write_memory_refused};
 use charmlet_chare::Chare;
 use charmlet_disk::Disk;
@@ -141,7 +140,6 @@ fn prepare<C: Chare>(
     ensures enough { OnOk result (AreEnough C.state blanks.items script.now.lines) }
     ensures manifest { IfOk result (λ prepared. manifest_of (pairs_of script.now.arrays)
         ≡ Some prepared.manifest) }
-    ensures fit { IfOk result (λ prepared. IsFit (new_world prepared.manifest)) }
     ensures newest { IfOk result (λ prepared. AreNewest prepared.manifest) }
     ensures named { IfOk result (λ prepared. (name : List ℕ) →
         named_at prepared.desk name ≡ named_by script.now.handlers name) }
@@ -184,7 +182,6 @@ fn run_in_new_store<D: Disk, C: Chare, W: Write>(
 ) -> Ran<D, C>
     requires settled { D.honest disk → IsSettled (D.file disk) }
     requires manifest { manifest_of (pairs_of script.now.arrays) ≡ Some prepared.manifest }
-    requires fit { IsFit (new_world prepared.manifest) }
     requires newest { AreNewest prepared.manifest }
     requires named { (name : List ℕ) →
         named_at prepared.desk name ≡ named_by script.now.handlers name }
@@ -205,7 +202,9 @@ fn run_in_new_store<D: Disk, C: Chare, W: Write>(
     match Engine::create(alloc, disk, manifest, script.processors()) {
         Ok(mut engine) => {
             let lines = script.lines();
-            match run_lines(alloc, &mut engine, &mut desk, &mut source, lines, writer) {
+            let ran = run_lines(alloc, &mut engine, &mut desk, &mut source, lines, writer);
+            engine.facts();
+            match ran {
                 Ok(()) => Ran {
                     disk: engine.into_disk(),
                     result: Ok(()),
@@ -240,19 +239,19 @@ pub(crate) fn run_lines<D: Disk, C: Chare, W: Write>(
     lines: &[Line],
     writer: &mut W,
 ) -> io::Result<()>
-    requires consistent { IsEngineConsistent engine.old }
     requires enough { (kind : Kind) → blanks_of kind lines.now ≤ blanks_left source.old kind }
-    ensures consistent { IsEngineConsistent engine.new }
     ensures prints { OnOk result (AreRun D.Disk (named_at desk.old) (ledger_in engine.new)
         (ledger_in engine.old)
         lines.now (ledger_in engine.new) (W.contents writer.old) (W.contents writer.new)) }
     ensures breaks_off { OnErr result (BreakOff D.Disk (named_at desk.old)
         (ledger_in engine.old) lines.now
         (ledger_in engine.new) (W.contents writer.old) (W.contents writer.new)) }
-    ensures advances { Advances engine.old engine.new }
+    ensures advances { Advances D.Disk engine.old engine.new }
 {
+    still_facts(engine);
     for line in lines {
         run_line(alloc, engine, desk, source, line, writer)?;
+        still_facts(engine);
     }
     Ok(())
 }
@@ -266,16 +265,15 @@ fn run_line<D: Disk, C: Chare, W: Write>(
     line: &Line,
     writer: &mut W,
 ) -> io::Result<()>
-    requires consistent { IsEngineConsistent engine.old }
     requires enough { (kind : Kind) → blanks_in kind line.now ≤ blanks_left source.old kind }
-    ensures consistent { IsEngineConsistent engine.new }
     ensures prints { IsPrinted D.Disk (named_at desk.old) result (ledger_in engine.old) line.now
         (ledger_in engine.new) (W.contents writer.old) (W.contents writer.new) }
     ensures handlers { desk.new.handlers ≡ desk.old.handlers }
     ensures left { OnOk result ((kind : Kind) →
         blanks_left source.old kind ≤ blanks_left source.new kind + blanks_in kind line.now) }
-    ensures advances { Advances engine.old engine.new }
+    ensures advances { Advances D.Disk engine.old engine.new }
 {
+    still_facts(engine);
     match line {
         Line::Supply { kind, count } => {
             supply_line(alloc, engine, source, *kind, *count, writer)
@@ -310,27 +308,23 @@ fn answer_to_call<D: Disk, C: Chare>(
     desk: &mut Desk,
     call: &Call<'_>,
 ) -> Answer
-    requires { IsEngineConsistent engine.old }
-    ensures consistent { IsEngineConsistent engine.new }
     ensures answered { (to : names.Elem) × (entry : ℕ)
         × IsTarget (world_of engine.old) call.now.index
         (named_at desk.old call.now.name.now) to entry
         × IsAnswered D.Disk (steps.Request call.now.client call.now.number to entry
         call.now.words.now) result (ledger_in engine.old) (ledger_in engine.new) }
     ensures handlers { desk.new.handlers ≡ desk.old.handlers }
-    ensures advances { Advances engine.old engine.new }
+    ensures advances { Advances D.Disk engine.old engine.new }
 {
     told_answer(desk.call(engine, call))
 }
 
 /// Runs one step. What clients ask goes by their passes.
 fn answer_to<D: Disk, C: Chare>(engine: &mut Engine<D, C>, desk: &mut Desk, step: &Step) -> Answer
-    requires { IsEngineConsistent engine.old }
-    ensures consistent { IsEngineConsistent engine.new }
     ensures answered { IsAnswered D.Disk step.now result (ledger_in engine.old)
         (ledger_in engine.new) }
     ensures handlers { desk.new.handlers ≡ desk.old.handlers }
-    ensures advances { Advances engine.old engine.new }
+    ensures advances { Advances D.Disk engine.old engine.new }
 {
     match step {
         Step::Request {
@@ -341,13 +335,12 @@ fn answer_to<D: Disk, C: Chare>(engine: &mut Engine<D, C>, desk: &mut Desk, step
             words,
         } => {
             let request = Request {
-                client: *client,
                 number: *number,
                 to: *to,
                 entry: *entry,
                 words: words.as_slice(),
             };
-            told_answer(desk.request(engine, &request))
+            told_answer(desk.request(engine, *client, &request))
         }
         Step::Status { client, number } => told_answer(desk.status(engine, *client, *number)),
         _ => engine.step(step),
@@ -373,15 +366,13 @@ fn supply_line<D: Disk, C: Chare, W: Write>(
     count: u32,
     writer: &mut W,
 ) -> io::Result<()>
-    requires consistent { IsEngineConsistent engine.old }
     requires enough { count ≤ blanks_left source.old kind }
-    ensures consistent { IsEngineConsistent engine.new }
     ensures prints { IsPrinted D.Disk no_names result (ledger_in engine.old)
         (lines.Supply kind count)
         (ledger_in engine.new) (W.contents writer.old) (W.contents writer.new) }
     ensures left { OnOk result ((k : Kind) →
         blanks_left source.old k ≤ blanks_left source.new k + part_of kind count k) }
-    ensures advances { Advances engine.old engine.new }
+    ensures advances { Advances D.Disk engine.old engine.new }
 {
     if engine.draw(source, kind, count as usize).is_err() {
         return write_memory_refused(writer);

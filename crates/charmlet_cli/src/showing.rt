@@ -1,15 +1,16 @@
 //! The running of lines that show something of an engine, and change nothing.
 
-ghost use Rattle.std.specs.Prelude.{◌≡◌, IfOk, IsOk, None};
+ghost use Rattle.std.specs.Prelude.{◌≡◌, map, IfOk, IsOk, None};
+ghost use Rattle.std.specs.List.{flat_map};
+ghost use Rattle.charmlet_model.specs.declared.kind.Kind as kinds;
 ghost use Rattle.charmlet_model.specs.Core.{place_or_home};
 ghost use Rattle.charmlet_model.specs.World.{record_of};
 ghost use Rattle.charmlet_script.specs.Printed.{shown_text};
 ghost use Rattle.charmlet_script.specs.declared.script.Line.TheVariants as lines;
-ghost use Rattle.charmlet_store.specs.Census.{census_in};
 ghost use Rattle.charmlet_engine.specs.Advances.{Advances};
-ghost use Rattle.charmlet_engine.specs.Engine.{IsEngineConsistent, view_of, world_of};
+ghost use Rattle.charmlet_engine.specs.Engine.{view_of, world_of};
 ghost use Rattle.charmlet_cli.specs.Lines.{IsPrinted, no_names, in_lines, ledger_in};
-ghost use Rattle.charmlet_cli.specs.Shown.{counted_of, counted_texts, record_text};
+ghost use Rattle.charmlet_cli.specs.Shown.{IsWhole, all_kinds, counted_of, counted_texts, record_text};
 ghost use Rattle.charmlet_cli.specs.Writing.{Writes};
 
 use crate::writing::{write_line, write_memory_refused};
@@ -30,9 +31,7 @@ pub fn state_line<D: Disk, C: Chare, W: Write>(
     elem: Elem,
     writer: &mut W,
 ) -> io::Result<()>
-    requires { IsEngineConsistent engine.old }
-    ensures consistent { IsEngineConsistent engine.new }
-    ensures advances { Advances engine.old engine.new }
+    ensures advances { Advances D.Disk engine.old engine.new }
     ensures prints { IsPrinted D.Disk no_names result (ledger_in engine.old) (lines.State elem)
         (ledger_in engine.new) (W.contents writer.old) (W.contents writer.new) }
 {
@@ -49,9 +48,8 @@ fn shown<D: Disk, C: Chare>(
     engine: &mut Engine<D, C>,
     elem: Elem,
 ) -> Result<Shown, AllocError>
-    requires { IsEngineConsistent engine.old }
     ensures same { engine.new ≡ engine.old }
-    ensures advances { Advances engine.old engine.new }
+    ensures advances { Advances D.Disk engine.old engine.new }
     ensures ok { IfOk result (λ shown. shown_text shown
         ≡ record_text elem (place_or_home (view_of engine.old).core elem)
         (record_of (world_of engine.old) elem)) }
@@ -86,7 +84,6 @@ pub fn pending_line<D: Disk, C: Chare, W: Write>(
     engine: &Engine<D, C>,
     writer: &mut W,
 ) -> io::Result<()>
-    requires { IsEngineConsistent engine.now }
     ensures { IsPrinted D.Disk no_names result (ledger_in engine.now) lines.Pending
         (ledger_in engine.now) (W.contents writer.old) (W.contents writer.new) }
 {
@@ -103,37 +100,61 @@ pub fn census_line<D: Disk, C: Chare, W: Write>(
     engine: &Engine<D, C>,
     writer: &mut W,
 ) -> io::Result<()>
-    requires { IsEngineConsistent engine.now }
     ensures { IsPrinted D.Disk no_names result (ledger_in engine.now) lines.Census
         (ledger_in engine.now) (W.contents writer.old) (W.contents writer.new) }
 {
-    for kind in &Kind::ALL {
-        count_line(alloc, engine, *kind, writer)?;
-    }
-    Ok(())
+    let counts = count_each(engine);
+    write_counts(alloc, writer, &counts)
 }
 
-/// Writes where the objects of a kind are, if some were supplied.
-fn count_line<D: Disk, C: Chare, W: Write>(
-    alloc: Global,
-    engine: &Engine<D, C>,
-    kind: Kind,
-    writer: &mut W,
-) -> io::Result<()>
-    requires { IsEngineConsistent engine.now }
-    ensures { Writes result (W.contents writer.old) (W.contents writer.new)
-        (in_lines (counted_texts (counted_of engine.now kind))) }
+/// Where the objects of each kind are, in rising order of the kinds.
+fn count_each<D: Disk, C: Chare>(engine: &Engine<D, C>) -> [Counted; 6]
+    ensures counts { result ≡ map (counted_of engine.now) all_kinds }
+    ensures whole { (kind : kinds.Kind) → IsWhole (counted_of engine.now kind) }
+{
+    [
+        count(engine, Kind::Counter),
+        count(engine, Kind::Ring),
+        count(engine, Kind::Account),
+        count(engine, Kind::Sum),
+        count(engine, Kind::Tree),
+        count(engine, Kind::Tape),
+    ]
+}
+
+/// Where the objects of a kind are.
+fn count<D: Disk, C: Chare>(engine: &Engine<D, C>, kind: Kind) -> Counted
+    ensures counts { result ≡ counted_of engine.now kind }
+    ensures whole { IsWhole (counted_of engine.now kind) }
 {
     let census = engine.census(kind);
-    if census.supplied == 0 {
-        return Ok(());
-    }
-    let counted = Counted {
+    Counted {
         kind,
         supplied: census.supplied,
         on_shelves: census.on_shelves,
         in_stock: census.in_stock,
         retired: census.retired,
-    };
-    write_line(alloc, writer, &counted)
+    }
+}
+
+/// Writes the counts of each kind of which objects were supplied.
+fn write_counts<W: Write>(alloc: Global, writer: &mut W, counts: &[Counted]) -> io::Result<()>
+    ensures { Writes result (W.contents writer.old) (W.contents writer.new)
+        (in_lines (flat_map counted_texts counts.now)) }
+{
+    for counted in counts {
+        write_count(alloc, writer, counted)?;
+    }
+    Ok(())
+}
+
+/// Writes the counts of a kind, if objects of it were supplied.
+fn write_count<W: Write>(alloc: Global, writer: &mut W, counted: &Counted) -> io::Result<()>
+    ensures { Writes result (W.contents writer.old) (W.contents writer.new)
+        (in_lines (counted_texts counted.now)) }
+{
+    if counted.supplied == 0 {
+        return Ok(());
+    }
+    write_line(alloc, writer, counted)
 }

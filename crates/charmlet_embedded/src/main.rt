@@ -10,7 +10,7 @@ use charmlet_disk::{Disk, FileDisk, MemDisk};
 use charmlet_engine::Engine;
 use charmlet_model::{CONSTRUCT, Elem, Kind, Manifest, Step};
 use charmlet_recover::{manifest, stock_of};
-use charmlet_requests::Passes;
+use charmlet_requests::{Passes, Request};
 use noisy::{ADD, blanks};
 
 /// Client 7 makes a counter with 5 and adds 3, and asks again after a restart from the disk.
@@ -26,8 +26,20 @@ fn live_twice<D: Disk>(rt: HostRuntime, disk: D) -> Result<()>
     engine.supply(blanks(rt, 1)?).ok().context("no memory")?;
     let mut pass = engine.lend(&mut Passes::new(alloc), 7)?;
     let counter = Elem { array: 0, index: 0 };
-    engine.request(&mut pass, 1, counter, CONSTRUCT, &[5])?;
-    let told = engine.request(&mut pass, 2, counter, ADD, &[3])?;
+    let construct = Request {
+        number: 1,
+        to: counter,
+        entry: CONSTRUCT,
+        words: &[5],
+    };
+    engine.request(&mut pass, &construct)?;
+    let add = Request {
+        number: 2,
+        to: counter,
+        entry: ADD,
+        words: &[3],
+    };
+    let told = engine.request(&mut pass, &add)?;
     println!(rt; "request 2: {told}")?;
     let mut steps = Vec::new(alloc);
     for id in engine.pending()? {

@@ -1,3 +1,4 @@
+pub mod Advancing
 pub mod Causes
 pub mod Counting
 pub mod Folded

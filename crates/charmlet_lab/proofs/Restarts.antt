@@ -24,8 +24,7 @@ use Rattle.charmlet_stock.specs.declared.stock.Stock.{Stock}
 use Rattle.charmlet_recover.specs.declared.restarting.NotRestarted.{NotRestarted}
 use Rattle.charmlet_recover.specs.Restart.{AnswersBy, bytes_on}
 use Rattle.charmlet_script.specs.Script.{Contents, processors_of}
-use Rattle.charmlet_engine.specs.declared.engine.Engine.{Engine}
-use Rattle.charmlet_engine.specs.Engine.{core_of, view_of, world_of}
+use Rattle.charmlet_engine.specs.Engine.{EngineShown, core_of, view_of, world_of}
 use Rattle.charmlet_engine.specs.Restarted.{IsFound, IsHandedBack, IsOpenedOn, IsReadFrom, core_or_refusal, is_engine_refusal}
 use Rattle.charmlet_lab.specs.Judged.{IsNotJudged}
 use Rattle.charmlet_lab.specs.Restarts.{IsNotTried, IsRestart}
@@ -34,16 +33,16 @@ use Rattle.charmlet_lab.specs.Restarts.{IsNotTried, IsRestart}
 abbrev no_store : Refusal → Result Core Refusal
 no_store refusal = Err refusal
 
-module _ {D C : Type 0} {G : disks.Ghosts D} {H : chares.Ghosts C} where
+module _ {D C : Type 0} {H : chares.Ghosts C} where
   -- what the engine answers to a restart is a restart
-  pub is_restart : (processors : ℕ) (given : Blanks) (disk : D) (blanks : Stock C H) (r : Result (Engine D C G H) (NotRestarted D C H)) →
+  pub is_restart : (G : disks.Ghosts D) (processors : ℕ) (given : Blanks) (disk : D) (blanks : Stock C H) (r : Result (EngineShown D) (NotRestarted D C H)) →
       IfOk r (λ engine. IsOpenedOn processors (core_of engine)) →
       (G.honest disk → IfOk r (λ engine. IsFound (bytes_on (G.file disk)) (core_of engine))) →
-      (is_processor_count processors ≡ false → IsHandedBack {G = G} disk blanks r) →
+      (is_processor_count processors ≡ false → IsHandedBack disk blanks r) →
       IfErr r (λ refused. refused.refusal ≡ refusals.BadPes → is_processor_count processors ≡ false) →
       (G.honest disk → is_processor_count processors ≡ true → AnswersBy (engine_refusal given (bytes_on (G.file disk))) (core_or_refusal r)) →
       IfErr r (λ refused. is_engine_refusal refused.refusal ≡ true) → IsRestart G processors given disk (core_or_refusal r)
-  is_restart processors given disk blanks (Ok engine) opens found bad only answer refused = record {
+  is_restart G processors given disk blanks (Ok engine) opens found bad only answer refused = record {
     opens = opens;
     found = found;
     bad = λ no. absurd (bad no);
@@ -51,7 +50,7 @@ module _ {D C : Type 0} {G : disks.Ghosts D} {H : chares.Ghosts C} where
     cause = answer;
     refusals = tt;
   }
-  is_restart processors given disk blanks (Err refused) opens found bad only answer told = record {
+  is_restart G processors given disk blanks (Err refused) opens found bad only answer told = record {
     opens = tt;
     found = λ honest. tt;
     bad = λ no. ap no_store (bad no).0;
@@ -61,7 +60,7 @@ module _ {D C : Type 0} {G : disks.Ghosts D} {H : chares.Ghosts C} where
   }
 
   -- whatever the disk said, the store goes on in the newest versions
-  pub goes_on_newest : (given : Blanks) (r : Result (Engine D C G H) (NotRestarted D C H)) → IfOk r (λ engine. IsReadFrom given (view_of engine)) → IfOk r (λ engine. AreNewest (world_of engine).manifest)
+  pub goes_on_newest : (given : Blanks) (r : Result (EngineShown D) (NotRestarted D C H)) → IfOk r (λ engine. IsReadFrom given (view_of engine)) → IfOk r (λ engine. AreNewest (world_of engine).manifest)
   goes_on_newest given (Ok engine) read =
       let core = core_of engine in
       let half = read.saved in

@@ -23,12 +23,10 @@ use Rattle.charmlet_recovery.proofs.Stored.{recovered_is_taken}
 use Rattle.charmlet_locate.specs.Locations.{is_processor_count}
 use Rattle.charmlet_stock.specs.declared.stock.Stock.{Stock}
 use Rattle.charmlet_chare.specs.declared.chare.Chare as chares
-use Rattle.charmlet_disk.specs.declared.disk.Disk as disks
 use Rattle.charmlet_disk.specs.File.{Outcome}
 use Rattle.charmlet_recover.specs.declared.restarting.NotRestarted.{NotRestarted}
 use Rattle.charmlet_recover.specs.Restart.{AnswersBy}
-use Rattle.charmlet_engine.specs.declared.engine.Engine.{Engine}
-use Rattle.charmlet_engine.specs.Engine.{core_of}
+use Rattle.charmlet_engine.specs.Engine.{EngineShown, core_of}
 use Rattle.charmlet_engine.specs.Restarted.{IsFound, IsHandedBack, IsOpenedOn, core_or_refusal}
 use Rattle.charmlet_lab.specs.Judged.{HasFirst, IsGood, IsNothingOrLawful, count_of}
 
@@ -80,9 +78,9 @@ nothing_is_here given outcome e =
     recovered_is_taken outcome
     ∙ nothing_taken given t (ap (λ (why : Option Refusal). either_refusal why (taken_image_refusal t)) (sym (restarts_are_taken given outcome)) ∙ sym (engine_refusals_are_taken given outcome) ∙ e)
 
-module _ {D C : Type 0} {G : disks.Ghosts D} {H : chares.Ghosts C} where
+module _ {D C : Type 0} {H : chares.Ghosts C} where
   -- so a restart that isn't bad, of a store that was said to be made, was from lawful files
-  pub good_is_lawful : (kinds : Kinds) (events : List Event) (durable : Option ℕ) (n processors : ℕ) (outcome : Outcome) (r : Result (Engine D C G H) (NotRestarted D C H)) → durable ≡ Some n →
+  pub good_is_lawful : (kinds : Kinds) (events : List Event) (durable : Option ℕ) (n processors : ℕ) (outcome : Outcome) (r : Result (EngineShown D) (NotRestarted D C H)) → durable ≡ Some n →
       IfOk r (λ engine. IsOpenedOn processors (core_of engine)) → IfOk r (λ engine. IsFound outcome (core_of engine)) →
       IsGood kinds events durable (core_or_refusal r) → IsLawful (new_world kinds) 0 events n outcome
   good_is_lawful kinds events durable n processors outcome (Ok engine) is opens found good =
@@ -92,8 +90,8 @@ module _ {D C : Type 0} {G : disks.Ghosts D} {H : chares.Ghosts C} where
 
   -- where none was said to be made, it was from such files too, or from those of no store
   pub good_is_nothing_or_lawful : (kinds : Kinds) (events : List Event) (durable : Option ℕ) (processors : ℕ) (given : Blanks) (outcome : Outcome) (disk : D) (blanks : Stock C H)
-      (r : Result (Engine D C G H) (NotRestarted D C H)) → durable ≡ None → IfOk r (λ engine. IsOpenedOn processors (core_of engine)) → IfOk r (λ engine. IsFound outcome (core_of engine)) →
-      (is_processor_count processors ≡ false → IsHandedBack {G = G} disk blanks r) →
+      (r : Result (EngineShown D) (NotRestarted D C H)) → durable ≡ None → IfOk r (λ engine. IsOpenedOn processors (core_of engine)) → IfOk r (λ engine. IsFound outcome (core_of engine)) →
+      (is_processor_count processors ≡ false → IsHandedBack disk blanks r) →
       (is_processor_count processors ≡ true → AnswersBy (engine_refusal given outcome) (core_or_refusal r)) →
       IsGood kinds events durable (core_or_refusal r) → IsNothingOrLawful kinds events outcome
   good_is_nothing_or_lawful kinds events durable processors given outcome disk blanks (Ok engine) is opens found bad answer good =

@@ -11,10 +11,8 @@ use Rattle.charmlet_recovery.specs.Outcomes.{IsLawful}
 use Rattle.charmlet_recovery.specs.Recovered.{Nothing, recovered}
 use Rattle.charmlet_checkpoint.specs.Showing.{IsRefusal}
 use Rattle.charmlet_chare.specs.declared.chare.Chare as chares
-use Rattle.charmlet_disk.specs.declared.disk.Disk as disks
 use Rattle.charmlet_disk.specs.File.{Outcome}
-use Rattle.charmlet_engine.specs.declared.engine.Engine.{Engine}
-use Rattle.charmlet_engine.specs.Engine.{disk_in, supplied_of, view_of}
+use Rattle.charmlet_engine.specs.Engine.{EngineShown, supplied_of, view_of}
 use Rattle.charmlet_recover.specs.declared.restarting.NotRestarted.{NotRestarted}
 
 -- how many events there are, those before the opening world among them
@@ -41,15 +39,14 @@ IsNotJudged (Ok core) refusal = IsRefusal core refusal
 IsNotJudged (Err refused) refusal = ⊥
 
 -- the same store with the same blanks, and the same disk
-pub record IsSameEngine {D C : Type 0} {G : disks.Ghosts D} {H : chares.Ghosts C}
-    (old new : Engine D C G H) : Type 0 where
+pub record IsSameEngine {D : Type 0} (old new : EngineShown D) : Type 0 where
   pub view : view_of new ≡ view_of old
   pub supplied : supplied_of new ≡ supplied_of old
-  pub disk : disk_in new ≡ disk_in old
+  pub disk : new.disk ≡ old.disk
 
 -- the engine that came back is as it was, and so is a refusal
-abbrev pub IsAsBefore : {D C : Type 0} {G : disks.Ghosts D} {H : chares.Ghosts C} →
-    (old new : Result (Engine D C G H) (NotRestarted D C H)) → Type 0
+abbrev pub IsAsBefore : {D C : Type 0} {H : chares.Ghosts C} →
+    (old new : Result (EngineShown D) (NotRestarted D C H)) → Type 0
 IsAsBefore (Ok old) (Ok new) = IsSameEngine old new
 IsAsBefore (Err old) (Err new) = new ≡ old
 IsAsBefore (Ok old) (Err new) = ⊥

@@ -6,7 +6,7 @@ ghost use Rattle.charmlet_model.specs.Fit.{IsFit};
 ghost use Rattle.charmlet_model.specs.Sound.{new_world};
 ghost use Rattle.charmlet_model.specs.World.{IsLegal, world};
 ghost use Rattle.charmlet_checkpoint.specs.Showing.{IsRefusal};
-ghost use Rattle.charmlet_engine.specs.Engine.{IsEngineConsistent, core_of, world_of};
+ghost use Rattle.charmlet_engine.specs.Engine.{core_of, world_of};
 ghost use Rattle.charmlet_engine.specs.Restarted.{core_or_refusal};
 ghost use Rattle.charmlet_lab.specs.Judged.{HasFirst, IsAsBefore, IsGood, IsNotJudged, IsSameEngine};
 ghost use Rattle.charmlet_lab.specs.Rounds.{arrays_of};
@@ -40,14 +40,12 @@ pub fn lab_bad<D: Disk, C: Chare>(
     events: &[Event],
     durable: Option<u64>,
 ) -> Result<bool, Refusal>
-    requires consistent { IfOk answer.old IsEngineConsistent }
     requires newest { IfOk answer.old (λ engine. AreNewest (world_of engine).manifest) }
     requires legal { IsLegal (new_world (arrays_of script.now)) 0 events.now }
     ensures ok { IfOk result (λ bad. (bad ≡ false)
         ↔ IsGood (arrays_of script.now) events.now durable (core_or_refusal answer.old)) }
     ensures err { IfErr result (IsNotJudged (core_or_refusal answer.old)) }
     ensures same { IsAsBefore answer.old answer.new }
-    ensures consistent { IfOk answer.new IsEngineConsistent }
 {
     match answer {
         Ok(engine) => {
@@ -67,14 +65,12 @@ fn has_first<D: Disk, C: Chare>(
     events: &[Event],
     durable: u64,
 ) -> Result<bool, Refusal>
-    requires consistent { IsEngineConsistent engine.old }
     requires newest { AreNewest (world_of engine.old).manifest }
     requires legal { IsLegal (new_world (arrays_of script.now)) 0 events.now }
     ensures ok { IfOk result (λ good.
         (good ≡ true) ↔ HasFirst (arrays_of script.now) events.now durable (core_of engine.old)) }
     ensures err { IfErr result (IsRefusal (core_of engine.old)) }
     ensures same { IsSameEngine engine.old engine.new }
-    ensures consistent { IsEngineConsistent engine.new }
 {
     let count = engine.event_count();
     if count < durable || count > events.len() as u64 {
@@ -92,7 +88,9 @@ fn world_after(alloc: Global, script: &Script, events: &[Event]) -> Result<Plain
         ≡ world (new_world (arrays_of script.now)) events.now) }
     ensures fit { IfOk result (λ plain. IsFit plain) }
 {
-    let mut plain = PlainWorld::new(alloc, script.manifest(alloc)?);
+    let manifest = script.manifest(alloc)?;
+    manifest.facts();
+    let mut plain = PlainWorld::new(alloc, manifest);
     for event in events {
         plain.after(event)?;
     }
@@ -106,14 +104,13 @@ fn world_in<D: Disk, C: Chare>(
     alloc: Global,
     engine: &mut Engine<D, C>,
 ) -> Result<PlainWorld, Refusal>
-    requires consistent { IsEngineConsistent engine.old }
     requires newest { AreNewest (world_of engine.old).manifest }
     ensures is { IfOk result (λ plain. plain ≡ world_of engine.old) }
     ensures fit { IfOk result (λ plain. IsFit plain) }
     ensures err { IfErr result (IsRefusal (core_of engine.old)) }
     ensures same { IsSameEngine engine.old engine.new }
-    ensures consistent { IsEngineConsistent engine.new }
 {
+    engine.facts();
     let image = engine.image()?;
     let mut half = Vec::with_capacity(alloc, image.len() + 1)?;
     half.push(OPEN)?;

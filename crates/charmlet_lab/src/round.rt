@@ -12,7 +12,7 @@ ghost use Rattle.charmlet_stock.specs.Stock.{part_of};
 ghost use Rattle.charmlet_recover.specs.Wanted as wants;
 ghost use Rattle.charmlet_script.specs.Script.{blanks_in, blanks_of, processors_of};
 ghost use Rattle.charmlet_engine.specs.Advances.{Advances};
-ghost use Rattle.charmlet_engine.specs.Engine.{IsEngineConsistent, view_of};
+ghost use Rattle.charmlet_engine.specs.Engine.{view_of};
 ghost use Rattle.charmlet_requests.specs.Handlers.{handler_of};
 ghost use Rattle.charmlet_lab.specs.Lines.{AreRun, DeliversNext, DeliversNone, Drains, Follows, IsRunOf, IsSupplied, named_by};
 ghost use Rattle.charmlet_lab.specs.Rounds.{IsNotRun, IsRound, arrays_of, needed_by};
@@ -82,6 +82,7 @@ pub fn lab_round<D: Disk, C: Chare>(
         Ok(mut engine) => {
             engine.note_events();
             run_lines(&mut engine, &handlers, &mut source, script.lines());
+            engine.facts();
             let Some(noted) = engine.events() else {
                 return Err(Refusal::Memory);
             };
@@ -184,14 +185,13 @@ fn run_lines<D: Disk, C: Chare>(
     source: &mut Stock<C>,
     lines: &[Line],
 )
-    requires consistent { IsEngineConsistent engine.old }
     requires enough { (kind : kinds.Kind) →
         blanks_of kind lines.now ≤ stocks.blanks_in source.old kind }
-    ensures consistent { IsEngineConsistent engine.new }
     ensures ran { AreRun (handler_of handlers.now) (view_of engine.old) lines.now
         (view_of engine.new) }
-    ensures advances { Advances engine.old engine.new }
+    ensures advances { Advances D.Disk engine.old engine.new }
 {
+    engine.facts();
     for line in lines {
         if engine.is_halted() {
             return;
@@ -208,16 +208,15 @@ fn run_line<D: Disk, C: Chare>(
     source: &mut Stock<C>,
     line: &Line,
 )
-    requires consistent { IsEngineConsistent engine.old }
     requires enough { (kind : kinds.Kind) →
         blanks_in kind line.now ≤ stocks.blanks_in source.old kind }
-    ensures consistent { IsEngineConsistent engine.new }
     ensures follows { Follows (handler_of handlers.now) (view_of engine.old) line.now
         (view_of engine.new) }
     ensures left { (kind : kinds.Kind) → stocks.blanks_in source.old kind
         ≤ stocks.blanks_in source.new kind + blanks_in kind line.now }
-    ensures advances { Advances engine.old engine.new }
+    ensures advances { Advances D.Disk engine.old engine.new }
 {
+    engine.facts();
     match line {
         Line::Supply { kind, count } => supply(engine, source, *kind, *count),
         Line::Drain { count } => drain(engine, *count),
@@ -235,14 +234,13 @@ fn run_line<D: Disk, C: Chare>(
                 index: *index,
             };
             let request = Request {
-                client: *client,
                 number: *number,
                 to,
                 entry: handler.entry,
                 words: words.as_slice(),
             };
             // What the client is told isn't looked at, and so it is below.
-            let _ = engine.ask(&request);
+            let _ = engine.ask(*client, &request);
         }
         Line::Step(step) => {
             engine.step(step);
@@ -258,14 +256,12 @@ fn supply<D: Disk, C: Chare>(
     kind: Kind,
     count: u32,
 )
-    requires consistent { IsEngineConsistent engine.old }
     requires enough { count ≤ stocks.blanks_in source.old kind }
-    ensures consistent { IsEngineConsistent engine.new }
     ensures supplied { IsSupplied kind count (view_of engine.old) (view_of engine.new)
         ⊎ (view_of engine.new ≡ view_of engine.old) }
     ensures left { (other : kinds.Kind) → stocks.blanks_in source.old other
         ≤ stocks.blanks_in source.new other + part_of kind count other }
-    ensures advances { Advances engine.old engine.new }
+    ensures advances { Advances D.Disk engine.old engine.new }
 {
     match engine.draw(source, kind, count as usize) {
         Ok(()) => {}
@@ -276,11 +272,10 @@ fn supply<D: Disk, C: Chare>(
 
 /// Delivers the oldest message that can be delivered, up to so many times, or up to a refusal.
 fn drain<D: Disk, C: Chare>(engine: &mut Engine<D, C>, most: u32)
-    requires { IsEngineConsistent engine.old }
-    ensures consistent { IsEngineConsistent engine.new }
     ensures drains { Drains most (view_of engine.old) (view_of engine.new) }
-    ensures advances { Advances engine.old engine.new }
+    ensures advances { Advances D.Disk engine.old engine.new }
 {
+    engine.facts();
     for _ in 0..most {
         if !deliver_next(engine) {
             return;
@@ -290,12 +285,11 @@ fn drain<D: Disk, C: Chare>(engine: &mut Engine<D, C>, most: u32)
 
 /// Delivers the oldest message that can be delivered, and answers whether it did.
 fn deliver_next<D: Disk, C: Chare>(engine: &mut Engine<D, C>) -> bool
-    requires { IsEngineConsistent engine.old }
-    ensures consistent { IsEngineConsistent engine.new }
     ensures delivers { result ≡ true → DeliversNext (view_of engine.old) (view_of engine.new) }
     ensures none { result ≡ false → DeliversNone (view_of engine.old) (view_of engine.new) }
-    ensures advances { Advances engine.old engine.new }
+    ensures advances { Advances D.Disk engine.old engine.new }
 {
+    engine.facts();
     let Some((processor, id)) = engine.next() else {
         return false;
     };

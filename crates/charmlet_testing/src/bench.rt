@@ -45,15 +45,13 @@ pub struct Bench {
 
 impl Model for Bench {
     ghost use Rattle.std.specs.Prelude.{Bool, IfSome};
-    ghost use Rattle.charmlet_engine.specs.Engine.{IsEngineConsistent};
     ghost use Rattle.charmlet_replay.specs.Unused.{IsUnused};
 
     ghost Value = { Bool };
 
     ghost view = { λ bench. bench.again };
 
-    ghost invariant = { λ bench. IfSome bench.engine IsEngineConsistent
-        × IfSome bench.back IsUnused };
+    ghost invariant = { λ bench. IfSome bench.back IsUnused };
 }
 
 /// How many blanks a stock has, of all kinds.

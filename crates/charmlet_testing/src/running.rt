@@ -6,6 +6,7 @@ use crate::objects::blanks;
 use crate::saying::say;
 use charmlet_cli::{census_line, pending_line, state_line};
 use charmlet_model::{Answer, Kind, Step, Told};
+use charmlet_requests::Request;
 use charmlet_script::{Drained, Line, Supplied, read_restart_script};
 
 impl Bench {
@@ -94,13 +95,15 @@ impl Bench {
                 entry,
                 words,
             } => match self.held.get_mut(client) {
-                Some(pass) => Ok(Some(engine.request(
-                    pass,
-                    *number,
-                    *to,
-                    *entry,
-                    words.as_slice(),
-                )?)),
+                Some(pass) => {
+                    let request = Request {
+                        number: *number,
+                        to: *to,
+                        entry: *entry,
+                        words: words.as_slice(),
+                    };
+                    Ok(Some(engine.request(pass, &request)?))
+                }
                 None => Ok(None),
             },
             Step::Status { client, number } => match self.held.get_mut(client) {

@@ -1,6 +1,5 @@
 use Rattle.std.proofs.Common.{inl, inr, refl, subst}
-use Rattle.charmlet_engine.specs.Engine.{core_of, disk_in}
-use Rattle.charmlet_engine.proofs.Advancing.{advances_still}
+use Rattle.charmlet_engine.specs.Engine.{core_of}
 use Rattle.std.specs.Io.KnownBytes.{Appends}
 use Rattle.charmlet_cli.specs.Lines.{AreRun, BreakOff, ledger_in, named_at}
 use Rattle.charmlet_cli.specs.Writing.{AppendsBeginning}
@@ -11,25 +10,19 @@ use Rattle.charmlet_cli.proofs.restarting.run_restarted.Goals as goal
 
 pub returns-in_err-write_line-clause-breaks_off : goal.returns-in_err-write_line-clause-breaks_off
 returns-in_err-write_line-clause-breaks_off g c =
-    let core = core_of {G = g.D.Disk} {H = g.C.Chare} c.args.engine.now in
+    let core = core_of c.args.engine.now in
     let said = said_of core c.generation.result c.durable.result c.args.processors c.generation.ensures c.durable.ensures c.requires.durable c.requires.processors in
     on_err c.from_residual.result
     (inl (refl, subst (λ text. AppendsBeginning (g.W.Write.contents c.args.writer.now) (g.W.Write.contents c.write_line.new.writer) text) said c.in_err-write_line.ensures))
 
-pub returns-in_err-write_line-clause-advances : goal.returns-in_err-write_line-clause-advances
-returns-in_err-write_line-clause-advances g c =
-    let laws = g.met.D.Disk g.world.𝓛 g.world.𝓜 g.world.𝓡 ((λ s x. x), (λ x. x), (λ x. x), (λ x. x)) in
-    let engine = c.args.engine.now in
-    advances_still {G = g.D.Disk} {H = g.C.Chare} engine engine c.requires.consistent refl refl refl (λ honest o left. laws.only_now (disk_in engine) o honest left)
-
 pub returns-clause-prints : goal.returns-clause-prints
 returns-clause-prints g c =
-    let core = core_of {G = g.D.Disk} {H = g.C.Chare} c.args.engine.now in
+    let core = core_of c.args.engine.now in
     let said = said_of core c.generation.result c.durable.result c.args.processors c.generation.ensures c.durable.ensures c.requires.durable c.requires.processors in
     let first = subst (λ text. Appends (g.W.Write.contents c.args.writer.now) (g.W.Write.contents c.write_line.new.writer) text) said c.in_ok-write_line.ensures in
     let lines = c.args.script.now.lines in
-    let back = ledger_in {G = g.D.Disk} {H = g.C.Chare} c.args.engine.now in
-    let last = ledger_in {G = g.D.Disk} {H = g.C.Chare} c.run_lines.new.engine in
+    let back = ledger_in c.args.engine.now in
+    let last = ledger_in c.run_lines.new.engine in
     ok_map c.run_lines.result
     (λ run. (
       g.W.Write.contents c.write_line.new.writer,
@@ -40,12 +33,12 @@ returns-clause-prints g c =
 
 pub returns-clause-breaks_off : goal.returns-clause-breaks_off
 returns-clause-breaks_off g c =
-    let core = core_of {G = g.D.Disk} {H = g.C.Chare} c.args.engine.now in
+    let core = core_of c.args.engine.now in
     let said = said_of core c.generation.result c.durable.result c.args.processors c.generation.ensures c.durable.ensures c.requires.durable c.requires.processors in
     let first = subst (λ text. Appends (g.W.Write.contents c.args.writer.now) (g.W.Write.contents c.write_line.new.writer) text) said c.in_ok-write_line.ensures in
     let lines = c.args.script.now.lines in
-    let back = ledger_in {G = g.D.Disk} {H = g.C.Chare} c.args.engine.now in
-    let last = ledger_in {G = g.D.Disk} {H = g.C.Chare} c.run_lines.new.engine in
+    let back = ledger_in c.args.engine.now in
+    let last = ledger_in c.run_lines.new.engine in
     err_map c.run_lines.result
     (λ run. inr (
       g.W.Write.contents c.write_line.new.writer,

@@ -7,8 +7,6 @@ use Rattle.charmlet_model.specs.declared.step.Step.TheVariants as steps
 use Rattle.charmlet_requests.specs.Handlers.{IsTarget}
 use Rattle.charmlet_script.specs.declared.script.Line.TheVariants.{Supply}
 use Rattle.charmlet_script.specs.Script.{blanks_in}
-use Rattle.charmlet_engine.specs.Engine.{disk_in}
-use Rattle.charmlet_engine.proofs.Advancing.{advances_still}
 use Rattle.charmlet_cli.specs.Lines.{Follows, IsAnswered, IsPrinted, blanks_left, ledger_in, named_at}
 use Rattle.charmlet_cli.proofs.running.run_line.Goals as goal
 
@@ -50,15 +48,3 @@ returns-in-Step-clause-prints g c =
       subst (λ line. Follows g.D.Disk (named_at c.args.desk.now) before line (text ∷ []) next) (sym c.in-Step.is) (c.answer_to.result, c.answer_to.ensures.answered, refl),
       c.write_answer-in-Step.ensures,
     )
-
-pub returns-in-Pending-clause-advances : goal.returns-in-Pending-clause-advances
-returns-in-Pending-clause-advances g c =
-    let laws = g.met.D.Disk g.world.𝓛 g.world.𝓜 g.world.𝓡 ((λ s x. x), (λ x. x), (λ x. x), (λ x. x)) in
-    let engine = c.args.engine.now in
-    advances_still {G = g.D.Disk} {H = g.C.Chare} engine engine c.requires.consistent refl refl refl (λ honest o left. laws.only_now (disk_in engine) o honest left)
-
-pub returns-in-Census-clause-advances : goal.returns-in-Census-clause-advances
-returns-in-Census-clause-advances g c =
-    let laws = g.met.D.Disk g.world.𝓛 g.world.𝓜 g.world.𝓡 ((λ s x. x), (λ x. x), (λ x. x), (λ x. x)) in
-    let engine = c.args.engine.now in
-    advances_still {G = g.D.Disk} {H = g.C.Chare} engine engine c.requires.consistent refl refl refl (λ honest o left. laws.only_now (disk_in engine) o honest left)

@@ -24,7 +24,7 @@ loop-event-preserved c =
 
 pub returns-clause-fit : goal.returns-clause-fit
 returns-clause-fit c =
-    let kinds = c.in_ok-manifest.field-0 in
+    let kinds = c.in_ok-manifest.manifest in
     let whole : c.loop-event.plain ≡ world (new_world (arrays_of c.args.script.now)) c.args.events.now = c.loop-event.invariant ∙ ap (world (new_world (arrays_of c.args.script.now))) (take_all c.loop-event.event-index c.args.events.now (omega (arith, c.loop-event-test.false))) in
-    let fit = subst (λ (k : Kinds). IsFit (new_world k)) (sym (same_arrays c.args.script.now kinds c.in_ok-manifest.ensures.manifest)) c.in_ok-manifest.ensures.fit in
+    let fit = subst (λ (k : Kinds). IsFit (new_world k)) (sym (same_arrays c.args.script.now kinds c.in_ok-manifest.ensures.manifest)) c.facts.ensures in
     subst IsFit (sym whole) (fit-world (new_world (arrays_of c.args.script.now)) c.args.events.now fit c.requires.events c.requires.each_can)

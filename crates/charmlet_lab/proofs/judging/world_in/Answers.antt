@@ -14,7 +14,7 @@ unreachable-requires g c =
     let core = core_in c.args.engine.now.store.history in
     let text : c.deref-2.result.now ≡ 1 ∷ c.in_ok-image.image.items = search rules in
     let is : seen c.in_ok-world.field-0 ≡ Found (present core) (event_count core + 0) (core.generation + 1) =
-    c.in_ok-world.ensures ∙ ap (λ bytes. recovered (files bytes [])) text ∙ image_recovers core c.in_ok-image.image.items c.requires.consistent.shows.history.sound c.requires.newest c.in_ok-image.ensures.ok c.in_ok-image.ensures.within in
+    c.in_ok-world.ensures ∙ ap (λ bytes. recovered (files bytes [])) text ∙ image_recovers core c.in_ok-image.image.items c.facts.ensures.sound c.requires.newest c.in_ok-image.ensures.ok c.in_ok-image.ensures.within in
     seen_found c.in_ok-world.field-0 (present core) (event_count core + 0) (core.generation + 1) is c.in_default.not-Found
 
 pub returns-clause-is : goal.returns-clause-is
@@ -23,7 +23,7 @@ returns-clause-is g c =
     let text : c.deref-2.result.now ≡ 1 ∷ c.in_ok-image.image.items = search rules in
     let is : Found c.in-Found.world c.in-Found.events c.in-Found.generation ≡ Found (present core) (event_count core + 0) (core.generation + 1) =
     sym (ap seen c.in-Found.is) ∙ c.in_ok-world.ensures ∙ ap (λ bytes. recovered (files bytes [])) text
-    ∙ image_recovers core c.in_ok-image.image.items c.requires.consistent.shows.history.sound c.requires.newest c.in_ok-image.ensures.ok c.in_ok-image.ensures.within in
+    ∙ image_recovers core c.in_ok-image.image.items c.facts.ensures.sound c.requires.newest c.in_ok-image.ensures.ok c.in_ok-image.ensures.within in
     cc
 
 pub returns-clause-fit : goal.returns-clause-fit
@@ -32,6 +32,6 @@ returns-clause-fit g c =
     let text : c.deref-2.result.now ≡ 1 ∷ c.in_ok-image.image.items = search rules in
     let is : Found c.in-Found.world c.in-Found.events c.in-Found.generation ≡ Found (present core) (event_count core + 0) (core.generation + 1) =
     sym (ap seen c.in-Found.is) ∙ c.in_ok-world.ensures ∙ ap (λ bytes. recovered (files bytes [])) text
-    ∙ image_recovers core c.in_ok-image.image.items c.requires.consistent.shows.history.sound c.requires.newest c.in_ok-image.ensures.ok c.in_ok-image.ensures.within in
+    ∙ image_recovers core c.in_ok-image.image.items c.facts.ensures.sound c.requires.newest c.in_ok-image.ensures.ok c.in_ok-image.ensures.within in
     let same : c.in-Found.world ≡ present core = cc in
-    subst IsFit (sym same) (sound_fit core c.requires.consistent.shows.history.sound)
+    subst IsFit (sym same) (sound_fit core c.facts.ensures.sound)

@@ -1,7 +1,8 @@
-use Rattle.std.proofs.Common.{◌≡◌, ◌-◌, refl, subst, arith}
-use Rattle.charmlet_engine.specs.Engine.{disk_in, view_of}
-use Rattle.charmlet_engine.proofs.Advancing.{advances_after, advances_still}
+use Rattle.std.proofs.Common.{◌≡◌, ◌-◌, subst, arith}
+use Rattle.charmlet_engine.specs.Engine.{view_of}
+use Rattle.charmlet_engine.proofs.Advancing.{advances_after}
 use Rattle.charmlet_lab.specs.Lines.{Drains}
+use Rattle.charmlet_lab.proofs.Advancing.{advances_as_shown}
 use Rattle.charmlet_lab.proofs.Lines.{drains_all, drains_no_more, drains_on}
 use Rattle.charmlet_lab.proofs.round.drain.Goals as goal
 
@@ -10,31 +11,29 @@ loop-init g c =
     let laws = g.met.D.Disk g.world.𝓛 g.world.𝓜 g.world.𝓡 ((λ s x. x), (λ x. x), (λ x. x), (λ x. x)) in
     let engine = c.args.engine.now in
     let all : c.args.most - 0 ≡ c.args.most = omega arith in (
-      c.requires,
-      advances_still {G = g.D.Disk} {H = g.C.Chare} engine engine c.requires refl refl refl (λ honest o left. laws.only_now (disk_in engine) o honest left),
-      λ last drained. subst (λ n. Drains n (view_of {G = g.D.Disk} {H = g.C.Chare} engine) last) all drained,
+      advances_as_shown g.D.Disk engine c.facts.ensures.lawful (λ honest o left. laws.only_now engine.disk o honest left),
+      λ last drained. subst (λ n. Drains n (view_of engine) last) all drained,
     )
 
 pub returns-then-not-deliver_next-clause-advances : goal.returns-then-not-deliver_next-clause-advances
 returns-then-not-deliver_next-clause-advances g c =
-    advances_after {G = g.D.Disk} {H = g.C.Chare} c.args.engine.now c.loop.engine c.deliver_next.new.engine c.loop.invariant.1 c.deliver_next.ensures.advances
+    advances_after g.D.Disk c.args.engine.now c.loop.engine c.deliver_next.new.engine c.loop.invariant.0 c.deliver_next.ensures.advances
 
 pub returns-then-not-deliver_next-clause-drains : goal.returns-then-not-deliver_next-clause-drains
 returns-then-not-deliver_next-clause-drains g c =
-    let old = view_of {G = g.D.Disk} {H = g.C.Chare} c.loop.engine in
-    let new = view_of {G = g.D.Disk} {H = g.C.Chare} c.deliver_next.new.engine in
-    c.loop.invariant.2 new (drains_no_more c.args.most c.loop.counter c.loop-test.true old new (c.deliver_next.ensures.none c.if-not-deliver_next.true))
+    let old = view_of c.loop.engine in
+    let new = view_of c.deliver_next.new.engine in
+    c.loop.invariant.1 new (drains_no_more c.args.most c.loop.counter c.loop-test.true old new (c.deliver_next.ensures.none c.if-not-deliver_next.true))
 
 pub loop-preserved : goal.loop-preserved
 loop-preserved g c =
-    let old = view_of {G = g.D.Disk} {H = g.C.Chare} c.loop.engine in
-    let mid = view_of {G = g.D.Disk} {H = g.C.Chare} c.deliver_next.new.engine in (
-      c.deliver_next.ensures.consistent,
-      advances_after {G = g.D.Disk} {H = g.C.Chare} c.args.engine.now c.loop.engine c.deliver_next.new.engine c.loop.invariant.1 c.deliver_next.ensures.advances,
-      λ last drained. c.loop.invariant.2 last (drains_on c.args.most c.loop.counter c.loop-test.true old mid last (c.deliver_next.ensures.delivers c.if-not-deliver_next.false) drained),
+    let old = view_of c.loop.engine in
+    let mid = view_of c.deliver_next.new.engine in (
+      advances_after g.D.Disk c.args.engine.now c.loop.engine c.deliver_next.new.engine c.loop.invariant.0 c.deliver_next.ensures.advances,
+      λ last drained. c.loop.invariant.1 last (drains_on c.args.most c.loop.counter c.loop-test.true old mid last (c.deliver_next.ensures.delivers c.if-not-deliver_next.false) drained),
     )
 
 pub returns-clause-drains : goal.returns-clause-drains
 returns-clause-drains g c =
-    let store = view_of {G = g.D.Disk} {H = g.C.Chare} c.loop.engine in
-    c.loop.invariant.2 store (drains_all c.args.most c.loop.counter store c.loop-test.false)
+    let store = view_of c.loop.engine in
+    c.loop.invariant.1 store (drains_all c.args.most c.loop.counter store c.loop-test.false)

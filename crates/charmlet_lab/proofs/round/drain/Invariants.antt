@@ -1,14 +1,13 @@
 use Rattle.std.proofs.Common.{◌-◌}
 use Rattle.charmlet_model.specs.Run.{StoreView}
 use Rattle.charmlet_engine.specs.Advances.{Advances}
-use Rattle.charmlet_engine.specs.Engine.{IsEngineConsistent, view_of}
+use Rattle.charmlet_engine.specs.Engine.{view_of}
 use Rattle.charmlet_lab.specs.Lines.{Drains}
 use Rattle.charmlet_lab.proofs.round.drain.Given as goal
 
 -- the engine went on, and once the rest is drained, all is
 abbrev pub invariant-loop : goal.invariant-loop
 invariant-loop g l =
-    IsEngineConsistent l.engine
-    × Advances {G = g.D.Disk} {H = g.C.Chare} l.initial.engine l.engine
-    × ((last : StoreView) → Drains (l.most - l.counter) (view_of {G = g.D.Disk} {H = g.C.Chare} l.engine) last
-    → Drains l.most (view_of {G = g.D.Disk} {H = g.C.Chare} l.initial.engine) last)
+    Advances g.D.Disk l.initial.engine l.engine
+    × ((last : StoreView) → Drains (l.most - l.counter) (view_of l.engine) last
+    → Drains l.most (view_of l.initial.engine) last)

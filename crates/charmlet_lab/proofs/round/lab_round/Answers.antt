@@ -12,7 +12,6 @@ use Rattle.charmlet_script.specs.declared.script.Line.{Line}
 use Rattle.charmlet_script.specs.Script.{blanks_of}
 use Rattle.charmlet_requests.specs.Handlers.{handler_of}
 use Rattle.charmlet_engine.specs.Engine.{view_of}
-use Rattle.charmlet_engine.proofs.Lawful.{lawful_now}
 use Rattle.charmlet_lab.specs.Lines.{AreRun, named_by}
 use Rattle.charmlet_lab.specs.Rounds.{IsRound}
 use Rattle.charmlet_lab.proofs.Lines.{opens, run_by}
@@ -24,28 +23,28 @@ returns-in-Ok-create-clause-ok g c =
     let kinds = c.in_ok-manifest.manifest in
     let arrays = same_arrays c.args.script.now kinds c.in_ok-manifest.ensures.manifest in
     let first = core_in c.note_events.new.self.store.history in
-    let opens = c.note_events.ensures.core ∙ c.in-Ok-create.ensures.opens in
+    let opens = c.note_events.ensures.core ∙ c.in-Ok-create.ensures.ok.opens in
     let disk = c.note_events.ensures.disk in
     let last = core_in c.run_lines.new.engine.store.history in
     let on = c.run_lines.ensures.advances.onward in
-    let sound = c.run_lines.ensures.consistent.shows.history.sound in
+    let sound = c.facts.ensures.sound in
     let events = c.in_ok-events-in-Ok-create.events.items in
     let are : events ≡ last.history = c.in_ok-events-in-Ok-create.ensures ∙ rw c.in-Some-events.is at c.events.ensures in
     let durable = c.durable.result in
     let end = c.into_disk.ensures in
-    let forth = λ (h : g.D.Disk.honest c.args.disk). c.run_lines.ensures.advances.honest.0 (subst g.D.Disk.honest (sym disk) (c.in-Ok-create.ensures.honest.0 h)) in
+    let forth = λ (h : g.D.Disk.honest c.args.disk). c.run_lines.ensures.advances.honest.0 (subst g.D.Disk.honest (sym disk) (c.in-Ok-create.ensures.disk.honest.0 h)) in
     subst (λ (k : Kinds). IsRound g.D.Disk k c.args.disk (record { disk = c.into_disk.result; events = c.in_ok-events-in-Ok-create.events; durable = Some durable; is_stopped = c.is_halted-is_stopped.result })) (sym arrays) (record {
       legal = legal_events kinds c.processors.result first last opens on events are durable c.durable.ensures sound;
       within = durable_within kinds c.processors.result first last opens on events are durable c.durable.ensures sound;
       made = λ _. refl;
       honest = (
         (λ h. subst g.D.Disk.honest (sym end) (forth h)),
-        (λ h. c.in-Ok-create.ensures.honest.1 (subst g.D.Disk.honest disk (c.run_lines.ensures.advances.honest.1 (subst g.D.Disk.honest end h)))),
+        (λ h. c.in-Ok-create.ensures.disk.honest.1 (subst g.D.Disk.honest disk (c.run_lines.ensures.advances.honest.1 (subst g.D.Disk.honest end h)))),
       );
-      closed = λ honest made. c.in-Ok-create.ensures.closed honest;
+      closed = λ honest made. (let closed = (c.in-Ok-create.ensures.files honest).closed in (closed.zero, closed.one));
       now = λ honest _ _ o left.
           lawful_events kinds c.processors.result first last opens on events are durable c.durable.ensures o
-          (lawful_now last c.run_lines.new.engine.halves (c.run_lines.ensures.consistent.keeps (forth honest)) o (subst (λ d. MayLeave (g.D.Disk.file d) o) end left));
+          (c.facts.ensures.lawful (forth honest) o (subst (λ d. MayLeave (g.D.Disk.file d) o) end left));
     })
 
 pub returns-in-Err-Device-clause-ok : goal.returns-in-Err-Device-clause-ok
@@ -58,11 +57,11 @@ returns-in-Err-Device-clause-ok g c =
       legal = subst (IsLegal (new_world kinds) 0) (sym c.new.ensures.items) (record { events = tt; each_can = refl; in_limit = omega arith });
       within = tt;
       made = λ h. absurd (let no : ⊥ = cc in no);
-      honest = c.in-Err-Device.ensures.honest;
+      honest = c.in-Err-Device.ensures.disk.honest;
       closed = λ honest made. absurd (let no : ⊥ = cc in no);
       now = λ honest zero one o left.
-          let any = c.in-Err-Device.ensures.any_moment honest zero one in
-          any.each o (laws.counts_now end (g.D.Disk.moment c.args.disk) o (c.in-Err-Device.ensures.honest.0 honest) any.later left);
+          let any = (c.in-Err-Device.ensures.leaves honest).any_moment (record { zero = zero; one = one }) in
+          any.each o (laws.counts_now end (g.D.Disk.moment c.args.disk) o (c.in-Err-Device.ensures.disk.honest.0 honest) any.later left);
     })
 
 -- ---- blanks that lack, or don't
@@ -104,11 +103,11 @@ pub returns-in-Ok-create-clause-ran : goal.returns-in-Ok-create-clause-ran
 returns-in-Ok-create-clause-ran g c =
     let script = c.args.script.now in
     let kinds = c.in_ok-manifest.manifest in
-    let first = view_of {G = g.D.Disk} {H = g.C.Chare} c.note_events.new.self in
-    let last = view_of {G = g.D.Disk} {H = g.C.Chare} c.run_lines.new.engine in
+    let first = view_of c.note_events.new.self in
+    let last = view_of c.run_lines.new.engine in
     let on = c.run_lines.ensures.advances.onward in
-    let core = c.note_events.ensures.core ∙ c.in-Ok-create.ensures.opens in
-    let none = λ (kind : Kind). ap (λ (blanks : Blanks). blanks kind) c.note_events.ensures.blanks ∙ c.in-Ok-create.ensures.blanks kind in
+    let core = c.note_events.ensures.core ∙ c.in-Ok-create.ensures.ok.opens in
+    let none = λ (kind : Kind). ap (λ (blanks : Blanks). blanks kind) c.note_events.ensures.blanks ∙ c.in-Ok-create.ensures.ok.blanks kind in
     let opening = opens script kinds c.processors.result first c.in_ok-manifest.ensures.manifest c.processors.ensures core none in
     let ran = subst (λ ls. AreRun (handler_of c.in_ok-handlers.handlers) first ls last) c.lines.ensures c.run_lines.ensures.ran in
     let before = on.before ∙ ap (λ (k : Core). k.before) core in (

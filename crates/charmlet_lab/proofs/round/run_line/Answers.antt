@@ -1,10 +1,9 @@
-use Rattle.std.proofs.Common.{◌≡◌, ◌≤◌, cond, refl, ap, subst, ◌∙◌}
+use Rattle.std.proofs.Common.{◌≡◌, ◌≤◌, cond, ap, subst, ◌∙◌}
 use Rattle.std.specs.Cmp.{nat_eq_equiv}
 use Rattle.charmlet_model.specs.Kind.{kind_number}
 use Rattle.charmlet_stock.specs.Stock as stocks
 use Rattle.charmlet_script.specs.Script.{blanks_in}
-use Rattle.charmlet_engine.specs.Engine.{disk_in}
-use Rattle.charmlet_engine.proofs.Advancing.{advances_still}
+use Rattle.charmlet_lab.proofs.Advancing.{advances_as_shown}
 use Rattle.charmlet_lab.proofs.round.run_line.Goals as goal
 
 pub supply-requires-clause-enough : goal.supply-requires-clause-enough
@@ -18,16 +17,16 @@ pub returns-clause-advances : goal.returns-clause-advances
 returns-clause-advances g c =
     let laws = g.met.D.Disk g.world.𝓛 g.world.𝓜 g.world.𝓡 ((λ s x. x), (λ x. x), (λ x. x), (λ x. x)) in
     let engine = c.args.engine.now in
-    advances_still {G = g.D.Disk} {H = g.C.Chare} engine engine c.requires.consistent refl refl refl (λ honest o left. laws.only_now (disk_in engine) o honest left)
+    advances_as_shown g.D.Disk engine c.facts.ensures.lawful (λ honest o left. laws.only_now engine.disk o honest left)
 
 pub returns-2-clause-advances : goal.returns-2-clause-advances
 returns-2-clause-advances g c =
     let laws = g.met.D.Disk g.world.𝓛 g.world.𝓜 g.world.𝓡 ((λ s x. x), (λ x. x), (λ x. x), (λ x. x)) in
     let engine = c.args.engine.now in
-    advances_still {G = g.D.Disk} {H = g.C.Chare} engine engine c.requires.consistent refl refl refl (λ honest o left. laws.only_now (disk_in engine) o honest left)
+    advances_as_shown g.D.Disk engine c.facts.ensures.lawful (λ honest o left. laws.only_now engine.disk o honest left)
 
 pub returns-3-clause-advances : goal.returns-3-clause-advances
 returns-3-clause-advances g c =
     let laws = g.met.D.Disk g.world.𝓛 g.world.𝓜 g.world.𝓡 ((λ s x. x), (λ x. x), (λ x. x), (λ x. x)) in
     let engine = c.args.engine.now in
-    advances_still {G = g.D.Disk} {H = g.C.Chare} engine engine c.requires.consistent refl refl refl (λ honest o left. laws.only_now (disk_in engine) o honest left)
+    advances_as_shown g.D.Disk engine c.facts.ensures.lawful (λ honest o left. laws.only_now engine.disk o honest left)

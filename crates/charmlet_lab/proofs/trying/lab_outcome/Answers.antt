@@ -1,10 +1,13 @@
-use Rattle.std.proofs.Common.{sym, subst, ◌∙◌}
-use Rattle.std.proofs.lemmas.Result.{IfOk-weaker}
+use Rattle.std.proofs.Common.{◌≡◌, false, true, sym, subst, ◌∙◌}
+use Rattle.std.proofs.lemmas.Result.{IfErr-weaker, IfOk-weaker}
+use Rattle.charmlet_model.specs.declared.refusal.Refusal.TheVariants as refusals
 use Rattle.charmlet_model.specs.declared.kind.Kind.{Kind}
 use Rattle.charmlet_model.specs.Shelves.{count_of}
 use Rattle.charmlet_recovery.specs.Restarts.{engine_refusal}
 use Rattle.charmlet_stock.specs.Stock.{blanks_in}
-use Rattle.charmlet_engine.specs.Restarted.{core_or_refusal}
+use Rattle.charmlet_locate.specs.Locations.{is_processor_count}
+use Rattle.charmlet_engine.specs.Engine.{core_of}
+use Rattle.charmlet_engine.specs.Restarted.{IsFound, IsOpenedOn, core_or_refusal, is_engine_refusal}
 use Rattle.charmlet_recover.specs.Restart.{AnswersBy, bytes_on}
 use Rattle.charmlet_recover.specs.Wanted as wants
 use Rattle.charmlet_lab.specs.Restarts.{IsRestart}
@@ -15,7 +18,7 @@ use Rattle.charmlet_lab.proofs.Tried.{good_is_lawful, good_is_nothing_or_lawful}
 use Rattle.charmlet_lab.proofs.trying.lab_outcome.Goals as goal
 
 pub lab_bad-requires-clause-newest : goal.lab_bad-requires-clause-newest
-lab_bad-requires-clause-newest g c κs within = goes_on_newest {G = g.D.Disk} {H = g.C.Chare} (blanks_in c.in-Ok.stock) c.restart-answer.result c.restart-answer.ensures.read
+lab_bad-requires-clause-newest g c κs within = goes_on_newest (blanks_in c.in-Ok.stock) c.restart-answer.result (IfOk-weaker c.restart-answer.result _ _ (λ engine ok. ok.read) c.restart-answer.ensures.ok)
 
 pub returns : goal.returns
 returns g c =
@@ -27,20 +30,24 @@ returns g c =
     let has = λ (kind : Kind). all_blanks stock c.in-Ok.ensures.unused kind ∙ c.in-Ok.ensures.supplied kind in
     let answer = c.restart-answer.result in
     let answers = c.restart-answer.ensures in
+    let opens = IfOk-weaker answer _ (λ engine. IsOpenedOn c.processors.result (core_of engine)) (λ engine ok. ok.opens) answers.ok in
+    let found = λ (honest : g.D.Disk.honest disk). IfOk-weaker answer _ (λ engine. IsFound (bytes_on (g.D.Disk.file disk)) (core_of engine)) (λ engine files. files.found) (answers.files honest) in
+    let only_bad = IfErr-weaker answer _ (λ refused. refused.refusal ≡ refusals.BadPes → is_processor_count c.processors.result ≡ false) (λ refused why. why.bad) answers.err in
+    let known = IfErr-weaker answer _ (λ refused. is_engine_refusal refused.refusal ≡ true) (λ refused why. why.known) answers.err in
     let restart = subst (λ processors. IsRestart g.D.Disk processors given disk (core_or_refusal answer)) c.processors.ensures
-    (is_restart {G = g.D.Disk} {H = g.C.Chare} c.processors.result given disk stock answer answers.opens answers.found answers.bad answers.only_bad
-    (λ honest good. subst (λ blanks. AnswersBy (engine_refusal blanks (bytes_on (g.D.Disk.file disk))) (core_or_refusal answer)) (λ i kind. has kind i) (answers.answer honest good)) answers.err) in
+    (is_restart g.D.Disk c.processors.result given disk stock answer opens found answers.bad only_bad
+    (λ honest good. subst (λ blanks. AnswersBy (engine_refusal blanks (bytes_on (g.D.Disk.file disk))) (core_or_refusal answer)) (λ i kind. has kind i) (answers.answer honest good)) known) in
     record {
       ok = IfOk-weaker c.lab_bad.result _ _ (λ bad judged. record { back = core_or_refusal answer; restart = restart; judged = judged }) c.lab_bad.ensures.ok;
       enough = IfOk-weaker c.lab_bad.result _ _ (λ bad judged. told_enough g.D.Disk script disk given wanted (blanks_in stock) has (sym c.lacking.ensures ∙ c.in_default-lacking.is)) c.lab_bad.ensures.ok;
       sound = λ honest.
           IfOk-weaker c.lab_bad.result _ _ (λ bad judged no n is.
-          good_is_lawful {G = g.D.Disk} {H = g.C.Chare} (arrays_of script) c.args.events.now c.args.durable n c.processors.result (bytes_on (g.D.Disk.file disk)) answer is
-          answers.opens (answers.found honest) (judged.0 no)) c.lab_bad.ensures.ok;
+          good_is_lawful (arrays_of script) c.args.events.now c.args.durable n c.processors.result (bytes_on (g.D.Disk.file disk)) answer is
+          opens (found honest) (judged.0 no)) c.lab_bad.ensures.ok;
       unmade = λ honest.
           IfOk-weaker c.lab_bad.result _ _ (λ bad judged no is.
-          good_is_nothing_or_lawful {G = g.D.Disk} {H = g.C.Chare} (arrays_of script) c.args.events.now c.args.durable c.processors.result _ (bytes_on (g.D.Disk.file disk)) _ _ answer is
-          answers.opens (answers.found honest) answers.bad (answers.answer honest) (judged.0 no)) c.lab_bad.ensures.ok;
+          good_is_nothing_or_lawful (arrays_of script) c.args.events.now c.args.durable c.processors.result _ (bytes_on (g.D.Disk.file disk)) _ _ answer is
+          opens (found honest) answers.bad (answers.answer honest) (judged.0 no)) c.lab_bad.ensures.ok;
       err = all_why g.D.Disk script disk given wanted c.lab_bad.result (core_or_refusal answer) restart c.lab_bad.ensures.err;
     }
 
