@@ -1,7 +1,7 @@
 -- What any disk of the program shows.
 use Rattle.std.specs.Prelude.{◌≡◌, ⊤, ℕ, Bool, [], length, Option, None, Some}
 use Rattle.charmlet_model.specs.declared.half.Half.{Half}
-use Rattle.charmlet_disk.specs.File.{File, Outcome, clean}
+use Rattle.charmlet_disk.specs.File.{File, CrashBytes, clean}
 use Rattle.charmlet_disk.specs.FileDisk as folders
 use Rattle.charmlet_disk.specs.Fuse as fuses
 use Rattle.charmlet_disk.specs.MemDisk as memories
@@ -34,7 +34,7 @@ moment_of (Memory disk) = length (memories.calls_of disk)
 moment_of (Failing fuse) = length (memories.calls_of (fuses.inside fuse))
 
 -- what a crash at some moment from that one on might have left
-abbrev pub left_since : AnyDisk → ℕ → Outcome → Type 0
+abbrev pub left_since : AnyDisk → ℕ → CrashBytes → Type 0
 left_since (Folder disk) = λ _ _. ⊥
 left_since (Memory disk) = LeftSince (memories.calls_of disk)
 left_since (Failing fuse) = LeftSince (memories.calls_of (fuses.inside fuse))

@@ -78,7 +78,7 @@ impl AnyDisk {
 impl Disk for AnyDisk {
     ghost use Rattle.std.specs.Prelude.{◌≡◌, ◌≤◌, ◌+◌, List, ℕ, length, take, drop, is_ok, IfOk, OnOk, OnErr};
     ghost use Rattle.charmlet_model.specs.Half.{other};
-    ghost use Rattle.charmlet_disk.specs.File.{IsOutcome, MayLeave, wrote, clean};
+    ghost use Rattle.charmlet_disk.specs.File.{MayBeLeft, MayLeave, wrote, clean};
     ghost use Rattle.charmlet_disk.specs.Disk.{Elapses, SameFiles, faults_after};
     ghost use Rattle.charmlet_any_disk.specs.AnyDisk.{faults_of, files_of, is_honest, left_since, moment_of, Burns, PassesFree};
     ghost use Rattle.charmlet_any_disk.specs.AnyDiskLaws.{counts_among, files_are_left, only_last};
@@ -143,8 +143,8 @@ impl Disk for AnyDisk {
         ensures written { is_honest self.old → OnOk result
             (files_of self.new half ≡ wrote offset bytes.now (files_of self.old half)) }
         ensures torn { is_honest self.old → (left : List ℕ) →
-            IsOutcome (files_of self.new half) left
-            → IsOutcome (wrote offset bytes.now (files_of self.old half)) left }
+            MayBeLeft (files_of self.new half) left
+            → MayBeLeft (wrote offset bytes.now (files_of self.old half)) left }
         ensures other { is_honest self.old →
             files_of self.new (other half) ≡ files_of self.old (other half) }
         ensures time { is_honest self.old → Elapses (moment_of self.old) (moment_of self.new)

@@ -11,7 +11,7 @@ use Rattle.charmlet_model.specs.Texts.{Text}
 use Rattle.charmlet_chare.specs.declared.chare.Chare as chares
 use Rattle.charmlet_disk.specs.declared.disk.Disk as disks
 use Rattle.charmlet_disk.specs.Disk.{IsSettled, LeavesOnly, faults_after}
-use Rattle.charmlet_disk.specs.File.{File, MayLeave, Outcome}
+use Rattle.charmlet_disk.specs.File.{File, MayLeave, CrashBytes}
 use Rattle.charmlet_locate.specs.Locations.{is_processor_count}
 use Rattle.charmlet_halves.specs.Answers.{is_no_failure}
 use Rattle.charmlet_model.specs.declared.event.Event.{Event}
@@ -42,9 +42,10 @@ use Rattle.charmlet_cli.proofs.Standings.{IsLawfulDisk, failure_said, stands_aft
 same_found : (v w : World) (n m g h : ℕ) → Found v n g ≡ Found w m h → (v ≡ w) × (n ≡ m)
 same_found v w n m g h is = ((let same : v ≡ w = cc in same), (let same : n ≡ m = cc in same))
 
--- what a crash within a restart leaves is what one before might have left, or the world of the store that came back, which then went on
+-- what a crash within a restart leaves is what one before might have left, or the world of the
+-- store that came back, which then went on
 module _ (files : Half → File) (back last : Core) (found : IsFound (bytes_on files) back) (on : Onward back last) where
-  at_generation : (o : Outcome) (w : World) (count generation : ℕ) → recovered o ≡ Found w count generation → w ≡ back.opening → count ≡ back.before → IsLawful last.opening last.before last.history 0 o
+  at_generation : (o : CrashBytes) (w : World) (count generation : ℕ) → recovered o ≡ Found w count generation → w ≡ back.opening → count ≡ back.before → IsLawful last.opening last.before last.history 0 o
   at_generation o w count generation is world before =
       let opening : w ≡ last.opening = world ∙ sym on.opening in
       let all : count ≡ last.before + 0 = omega (arith, before, on.before) in
@@ -56,12 +57,12 @@ module _ (files : Half → File) (back last : Core) (found : IsFound (bytes_on f
         is = is ∙ ap (λ (v : World). Found v count generation) opening ∙ ap (λ (n : ℕ). Found last.opening n generation) all;
       }
 
-  same_is_lawful : (o : Outcome) → IsSameOrNext (bytes_on files) o → IsLawful last.opening last.before last.history 0 o
+  same_is_lawful : (o : CrashBytes) → IsSameOrNext (bytes_on files) o → IsLawful last.opening last.before last.history 0 o
   same_is_lawful o same =
       let its = same_found same.world back.opening same.count back.before same.generation found.generation (sym same.was ∙ found.is) in
       ⊎_elim (λ now. at_generation o same.world same.count same.generation now its.0 its.1) (λ next. at_generation o same.world same.count (same.generation + 1) next its.0 its.1) same.is
 
-  from_restart : (o : Outcome) → IsLeftByRestart files o → IsEarlierOrLawful (MayLeave files) last o
+  from_restart : (o : CrashBytes) → IsLeftByRestart files o → IsEarlierOrLawful (MayLeave files) last o
   from_restart o left = ⊎_elim (λ old. inl old) (λ same. inr (same_is_lawful o same)) left
 
 module _ {D : Type 0} (G : disks.Ghosts D) where
@@ -72,7 +73,7 @@ module _ {D : Type 0} (G : disks.Ghosts D) where
       supplied_of engine ≡ given →
       (G.honest first → (past : Past) (old new : Core) → Remembers past old → Onward old new → IsSound new → is_lawful_since old new (bytes_on (G.file first)) → ComesBack past old new (core_of engine)) →
       G.faults engine.disk ≡ G.faults first → (G.honest first → G.honest engine.disk) × (G.honest engine.disk → G.honest first) → (G.honest first → IsSettled (G.file engine.disk)) →
-      (G.honest first → (o : Outcome) → MayLeave (G.file engine.disk) o → is_lawful_now (core_of engine) o) →
+      (G.honest first → (o : CrashBytes) → MayLeave (G.file engine.disk) o → is_lawful_now (core_of engine) o) →
       (G.honest first → wants_image (bytes_on (G.file first)) ≡ false → IsUnwritten G first engine.disk) →
       (G.honest first → LeavesOnly G.moment G.since first engine.disk (IsLeftByRestart (G.file first))) → IsBack G processors given first (ledger_in engine)
   is_back processors given first engine opens found taken supplied remembers counted honest settled now still any_moment = record {

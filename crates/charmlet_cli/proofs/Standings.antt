@@ -15,7 +15,7 @@ use Rattle.charmlet_model.specs.Sound.{new_world}
 use Rattle.charmlet_model.specs.World.{World}
 use Rattle.charmlet_disk.specs.declared.disk.Disk as disks
 use Rattle.charmlet_disk.specs.Disk.{LeavesOnly, SameFiles, faults_after}
-use Rattle.charmlet_disk.specs.File.{MayLeave, Outcome}
+use Rattle.charmlet_disk.specs.File.{MayLeave, CrashBytes}
 use Rattle.charmlet_disk.proofs.Moments.{after_that}
 use Rattle.charmlet_journal.specs.NewStores.{new_core}
 use Rattle.charmlet_recovery.specs.Recovered.{Found}
@@ -33,7 +33,7 @@ module _ (manifest : List (ℕ × Edition)) (processors : ℕ) (old new : Core) 
   none_before : new.before ≡ 0
   none_before = on.before ∙ ap (λ (core : Core). core.before) opens
 
-  from_new : (o : Outcome) → IsNothingOrNew manifest o → IsEarlierOrLawful IsNothing new o
+  from_new : (o : CrashBytes) → IsNothingOrNew manifest o → IsEarlierOrLawful IsNothing new o
   from_new o so = ⊎_elim (λ none. inl none) (λ found. inr (record {
     kept = 0;
     durable_kept = omega arith;
@@ -43,7 +43,7 @@ module _ (manifest : List (ℕ × Edition)) (processors : ℕ) (old new : Core) 
   })) so
 
 -- what a run leaves, whatever there was earlier
-from_lawful : (earlier : Outcome → Type 0) (old new : Core) (o : Outcome) → is_lawful_since old new o → IsEarlierOrLawful earlier new o
+from_lawful : (earlier : CrashBytes → Type 0) (old new : Core) (o : CrashBytes) → is_lawful_since old new o → IsEarlierOrLawful earlier new o
 from_lawful earlier old new o lawful = inr (record {
   kept = lawful.kept;
   durable_kept = omega arith;
@@ -53,13 +53,14 @@ from_lawful earlier old new o lawful = inr (record {
 })
 
 module _ {D : Type 0} (G : disks.Ghosts D) where
-  -- on an honest disk each crash now leaves the world after some of the history, with all durable events among it
+  -- on an honest disk each crash now leaves the world after some of the history, with all durable
+  -- events among it
   abbrev pub IsLawfulDisk : EngineShown D → Type 0
-  IsLawfulDisk engine = G.honest engine.disk → (o : Outcome) → MayLeave (G.file engine.disk) o → is_lawful_now (core_of engine) o
+  IsLawfulDisk engine = G.honest engine.disk → (o : CrashBytes) → MayLeave (G.file engine.disk) o → is_lawful_now (core_of engine) o
 
   -- what it stands on is the disk at the end
-  pub stands_after : (earlier before : Outcome → Type 0) (disk end : D) (first last : EngineShown D) → IsLawfulDisk last → Advances G first last → (G.honest disk → G.honest first.disk) →
-      (G.honest disk → LeavesOnly G.moment G.since disk first.disk before) → (G.honest disk → (o : Outcome) → before o → IsEarlierOrLawful earlier (core_of last) o) → end ≡ last.disk →
+  pub stands_after : (earlier before : CrashBytes → Type 0) (disk end : D) (first last : EngineShown D) → IsLawfulDisk last → Advances G first last → (G.honest disk → G.honest first.disk) →
+      (G.honest disk → LeavesOnly G.moment G.since disk first.disk before) → (G.honest disk → (o : CrashBytes) → before o → IsEarlierOrLawful earlier (core_of last) o) → end ≡ last.disk →
       Stands G earlier disk end (ledger_in last)
   stands_after earlier before disk end first last lawful advances honest leaves goes is =
       subst (λ (d : D). Stands G earlier disk d (ledger_in last)) (sym is) (record {

@@ -18,7 +18,7 @@ use Rattle.charmlet_recovery.specs.Outcomes.{IsLawful}
 use Rattle.charmlet_recovery.specs.Restarts.{engine_refusal, wants_image}
 use Rattle.charmlet_disk.specs.declared.disk.Disk as disks
 use Rattle.charmlet_disk.specs.Disk.{IsSettled, LeavesOnly, faults_after}
-use Rattle.charmlet_disk.specs.File.{MayLeave, Outcome}
+use Rattle.charmlet_disk.specs.File.{MayLeave, CrashBytes}
 use Rattle.charmlet_recover.specs.declared.finding.Found as findings
 use Rattle.charmlet_recover.specs.declared.wanted.Wanted.{Wanted}
 use Rattle.charmlet_recover.specs.Restart.{AnswersBy, bytes_on, is_after_sync}
@@ -80,7 +80,7 @@ given_of state objects kind = count_of state objects kind
 
 module _ {D : Type 0} (G : disks.Ghosts D) where
   -- what a crash might have left before the restart
-  abbrev pub is_left_by : D → Outcome → Type 0
+  abbrev pub is_left_by : D → CrashBytes → Type 0
   is_left_by first = MayLeave (G.file first)
 
   -- A store came back from the first disk. Nothing has happened since, and each element that is
@@ -102,7 +102,7 @@ module _ {D : Type 0} (G : disks.Ghosts D) where
     pub counted : G.faults back.disk ≡ G.faults first
     pub honest : (G.honest first → G.honest back.disk) × (G.honest back.disk → G.honest first)
     pub settled : G.honest first → IsSettled (G.file back.disk)
-    pub now : G.honest first → (outcome : Outcome) → MayLeave (G.file back.disk) outcome →
+    pub now : G.honest first → (outcome : CrashBytes) → MayLeave (G.file back.disk) outcome →
         is_lawful_now back.store.core outcome
     pub still : G.honest first → wants_image (bytes_on (G.file first)) ≡ false →
         IsUnwritten G first back.disk

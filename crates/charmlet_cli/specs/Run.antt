@@ -12,7 +12,7 @@ use Rattle.charmlet_recovery.specs.Outcomes.{IsLawful}
 use Rattle.charmlet_recovery.specs.Recovered.{Nothing, recovered}
 use Rattle.charmlet_disk.specs.declared.disk.Disk as disks
 use Rattle.charmlet_disk.specs.Disk.{LeavesOnly, SameFiles, faults_after}
-use Rattle.charmlet_disk.specs.File.{MayLeave, Outcome}
+use Rattle.charmlet_disk.specs.File.{MayLeave, CrashBytes}
 use Rattle.charmlet_image.specs.Spelled.{IsClosed}
 use Rattle.charmlet_halves.specs.Bytes.{IsOpen}
 use Rattle.charmlet_record.specs.Reading.{Kinds}
@@ -43,11 +43,11 @@ IsNotSaid script refusal before after = IsCreationRefusal (processors_of script)
     × AppendsBeginning before after (creation_text refusal)
 
 -- the files recover to nothing
-abbrev pub IsNothing : Outcome → Type 0
+abbrev pub IsNothing : CrashBytes → Type 0
 IsNothing outcome = recovered outcome ≡ Nothing
 
 -- the files are what there was earlier, or recover to the world after some of the history
-abbrev pub IsEarlierOrLawful : (earlier : Outcome → Type 0) → Core → Outcome → Type 0
+abbrev pub IsEarlierOrLawful : (earlier : CrashBytes → Type 0) → Core → CrashBytes → Type 0
 IsEarlierOrLawful earlier core outcome = earlier outcome
     ⊎ IsLawful core.opening core.before core.history 0 outcome
 
@@ -63,11 +63,11 @@ module _ {D : Type 0} (G : disks.Ghosts D) where
   -- The disk at the end is the last store's. Where the first one was honest, each crash since the
   -- beginning leaves what there was earlier, or the world after some of the run, and each from now
   -- on has all durable events among it.
-  pub record Stands (earlier : Outcome → Type 0) (first end : D) (last : Ledger D) : Type 0 where
+  pub record Stands (earlier : CrashBytes → Type 0) (first end : D) (last : Ledger D) : Type 0 where
     pub disk : last.disk ≡ end
     pub any_moment : G.honest first →
         LeavesOnly G.moment G.since first end (IsEarlierOrLawful earlier last.store.core)
-    pub now : G.honest first → (outcome : Outcome) → MayLeave (G.file end) outcome →
+    pub now : G.honest first → (outcome : CrashBytes) → MayLeave (G.file end) outcome →
         is_lawful_now last.store.core outcome
 
   -- there are 1 to 64 processors, a store is made, each line is run in its order and prints its

@@ -7,7 +7,6 @@ ghost use Rattle.charmlet_engine.specs.Engine.{supplied_of, view_of};
 ghost use Rattle.charmlet_cli.specs.Drain.{DeliversNext, DrainsUpTo};
 ghost use Rattle.charmlet_cli.specs.Lines.{IsPrinted, no_names, ledger_in};
 
-use crate::still::still_facts;
 use crate::writing::{write_answer, write_line};
 use charmlet_chare::Chare;
 use charmlet_disk::Disk;
@@ -48,7 +47,7 @@ fn drain<D: Disk, C: Chare>(engine: &mut Engine<D, C>, most: u32) -> (u32, Optio
     ensures supplied { supplied_of engine.new ≡ supplied_of engine.old }
     ensures disk { engine.new.disk ≡ engine.old.disk }
 {
-    still_facts(engine);
+    engine.facts();
     for delivered in 0..most {
         match deliver_next(engine) {
             Ok(true) => {}
@@ -67,7 +66,7 @@ fn deliver_next<D: Disk, C: Chare>(engine: &mut Engine<D, C>) -> Result<bool, Re
     ensures supplied { supplied_of engine.new ≡ supplied_of engine.old }
     ensures disk { engine.new.disk ≡ engine.old.disk }
 {
-    still_facts(engine);
+    engine.facts();
     let Some((processor, id)) = engine.next() else {
         return Ok(false);
     };

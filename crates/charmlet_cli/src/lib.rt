@@ -11,7 +11,6 @@ mod restarting;
 mod running;
 mod show;
 mod showing;
-mod still;
 mod stop;
 mod writing;
 

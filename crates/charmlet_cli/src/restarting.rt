@@ -21,8 +21,7 @@ ghost use Rattle.charmlet_cli.specs.Lines.{AreEnough, blanks_left, ledger_in, na
 ghost use Rattle.charmlet_cli.specs.Restarted.{BreaksOffRestart, EndsRestart, IsRestarted, PrintsRestart, RestartLeaves, TellsWanted, given_of};
 
 use crate::desk::Desk;
-use crate::running::{has_enough, run_lines, stock_of};
-use crate::still::still_facts;
+use crate::running::{has_enough, run_lines, source_of};
 use crate::writing::{write_answer, write_line};
 use charmlet_chare::Chare;
 use charmlet_disk::Disk;
@@ -231,7 +230,7 @@ fn prepare<C: Chare>(
     let Ok(given) = charmlet_recover::stock_of(alloc, blanks) else {
         return Err(AllocError);
     };
-    let source = stock_of(alloc, supplies)?;
+    let source = source_of(alloc, supplies)?;
     let desk = Desk::new(alloc, script.handlers())?;
     Ok(Prepared {
         given,
@@ -327,7 +326,7 @@ fn run_restarted<D: Disk, C: Chare, W: Write>(
         (ledger_in engine.new) (W.contents writer.old) (W.contents writer.new)) }
     ensures advances { Advances D.Disk engine.old engine.new }
 {
-    still_facts(engine);
+    engine.facts();
     let line = RestartedLine {
         generation: engine.generation(),
         events: engine.durable(),

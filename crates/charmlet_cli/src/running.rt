@@ -23,7 +23,6 @@ ghost use Rattle.charmlet_cli.specs.declared.running.RunError.TheVariants as err
 use crate::desk::{Call, Desk};
 use crate::draining::drain_line;
 use crate::showing::{census_line, pending_line, state_line};
-use crate::still::still_facts;
 use crate::writing::{write_answer, write_line, write_memory_refused};
 use charmlet_chare::Chare;
 use charmlet_disk::Disk;
@@ -152,7 +151,7 @@ fn prepare<C: Chare>(
     }
     let manifest = script.manifest(alloc)?;
     let desk = Desk::new(alloc, script.handlers())?;
-    let source = stock_of(alloc, blanks)?;
+    let source = source_of(alloc, blanks)?;
     Ok(Prepared {
         manifest,
         desk,
@@ -161,7 +160,7 @@ fn prepare<C: Chare>(
 }
 
 /// A stock with these objects. It fails only when out of memory.
-pub(crate) fn stock_of<C: Chare>(alloc: Global, objects: Vec<C>) -> Result<Stock<C>, AllocError>
+pub(crate) fn source_of<C: Chare>(alloc: Global, objects: Vec<C>) -> Result<Stock<C>, AllocError>
     ensures { IfOk result (λ stock. (kind : Kind) →
         blanks_left stock kind ≡ count_of C.state objects.items kind) }
 {
@@ -248,10 +247,10 @@ pub(crate) fn run_lines<D: Disk, C: Chare, W: Write>(
         (ledger_in engine.new) (W.contents writer.old) (W.contents writer.new)) }
     ensures advances { Advances D.Disk engine.old engine.new }
 {
-    still_facts(engine);
+    engine.facts();
     for line in lines {
         run_line(alloc, engine, desk, source, line, writer)?;
-        still_facts(engine);
+        engine.facts();
     }
     Ok(())
 }
@@ -273,7 +272,7 @@ fn run_line<D: Disk, C: Chare, W: Write>(
         blanks_left source.old kind ≤ blanks_left source.new kind + blanks_in kind line.now) }
     ensures advances { Advances D.Disk engine.old engine.new }
 {
-    still_facts(engine);
+    engine.facts();
     match line {
         Line::Supply { kind, count } => {
             supply_line(alloc, engine, source, *kind, *count, writer)

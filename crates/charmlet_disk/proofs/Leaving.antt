@@ -6,7 +6,7 @@ use Rattle.std.proofs.lemmas.List.{length-take, length-replicate, take_all, get_
 use Rattle.std.proofs.lemmas.List.FromFn.{length-map-range_with_len, get_or-map-range_with_len}
 use Rattle.charmlet_disk.specs.declared.crash.CrashChoice.{CrashChoice}
 use Rattle.charmlet_disk.specs.declared.crash.CrashChoice.TheVariants.{Old, New, Zeros, Ones, Sevens, FirstHalves}
-use Rattle.charmlet_disk.specs.File.{File, IsOutcome, covers, is_within, clean}
+use Rattle.charmlet_disk.specs.File.{File, MayBeLeft, covers, is_within, clean}
 use Rattle.charmlet_disk.specs.Crash.{by_place, filled, half_written, first_halves, last_end, left_by}
 use Rattle.charmlet_disk.specs.Overlay.{IsOverlaid}
 use Rattle.charmlet_disk.specs.Sound.{IsSound}
@@ -50,7 +50,7 @@ appended new sure lent now k n is same place enough =
     ∙ ap (λ (i : ℕ). sure ++ drop i now) place
 
 -- the old bytes and the new ones past them, with the new ones in the ranges
-pub made_sure : (file : File) → IsOutcome file file.now → (bytes : List ℕ) → IsOverlaid file.ranges (λ k. get_or file.now k 0) (file.sure ++ drop (length file.sure) file.now) bytes
+pub made_sure : (file : File) → MayBeLeft file file.now → (bytes : List ℕ) → IsOverlaid file.ranges (λ k. get_or file.now k 0) (file.sure ++ drop (length file.sure) file.now) bytes
     → bytes ≡ file.now
 made_sure file left bytes overlaid = same_number_lists bytes file.now whole each
   where
@@ -134,7 +134,7 @@ clean_stays Ones bytes = same_by_place bytes (length bytes) (λ k. get_or bytes 
 clean_stays Sevens bytes = same_by_place bytes (length bytes) (λ k. get_or bytes k 0) refl (λ k. refl)
 clean_stays FirstHalves bytes = same_by_place bytes (max (length bytes) 0) (λ k. get_or bytes k 0) (omega arith) (λ k. refl)
 
-filled_may : (file : File) (byte : ℕ) → IsSound file → file.greatest ≡ length file.now → IsOutcome file (filled byte file)
+filled_may : (file : File) (byte : ℕ) → IsSound file → file.greatest ≡ length file.now → MayBeLeft file (filled byte file)
 filled_may file byte sound whole = record {
   no_shorter = omega (arith, long, sound.left.no_shorter);
   no_longer = omega (arith, long, sound.left.no_longer);
@@ -167,7 +167,7 @@ halves_cover_less (range ∷ ranges) k not =
     (halves_cover_less ranges k parts.1)
 
 -- what a crash leaves may be left
-pub left_by_may : (choice : CrashChoice) (file : File) → IsSound file → file.greatest ≡ length file.now → IsOutcome file (left_by choice file)
+pub left_by_may : (choice : CrashChoice) (file : File) → IsSound file → file.greatest ≡ length file.now → MayBeLeft file (left_by choice file)
 left_by_may Old file sound whole = record { no_shorter = omega arith; no_longer = omega (arith, sound.left.no_shorter, sound.left.no_longer); outside = λ k lt not. refl }
 left_by_may New file sound whole = sound.left
 left_by_may Zeros file sound whole = filled_may file 0 sound whole

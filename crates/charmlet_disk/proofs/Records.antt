@@ -10,7 +10,7 @@ use Rattle.charmlet_model.specs.Half.{other}
 use Rattle.charmlet_disk.specs.declared.crash.CrashChoice.{CrashChoice}
 use Rattle.charmlet_disk.specs.declared.mem_disk.call.Call.TheVariants.{Write, Sync, Crash}
 use Rattle.charmlet_disk.specs.Crash.{left_by}
-use Rattle.charmlet_disk.specs.File.{File, IsOutcome, MayLeave, clean, wrote}
+use Rattle.charmlet_disk.specs.File.{File, MayBeLeft, MayLeave, clean, wrote}
 use Rattle.std.specs.declared.alloc.Global.{Global}
 use Rattle.charmlet_disk.specs.Disk.{Elapses}
 use Rattle.charmlet_disk.specs.Memory.{after_call, replayed, files_after, LeftSince, Adds}
@@ -66,8 +66,8 @@ module _ (old new : MemDisk) where
   kept : Keeps old new → Elapses (length (calls_of old)) (length (calls_of new)) (LeftSince (calls_of old)) (LeftSince (calls_of new)) (MayLeave (files new))
   kept keeps = record {
     later = omega (arith, ap (λ (l : List Call). length l) keeps.calls);
-    nothing_else = λ t c le left. inl (left.0, left.1, omega (arith, left.2, ap (λ (l : List Call). length l) keeps.calls), λ half. subst (λ f. IsOutcome f (c half)) (same left.0 half) (left.3 half));
-    keeps = λ t c le left. (left.0, left.1, omega (arith, left.2, ap (λ (l : List Call). length l) keeps.calls), λ half. subst (λ f. IsOutcome f (c half)) (sym (same left.0 half)) (left.3 half));
+    nothing_else = λ t c le left. inl (left.0, left.1, omega (arith, left.2, ap (λ (l : List Call). length l) keeps.calls), λ half. subst (λ f. MayBeLeft f (c half)) (same left.0 half) (left.3 half));
+    keeps = λ t c le left. (left.0, left.1, omega (arith, left.2, ap (λ (l : List Call). length l) keeps.calls), λ half. subst (λ f. MayBeLeft f (c half)) (sym (same left.0 half)) (left.3 half));
   }
     where
       same : (k : ℕ) (half : Half) → files_after (take k (calls_of new)) half ≡ files_after (take k (calls_of old)) half
@@ -77,10 +77,10 @@ module _ (old new : MemDisk) where
   recorded : Records old new → Elapses (length (calls_of old)) (length (calls_of new)) (LeftSince (calls_of old)) (LeftSince (calls_of new)) (MayLeave (files new))
   recorded records = record {
     later = omega (arith, longer);
-    nothing_else = λ t c le left. ⊎_elim (λ past. inr (λ half. subst (λ f. IsOutcome f (c half)) (last left.0 (omega (arith, past, left.2, longer)) half) (left.3 half)))
-        (λ below. inl (left.0, left.1, below, λ half. subst (λ f. IsOutcome f (c half)) (same left.0 below half) (left.3 half)))
+    nothing_else = λ t c le left. ⊎_elim (λ past. inr (λ half. subst (λ f. MayBeLeft f (c half)) (last left.0 (omega (arith, past, left.2, longer)) half) (left.3 half)))
+        (λ below. inl (left.0, left.1, below, λ half. subst (λ f. MayBeLeft f (c half)) (same left.0 below half) (left.3 half)))
         (cases_lt (length (calls_of old)) left.0);
-    keeps = λ t c le left. (left.0, left.1, omega (arith, left.2, longer), λ half. subst (λ f. IsOutcome f (c half)) (sym (same left.0 left.2 half)) (left.3 half));
+    keeps = λ t c le left. (left.0, left.1, omega (arith, left.2, longer), λ half. subst (λ f. MayBeLeft f (c half)) (sym (same left.0 left.2 half)) (left.3 half));
   }
     where
       longer : length (calls_of new) ≡ length (calls_of old) + 1

@@ -37,16 +37,16 @@ abbrev pub covers : List (ℕ × ℕ) → ℕ → Bool
 covers ranges k = list_any (is_within k) ranges
 
 -- what a crash may leave of the file: some length between, and outside the ranges what was sure
-pub record IsOutcome (file : File) (bytes : List ℕ) : Type 0 where
+pub record MayBeLeft (file : File) (bytes : List ℕ) : Type 0 where
   pub no_shorter : length file.sure ≤ length bytes
   pub no_longer : length bytes ≤ file.greatest
   pub outside : (k : ℕ) → k < length file.sure → covers file.ranges k ≡ false → slice_index bytes k
       ≡ slice_index file.sure k
 
 -- the bytes of both halves after a crash
-abbrev pub Outcome : Type 0
-Outcome = Half → List ℕ
+abbrev pub CrashBytes : Type 0
+CrashBytes = Half → List ℕ
 
 -- what a crash now may leave of both
-abbrev pub MayLeave : (Half → File) → Outcome → Type 0
-MayLeave files outcome = (half : Half) → IsOutcome (files half) (outcome half)
+abbrev pub MayLeave : (Half → File) → CrashBytes → Type 0
+MayLeave files outcome = (half : Half) → MayBeLeft (files half) (outcome half)

@@ -8,7 +8,7 @@ use Rattle.charmlet_model.specs.declared.half.Half.TheVariants.{Zero, One}
 use Rattle.charmlet_disk.specs.declared.mem_disk.MemDisk.{MemDisk}
 use Rattle.charmlet_disk.specs.declared.mem_disk.call.Call.{Call}
 use Rattle.charmlet_disk.specs.declared.mem_disk.call.Call.TheVariants.{Write, Sync, Crash}
-use Rattle.charmlet_disk.specs.File.{File, Outcome, IsOutcome, MayLeave, covers, is_within, wrote, clean, overwritten}
+use Rattle.charmlet_disk.specs.File.{File, CrashBytes, MayBeLeft, MayLeave, covers, is_within, wrote, clean, overwritten}
 use Rattle.charmlet_disk.specs.Crash.{left_by}
 use Rattle.charmlet_disk.specs.Memory.{after_call, replayed, files_after, LeftSince}
 use Rattle.charmlet_disk.specs.MemDisk.{files, calls_of}
@@ -114,26 +114,26 @@ files_are_sound disk half = subst (λ f. IsSound f) (sym (files_replayed disk ha
     (replayed_sound half (calls_of disk) (clean []) (clean_sound []))
 
 -- what a read gives is one of the outcomes
-pub files_are_left : (disk : MemDisk) (half : Half) → IsOutcome (files disk half)
+pub files_are_left : (disk : MemDisk) (half : Half) → MayBeLeft (files disk half)
     (files disk half).now
 files_are_left disk half = (files_are_sound disk half).left
 
 -- this moment is one of those since an earlier one
-pub counts_among : (disk : MemDisk) (t : ℕ) (c : Outcome) → t ≤ length (calls_of disk) →
+pub counts_among : (disk : MemDisk) (t : ℕ) (c : CrashBytes) → t ≤ length (calls_of disk) →
     MayLeave (files disk) c → LeftSince (calls_of disk) t c
 counts_among disk t c le left = (
   length (calls_of disk),
   le,
   omega arith,
-  λ half. subst (λ f. IsOutcome f (c half))
+  λ half. subst (λ f. MayBeLeft f (c half))
       (sym (all_taken disk half)) (left half),
 )
 
 -- since this moment there is no other
-pub only_last : (disk : MemDisk) (c : Outcome) → LeftSince (calls_of disk)
+pub only_last : (disk : MemDisk) (c : CrashBytes) → LeftSince (calls_of disk)
     (length (calls_of disk)) c → MayLeave (files disk) c
 only_last disk c left =
     let last : left.0 ≡ length (calls_of disk) = omega (arith, left.1, left.2) in
-    λ half. subst (λ f. IsOutcome f (c half))
+    λ half. subst (λ f. MayBeLeft f (c half))
     (ap (λ (k : ℕ). files_after (take k (calls_of disk)) half) last ∙ all_taken disk half)
     (left.3 half)

@@ -6,7 +6,7 @@ use Rattle.charmlet_model.specs.Half.{other}
 use Rattle.charmlet_disk.specs.declared.mem_disk.mem_file.MemFile.{MemFile}
 use Rattle.charmlet_disk.specs.declared.mem_disk.call.Call.{Call}
 use Rattle.charmlet_disk.specs.declared.mem_disk.call.Call.TheVariants.{Write, Sync, Crash}
-use Rattle.charmlet_disk.specs.File.{File, Outcome, MayLeave, wrote, clean}
+use Rattle.charmlet_disk.specs.File.{File, CrashBytes, MayLeave, wrote, clean}
 use Rattle.charmlet_disk.specs.Crash.{left_by}
 
 -- the file as a disk shows it
@@ -47,7 +47,7 @@ abbrev pub files_after : List Call → Half → File
 files_after calls half = replayed half calls (clean [])
 
 -- what a crash after some number of the calls might have left
-abbrev pub LeftSince : List Call → ℕ → Outcome → Type 0
+abbrev pub LeftSince : List Call → ℕ → CrashBytes → Type 0
 LeftSince calls t outcome = (k : ℕ) × (t ≤ k) × (k ≤ length calls)
     × MayLeave (files_after (take k calls)) outcome
 

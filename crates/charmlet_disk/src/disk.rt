@@ -2,7 +2,7 @@
 ghost use Rattle.std.specs.Prelude.{◌≡◌, ◌≤◌, ◌+◌, List, ℕ, length, take, drop, is_ok, IfOk, OnOk, OnErr};
 ghost use Rattle.charmlet_model.specs.declared.half.Half.{Half};
 ghost use Rattle.charmlet_model.specs.Half.{other};
-ghost use Rattle.charmlet_disk.specs.File.{File, Outcome, IsOutcome, MayLeave, wrote, clean};
+ghost use Rattle.charmlet_disk.specs.File.{File, CrashBytes, MayBeLeft, MayLeave, wrote, clean};
 ghost use Rattle.charmlet_disk.specs.Disk.{Elapses, SameFiles, faults_after};
 ghost use Rattle.charmlet_model.specs.declared.refusal.Refusal.TheVariants.{Device};
 
@@ -40,7 +40,7 @@ pub trait Disk: Send + Drop {
     ghost moment: { Self → ℕ };
 
     /// What a crash at some moment from that one on might have left, within a call or between two.
-    ghost since: { Self → ℕ → Outcome → Type 0 };
+    ghost since: { Self → ℕ → CrashBytes → Type 0 };
 
     /// How often the device has failed, up to the largest count.
     ghost faults: { Self → ℕ };
@@ -73,8 +73,8 @@ pub trait Disk: Send + Drop {
         requires { honest self.old → offset ≤ length (file self.old half).now }
         ensures written { honest self.old →
             OnOk result (file self.new half ≡ wrote offset bytes.now (file self.old half)) }
-        ensures torn { honest self.old → (left : List ℕ) → IsOutcome (file self.new half) left
-            → IsOutcome (wrote offset bytes.now (file self.old half)) left }
+        ensures torn { honest self.old → (left : List ℕ) → MayBeLeft (file self.new half) left
+            → MayBeLeft (wrote offset bytes.now (file self.old half)) left }
         ensures other { honest self.old → file self.new (other half) ≡ file self.old (other half) }
         ensures time { honest self.old → Elapses (moment self.old) (moment self.new)
             (since self.old) (since self.new) (MayLeave (file self.new)) }
@@ -100,13 +100,13 @@ pub trait Disk: Send + Drop {
 
     /// What a read gives is one of the outcomes.
     ghost reads_are_left: { (disk : Self) → honest disk → (half : Half) →
-        IsOutcome (file disk half) (file disk half).now };
+        MayBeLeft (file disk half) (file disk half).now };
 
     /// This moment is one of those since an earlier one.
-    ghost counts_now: { (disk : Self) (t : ℕ) (c : Outcome) → honest disk → t ≤ moment disk
+    ghost counts_now: { (disk : Self) (t : ℕ) (c : CrashBytes) → honest disk → t ≤ moment disk
         → MayLeave (file disk) c → since disk t c };
 
     /// Since this moment there is no other.
-    ghost only_now: { (disk : Self) (c : Outcome) → honest disk → since disk (moment disk) c →
+    ghost only_now: { (disk : Self) (c : CrashBytes) → honest disk → since disk (moment disk) c →
         MayLeave (file disk) c };
 }

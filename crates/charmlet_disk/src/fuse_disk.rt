@@ -64,7 +64,7 @@ fn spend(left: &mut u64, refused: &mut u64) -> Result<(), DeviceFault>
 impl<D: Disk> Disk for FuseDisk<D> {
     ghost use Rattle.std.specs.Prelude.{◌≡◌, ◌≤◌, ◌+◌, List, ℕ, length, take, drop, is_ok, IfOk, OnOk, OnErr};
     ghost use Rattle.charmlet_model.specs.Half.{other};
-    ghost use Rattle.charmlet_disk.specs.File.{IsOutcome, MayLeave, wrote, clean};
+    ghost use Rattle.charmlet_disk.specs.File.{MayBeLeft, MayLeave, wrote, clean};
     ghost use Rattle.charmlet_disk.specs.Disk.{Elapses, SameFiles, faults_after};
     ghost use Rattle.charmlet_disk.specs.Fuse.{inside, refusals, faults_of_both, Burns, PassesFree};
 
@@ -132,8 +132,8 @@ impl<D: Disk> Disk for FuseDisk<D> {
             OnOk result (D.file (inside self.new) half
             ≡ wrote offset bytes.now (D.file (inside self.old) half)) }
         ensures torn { D.honest (inside self.old) → (left : List ℕ) →
-            IsOutcome (D.file (inside self.new) half) left
-            → IsOutcome (wrote offset bytes.now (D.file (inside self.old) half)) left }
+            MayBeLeft (D.file (inside self.new) half) left
+            → MayBeLeft (wrote offset bytes.now (D.file (inside self.old) half)) left }
         ensures other { D.honest (inside self.old) →
             D.file (inside self.new) (other half) ≡ D.file (inside self.old) (other half) }
         ensures time { D.honest (inside self.old) →

@@ -17,4 +17,4 @@ pub use crate::file_disk::FileDisk;
 pub use crate::fuse_disk::FuseDisk;
 pub use crate::mem_disk::{Call, MemDisk};
 pub use crate::once_disk::OnceDisk;
-pub use crate::through::{settle, write_through};
+pub use crate::through::{sync_both, write_through};

@@ -225,7 +225,7 @@ impl Disk for MemDisk {
     ghost use Rattle.std.specs.Prelude.{◌≡◌, ◌+◌, ◌≤◌, ℕ, List, Ok, IsOk, OnOk, OnErr, is_ok, length, take, drop};
     ghost use Rattle.charmlet_model.specs.Half.{other};
     ghost use Rattle.charmlet_disk.specs.Disk.{Elapses, faults_after};
-    ghost use Rattle.charmlet_disk.specs.File.{IsOutcome, MayLeave, clean, wrote};
+    ghost use Rattle.charmlet_disk.specs.File.{MayBeLeft, MayLeave, clean, wrote};
     ghost use Rattle.charmlet_disk.specs.MemDisk.{files, calls_of, faults_of, Records, Keeps};
     ghost use Rattle.charmlet_disk.specs.Memory.{LeftSince};
     ghost use Rattle.charmlet_disk.specs.MemDiskLaws.{files_are_left, counts_among, only_last};
@@ -277,8 +277,8 @@ impl Disk for MemDisk {
             ≡ wrote offset bytes.now (files self.old half)) }
         ensures recorded { OnOk result (Records self.old self.new) }
         ensures refused { OnErr result (Keeps self.old self.new) }
-        ensures torn { (left : List ℕ) → IsOutcome (files self.new half) left
-            → IsOutcome (wrote offset bytes.now (files self.old half)) left }
+        ensures torn { (left : List ℕ) → MayBeLeft (files self.new half) left
+            → MayBeLeft (wrote offset bytes.now (files self.old half)) left }
         ensures other { files self.new (other half) ≡ files self.old (other half) }
         ensures time { Elapses (length (calls_of self.old)) (length (calls_of self.new))
             (LeftSince (calls_of self.old)) (LeftSince (calls_of self.new))

@@ -71,7 +71,7 @@ fn spend(left: &mut Option<u64>, failed: &mut u64) -> Result<(), DeviceFault>
 impl<D: Disk> Disk for OnceDisk<D> {
     ghost use Rattle.std.specs.Prelude.{◌≡◌, ◌≤◌, ◌+◌, List, ℕ, length, take, drop, is_ok, IfOk, OnOk, OnErr};
     ghost use Rattle.charmlet_model.specs.Half.{other};
-    ghost use Rattle.charmlet_disk.specs.File.{IsOutcome, MayLeave, wrote, clean};
+    ghost use Rattle.charmlet_disk.specs.File.{MayBeLeft, MayLeave, wrote, clean};
     ghost use Rattle.charmlet_disk.specs.Disk.{Elapses, SameFiles, faults_after};
     ghost use Rattle.charmlet_disk.specs.Fuse.{faults_of_both};
     ghost use Rattle.charmlet_disk.specs.Once.{inner_disk, failed_calls, Spends};
@@ -142,8 +142,8 @@ impl<D: Disk> Disk for OnceDisk<D> {
             OnOk result (D.file (inner_disk self.new) half
             ≡ wrote offset bytes.now (D.file (inner_disk self.old) half)) }
         ensures torn { D.honest (inner_disk self.old) → (left : List ℕ) →
-            IsOutcome (D.file (inner_disk self.new) half) left
-            → IsOutcome (wrote offset bytes.now (D.file (inner_disk self.old) half)) left }
+            MayBeLeft (D.file (inner_disk self.new) half) left
+            → MayBeLeft (wrote offset bytes.now (D.file (inner_disk self.old) half)) left }
         ensures other { D.honest (inner_disk self.old) →
             D.file (inner_disk self.new) (other half) ≡ D.file (inner_disk self.old) (other half) }
         ensures time { D.honest (inner_disk self.old) →

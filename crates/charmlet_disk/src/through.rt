@@ -37,7 +37,7 @@ pub fn write_through<D: Disk>(
 /// Syncs both halves, half 0 first, so that the disk is settled: two calls of the disk. No outcome
 /// is new. Answers [`DeviceFault`] where either sync does; where the first one does, the second
 /// isn't made.
-pub fn settle<D: Disk>(disk: &mut D) -> Result<(), DeviceFault>
+pub fn sync_both<D: Disk>(disk: &mut D) -> Result<(), DeviceFault>
     ensures settled { D.honest disk.old → OnOk result (IsSettled (D.file disk.new)) }
     ensures same { D.honest disk.old → (half : _) →
         (D.file disk.new half).now ≡ (D.file disk.old half).now }

@@ -4,7 +4,7 @@ use Rattle.std.specs.Prelude.{Result, Ok, Err, IfErr}
 use Rattle.charmlet_model.specs.declared.half.Half.TheVariants.{Zero, One}
 use Rattle.charmlet_model.specs.declared.refusal.Refusal.{Refusal}
 use Rattle.charmlet_model.specs.declared.refusal.Refusal.TheVariants as refusals
-use Rattle.charmlet_disk.specs.File.{Outcome}
+use Rattle.charmlet_disk.specs.File.{CrashBytes}
 use Rattle.charmlet_image.specs.Images.{Saved}
 use Rattle.charmlet_image.specs.Halves.{Top, Shut, Begun, Broken, Taken, Takes, Open, choice, found, found_from, taken, taken_half, top}
 use Rattle.charmlet_halves.specs.Answers.{is_finding_refusal}
@@ -36,12 +36,12 @@ unfolding recovered_as_written
 alone_one bytes s is = ap as_written_from (beside_zero 0 (length bytes) (top bytes) s is)
 
 -- what is taken is what is recovered
-pub recovered_so : (outcome : Outcome) (t : Taken) → taken (outcome Zero) (outcome One) ≡ t → recovered_as_written outcome ≡ as_written_from t
+pub recovered_so : (outcome : CrashBytes) (t : Taken) → taken (outcome Zero) (outcome One) ≡ t → recovered_as_written outcome ≡ as_written_from t
 unfolding recovered_as_written
 recovered_so outcome t is = ap as_written_from is
 
 -- why nothing is taken is why nothing is recovered
-pub refused_so : (processors : ℕ) (outcome : Outcome) (refusal : Refusal) → is_processor_count processors ≡ true → is_finding_refusal refusal ≡ true → Finds (outcome Zero) (outcome One) (Err refusal) →
+pub refused_so : (processors : ℕ) (outcome : CrashBytes) (refusal : Refusal) → is_processor_count processors ≡ true → is_finding_refusal refusal ≡ true → Finds (outcome Zero) (outcome One) (Err refusal) →
     IsAnswer processors outcome (Err refusal)
 refused_so processors outcome (refusals.Damaged half offset) good is h = (good, recovered_so outcome _ h)
 refused_so processors outcome refusals.NothingHere good is h = (good, recovered_so outcome _ h)
@@ -55,12 +55,12 @@ refused_of_halves processors refusals.BadPes good is = absurd cc
 refused_of_halves processors _ good is = (good, is)
 
 -- what is answered where the number of processors is good
-answered_or_refused : (processors : ℕ) (outcome : Outcome) (refusal : Refusal) → is_processor_count processors ≡ true → is_finding_refusal refusal ≡ true → Comes (recovered_as_written outcome) (Err refusal) →
+answered_or_refused : (processors : ℕ) (outcome : CrashBytes) (refusal : Refusal) → is_processor_count processors ≡ true → is_finding_refusal refusal ≡ true → Comes (recovered_as_written outcome) (Err refusal) →
     IsAnswer processors outcome (Err refusal)
 answered_or_refused processors outcome refusals.BadPes good is h = absurd h
 answered_or_refused processors outcome _ good is h = (good, h)
 
-pub answered_so : (processors : ℕ) (outcome : Outcome) (answer : Result Found Refusal) → is_processor_count processors ≡ true → IfErr answer (λ refusal. is_finding_refusal refusal ≡ true) → Comes (recovered_as_written outcome) answer →
+pub answered_so : (processors : ℕ) (outcome : CrashBytes) (answer : Result Found Refusal) → is_processor_count processors ≡ true → IfErr answer (λ refusal. is_finding_refusal refusal ≡ true) → Comes (recovered_as_written outcome) answer →
     IsAnswer processors outcome answer
 answered_so processors outcome (Ok found) good is h = (good, h)
 answered_so processors outcome (Err refusal) good is h = answered_or_refused processors outcome refusal good is h

@@ -3,7 +3,7 @@ use Rattle.std.specs.Prelude.{◌≡◌, ℕ, true, false, Result, Ok, Err}
 use Rattle.charmlet_model.specs.declared.half.Half.{Half}
 use Rattle.charmlet_model.specs.declared.refusal.Refusal.{Refusal}
 use Rattle.charmlet_model.specs.declared.refusal.Refusal.TheVariants as refusals
-use Rattle.charmlet_disk.specs.File.{File, Outcome}
+use Rattle.charmlet_disk.specs.File.{File, CrashBytes}
 use Rattle.charmlet_halves.specs.Answers.{is_finding_refusal}
 use Rattle.charmlet_locate.specs.Locations.{is_processor_count}
 use Rattle.charmlet_recovery.specs.Recovered as files
@@ -12,7 +12,7 @@ use Rattle.charmlet_plain_recovery.specs.Written.{recovered_as_written}
 use Rattle.charmlet_dump.specs.declared.finding.Found.{Found}
 
 -- what a read of each half gives
-abbrev pub read_of : (Half → File) → Outcome
+abbrev pub read_of : (Half → File) → CrashBytes
 read_of files half = (files half).now
 
 -- a world is found, or a refusal is answered, as two halves recover to it, unless memory is refused
@@ -27,14 +27,14 @@ Comes r (Err refusal) = ⊥
 
 -- the number of processors is refused, where and only where there aren't 1 to 64; else what these
 -- bytes recover to, in the versions that are written, is answered
-abbrev pub IsAnswer : ℕ → Outcome → Result Found Refusal → Type 0
+abbrev pub IsAnswer : ℕ → CrashBytes → Result Found Refusal → Type 0
 IsAnswer processors outcome (Err refusals.BadPes) = is_processor_count processors ≡ false
 IsAnswer processors outcome answer = (is_processor_count processors ≡ true)
     × Comes (recovered_as_written outcome) answer
 
 -- on any disk, what is found is what some halves recover to, in the versions that are written
 abbrev pub IsRecovered : Found → Type 0
-IsRecovered found = (outcome : Outcome)
+IsRecovered found = (outcome : CrashBytes)
     × (recovered_as_written outcome ≡ files.Found found.world found.events found.generation)
 
 -- on any disk, it is refused for the number of processors, or else for a fault

@@ -3,7 +3,7 @@ use Rattle.std.proofs.Common.{◌≡◌, refl, sym, subst}
 use Rattle.charmlet_model.specs.Core.{Core}
 use Rattle.charmlet_disk.specs.declared.disk.Disk.{Ghosts}
 use Rattle.charmlet_disk.specs.Disk.{LeavesOnly}
-use Rattle.charmlet_disk.specs.File.{MayLeave, Outcome}
+use Rattle.charmlet_disk.specs.File.{MayLeave, CrashBytes}
 use Rattle.charmlet_halves.specs.declared.halves.Halves.{Halves}
 use Rattle.charmlet_halves.specs.Halves.{disk_of}
 use Rattle.charmlet_history.specs.Kept.{core_in}
@@ -19,7 +19,7 @@ use Rattle.charmlet_engine.proofs.Onward.{onward_after, onward_self}
 module _ {D : Type 0} (G : Ghosts D) where
   -- where neither the halves nor the core is another one
   pub advances_still : (old new : StoreShown) (halves : Halves D G) → AreTied old halves → core_in new.history ≡ core_in old.history →
-      ((honest : G.honest (disk_of halves)) → (o : Outcome) → G.since (disk_of halves) (G.moment (disk_of halves)) o → MayLeave (G.file (disk_of halves)) o) →
+      ((honest : G.honest (disk_of halves)) → (o : CrashBytes) → G.since (disk_of halves) (G.moment (disk_of halves)) o → MayLeave (G.file (disk_of halves)) o) →
       Advances G (shown_by old halves) (shown_by new halves)
   advances_still old new halves tied same only_now =
       let before = core_in old.history in
@@ -48,7 +48,7 @@ module _ {D : Type 0} (G : Ghosts D) where
 
   -- and where nothing at all is
   pub advances_self : (store : StoreShown) (halves : Halves D G) → AreTied store halves →
-      ((honest : G.honest (disk_of halves)) → (o : Outcome) → G.since (disk_of halves) (G.moment (disk_of halves)) o → MayLeave (G.file (disk_of halves)) o) →
+      ((honest : G.honest (disk_of halves)) → (o : CrashBytes) → G.since (disk_of halves) (G.moment (disk_of halves)) o → MayLeave (G.file (disk_of halves)) o) →
       (shown : EngineShown D) → shown_by store halves ≡ shown → Advances G shown shown
   advances_self store halves tied only_now shown view_is =
       subst (λ (e : EngineShown D). Advances G e e) view_is (advances_still store store halves tied refl only_now)

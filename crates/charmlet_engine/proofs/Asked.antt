@@ -12,7 +12,7 @@ use Rattle.charmlet_model.specs.Run.{Does, Goes, StoreView, TellsClient}
 use Rattle.charmlet_model.specs.Sound.{IsSound}
 use Rattle.charmlet_model.proofs.RunTruths.{does_between, told_true}
 use Rattle.charmlet_disk.specs.declared.disk.Disk.{Ghosts}
-use Rattle.charmlet_disk.specs.File.{MayLeave, Outcome}
+use Rattle.charmlet_disk.specs.File.{MayLeave, CrashBytes}
 use Rattle.charmlet_halves.specs.declared.halves.Halves.{Halves}
 use Rattle.charmlet_halves.specs.Halves.{disk_of}
 use Rattle.charmlet_history.specs.Kept.{Kept, core_in, told_or_refused}
@@ -34,7 +34,7 @@ client_does store next step (Ok told) goes = goes
 client_does store next step (Err refusal) goes = goes
 
 module _ {D : Type 0} (G : Ghosts D) (shown : EngineShown D) (was_sound : IsSound (core_of shown)) (old : StoreShown) (halves : Halves D G) (tied : AreTied old halves) (view_is : shown_by old halves ≡ shown)
-    (only_now : (o : Outcome) → G.honest (disk_of halves) → G.since (disk_of halves) (G.moment (disk_of halves)) o → MayLeave (G.file (disk_of halves)) o) where
+    (only_now : (o : CrashBytes) → G.honest (disk_of halves) → G.since (disk_of halves) (G.moment (disk_of halves)) o → MayLeave (G.file (disk_of halves)) o) where
   sound : IsSound (core_in old.history)
   sound = subst (λ (e : EngineShown D). IsSound (core_of e)) (sym view_is) was_sound
 

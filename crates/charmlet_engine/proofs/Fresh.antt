@@ -6,7 +6,7 @@ use Rattle.charmlet_model.specs.Fit.{IsFit}
 use Rattle.charmlet_model.specs.Sound.{new_world}
 use Rattle.charmlet_disk.specs.declared.disk.Disk.{Ghosts}
 use Rattle.charmlet_disk.specs.Disk.{IsSettled, LeavesOnly}
-use Rattle.charmlet_disk.specs.File.{MayLeave, Outcome}
+use Rattle.charmlet_disk.specs.File.{MayLeave, CrashBytes}
 use Rattle.charmlet_disk.proofs.Moments.{weaker}
 use Rattle.charmlet_image.specs.Spelled.{IsClosed}
 use Rattle.charmlet_record.specs.Reading.{Kinds}
@@ -16,7 +16,7 @@ use Rattle.charmlet_halves.proofs.Standing.{is_left}
 use Rattle.charmlet_journal.specs.NewStores.{NothingOrNewWorld}
 use Rattle.charmlet_engine.specs.Outcomes.{IsNothingOrNew}
 
-recovers : (kinds : Kinds) (o : Outcome) → NothingOrNewWorld kinds o → IsNothingOrNew kinds o
+recovers : (kinds : Kinds) (o : CrashBytes) → NothingOrNewWorld kinds o → IsNothingOrNew kinds o
 recovers kinds o so = ⊎_elim (λ none. inl none) (λ stores. inr (stored_is_recovered o (new_world kinds) 0 1 stores)) so
 
 module _ {D : Type 0} (G : Ghosts D) (kinds : Kinds) (old new : D) where

@@ -3,7 +3,7 @@ use Rattle.std.proofs.Common.{arith}
 use Rattle.charmlet_model.specs.Core.{Core}
 use Rattle.charmlet_disk.specs.declared.disk.Disk.{Ghosts}
 use Rattle.charmlet_disk.specs.Disk.{LeavesOnly}
-use Rattle.charmlet_disk.specs.File.{MayLeave, Outcome}
+use Rattle.charmlet_disk.specs.File.{MayLeave, CrashBytes}
 use Rattle.charmlet_disk.proofs.Moments.{after_that, started, weaker}
 use Rattle.charmlet_halves.specs.declared.halves.Halves.{Halves}
 use Rattle.charmlet_halves.specs.Halves.{disk_of}
@@ -14,12 +14,12 @@ use Rattle.charmlet_engine.proofs.Onward.{kept_onward, lawful_onward, old_or_ima
 
 module _ {D : Type 0} {G : Ghosts D} where
   -- each crash now is lawful
-  pub lawful_now : (core : Core) (halves : Halves D G) → IsKept core halves → (o : Outcome) → MayLeave (G.file (disk_of halves)) o → is_lawful_now core o
+  pub lawful_now : (core : Core) (halves : Halves D G) → IsKept core halves → (o : CrashBytes) → MayLeave (G.file (disk_of halves)) o → is_lawful_now core o
   lawful_now core halves kept o left = kept_is_lawful core.opening core.before core.history core.durable o (kept.now o left)
 
   -- where nothing is written
   pub leaves_still : (old new : Core) → Onward old new → (halves : Halves D G) → IsKept old halves →
-      ((o : Outcome) → G.since (disk_of halves) (G.moment (disk_of halves)) o → MayLeave (G.file (disk_of halves)) o) →
+      ((o : CrashBytes) → G.since (disk_of halves) (G.moment (disk_of halves)) o → MayLeave (G.file (disk_of halves)) o) →
       LeavesOnly G.moment G.since (disk_of halves) (disk_of halves) (is_lawful_since old new)
   leaves_still old new on halves kept only_now =
       started G.moment G.since (disk_of halves) (is_lawful_since old new) (λ o left. kept_onward old new on o (kept.now o (only_now o left)))

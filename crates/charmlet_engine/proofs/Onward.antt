@@ -12,10 +12,10 @@ use Rattle.charmlet_journal.specs.Quiet.{Quiet}
 use Rattle.charmlet_recovery.specs.Outcomes.{IsLawful}
 use Rattle.charmlet_recovery.proofs.Outcomes.{kept_is_lawful, lawful_grows}
 use Rattle.charmlet_disk.specs.Disk.{faults_after}
-use Rattle.charmlet_disk.specs.File.{Outcome}
+use Rattle.charmlet_disk.specs.File.{CrashBytes}
 use Rattle.charmlet_recovery.proofs.Stored.{stored_is_recovered}
 use Rattle.charmlet_journal.specs.Rest.{HasOldOrSealed, keeps_durable}
-use Rattle.charmlet_store.proofs.Places.{stepped_core}
+use Rattle.charmlet_delivery.proofs.Places.{stepped_core}
 use Rattle.charmlet_engine.specs.Outcomes.{AreFlushedAnyway, IsOldOrImage, Onward, ends_with_image, faults_through, is_image, is_lawful_since, is_no_fault, not_device}
 
 pub onward_self : (core : Core) → Onward core core
@@ -45,18 +45,18 @@ onward_checkpoint core blanks last within s =
     stepped_core (Onward core) core blanks Checkpoint (onward_self core) (same_history core (halted_core core) refl refl refl (omega arith)) (same_history core (next_core core Checkpoint) refl refl refl within) last s
 
 -- what is lawful stays so
-pub lawful_onward : (old new : Core) → Onward old new → (durable fewer : ℕ) → fewer ≤ durable → (o : Outcome) → IsLawful old.opening old.before old.history durable o → IsLawful new.opening new.before new.history fewer o
+pub lawful_onward : (old new : Core) → Onward old new → (durable fewer : ℕ) → fewer ≤ durable → (o : CrashBytes) → IsLawful old.opening old.before old.history durable o → IsLawful new.opening new.before new.history fewer o
 lawful_onward old new on durable fewer less o lawful =
     subst (λ (w : World). IsLawful w new.before new.history fewer o) (sym on.opening)
     (subst (λ (n : ℕ). IsLawful old.opening n new.history fewer o) (sym on.before)
     (subst (λ (l : List Event). IsLawful old.opening old.before l fewer o) (sym on.grows) (lawful_grows old.opening old.before old.history on.more durable fewer o less lawful)))
 
 -- and what is kept becomes it
-pub kept_onward : (old new : Core) → Onward old new → (o : Outcome) → keeps_durable old o → is_lawful_since old new o
+pub kept_onward : (old new : Core) → Onward old new → (o : CrashBytes) → keeps_durable old o → is_lawful_since old new o
 kept_onward old new on o keeps = lawful_onward old new on old.durable old.durable (omega arith) o (kept_is_lawful old.opening old.before old.history old.durable o keeps)
 
 -- what a checkpoint stores is recovered
-pub old_or_image : (core : Core) (o : Outcome) → HasOldOrSealed core o → IsOldOrImage core o
+pub old_or_image : (core : Core) (o : CrashBytes) → HasOldOrSealed core o → IsOldOrImage core o
 old_or_image core o stored =
     ⊎_elim (λ old. inl (stored_is_recovered o (durable_world core) (core.before + core.durable) core.generation old))
     (λ new. inr (stored_is_recovered o (present core) (core.before + length core.history) (core.generation + 1) new)) stored

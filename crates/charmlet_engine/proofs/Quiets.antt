@@ -12,7 +12,7 @@ use Rattle.charmlet_model.proofs.DeviceLemmas.{only_writes_fail}
 use Rattle.charmlet_history.specs.Kept.{told_or_refused}
 use Rattle.charmlet_journal.specs.Quiet.{Quiet}
 use Rattle.charmlet_journal.proofs.Quietness.{quiet_after, quiet_step}
-use Rattle.charmlet_store.specs.UnderWay.{Ends}
+use Rattle.charmlet_delivery.specs.UnderWay.{Ends}
 use Rattle.charmlet_engine.specs.Engine.{client_answer}
 use Rattle.charmlet_engine.specs.Outcomes.{is_no_fault, is_still, not_device}
 

@@ -10,7 +10,7 @@ use Rattle.charmlet_model.specs.World.{World, world}
 use Rattle.charmlet_chare.specs.declared.chare.Chare as chares
 use Rattle.charmlet_disk.specs.declared.disk.Disk as disks
 use Rattle.charmlet_disk.specs.Disk.{IsSettled, LeavesOnly}
-use Rattle.charmlet_disk.specs.File.{MayLeave, Outcome}
+use Rattle.charmlet_disk.specs.File.{MayLeave, CrashBytes}
 use Rattle.charmlet_disk.proofs.Moments.{after_that, weaker}
 use Rattle.charmlet_image.specs.Halves.{Takes}
 use Rattle.charmlet_image.specs.Images.{Saved}
@@ -47,7 +47,7 @@ restart_is_engine refusals.ImageFull is = refl
 restart_is_engine _ is = is
 
 -- and for its cause
-pub restart_answers : (X Y : Type 0) (given : Blanks) (outcome : Outcome) (refusal : Refusal) → AnswersBy {X = X} (restart_refusal given outcome) (Err refusal) → AnswersBy {X = Y} (engine_refusal given outcome) (Err refusal)
+pub restart_answers : (X Y : Type 0) (given : Blanks) (outcome : CrashBytes) (refusal : Refusal) → AnswersBy {X = X} (restart_refusal given outcome) (Err refusal) → AnswersBy {X = Y} (engine_refusal given outcome) (Err refusal)
 restart_answers X Y given outcome refusal so = elim (has_cause X (restart_refusal given outcome) refusal so) [
   | inl memory ↦ subst (λ (r : Refusal). AnswersBy {X = Y} (engine_refusal given outcome) (Err r)) (sym memory) tt
   | inr more ↦ elim more [
@@ -96,7 +96,7 @@ module _ (is_current : Bool) (core : Core) (refusal : Refusal) (going : IsGoingR
   ]
 
   -- after a crash it is a lack, or the image that is wanted is full
-  pub going_lacks : (outcome : Outcome) → (is_current ≡ false → wants_image outcome ≡ true) → IsLackOrFull outcome refusal
+  pub going_lacks : (outcome : CrashBytes) → (is_current ≡ false → wants_image outcome ≡ true) → IsLackOrFull outcome refusal
   going_lacks outcome wanted = elim going [
     | inl is ↦ inl (ap is_lack is)
     | inr more ↦ elim more [ inl is ↦ inl (ap is_lack is) | inr full ↦ inr (full.0, wanted full.1) ]
@@ -118,7 +118,7 @@ not_turns false m n = refl
 
 -- ---- the half that was taken
 
-module _ {D C : Type 0} {G : disks.Ghosts D} (given : Blanks) (outcome : Outcome) (back : Recovered D C G) (its : recovers.IsTakenFrom given outcome back) where
+module _ {D C : Type 0} {G : disks.Ghosts D} (given : Blanks) (outcome : CrashBytes) (back : Recovered D C G) (its : recovers.IsTakenFrom given outcome back) where
   -- an image is wanted where it isn't current
   wants_is : wants_image outcome ≡ not back.is_current
   wants_is = images_are_wanted outcome ∙ ap is_old its.1 ∙ ap not (sym its.2.current)
@@ -150,7 +150,7 @@ module _ {D C : Type 0} {G : disks.Ghosts D} (processors : ℕ) (back : Recovere
         ∙ (λ i. if sym its.current i then None else limit_refusal (sym its.generation i) old.opening)
         ∙ sym (going_is processors old opens back.is_current)
 
-  pub engine_is : (given : Blanks) (outcome : Outcome) → recovers.IsTakenFrom given outcome back → restart_refusal given outcome ≡ None → engine_refusal given outcome ≡ going_refusal back.is_current old
+  pub engine_is : (given : Blanks) (outcome : CrashBytes) → recovers.IsTakenFrom given outcome back → restart_refusal given outcome ≡ None → engine_refusal given outcome ≡ going_refusal back.is_current old
   engine_is given outcome its none =
       engine_refusals_are_taken given outcome
       ∙ (λ i. either_refusal (none i) (taken_image_refusal (its.1 i)))
@@ -168,7 +168,7 @@ module _ {D C : Type 0} {G : disks.Ghosts D} (processors : ℕ) (back : Recovere
   why refusal so = going_refused Core back.is_current old refusal so
 
   -- a crash while its image is written leaves the same world
-  pub sealed_same : (first outcome : Outcome) → recovered first ≡ Found old.opening old.before old.generation → HasOldOrSealed old outcome → IsSameOrNext first outcome
+  pub sealed_same : (first outcome : CrashBytes) → recovered first ≡ Found old.opening old.before old.generation → HasOldOrSealed old outcome → IsSameOrNext first outcome
   sealed_same first outcome found has =
       let durable : durable_world old ≡ old.opening = ap (λ (k : Core). world old.opening (take k.durable k.history)) opens in
       let none : old.before + old.durable ≡ old.before = (let is : old.durable ≡ 0 = ap (λ (k : Core). k.durable) opens in omega (arith, is)) in
@@ -221,7 +221,7 @@ module _ {D C : Type 0} {G : disks.Ghosts D} (processors : ℕ) (back : Recovere
       count = before_is ∙ within.count;
     }
 
-    pub came_found : (given : Blanks) (outcome : Outcome) → recovers.IsTakenFrom given outcome back → recovered outcome ≡ Found old.opening old.before old.generation → IsFound outcome (core_of engine)
+    pub came_found : (given : Blanks) (outcome : CrashBytes) → recovers.IsTakenFrom given outcome back → recovered outcome ≡ Found old.opening old.before old.generation → IsFound outcome (core_of engine)
     came_found given outcome its found = record {
       generation = old.generation;
       is = found ∙ (λ i. Found (sym opening_is i) (sym before_is i) old.generation);
@@ -241,7 +241,7 @@ module _ {D C : Type 0} {G : disks.Ghosts D} (processors : ℕ) (back : Recovere
       pub came_read : recovers.IsReadFrom given back → IsReadFrom given (view_of engine)
       came_read read = record { bytes = read.0; saved = read.1; is_open = read.2; comes = came_from read.1 read.3 }
 
-      pub came_taken : (outcome : Outcome) → recovers.IsTakenFrom given outcome back → IsTakenFrom given outcome (view_of engine)
+      pub came_taken : (outcome : CrashBytes) → recovers.IsTakenFrom given outcome back → IsTakenFrom given outcome (view_of engine)
       came_taken outcome its = record { half = taken_half back.halves; saved = its.0; is_taken = its.1; comes = came_from its.0 its.2 }
 
 -- ---- what is answered
@@ -288,9 +288,9 @@ module _ {D C : Type 0} {G : disks.Ghosts D} (processors : ℕ) (back : Recovere
   }
   all_came_back given was supplied read same (Err refused) gone left is = tt
 
-  pub all_from_files : {H : chares.Ghosts C} (given : Blanks) (outcome : Outcome) → recovers.IsTakenFrom given outcome back → recovered outcome ≡ Found was.opening was.before was.generation →
+  pub all_from_files : {H : chares.Ghosts C} (given : Blanks) (outcome : CrashBytes) → recovers.IsTakenFrom given outcome back → recovered outcome ≡ Found was.opening was.before was.generation →
       (r : Answer D C H) → HasGone r → HasLeft r → (back.is_current ≡ true → CameBackOn back.halves r) → (back.is_current ≡ false → IfOk r (HasImage G)) →
-      IfOk r (λ engine. (o : Outcome) → MayLeave (G.file engine.disk) o → is_lawful_now (core_of engine) o) → IfOk r (CameFromFiles G given outcome)
+      IfOk r (λ engine. (o : CrashBytes) → MayLeave (G.file engine.disk) o → is_lawful_now (core_of engine) o) → IfOk r (CameFromFiles G given outcome)
   all_from_files given outcome its found (Ok engine) gone left stays image now = record {
     found = came_found processors back opens engine gone given outcome its found;
     taken_from = came_taken processors back opens engine gone given left outcome its;
@@ -312,7 +312,7 @@ module _ {D C : Type 0} {G : disks.Ghosts D} (processors : ℕ) (back : Recovere
   abbrev HasAnswered : {H : chares.Ghosts C} → Answer D C H → Type 0
   HasAnswered r = AnswersBy (going_refusal back.is_current was) (core_or_refusal r)
 
-  pub all_lawful : {H : chares.Ghosts C} (w : World) (before : ℕ) (history : List Event) (durable : ℕ) (given : Blanks) (outcome : Outcome) → recovers.IsTakenFrom given outcome back → OpensWithin w before history durable was →
+  pub all_lawful : {H : chares.Ghosts C} (w : World) (before : ℕ) (history : List Event) (durable : ℕ) (given : Blanks) (outcome : CrashBytes) → recovers.IsTakenFrom given outcome back → OpensWithin w before history durable was →
       (r : Answer D C H) → HasGone r → HasAnswered r → AnswersAfterCrash w before history durable outcome (core_or_refusal r)
   all_lawful w before history durable given outcome its within (Ok engine) gone so = came_within processors back opens engine gone w before history durable within
   all_lawful w before history durable given outcome its within (Err refused) gone so =
@@ -342,7 +342,7 @@ module _ {D : Type 0} (G : disks.Ghosts D) (disk mid : D) (same : ReadsSame (G.f
 
   -- and else an image is, and nothing more
   pub leaves_by : (is_current : Bool) (last : D) (core : Core) → (is_current ≡ true → last ≡ mid) → (is_current ≡ false → LeavesOnly G.moment G.since mid last (HasOldOrSealed core)) →
-      ((outcome : Outcome) → HasOldOrSealed core outcome → IsSameOrNext (bytes_on (G.file disk)) outcome) → LeavesOnly G.moment G.since disk last (IsLeftByRestart (G.file disk))
+      ((outcome : CrashBytes) → HasOldOrSealed core outcome → IsSameOrNext (bytes_on (G.file disk)) outcome) → LeavesOnly G.moment G.since disk last (IsLeftByRestart (G.file disk))
   leaves_by true last core still stored same_world =
       subst (λ (d : D). LeavesOnly G.moment G.since disk d (IsLeftByRestart (G.file disk))) (sym (still refl))
       (weaker G.moment G.since disk mid (MayLeave (G.file disk)) (IsLeftByRestart (G.file disk)) leaves (λ o left. inl left))

@@ -9,7 +9,7 @@ use Rattle.charmlet_record.specs.Reading.{Kinds}
 use Rattle.charmlet_image.specs.Spelled.{IsClosed}
 use Rattle.charmlet_disk.specs.declared.disk.Disk.{Ghosts}
 use Rattle.charmlet_disk.specs.Disk.{IsSettled, LeavesOnly, SameFiles}
-use Rattle.charmlet_disk.specs.File.{File, MayLeave, Outcome}
+use Rattle.charmlet_disk.specs.File.{File, MayLeave, CrashBytes}
 use Rattle.charmlet_halves.specs.declared.opening.Refused.{Refused}
 use Rattle.charmlet_halves.specs.Bytes.{IsOpen}
 use Rattle.charmlet_locate.specs.Locations.{is_processor_count}
@@ -53,7 +53,7 @@ module _ {D : Type 0} where
     pub image : HasImage G engine
     pub other : (G.file engine.disk One).now ≡ (G.file disk One).now
     pub settled : IsSettled (G.file engine.disk)
-    pub now : (outcome : Outcome) → MayLeave (G.file engine.disk) outcome →
+    pub now : (outcome : CrashBytes) → MayLeave (G.file engine.disk) outcome →
         is_lawful_now (core_of engine) outcome
 
   -- What a creation leaves of an honest disk: from closed halves a crash leaves nothing, or the new

@@ -14,7 +14,7 @@ use Rattle.charmlet_recovery.specs.Outcomes.{IsLawful}
 use Rattle.charmlet_recovery.specs.Recovered.{Found, Nothing, recovered}
 use Rattle.charmlet_disk.specs.declared.disk.Disk.{Ghosts}
 use Rattle.charmlet_disk.specs.Disk.{faults_after}
-use Rattle.charmlet_disk.specs.File.{Outcome}
+use Rattle.charmlet_disk.specs.File.{CrashBytes}
 
 -- the second core is a later one of the same store: its history goes on, and no fewer events are
 -- durable
@@ -27,11 +27,11 @@ pub record Onward (old new : Core) : Type 0 where
 
 -- the files recover to the world after some of the history of the second core, with all that was
 -- durable at the first among it
-abbrev pub is_lawful_since : Core → Core → Outcome → Type 0
+abbrev pub is_lawful_since : Core → Core → CrashBytes → Type 0
 is_lawful_since old new = IsLawful new.opening new.before new.history old.durable
 
 -- with all that is durable now
-abbrev pub is_lawful_now : Core → Outcome → Type 0
+abbrev pub is_lawful_now : Core → CrashBytes → Type 0
 is_lawful_now core = is_lawful_since core core
 
 -- What any call leaves of the disk: it is as honest as before, and has counted one more failure
@@ -42,13 +42,13 @@ pub record AfterCall {D : Type 0} (G : Ghosts D) (old new : D) (is_ok : Bool) : 
 
 -- the files recover to nothing, or to the world with these arrays in which nothing has happened, at
 -- no events and generation 1
-abbrev pub IsNothingOrNew : Kinds → Outcome → Type 0
+abbrev pub IsNothingOrNew : Kinds → CrashBytes → Type 0
 IsNothingOrNew kinds outcome = (recovered outcome ≡ Nothing)
     ⊎ (recovered outcome ≡ Found (new_world kinds) 0 1)
 
 -- the files recover to the world after the durable events, at its generation, or to the present
 -- world, at the next
-abbrev pub IsOldOrImage : Core → Outcome → Type 0
+abbrev pub IsOldOrImage : Core → CrashBytes → Type 0
 IsOldOrImage core outcome =
     (recovered outcome ≡ Found (durable_world core) (core.before + core.durable) core.generation)
     ⊎ (recovered outcome

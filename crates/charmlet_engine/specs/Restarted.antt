@@ -13,7 +13,7 @@ use Rattle.charmlet_model.specs.Sound.{opened}
 use Rattle.charmlet_chare.specs.declared.chare.Chare as chares
 use Rattle.charmlet_disk.specs.declared.disk.Disk as disks
 use Rattle.charmlet_disk.specs.Disk.{IsSettled, LeavesOnly}
-use Rattle.charmlet_disk.specs.File.{File, MayLeave, Outcome}
+use Rattle.charmlet_disk.specs.File.{File, MayLeave, CrashBytes}
 use Rattle.charmlet_image.specs.Images.{Saved, spell_half}
 use Rattle.charmlet_image.specs.Halves.{Open, Takes, found, taken}
 use Rattle.charmlet_recovery.specs.Meanings.{Whole}
@@ -57,19 +57,19 @@ pub record IsReadFrom (given : Blanks) (store : StoreView) : Type 0 where
   pub comes : ComesFrom given store saved
 
 -- on an honest one, from the half that is taken
-pub record IsTakenFrom (given : Blanks) (outcome : Outcome) (store : StoreView) : Type 0 where
+pub record IsTakenFrom (given : Blanks) (outcome : CrashBytes) (store : StoreView) : Type 0 where
   pub half : Half
   pub saved : Saved
   pub is_taken : taken (outcome Zero) (outcome One) ≡ Takes half saved
   pub comes : ComesFrom given store saved
 
 -- which is this one
-abbrev pub IsTaken : Outcome → Half → Type 0
+abbrev pub IsTaken : CrashBytes → Half → Type 0
 IsTaken outcome half = (s : Saved) × (taken (outcome Zero) (outcome One) ≡ Takes half s)
 
 -- The files recover to the world with which the store opens, and that came after as many events: at
 -- the store's generation, or at the one before where an image was wanted.
-pub record IsFound (outcome : Outcome) (core : Core) : Type 0 where
+pub record IsFound (outcome : CrashBytes) (core : Core) : Type 0 where
   pub generation : ℕ
   pub is : recovered outcome ≡ Found core.opening core.before generation
   pub at : core.generation ≡ (if wants_image outcome then generation + 1 else generation)
@@ -77,7 +77,7 @@ pub record IsFound (outcome : Outcome) (core : Core) : Type 0 where
 -- ---- the disk
 
 -- the files recover to the world to which the first ones did, at their generation or the next
-pub record IsSameOrNext (first outcome : Outcome) : Type 0 where
+pub record IsSameOrNext (first outcome : CrashBytes) : Type 0 where
   pub world : World
   pub count : ℕ
   pub generation : ℕ
@@ -87,7 +87,7 @@ pub record IsSameOrNext (first outcome : Outcome) : Type 0 where
 
 -- a crash leaves what one before the restart might have left, or files that recover to the world to
 -- which these do, at their generation or the next
-abbrev pub IsLeftByRestart : (Half → File) → Outcome → Type 0
+abbrev pub IsLeftByRestart : (Half → File) → CrashBytes → Type 0
 IsLeftByRestart files outcome = MayLeave files outcome ⊎ IsSameOrNext (bytes_on files) outcome
 
 -- nothing is written to an honest disk: a read of either half gives what it gave, and a crash at
@@ -105,12 +105,12 @@ is_engine_refusal refusal = is_restart_refusal refusal
 
 -- after a crash something is lacking, or an image is wanted that can't be written; nothing else in
 -- the files is the cause
-abbrev pub IsLackOrFull : Outcome → Refusal → Type 0
+abbrev pub IsLackOrFull : CrashBytes → Refusal → Type 0
 IsLackOrFull outcome refusal = (is_lack refusal ≡ true)
     ⊎ ((refusal ≡ refusals.ImageFull) × (wants_image outcome ≡ true))
 
 -- a restart after a crash comes to such a store, or is refused so
-abbrev pub AnswersAfterCrash : World → ℕ → List Event → ℕ → Outcome → Result Core Refusal → Type 0
+abbrev pub AnswersAfterCrash : World → ℕ → List Event → ℕ → CrashBytes → Result Core Refusal → Type 0
 AnswersAfterCrash w before history durable outcome (Ok core) =
     OpensWithin w before history durable core
 AnswersAfterCrash w before history durable outcome (Err refusal) = IsLackOrFull outcome refusal
@@ -201,11 +201,11 @@ module _ {D : Type 0} where
 
   -- On an honest disk it came from what the files recover to, and from the half that is taken. It
   -- goes on in that half, or, where an image is wanted, in one of it; and each crash is lawful.
-  pub record CameFromFiles (G : disks.Ghosts D) (given : Blanks) (outcome : Outcome)
+  pub record CameFromFiles (G : disks.Ghosts D) (given : Blanks) (outcome : CrashBytes)
       (engine : EngineShown D) : Type 0 where
     pub found : IsFound outcome (core_of engine)
     pub taken_from : IsTakenFrom given outcome (view_of engine)
     pub stays : wants_image outcome ≡ false → IsTaken outcome engine.half
     pub image : wants_image outcome ≡ true → HasImage G engine
-    pub now : (left : Outcome) → MayLeave (G.file engine.disk) left →
+    pub now : (left : CrashBytes) → MayLeave (G.file engine.disk) left →
         is_lawful_now (core_of engine) left

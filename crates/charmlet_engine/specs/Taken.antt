@@ -5,7 +5,7 @@ use Rattle.charmlet_model.specs.declared.step.Answer.{Answer}
 use Rattle.charmlet_model.specs.Run.{Does}
 use Rattle.charmlet_model.specs.RunLaws.{IsToldTrue}
 use Rattle.charmlet_disk.specs.declared.disk.Disk.{Ghosts}
-use Rattle.charmlet_disk.specs.File.{MayLeave, Outcome}
+use Rattle.charmlet_disk.specs.File.{MayLeave, CrashBytes}
 use Rattle.charmlet_engine.specs.Advances.{Advances}
 use Rattle.charmlet_engine.specs.Engine.{EngineShown, core_of, supplied_of, view_of}
 use Rattle.charmlet_engine.specs.Lives.{Past, Remembers, with_run}
@@ -22,7 +22,7 @@ pub record Takes {D : Type 0} (G : Ghosts D) (old new : EngineShown D) (step : S
   pub remembers : (past : Past) → Remembers past (core_of old) →
       Remembers (with_run past (step ∷ []) (answer ∷ [])) (core_of new)
   pub advances : Advances G old new
-  pub now : G.honest old.disk → (outcome : Outcome) → MayLeave (G.file new.disk) outcome →
+  pub now : G.honest old.disk → (outcome : CrashBytes) → MayLeave (G.file new.disk) outcome →
       is_lawful_now (core_of new) outcome
   pub disk : new.disk ≡ old.disk
   pub supplied : supplied_of new ≡ supplied_of old

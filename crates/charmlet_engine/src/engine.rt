@@ -2,8 +2,9 @@
 
 ghost use Rattle.std.specs.Prelude.{◌≡◌, false};
 ghost use Rattle.charmlet_model.specs.Sound.{IsSound};
-ghost use Rattle.charmlet_disk.specs.File.{MayLeave, Outcome};
+ghost use Rattle.charmlet_disk.specs.File.{MayLeave, CrashBytes};
 ghost use Rattle.charmlet_stock.specs.ByKind.{for_all};
+ghost use Rattle.charmlet_engine.specs.Advances.{Advances};
 ghost use Rattle.charmlet_engine.specs.Engine.{core_of};
 ghost use Rattle.charmlet_engine.specs.Outcomes.{is_lawful_now};
 
@@ -38,13 +39,15 @@ impl<D: Disk, C: Chare> Model for Engine<D, C> {
 
 impl<D: Disk, C: Chare> Engine<D, C> {
     /// States what always holds of an engine: its history was made by events, each in its turn; its
-    /// stock drops what is retired; and on an honest disk a crash now leaves the world after some
-    /// of the history, with all durable events among it.
+    /// stock drops what is retired; on an honest disk a crash now leaves the world after some of
+    /// the history, with all durable events among it; and where nothing is done, it goes on as it
+    /// does by a step that changes nothing.
     pub fn facts(&self)
         ensures sound { IsSound (core_of self.now) }
         ensures dropping { self.now.store.keeping ≡ for_all false }
-        ensures lawful { D.honest self.now.disk → (outcome : Outcome) →
+        ensures lawful { D.honest self.now.disk → (outcome : CrashBytes) →
             MayLeave (D.file self.now.disk) outcome → is_lawful_now (core_of self.now) outcome }
+        ensures still { Advances D.Disk self.now self.now }
     {
         self.store.history.facts();
         let _ = &self.halves;

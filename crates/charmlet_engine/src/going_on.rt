@@ -3,7 +3,7 @@
 ghost use Rattle.std.specs.Prelude.{◌≡◌, ◌≢◌, false, true, IfErr, IfOk};
 ghost use Rattle.charmlet_model.specs.declared.refusal.Refusal.TheVariants as refusals;
 ghost use Rattle.charmlet_disk.specs.Disk.{IsSettled, LeavesOnly, faults_after};
-ghost use Rattle.charmlet_disk.specs.File.{MayLeave, Outcome};
+ghost use Rattle.charmlet_disk.specs.File.{MayLeave, CrashBytes};
 ghost use Rattle.charmlet_halves.specs.Answers.{is_no_failure};
 ghost use Rattle.charmlet_halves.specs.Halves.{disk_of};
 ghost use Rattle.charmlet_history.specs.Kept.{core_in};
@@ -49,7 +49,7 @@ pub(crate) fn go_on<D: Disk, C: Chare>(
     ensures stays { is_current ≡ true → CameBackOn halves result }
     ensures image { D.honest (disk_of halves) → is_current ≡ false →
         IfOk result (λ engine. HasImage D.Disk engine) }
-    ensures now { D.honest (disk_of halves) → IfOk result (λ engine. (outcome : Outcome) →
+    ensures now { D.honest (disk_of halves) → IfOk result (λ engine. (outcome : CrashBytes) →
         MayLeave (D.file engine.disk) outcome → is_lawful_now (core_of engine) outcome) }
     ensures settled { D.honest (disk_of halves) → IfOk result (λ engine.
         IsSettled (D.file engine.disk)) }
@@ -88,7 +88,7 @@ fn renew<D: Disk, C: Chare>(
     ensures blanks { IfOk result (λ engine. (view_of engine).blanks ≡ blanks_of store) }
     ensures supplied { IfOk result (λ engine. supplied_of engine ≡ supplied_in store) }
     ensures image { D.honest (disk_of halves) → IfOk result (λ engine. HasImage D.Disk engine) }
-    ensures now { D.honest (disk_of halves) → IfOk result (λ engine. (outcome : Outcome) →
+    ensures now { D.honest (disk_of halves) → IfOk result (λ engine. (outcome : CrashBytes) →
         MayLeave (D.file engine.disk) outcome → is_lawful_now (core_of engine) outcome) }
     ensures settled { D.honest (disk_of halves) → IfOk result (λ engine.
         IsSettled (D.file engine.disk)) }

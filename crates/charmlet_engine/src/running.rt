@@ -7,7 +7,7 @@ ghost use Rattle.charmlet_model.specs.declared.step.Step.TheVariants as steps;
 ghost use Rattle.charmlet_model.specs.Run.{Does, Runs};
 ghost use Rattle.charmlet_model.specs.RunLaws.{AllTold, IsToldTrue};
 ghost use Rattle.charmlet_disk.specs.Disk.{LeavesOnly, faults_after};
-ghost use Rattle.charmlet_disk.specs.File.{MayLeave, Outcome};
+ghost use Rattle.charmlet_disk.specs.File.{MayLeave, CrashBytes};
 ghost use Rattle.charmlet_engine.specs.Advances.{Advances};
 ghost use Rattle.charmlet_engine.specs.Engine.{HasImage, core_of, supplied_of, view_of};
 ghost use Rattle.charmlet_engine.specs.Lives.{Past, Remembers, with_run};
@@ -40,7 +40,7 @@ impl<D: Disk, C: Chare> Engine<D, C> {
         ensures remembers { (past : Past) → Remembers past (core_of self.old) → Remembers
             (with_run past (step.now ∷ []) (result ∷ [])) (core_of self.new) }
         ensures advances { Advances D.Disk self.old self.new }
-        ensures now { D.honest self.old.disk → (outcome : Outcome) →
+        ensures now { D.honest self.old.disk → (outcome : CrashBytes) →
             MayLeave (D.file self.new.disk) outcome →
             is_lawful_now (core_of self.new) outcome }
         ensures image { D.honest self.old.disk → is_image result ≡ true → HasImage D.Disk self.new }
@@ -136,7 +136,7 @@ impl<D: Disk, C: Chare> Engine<D, C> {
             IfOk result (λ answers. Remembers (with_run past steps.now answers.items)
             (core_of self.new)) }
         ensures advances { Advances D.Disk self.old self.new }
-        ensures now { D.honest self.old.disk → (outcome : Outcome) →
+        ensures now { D.honest self.old.disk → (outcome : CrashBytes) →
             MayLeave (D.file self.new.disk) outcome →
             is_lawful_now (core_of self.new) outcome }
         ensures image { D.honest self.old.disk → IfOk result (λ answers.

@@ -1,4 +1,5 @@
-//! Tests of disks over a folder's files, in a crate of their own, since a crate with tests is proved twice.
+//! Tests of disks over a folder's files, in a crate of their own, since a crate with tests is
+//! proved twice.
 #![tactic(auto)]
 
 #[cfg(test)]

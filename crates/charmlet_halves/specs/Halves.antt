@@ -3,7 +3,7 @@ use Rattle.std.specs.Prelude.{◌≡◌, ◌⊎◌, ℕ, ◌+◌, ◌-◌, Bool,
 use Rattle.charmlet_model.specs.declared.half.Half.{Half}
 use Rattle.charmlet_model.specs.Half.{other}
 use Rattle.charmlet_disk.specs.declared.disk.Disk.{Ghosts}
-use Rattle.charmlet_disk.specs.File.{Outcome}
+use Rattle.charmlet_disk.specs.File.{CrashBytes}
 use Rattle.charmlet_halves.specs.declared.halves.Halves.{Halves}
 use Rattle.charmlet_image.specs.Spelled.{Spells, IsClosed}
 
@@ -52,20 +52,20 @@ abbrev pub image_to : {D : Type 0} {G : Ghosts D} → Halves D G → ℕ → Lis
 image_to halves at = take (at - 1) (drop 1 (spare_of halves))
 
 -- the taken half says what it said, or that and this batch, and the other half is as it was
-abbrev pub HasOldOrBatch : {D : Type 0} {G : Ghosts D} → Halves D G → List ℕ → Outcome → Type 0
+abbrev pub HasOldOrBatch : {D : Type 0} {G : Ghosts D} → Halves D G → List ℕ → CrashBytes → Type 0
 HasOldOrBatch halves batch outcome =
     (Spells (outcome halves.taken) (text_of halves)
     ⊎ Spells (outcome halves.taken) (text_of halves ++ (1 ∷ batch)))
     × (outcome (other halves.taken) ≡ spare_of halves)
 
 -- the taken half is as it was, and the other one is closed or as it was
-abbrev pub KeepsTaken : {D : Type 0} {G : Ghosts D} → Halves D G → Outcome → Type 0
+abbrev pub KeepsTaken : {D : Type 0} {G : Ghosts D} → Halves D G → CrashBytes → Type 0
 KeepsTaken halves outcome =
     (outcome halves.taken ≡ taken_of halves)
     × (IsClosed (outcome (other halves.taken)) ⊎ (outcome (other halves.taken) ≡ spare_of halves))
 
 -- the half that was taken is as it was, and the other one is closed or says this image alone
-abbrev pub HasOldOrImage : {D : Type 0} {G : Ghosts D} → Halves D G → List ℕ → Outcome → Type 0
+abbrev pub HasOldOrImage : {D : Type 0} {G : Ghosts D} → Halves D G → List ℕ → CrashBytes → Type 0
 HasOldOrImage halves image outcome =
     (outcome halves.taken ≡ taken_of halves)
     × (IsClosed (outcome (other halves.taken))

@@ -15,4 +15,4 @@ pub use crate::creating::test_closed;
 pub use crate::finding::{Contents, Surveyed, survey};
 pub use crate::halves::Halves;
 pub use crate::opening::{Opened, Refused};
-pub use charmlet_disk::settle;
+pub use charmlet_disk::sync_both;

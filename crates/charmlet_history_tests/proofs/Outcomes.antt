@@ -16,7 +16,7 @@ use Rattle.charmlet_model.specs.Sound.{IsSound, IsAssigned}
 use Rattle.charmlet_model.proofs.Maps.{both_parts}
 use Rattle.charmlet_model.proofs.SoundLemmas.{sound_fit}
 use Rattle.charmlet_chare.specs.Output.{empty_output, output_of}
-use Rattle.charmlet_history.specs.Kept.{IsOutcome, assigned_message}
+use Rattle.charmlet_history.specs.Kept.{IsAssignedOutput, assigned_message}
 
 -- a counter stays, and nothing is sent or replied
 abbrev IsPlain : Option Reaction → Type 0
@@ -63,7 +63,7 @@ module _ (core : Core) (sound : IsSound core) (processor : ℕ) (m : Message) (e
   found_plain (Some id) assigned is = reacts (is_there id is assigned)
 
   -- what is assigned is such a message to a counter, and nothing comes of it
-  pub plain_outcome : assigned_message core processor ≡ Some m → IsOutcome core processor empty_output
+  pub plain_outcome : assigned_message core processor ≡ Some m → IsAssignedOutput core processor empty_output
   plain_outcome is =
       subst (λ o. IsPlain (option_and_then (reaction_of (present core)) o)) (sym is)
       (found_plain (assigned_to core processor) (sound.assigned processor) is)

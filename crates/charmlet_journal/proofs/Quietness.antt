@@ -6,12 +6,12 @@ use Rattle.charmlet_model.specs.declared.event.Event.TheVariants.{Accept, Delive
 use Rattle.charmlet_model.specs.declared.names.Elem.{Elem}
 use Rattle.charmlet_model.specs.declared.names.MsgId.{MsgId}
 use Rattle.charmlet_model.specs.declared.refusal.Refusal.{Refusal}
-use Rattle.charmlet_model.specs.Core.{Core, CoreStep, Request, Status, Assign, Commit, Finish, Release, Move, Flush, Checkpoint, Blanks, Stepped, Steps, assigned_to, committed, durable_world, failed, first_refusal, gates, is_repeat, next_core, place_or_home, stepped_unless}
+use Rattle.charmlet_model.specs.Core.{Core, CoreStep, Request, Status, Assign, Commit, Finish, Release, Move, Flush, Checkpoint, Blanks, Stepped, Steps, assigned_to, committed, durable_world, failed, first_refusal, checks, is_repeat, next_core, place_or_home, stepped_unless}
 use Rattle.charmlet_model.specs.CoreLaws.{IsQuiet}
 use Rattle.charmlet_model.specs.World.{World, world}
 use Rattle.charmlet_recovery.specs.Stores.{Stores}
 use Rattle.charmlet_disk.specs.declared.disk.Disk.{Ghosts}
-use Rattle.charmlet_disk.specs.File.{Outcome}
+use Rattle.charmlet_disk.specs.File.{CrashBytes}
 use Rattle.charmlet_halves.specs.declared.halves.Halves.{Halves}
 use Rattle.charmlet_journal.specs.Quiet.{Quiet}
 use Rattle.charmlet_journal.specs.Rest.{Agrees, IsAtRest, IsKept, Rests, keeps_durable}
@@ -52,7 +52,7 @@ module _ (core : Core) where
   -- a step that writes to no file is quiet
   pub quiet_step : (blanks : Blanks) (step : CoreStep) (next : Stepped) → IsQuiet step → Steps core blanks step next → Quiet core next.core
   quiet_step blanks step next q s = elim s.1 [
-    | inl same ↦ subst (λ (n : Stepped). Quiet core n.core) (sym same) (unless blanks step q (first_refusal (gates core blanks step)))
+    | inl same ↦ subst (λ (n : Stepped). Quiet core n.core) (sym same) (unless blanks step q (first_refusal (checks core blanks step)))
     | inr lacking ↦ elim lacking [
       | inl memory ↦ subst (λ (n : Stepped). Quiet core n.core) (sym memory.1) stays
       | inr device ↦ subst (λ (n : Stepped). Quiet core n.core) (sym device.1) (halts blanks)
@@ -74,7 +74,7 @@ module _ (old new : Core) (quiet : Quiet old new) where
       ∙ ap (λ (w : World). world w (take n new.history)) (sym quiet.opening)
 
   -- what is kept of the old history is kept of the new one
-  still_durable : (o : Outcome) → keeps_durable old o → keeps_durable new o
+  still_durable : (o : CrashBytes) → keeps_durable old o → keeps_durable new o
   still_durable o keeps =
       let most = keeps.none_invented in
       let least = keeps.durable_kept in

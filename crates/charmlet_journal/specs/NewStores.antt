@@ -8,7 +8,7 @@ use Rattle.charmlet_record.specs.Reading.{Kinds}
 use Rattle.charmlet_recovery.specs.Recovered.{Nothing, recovered}
 use Rattle.charmlet_recovery.specs.Stores.{Stores}
 use Rattle.charmlet_disk.specs.declared.disk.Disk.{Ghosts}
-use Rattle.charmlet_disk.specs.File.{Outcome}
+use Rattle.charmlet_disk.specs.File.{CrashBytes}
 use Rattle.charmlet_halves.specs.declared.opening.Refused.{Refused}
 use Rattle.charmlet_halves.specs.Halves.{disk_of}
 use Rattle.charmlet_journal.specs.declared.creating.Created.{Created}
@@ -32,6 +32,6 @@ new_core processors kinds = opened processors (new_world kinds) 0 1
 
 -- the files recover to nothing, or store the world in which nothing has happened, at no events and
 -- generation 1
-abbrev pub NothingOrNewWorld : Kinds → Outcome → Type 0
+abbrev pub NothingOrNewWorld : Kinds → CrashBytes → Type 0
 NothingOrNewWorld kinds outcome = (recovered outcome ≡ Nothing)
     ⊎ Stores outcome (new_world kinds) 0 1

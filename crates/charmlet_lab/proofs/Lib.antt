@@ -1,4 +1,3 @@
-pub mod Advancing
 pub mod Causes
 pub mod Counting
 pub mod Folded

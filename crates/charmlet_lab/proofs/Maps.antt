@@ -55,7 +55,8 @@ module _ {K X : Type 0} (R : K → K → Ordering) (o : IsTotalOrder R) (exact :
   pub has_same : (es fs : List (K × X)) → IsStrictlySortedBy R (keys_of es) → es ≡ fs → HasEntries R es fs
   has_same es fs rising same = subst (HasEntries R es) same (has_its_own es rising)
 
-  -- where a map has the other one's entries, they are the same if and only if the other one has its entries too
+  -- where a map has the other one's entries, they are the same if and only if the other one has its
+  -- entries too
   pub same_if_both : (b : Bool) (es fs : List (K × X)) → IsStrictlySortedBy R (keys_of es) → IsStrictlySortedBy R (keys_of fs) → HasEntries R es fs →
       ((b ≡ true → HasEntries R fs es) × (HasEntries R fs es → b ≡ true)) → ((b ≡ true → es ≡ fs) × (es ≡ fs → b ≡ true))
   same_if_both b es fs rising_es rising_fs has given =

@@ -27,7 +27,8 @@ spells_closed bytes text is = subst (λ (l : List ℕ). Spells l text) (sym is) 
   closed = λ h. (let no : ⊥ = let zero = get_or-append_seam text 0 [] 0 in omega (arith, zero, h) in no);
 })
 
--- the image of a sound store of newest versions, after an open gate and with nothing in the other half, recovers to its world
+-- the image of a sound store of newest versions, after an open gate and with nothing in the other
+-- half, recovers to its world
 pub image_recovers : (core : Core) (bytes : List ℕ) → IsSound core → AreNewest (present core).manifest → IsImageOf core bytes → IsWithinLimits core →
     recovered (files (1 ∷ bytes) []) ≡ Found (present core) (event_count core + 0) (core.generation + 1)
 image_recovers core bytes sound newest is within =

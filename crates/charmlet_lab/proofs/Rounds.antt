@@ -23,7 +23,7 @@ use Rattle.charmlet_stock.specs.declared.pile.Tally.{Tally}
 use Rattle.charmlet_stock.specs.Stock.{blanks_in, supplied_to}
 use Rattle.charmlet_replay.specs.Unused.{IsUnused}
 use Rattle.charmlet_disk.specs.declared.disk.Disk as disks
-use Rattle.charmlet_disk.specs.File.{Outcome}
+use Rattle.charmlet_disk.specs.File.{CrashBytes}
 use Rattle.charmlet_halves.specs.Bytes.{IsOpen}
 use Rattle.charmlet_locate.specs.Locations.{is_processor_count}
 use Rattle.charmlet_journal.specs.NewStores.{new_core}
@@ -57,7 +57,7 @@ module _ (kinds : Kinds) (processors : ℕ) (first last : Core) (opens : first �
   durable_within sound = let within = sound.durable in omega (arith, all_durable, ap (length {A = Event}) are, within)
 
   -- and what is lawful of the store is so of them
-  pub lawful_events : (o : Outcome) → is_lawful_now last o → IsLawful (new_world kinds) 0 events durable o
+  pub lawful_events : (o : CrashBytes) → is_lawful_now last o → IsLawful (new_world kinds) 0 events durable o
   lawful_events o lawful =
       subst (λ (d : ℕ). IsLawful (new_world kinds) 0 events d o) all_durable
       (subst (λ (es : List Event). IsLawful (new_world kinds) 0 es last.durable o) (sym are)

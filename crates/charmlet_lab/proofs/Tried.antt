@@ -23,15 +23,16 @@ use Rattle.charmlet_recovery.proofs.Stored.{recovered_is_taken}
 use Rattle.charmlet_locate.specs.Locations.{is_processor_count}
 use Rattle.charmlet_stock.specs.declared.stock.Stock.{Stock}
 use Rattle.charmlet_chare.specs.declared.chare.Chare as chares
-use Rattle.charmlet_disk.specs.File.{Outcome}
+use Rattle.charmlet_disk.specs.File.{CrashBytes}
 use Rattle.charmlet_recover.specs.declared.restarting.NotRestarted.{NotRestarted}
 use Rattle.charmlet_recover.specs.Restart.{AnswersBy}
 use Rattle.charmlet_engine.specs.Engine.{EngineShown, core_of}
 use Rattle.charmlet_engine.specs.Restarted.{IsFound, IsHandedBack, IsOpenedOn, core_or_refusal}
 use Rattle.charmlet_lab.specs.Judged.{HasFirst, IsGood, IsNothingOrLawful, count_of}
 
--- a store in which nothing has happened since it opened, and which has the first events of a run, was recovered from lawful files
-opened_is_lawful : (kinds : Kinds) (events : List Event) (n processors : ℕ) (core : Core) (outcome : Outcome) → IsOpenedOn processors core → IsFound outcome core → HasFirst kinds events n core →
+-- a store in which nothing has happened since it opened, and which has the first events of a run,
+-- was recovered from lawful files
+opened_is_lawful : (kinds : Kinds) (events : List Event) (n processors : ℕ) (core : Core) (outcome : CrashBytes) → IsOpenedOn processors core → IsFound outcome core → HasFirst kinds events n core →
     IsLawful (new_world kinds) 0 events n outcome
 opened_is_lawful kinds events n processors core outcome opens found has =
     let none : core.history ≡ [] = ap (λ (k : Core). k.history) opens in
@@ -67,12 +68,12 @@ nothing_taken given (DamagedAt half offset) e = absurd cc
 nothing_taken given (Takes half s) e = absurd (other_than_nothing (least_short given (wanted_of s)) half s (meaning_of s) e)
 
 -- why a restart is refused that writes an image is known from what is taken of the two halves
-engine_refusals_are_taken : (given : Blanks) (outcome : Outcome) → engine_refusal given outcome ≡ either_refusal (restart_refusal given outcome) (taken_image_refusal (taken (outcome Zero) (outcome One)))
+engine_refusals_are_taken : (given : Blanks) (outcome : CrashBytes) → engine_refusal given outcome ≡ either_refusal (restart_refusal given outcome) (taken_image_refusal (taken (outcome Zero) (outcome One)))
 unfolding engine_refusal
 engine_refusals_are_taken given outcome = refl
 
 -- files from which a restart is refused as those of no store recover to nothing
-nothing_is_here : (given : Blanks) (outcome : Outcome) → engine_refusal given outcome ≡ Some refusals.NothingHere → recovered outcome ≡ Nothing
+nothing_is_here : (given : Blanks) (outcome : CrashBytes) → engine_refusal given outcome ≡ Some refusals.NothingHere → recovered outcome ≡ Nothing
 nothing_is_here given outcome e =
     let t = taken (outcome Zero) (outcome One) in
     recovered_is_taken outcome
@@ -80,7 +81,7 @@ nothing_is_here given outcome e =
 
 module _ {D C : Type 0} {H : chares.Ghosts C} where
   -- so a restart that isn't bad, of a store that was said to be made, was from lawful files
-  pub good_is_lawful : (kinds : Kinds) (events : List Event) (durable : Option ℕ) (n processors : ℕ) (outcome : Outcome) (r : Result (EngineShown D) (NotRestarted D C H)) → durable ≡ Some n →
+  pub good_is_lawful : (kinds : Kinds) (events : List Event) (durable : Option ℕ) (n processors : ℕ) (outcome : CrashBytes) (r : Result (EngineShown D) (NotRestarted D C H)) → durable ≡ Some n →
       IfOk r (λ engine. IsOpenedOn processors (core_of engine)) → IfOk r (λ engine. IsFound outcome (core_of engine)) →
       IsGood kinds events durable (core_or_refusal r) → IsLawful (new_world kinds) 0 events n outcome
   good_is_lawful kinds events durable n processors outcome (Ok engine) is opens found good =
@@ -89,7 +90,7 @@ module _ {D C : Type 0} {H : chares.Ghosts C} where
       absurd (let never : ⊥ = let both = sym is ∙ good.1 in cc in never)
 
   -- where none was said to be made, it was from such files too, or from those of no store
-  pub good_is_nothing_or_lawful : (kinds : Kinds) (events : List Event) (durable : Option ℕ) (processors : ℕ) (given : Blanks) (outcome : Outcome) (disk : D) (blanks : Stock C H)
+  pub good_is_nothing_or_lawful : (kinds : Kinds) (events : List Event) (durable : Option ℕ) (processors : ℕ) (given : Blanks) (outcome : CrashBytes) (disk : D) (blanks : Stock C H)
       (r : Result (EngineShown D) (NotRestarted D C H)) → durable ≡ None → IfOk r (λ engine. IsOpenedOn processors (core_of engine)) → IfOk r (λ engine. IsFound outcome (core_of engine)) →
       (is_processor_count processors ≡ false → IsHandedBack disk blanks r) →
       (is_processor_count processors ≡ true → AnswersBy (engine_refusal given outcome) (core_or_refusal r)) →

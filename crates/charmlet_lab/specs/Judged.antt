@@ -11,7 +11,7 @@ use Rattle.charmlet_recovery.specs.Outcomes.{IsLawful}
 use Rattle.charmlet_recovery.specs.Recovered.{Nothing, recovered}
 use Rattle.charmlet_checkpoint.specs.Showing.{IsRefusal}
 use Rattle.charmlet_chare.specs.declared.chare.Chare as chares
-use Rattle.charmlet_disk.specs.File.{Outcome}
+use Rattle.charmlet_disk.specs.File.{CrashBytes}
 use Rattle.charmlet_engine.specs.Engine.{EngineShown, supplied_of, view_of}
 use Rattle.charmlet_recover.specs.declared.restarting.NotRestarted.{NotRestarted}
 
@@ -53,6 +53,6 @@ IsAsBefore (Ok old) (Err new) = ⊥
 IsAsBefore (Err old) (Ok new) = ⊥
 
 -- the files recover to nothing, or to the world after some of the events
-abbrev pub IsNothingOrLawful : Kinds → List Event → Outcome → Type 0
+abbrev pub IsNothingOrLawful : Kinds → List Event → CrashBytes → Type 0
 IsNothingOrLawful kinds events outcome = (recovered outcome ≡ Nothing)
     ⊎ IsLawful (new_world kinds) 0 events 0 outcome

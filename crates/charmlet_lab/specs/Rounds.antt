@@ -13,7 +13,7 @@ use Rattle.charmlet_image.specs.Spelled.{IsClosed}
 use Rattle.charmlet_recovery.specs.Outcomes.{IsLawful}
 use Rattle.charmlet_recovery.specs.RestartLaws.{IsLeastShort}
 use Rattle.charmlet_disk.specs.declared.disk.Disk as disks
-use Rattle.charmlet_disk.specs.File.{MayLeave, Outcome}
+use Rattle.charmlet_disk.specs.File.{MayLeave, CrashBytes}
 use Rattle.charmlet_halves.specs.Bytes.{IsOpen}
 use Rattle.charmlet_locate.specs.Locations.{is_processor_count}
 use Rattle.charmlet_script.specs.Script.{Contents, blanks_of, pairs_of, processors_of}
@@ -30,7 +30,7 @@ needed_by script kind = blanks_of kind script.lines
 
 -- The files recover to the world after some of the events, with all that were durable among them;
 -- where the store wasn't said to be made, to nothing or to the new store.
-abbrev pub IsExpected : Kinds → List Event → (durable : Option ℕ) → Outcome → Type 0
+abbrev pub IsExpected : Kinds → List Event → (durable : Option ℕ) → CrashBytes → Type 0
 IsExpected kinds events None outcome = IsNothingOrNew kinds outcome
 IsExpected kinds events (Some durable) outcome = IsLawful (new_world kinds) 0 events durable outcome
 
@@ -47,7 +47,7 @@ module _ {D : Type 0} (G : disks.Ghosts D) where
     pub closed : G.honest first → IsSome round.durable →
         IsClosed (G.file first Zero).now × IsClosed (G.file first One).now
     pub now : G.honest first → IsClosed (G.file first Zero).now → IsClosed (G.file first One).now →
-        (outcome : Outcome) → MayLeave (G.file round.disk) outcome →
+        (outcome : CrashBytes) → MayLeave (G.file round.disk) outcome →
         IsExpected kinds round.events.items round.durable outcome
 
   -- why there is no round: there can't be so many processors; a half of an honest disk is open;

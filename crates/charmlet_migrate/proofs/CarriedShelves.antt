@@ -39,7 +39,8 @@ on_shelf shelf x = lookup (is_at (elem_cmp x)) shelf.records
 abbrev pub lifted : List View → Elem → ℕ → List View
 lifted shelves x source = with_records shelves source (remove_entry (is_at (elem_cmp x)) (shelf_at shelves source).records)
 
--- the element's record leaves the one shelf and comes to the other, and stays what it was; the other shelves stay
+-- the element's record leaves the one shelf and comes to the other, and stays what it was; the
+-- other shelves stay
 abbrev pub Carries : Elem → (source destination : ℕ) → (shelves next : List View) → Type 0
 Carries x source destination shelves next =
     (r : Record) × (lookup (is_at (elem_cmp x)) (shelf_at shelves source).records ≡ Some r) × (next ≡ lifted (with_copy shelves x destination r) x source)

@@ -1,5 +1,5 @@
 pub mod Unpacked
-pub mod MoveGates
+pub mod MoveChecks
 pub mod CarriedShelves
 pub mod CanMove
 pub mod MoveCensus

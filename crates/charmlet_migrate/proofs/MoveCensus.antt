@@ -40,7 +40,8 @@ module _ {C : Type 0} {G : Ghosts C} (first mid last : Stock C G) (kind : Kind) 
       ∙ sym (with_same (census_of first) kind)
 
 module _ {C : Type 0} {G : Ghosts C} (first last : Stock C G) (kind : Kind) (moved : census_of last ≡ with_at (census_of first) kind (moved_tally (tally_in first kind))) where
-  -- a blank of the kind is gone, and an object of the kind is retired, so that the census adds up as before
+  -- a blank of the kind is gone, and an object of the kind is retired, so that the census adds up
+  -- as before
   pub moved_counts : (shelves next : List View) → ((j : Kind) → objects_among next j ≡ objects_among shelves j) → 0 < blanks_in first kind → IsCountedAmong shelves first → IsCountedAmong next last
   moved_counts shelves next as_many some counted =
       by_kind (census_of first) (census_of last) kind (moved_tally (tally_in first kind)) moved

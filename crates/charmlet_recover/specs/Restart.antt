@@ -11,7 +11,7 @@ use Rattle.charmlet_model.specs.Core.{Blanks, Core}
 use Rattle.charmlet_model.specs.Sound.{opened}
 use Rattle.charmlet_chare.specs.declared.chare.Chare as chares
 use Rattle.charmlet_disk.specs.declared.disk.Disk as disks
-use Rattle.charmlet_disk.specs.File.{File, Outcome}
+use Rattle.charmlet_disk.specs.File.{File, CrashBytes}
 use Rattle.charmlet_image.specs.Images.{Saved, spell_half}
 use Rattle.charmlet_image.specs.Halves.{Open, Takes, found, taken}
 use Rattle.charmlet_recovery.specs.Blanks.{least_short}
@@ -41,7 +41,7 @@ pub record IsSameStock {C : Type 0} {G : chares.Ghosts C} (old new : Stock C G) 
 -- ---- the disk
 
 -- what a read of each half gives
-abbrev pub bytes_on : (Half → File) → Outcome
+abbrev pub bytes_on : (Half → File) → CrashBytes
 bytes_on files half = (files half).now
 
 -- a read of either half gives what it gave
@@ -133,7 +133,7 @@ module _ {D C : Type 0} {G : disks.Ghosts D} where
       × OpensWith given back s
 
   -- on an honest one, with what the half means that is taken
-  abbrev pub IsTakenFrom : Blanks → Outcome → Recovered D C G → Type 0
+  abbrev pub IsTakenFrom : Blanks → CrashBytes → Recovered D C G → Type 0
   IsTakenFrom given outcome back = (s : Saved)
       × (taken (outcome Zero) (outcome One) ≡ Takes (taken_half back.halves) s)
       × OpensWith given back s

@@ -54,7 +54,8 @@ abbrev pub IsGoodEvent : Kinds → Logged → Type 0
 IsGoodEvent manifest (Accept client number to entry words) = IsLetter manifest (request client number to entry words)
 IsGoodEvent manifest (Deliver id count effect sends) = IsDelivery manifest id count sends
 
--- keys rise and are of their types, nothing is written of what was never there, ids are distinct, and all is within its limit
+-- keys rise and are of their types, nothing is written of what was never there, ids are distinct,
+-- and all is within its limit
 pub record IsGoodImage (image : Image) : Type 0 where
   pub rising_arrays : IsStrictlySortedBy nat_cmp (keys_of image.manifest)
   pub small_arrays : All (λ array. array < 2 ^ 16) (keys_of image.manifest)

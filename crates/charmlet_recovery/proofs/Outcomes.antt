@@ -43,7 +43,8 @@ lawful_grows w before history more durable fewer outcome less h =
       is = h.is ∙ ap (λ es. Found (world w es) (before + h.kept) h.generation) (sym (take-append-le h.kept history more within));
     }
 
--- the world after the first events is the one after some of the later ones, from the world in between
+-- the world after the first events is the one after some of the later ones, from the world in
+-- between
 same-world : (w : World) (earlier history : List Event) (k : ℕ) → world w (take (length earlier + k) (earlier ++ history)) ≡ world (world w earlier) (take k history)
 same-world w earlier history k = ap (world w) (take-append-add earlier history k) ∙ world-append w earlier (take k history)
 

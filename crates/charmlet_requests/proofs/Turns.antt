@@ -13,7 +13,7 @@ use Rattle.charmlet_model.specs.declared.refusal.Refusal.TheVariants as refusals
 use Rattle.charmlet_model.specs.Row.{with_request}
 use Rattle.charmlet_model.specs.World.{world, after, client_of}
 use Rattle.charmlet_model.specs.Told.{Holds, told, told_of}
-use Rattle.charmlet_model.specs.Core.{Core, CoreStep, Request, Status, Tells, Refuses, Blanks, Stepped, Steps, Gate, MayLackMemory, first_refusal, may_lack_memory, gates, has_words, is_repeat, next_core, stepped_unless, present, durable_world, new_request_gates}
+use Rattle.charmlet_model.specs.Core.{Core, CoreStep, Request, Status, Tells, Refuses, Blanks, Stepped, Steps, Check, MayLackMemory, first_refusal, may_lack_memory, checks, has_words, is_repeat, next_core, stepped_unless, present, durable_world, new_request_checks}
 use Rattle.charmlet_model.specs.Sound.{IsSound}
 use Rattle.charmlet_model.proofs.CanLemmas.{accepted_can}
 use Rattle.charmlet_model.proofs.CoreLemmas.{refusals_change_nothing}
@@ -36,10 +36,10 @@ module _ (core : Core) (blanks : Blanks) (client number : ℕ) (to : Elem) (entr
   -- of a request that isn't refused
   pub record IsAnswered (new : Core) (t : Told) : Type 0 where
     pub says : told (durable_world core) client number ≡ t
-    pub passes : first_refusal (gates core blanks asked) ≡ None
+    pub passes : first_refusal (checks core blanks asked) ≡ None
     pub next : new ≡ next_core core asked
 
-  answered-unless : (o : Option Refusal) (new : Core) (t : Told) → first_refusal (gates core blanks asked) ≡ o →
+  answered-unless : (o : Option Refusal) (new : Core) (t : Told) → first_refusal (checks core blanks asked) ≡ o →
       (record { answer = Tells t; core = new; blanks = blanks }) ≡ stepped_unless core blanks asked o → IsAnswered new t
   answered-unless None new t passes is = record {
     says = let same : Tells t ≡ Tells (told (durable_world core) client number) = ap (λ (n : Stepped). n.answer) is in let back : told (durable_world core) client number ≡ t = cc in back;
@@ -50,7 +50,7 @@ module _ (core : Core) (blanks : Blanks) (client number : ℕ) (to : Elem) (entr
 
   pub answered : (new : Core) (t : Told) → Steps core blanks asked (record { answer = Tells t; core = new; blanks = blanks }) → IsAnswered new t
   answered new t steps = elim steps.1 [
-    | inl same ↦ answered-unless (first_refusal (gates core blanks asked)) new t refl same
+    | inl same ↦ answered-unless (first_refusal (checks core blanks asked)) new t refl same
     | inr lacking ↦ elim lacking [
       | inl memory ↦ let same : Tells t ≡ Refuses refusals.Memory = ap (λ (n : Stepped). n.answer) memory.1 in absurd (let no : ⊥ = cc in no)
       | inr device ↦ let same : Tells t ≡ Refuses refusals.Device = ap (λ (n : Stepped). n.answer) device.1 in absurd (let no : ⊥ = cc in no)
@@ -63,7 +63,7 @@ module _ (core : Core) (blanks : Blanks) (client number : ℕ) (to : Elem) (entr
       let next : Stepped = record { answer = Refuses refusal; core = new; blanks = blanks } in
       (refusals_change_nothing core blanks asked next refusal steps refl).0 (λ device. only_writes_fail core blanks asked next tt steps (ap Refuses device))
 
-  module _ (sound : IsSound core) (passes : first_refusal (gates core blanks asked) ≡ None) where
+  module _ (sound : IsSound core) (passes : first_refusal (checks core blanks asked) ≡ None) where
     -- the number of one that is no repeat follows the client's last one
     pub follows : is_repeat core client number ≡ false → number ≡ (client_of (present core) client).last + 1
     follows new =
@@ -82,11 +82,11 @@ module _ (core : Core) (blanks : Blanks) (client number : ℕ) (to : Elem) (entr
           sym (ap has_words unknown) ∙ words_told
     ] refl
 
-    abbrev rest_gates : List Gate
-    rest_gates = if is_repeat core client number then MayLackMemory ∷ [] else new_request_gates core (client_of (present core) client) client number to words
+    abbrev rest_checks : List Check
+    rest_checks = if is_repeat core client number then MayLackMemory ∷ [] else new_request_checks core (client_of (present core) client) client number to words
 
     pub runs : core.halted ≡ false
-    runs = elim core.halted as (λ b. (if b then Some refusals.Halted else first_refusal rest_gates) ≡ None → b ≡ false) [
+    runs = elim core.halted as (λ b. (if b then Some refusals.Halted else first_refusal rest_checks) ≡ None → b ≡ false) [
       | true ↦ λ no. absurd (let contra : ⊥ = cc in contra)
       | false ↦ λ _. refl
     ] passes
@@ -95,8 +95,8 @@ module _ (core : Core) (blanks : Blanks) (client number : ℕ) (to : Elem) (entr
     pub lacks-memory : is_repeat core client number ≡ true → Steps core blanks asked (record { answer = Refuses refusals.Memory; core = next_core core asked; blanks = blanks })
     lacks-memory again =
         let same : next_core core asked ≡ core = ap (λ b. if b then core else record core { history = core.history ++ event ∷ [] }) again in
-        let may : may_lack_memory (gates core blanks asked) ≡ true = ap (λ b. not b && may_lack_memory (if is_repeat core client number then MayLackMemory ∷ [] else new_request_gates core (client_of (present core) client) client number to words)) runs
-        ∙ ap (λ b. may_lack_memory (if b then MayLackMemory ∷ [] else new_request_gates core (client_of (present core) client) client number to words)) again in
+        let may : may_lack_memory (checks core blanks asked) ≡ true = ap (λ b. not b && may_lack_memory (if is_repeat core client number then MayLackMemory ∷ [] else new_request_checks core (client_of (present core) client) client number to words)) runs
+        ∙ ap (λ b. may_lack_memory (if b then MayLackMemory ∷ [] else new_request_checks core (client_of (present core) client) client number to words)) again in
         (refl, inr (inl (may, ap (λ (c : Core). record { answer = Refuses refusals.Memory; core = c; blanks = blanks }) same)))
 
     pub again-same : is_repeat core client number ≡ true → next_core core asked ≡ core
@@ -122,7 +122,7 @@ module _ (core : Core) (blanks : Blanks) (client number : ℕ) (to : Elem) (entr
       (λ _. ap (world core.opening) (take-append-le core.durable core.history (event ∷ []) sound.durable))
 
   -- a pass that is up to date stays so
-  pub still-up_to_date : (pass : Pass) → pass.client ≡ client → IsSound core → first_refusal (gates core blanks asked) ≡ None → IsUpToDate pass core → IsUpToDate (with_accept pass number) (next_core core asked)
+  pub still-up_to_date : (pass : Pass) → pass.client ≡ client → IsSound core → first_refusal (checks core blanks asked) ≡ None → IsUpToDate pass core → IsUpToDate (with_accept pass number) (next_core core asked)
   still-up_to_date pass own sound passes is = either (IsUpToDate (with_accept pass number))
       (λ again.
       let inside = inside-parts (client_of (present core) client) number again in
@@ -149,7 +149,7 @@ module _ (core : Core) (blanks : Blanks) (client number : ℕ) (to : Elem) (entr
 pub status-says : (core : Core) (blanks : Blanks) (client number : ℕ) (new : Core) (t : Told) → Steps core blanks (Status client number) (record { answer = Tells t; core = new; blanks = blanks }) →
     told (durable_world core) client number ≡ t
 status-says core blanks client number new t steps = elim steps.1 [
-  | inl same ↦ unless (first_refusal (gates core blanks (Status client number))) same
+  | inl same ↦ unless (first_refusal (checks core blanks (Status client number))) same
   | inr lacking ↦ elim lacking [
     | inl memory ↦ let same : Tells t ≡ Refuses refusals.Memory = ap (λ (n : Stepped). n.answer) memory.1 in absurd (let no : ⊥ = cc in no)
     | inr device ↦ let same : Tells t ≡ Refuses refusals.Device = ap (λ (n : Stepped). n.answer) device.1 in absurd (let no : ⊥ = cc in no)

@@ -220,7 +220,8 @@ if_read purpose lines number script final so_far (Some item) some e rest = if_ad
         ] in
         rest next step.declared later e
 
--- a script that was read to its end has a manifest, if it has an array or a line that is still to come spells one
+-- a script that was read to its end has a manifest, if it has an array or a line that is still to
+-- come spells one
 pub manifest-of_lines : (purpose : Purpose) (lines : List Text) (number : ℕ) (script final : Contents) → IsDeclared script
     → (1 ≤ length script.arrays) ⊎ (list_any is_array_line lines ≡ true) → with_lines purpose script number lines ≡ Ok final
     → is_some (manifest_of (pairs_of final.arrays)) ≡ true

@@ -1,12 +1,7 @@
-pub mod Assigning
-pub mod Places
-pub mod Delivering
-pub mod Counting
 pub mod Shelved
 pub mod Showing
 pub mod Looks
 pub mod Theres
 pub mod Lifting
 pub mod Residents
-pub mod Entering
 pub mod Upgrades

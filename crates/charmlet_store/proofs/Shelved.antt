@@ -35,11 +35,11 @@ use Rattle.charmlet_stock.specs.Pile.{nothing}
 use Rattle.charmlet_stock.specs.Stock.{tally_in, supplied_to}
 use Rattle.charmlet_migrate.specs.Moving.{IsCountedAmong, IsIdle, ShowsPresent, numbers_of, objects_among, records_on}
 use Rattle.charmlet_migrate.proofs.CarriedShelves as carried
-use Rattle.charmlet_store.specs.Desk.{IsWithin, ShowsOn, IsDeskConsistent, desk_of, held_in}
+use Rattle.charmlet_delivery.specs.Workplace.{IsWithin, ShowsOn, IsIdleWorkplace, workplace_of, held_in}
 use Rattle.charmlet_store.specs.Store.{AreEmpty, IsNew}
 use Rattle.charmlet_store.specs.Together.{AreNumbered, FitTogether}
 use Rattle.charmlet_store.specs.declared.store.Store.TheInside.{Inside}
-use Rattle.charmlet_store.proofs.Places.{Stays, stepped_core}
+use Rattle.charmlet_delivery.proofs.Places.{Stays, stepped_core}
 use Rattle.charmlet_migrate.specs.Copying.{empty_shelf}
 
 -- the parts of a store fit together
@@ -105,7 +105,7 @@ module _ {C : Type 0} {G : Ghosts C} (history : History) (shelves : List View) (
       omega arith
 
 -- a shelf of a store that stands
-pub consistent_at : {C : Type 0} {G : Ghosts C} (store : Inside C G) → IsConsistent store.history → IsTogether store → (p : ℕ) (shelf : View) → p < length store.shelves.items → shelf ≡ get_or store.shelves.items p shelf → IsDeskConsistent (desk_of store.history shelf store.stock)
+pub consistent_at : {C : Type 0} {G : Ghosts C} (store : Inside C G) → IsConsistent store.history → IsTogether store → (p : ℕ) (shelf : View) → p < length store.shelves.items → shelf ≡ get_or store.shelves.items p shelf → IsIdleWorkplace (workplace_of store.history shelf store.stock)
 consistent_at store history consistent p shelf within is =
     let shelves = store.shelves.items in
     let number = number_is store.history shelves store.stock consistent.numbers consistent.count consistent.objects p within shelf is in
@@ -130,7 +130,7 @@ seen_at store history consistent p shelf within is x place same on =
 
 module _ {C : Type 0} {G : Ghosts C} (old new : Inside C G) (consistent : IsTogether old) (p : ℕ) (within : p < length old.shelves.items) (before shelf : View)
     (is : before ≡ get_or old.shelves.items p before) (written : new.shelves.items ≡ slice_set old.shelves.items p shelf)
-    (now : IsDeskConsistent (desk_of new.history shelf new.stock)) (number : shelf.number ≡ before.number) where
+    (now : IsIdleWorkplace (workplace_of new.history shelf new.stock)) (number : shelf.number ≡ before.number) where
   abbrev first : List View
   first = old.shelves.items
 

@@ -1,6 +1,4 @@
 -- The definitions that contracts cite.
-pub mod Desk
-pub mod UnderWay
 pub mod Store
 pub mod Together
 pub mod Census
@@ -27,5 +25,7 @@ pub use Rattle.charmlet_stock.specs.Stock
 pub use Rattle.charmlet_locate.specs.Locations
 pub use Rattle.charmlet_history.specs.Kept
 pub use Rattle.charmlet_history.specs.Opened
+pub use Rattle.charmlet_delivery.specs.UnderWay
+pub use Rattle.charmlet_delivery.specs.Workplace
 pub use Rattle.charmlet_migrate.specs.Copying
 pub use Rattle.charmlet_migrate.specs.Moving

@@ -2,7 +2,6 @@
 #![tactic(auto)]
 
 mod census;
-mod delivery;
 mod dismantling;
 mod look;
 mod store;

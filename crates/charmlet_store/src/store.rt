@@ -15,10 +15,10 @@ ghost use Rattle.charmlet_stock.specs.ByKind.{for_all, with_at};
 ghost use Rattle.charmlet_stock.specs.Pile.{with_out};
 ghost use Rattle.charmlet_stock.specs.Stock.{blanks_in, census_of, keeping_of, part_of, tally_in};
 ghost use Rattle.charmlet_store.specs.Store.{AreEmpty, IsNew, store_in, supplied_in};
-ghost use Rattle.charmlet_store.specs.UnderWay.{Ends};
+ghost use Rattle.charmlet_delivery.specs.UnderWay.{Ends};
 
-use crate::delivery::deliver_on;
 use charmlet_chare::Chare;
+use charmlet_delivery::deliver_on;
 use charmlet_history::{History, Request};
 use charmlet_migrate::move_to;
 use charmlet_model::{Elem, Kind, MsgId, Refusal, Told};
@@ -29,7 +29,8 @@ use std::marker::Model;
 
 /// A history, a shelf for each processor with the objects that it made, and a stock of blank ones.
 /// It knows no disk: whoever writes the history to one shows that its parts still fit together. A
-/// contract sees what the history keeps, the census of the objects, and which retired ones are kept.
+/// contract sees what the history keeps, the census of the objects, and which retired ones are
+/// kept.
 #[derive(Drop)]
 pub struct Store<C: Chare> {
     pub alloc: Global,

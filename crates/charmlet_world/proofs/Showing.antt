@@ -27,7 +27,7 @@ use Rattle.charmlet_chare.specs.declared.output.Output.{Output}
 use Rattle.charmlet_world.specs.declared.element.Element.{Element}
 use Rattle.charmlet_world.specs.Client.{Rows, with_present}
 use Rattle.charmlet_world.specs.Seen.{Held, Seen, Shows, IsCountedBy, IsSlot, client_at, element_at, new_client, no_element, place_or_home_in, present_rows}
-use Rattle.charmlet_world.specs.Changed.{IsOutcome, accepted, advanced_by, counted, delivered_in, place_after, relocated, with_answer, with_entry}
+use Rattle.charmlet_world.specs.Changed.{IsOutputOf, accepted, advanced_by, counted, delivered_in, place_after, relocated, with_answer, with_entry}
 use Rattle.charmlet_world.specs.Standing.{element_in, risen}
 use Rattle.charmlet_world.specs.Standing as standing
 use Rattle.charmlet_world.proofs.Places.{element_at-insert}
@@ -193,7 +193,7 @@ module _ (k : Seen) (w : World) (shows : Shows k w) where
         clients = shows.clients;
       }
 
-  module _ (id : MsgId) (m : Message) (is : message_among id k.pending ≡ Some m) (output : Output) (outcome : IsOutcome w id output) where
+  module _ (id : MsgId) (m : Message) (is : message_among id k.pending ≡ Some m) (output : Output) (outcome : IsOutputOf w id output) where
     abbrev r : Reaction
     r = outcome.0
 

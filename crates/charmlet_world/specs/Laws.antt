@@ -8,7 +8,7 @@ use Rattle.charmlet_model.specs.declared.event.Event.TheVariants.{Accept, Delive
 use Rattle.charmlet_model.specs.Fit.{IsFit}
 use Rattle.charmlet_model.specs.World.{World, IsRequest, can, message_among}
 use Rattle.charmlet_chare.specs.declared.output.Output.{Output}
-use Rattle.charmlet_world.specs.Changed.{IsOutcome, Suits}
+use Rattle.charmlet_world.specs.Changed.{IsOutputOf, Suits}
 use Rattle.charmlet_world.specs.Seen.{Held, Seen, IsSlot, Shows, seen}
 
 -- the id of a request that can be accepted is no pending message's
@@ -22,5 +22,5 @@ RequestsAreNew = (k : Seen) (w : World) (client number : ℕ) (to : Elem) (entry
 abbrev pub DeliveriesSuit : Type 0
 DeliveriesSuit = (h : Held) (w : World) (id : MsgId) (m : Message) (slot : ℕ) (output : Output) →
     Shows (seen h) w → IsFit w → can w (Deliver id) ≡ true →
-    message_among id h.pending ≡ Some m → IsSlot h.rows slot m.to → IsOutcome w id output →
+    message_among id h.pending ≡ Some m → IsSlot h.rows slot m.to → IsOutputOf w id output →
     Suits h slot output m

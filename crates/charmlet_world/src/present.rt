@@ -17,7 +17,7 @@ ghost use Rattle.charmlet_model.specs.declared.names.MsgId.{MsgId as AnId};
 ghost use Rattle.charmlet_model.specs.declared.names.Origin.TheVariants as origins;
 ghost use Rattle.charmlet_locate.specs.Locations.{is_processor_count};
 ghost use Rattle.charmlet_world.specs.declared.element.Element.{Element as AnElement};
-ghost use Rattle.charmlet_world.specs.Changed.{IsOutcome, Suits, accepted, delivered_in, flushed_row, place_after, relocated, with_entry};
+ghost use Rattle.charmlet_world.specs.Changed.{IsOutputOf, Suits, accepted, delivered_in, flushed_row, place_after, relocated, with_entry};
 ghost use Rattle.charmlet_world.specs.Seen.{IsSlot, Shows, client_at, element_at, is_deliverable, next_due, oldest, place_or_home_in, seen, takes};
 ghost use Rattle.charmlet_world.specs.Standing.{places_of, risen};
 ghost use Rattle.charmlet_world.specs.Waiting.{message_of};
@@ -378,7 +378,7 @@ impl PresentWorld {
         requires suits { IfSome (message_among id self.old.pending) (Suits self.old slot output) }
         ensures delivered { IfSome (message_among id self.old.pending)
             (λ m. seen self.new ≡ delivered_in (seen self.old) m output) }
-        ensures world { (w : AWorld) → Shows (seen self.old) w → IsOutcome w id output →
+        ensures world { (w : AWorld) → Shows (seen self.old) w → IsOutputOf w id output →
             Shows (seen self.new) (after w (Deliver id)) }
         ensures slots { keys_of self.new.rows ≡ keys_of self.old.rows }
         ensures promised { self.new.promised + 1 ≡ self.old.promised }

@@ -1,5 +1,5 @@
 // What a crash leaves of a disk in memory, by its bytes.
-use charmlet_disk::{CrashChoice, Disk, MemDisk, settle, write_through};
+use charmlet_disk::{CrashChoice, Disk, MemDisk, sync_both, write_through};
 use charmlet_model::Half;
 use std::alloc::{AllocError, AllocGlobal, Global};
 use std::process::Abort;
@@ -29,7 +29,7 @@ fn syncs(rt: &impl Abort, disk: &mut MemDisk, half: Half) {
 
 // Both halves are synced.
 fn settles(rt: &impl Abort, disk: &mut MemDisk) {
-    assert!(rt; settle(disk).is_ok());
+    assert!(rt; sync_both(disk).is_ok());
 }
 
 // The half is of this length.

@@ -106,7 +106,8 @@ fn got_rest(rt: &impl Abort, disk: &mut MemDisk, calls: u64) {
     lengthens(rt, disk, Half::One, 1, 2);
 }
 
-// Each time a length is asked for, a byte is written and the half is synced; where the length fails, the write isn't made.
+// Each time a length is asked for, a byte is written and the half is synced; where the length
+// fails, the write isn't made.
 #[test]
 fn once_disks_fail_one_call(rt: HostRuntime) {
     for calls in 0..13 {

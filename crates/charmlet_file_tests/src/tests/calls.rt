@@ -1,4 +1,5 @@
-// The same calls of a disk of files and of one in memory give the same answers, and leave the same bytes.
+// The same calls of a disk of files and of one in memory give the same answers, and leave the same
+// bytes.
 ghost use Rattle.std.specs.Prelude.{◌≤◌};
 
 use super::{has_failures, make_folder};
@@ -10,8 +11,8 @@ use std::process::Abort;
 // No half grows longer, so that it has up to three pages of a file system.
 const MAX_LEN: usize = 9000;
 
-// A call. An offset is brought inside the half, or to its end. A read ends inside the half too, and a
-// write where the half has `MAX_LEN` bytes.
+// A call. An offset is brought inside the half, or to its end. A read ends inside the half too, and
+// a write where the half has `MAX_LEN` bytes.
 #[derive(Clone, Copy, Debug)]
 enum Call {
     Len(Half),
@@ -72,8 +73,8 @@ fn within(offset: u64, len: u64) -> u64
     }
 }
 
-// Makes the call, and answers with its number of bytes, or with the length that was asked for. The bytes
-// of a read come into the buffer.
+// Makes the call, and answers with its number of bytes, or with the length that was asked for. The
+// bytes of a read come into the buffer.
 fn make<D: Disk>(disk: &mut D, call: Call, buffer: &mut [u8]) -> Result<u64, DeviceFault> {
     match call {
         Call::Len(half) => disk.len(half),

@@ -124,8 +124,8 @@ fn half_that_lost_its_name_is_a_fault(rt: HostRuntime) {
     fs::remove_dir_all(&rt, folder).expect(&rt, "a folder");
 }
 
-// Makes the file as long as the system lets it be, with no byte written, and answers with its length. None
-// where it may be neither of two lengths that are the limits of file systems.
+// Makes the file as long as the system lets it be, with no byte written, and answers with its
+// length. None where it may be neither of two lengths that are the limits of file systems.
 fn grow(rt: &HostRuntime, path: &str) -> io::Result<Option<u64>> {
     let file = OpenOptions::new().write(true).open(rt, path)?;
     for len in [(1 << 63) - 1, (1 << 44) - 4096] {

@@ -50,7 +50,8 @@ fn knows(rt: &(impl AllocGlobal + Abort), pass: &ClientPass, wanted: &str) {
     assert_eq!(rt; text.as_str(), wanted);
 }
 
-// A pass that is told first this and then that, of these requests, knows this of the requests 1 to 4.
+// A pass that is told first this and then that, of these requests, knows this of the requests 1 to
+// 4.
 fn knows_after(
     rt: &(impl AllocGlobal + Abort),
     first: (u64, Told),

@@ -2,7 +2,7 @@
 
 ghost use Rattle.std.specs.Prelude.{◌≡◌, IsNone};
 ghost use Rattle.charmlet_chare.specs.Output.{empty_output};
-ghost use Rattle.charmlet_history.specs.Kept.{IsOutcome, core_in};
+ghost use Rattle.charmlet_history.specs.Kept.{IsAssignedOutput, core_in};
 
 use super::opening::counter_at;
 use charmlet_chare::Output;
@@ -20,7 +20,8 @@ pub enum Step {
     Status(u32, u64),
     // Whether this client's request of this number can be assigned to the processor.
     Test(u16, u32, u64),
-    // The client's request, which is to a counter at an entry that it lacks, is assigned to the processor and committed.
+    // The client's request, which is to a counter at an entry that it lacks, is assigned to the
+    // processor and committed.
     Deliver(u16, u32, u64),
     // The same, but it isn't committed.
     Assign(u16, u32, u64),
@@ -38,7 +39,8 @@ pub enum Step {
     Counts(Elem),
     Next,
     Pending,
-    // The same as `Assign`, and then the store is halted and the message committed. Nothing may come back but a refusal.
+    // The same as `Assign`, and then the store is halted and the message committed. Nothing may
+    // come back but a refusal.
     HaltAssigned(u16, u32, u64),
 }
 
@@ -168,10 +170,10 @@ fn answer_to(history: &mut History, alloc: Global, step: Step) -> Answer {
     }
 }
 
-// Assigns a message to a counter at an entry that it lacks, so that nothing comes of it. The counter of index 0 is there,
-// and processor 3 is idle.
+// Assigns a message to a counter at an entry that it lacks, so that nothing comes of it. The
+// counter of index 0 is there, and processor 3 is idle.
 fn assign(history: &mut History, processor: u16, id: MsgId) -> Option<Refusal>
-    ensures outcome { IsNone result → IsOutcome (core_in history.new) processor empty_output }
+    ensures outcome { IsNone result → IsAssignedOutput (core_in history.new) processor empty_output }
 {
     if let Err(refusal) = history.test_delivery(processor, id) {
         return Some(refusal);
@@ -218,7 +220,8 @@ fn deliver(history: &mut History, alloc: Global, processor: u16, id: MsgId) -> O
     }
 }
 
-// Halts the store after such a message was assigned. The commit is refused, and what was handed in comes back.
+// Halts the store after such a message was assigned. The commit is refused, and what was handed in
+// comes back.
 fn halt_assigned(history: &mut History, alloc: Global, processor: u16, id: MsgId) -> Answer {
     let refused = assign(history, processor, id);
     if refused.is_some() {

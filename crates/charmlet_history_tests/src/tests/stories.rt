@@ -138,9 +138,9 @@ fn logs_fill_to_their_last_byte(rt: HostRuntime) {
     answers_at_limits(&rt, 5, 2 * ONE_REQUEST, &steps, wanted);
 }
 
-// A message that was assigned before a store is halted stays, and is released; its commit is refused,
-// and nothing comes back with it. Else each step is refused, and what is only looked at is answered
-// as before.
+// A message that was assigned before a store is halted stays, and is released; its commit is
+// refused, and nothing comes back with it. Else each step is refused, and what is only looked at is
+// answered as before.
 #[test]
 fn halted_stores_release_and_show(rt: HostRuntime) {
     let steps = [

@@ -1,5 +1,5 @@
-//! Worked histories of one array, run by the plain program of the world. A transcript has a line `> STEP` for each step,
-//! and after it the step's answer.
+//! Worked histories of one array, run by the plain program of the world. A transcript has a line `>
+//! STEP` for each step, and after it the step's answer.
 
 use charmlet_model::{CONSTRUCT, Edition, Elem, Event, Manifest, MsgId, Origin, Words};
 use charmlet_plain::PlainWorld;
@@ -609,7 +609,8 @@ fn life_of_a_tree(alloc: Global) -> Result<Vec<Event>, AllocError> {
     Ok(events)
 }
 
-// Whether an event happened. Where memory is refused for it the world has to be as it was, and it is tried again.
+// Whether an event happened. Where memory is refused for it the world has to be as it was, and it
+// is tried again.
 fn happened(alloc: Global, world: &mut PlainWorld, event: &Event) -> Result<bool, AllocError> {
     let before = format!(in alloc; "{world:?}")?;
     let happened = world.after(event);

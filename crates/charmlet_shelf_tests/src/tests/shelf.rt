@@ -72,8 +72,8 @@ pub(super) fn message(
     }
 }
 
-// The shelf of processor 3, with one element. Where memory is refused, the shelf is as before, and the
-// element is placed at the second try.
+// The shelf of processor 3, with one element. Where memory is refused, the shelf is as before, and
+// the element is placed at the second try.
 pub(super) fn shelf_with<C: Chare>(
     rt: &(impl AllocGlobal + Abort),
     elem: Elem,
@@ -110,8 +110,8 @@ pub(super) fn assigned<C: Chare>(
     shelf
 }
 
-// The shelf of processor 3, where an element is to be constructed from a blank. Where memory is refused,
-// the shelf is as before, and the message is assigned at the second try.
+// The shelf of processor 3, where an element is to be constructed from a blank. Where memory is
+// refused, the shelf is as before, and the message is assigned at the second try.
 fn constructing<C: Chare>(
     rt: &(impl AllocGlobal + Abort),
     blank: Resident<C>,
@@ -130,8 +130,8 @@ fn constructing<C: Chare>(
     shelf
 }
 
-// Performs the assigned message. Where memory is refused, it stays assigned, and is performed at the
-// second try.
+// Performs the assigned message. Where memory is refused, it stays assigned, and is performed at
+// the second try.
 fn performs<C: Chare>(rt: &impl Abort, shelf: &mut Shelf<C>)
     requires { is_assigned shelf.old.phase ≡ true }
     ensures { shelf.new.records ≡ shelf.old.records }
@@ -204,7 +204,8 @@ fn lifts<C: Chare>(
     lacks(rt, shelf, elem);
 }
 
-// The element that is lifted is this one, with these counts and this packed form. Afterwards it isn't there any more.
+// The element that is lifted is this one, with these counts and this packed form. Afterwards it
+// isn't there any more.
 fn lifts_any<C: Chare>(
     rt: &(impl AllocGlobal + Abort),
     shelf: &mut Shelf<C>,
@@ -222,8 +223,8 @@ fn lifts_any<C: Chare>(
     lacks(rt, shelf, elem);
 }
 
-// A delivery is under way. Once it is settled, the element is on the shelf with these counts and this
-// packed form.
+// A delivery is under way. Once it is settled, the element is on the shelf with these counts and
+// this packed form.
 fn settles<C: Chare>(
     rt: &(impl AllocGlobal + Abort),
     shelf: &mut Shelf<C>,
@@ -245,8 +246,8 @@ fn has_no_output<C: Chare>(rt: &impl Abort, shelf: &mut Shelf<C>) {
     assert!(rt; shelf.take_output().is_none());
 }
 
-// The output can be taken once. It has that many messages and this reply, and destroys the object or
-// doesn't.
+// The output can be taken once. It has that many messages and this reply, and destroys the object
+// or doesn't.
 fn gives<C: Chare>(
     rt: &impl Abort,
     shelf: &mut Shelf<C>,

@@ -2,17 +2,14 @@ use Rattle.std.proofs.Common.{◌≡◌, ◌-◌, subst, arith}
 use Rattle.charmlet_engine.specs.Engine.{view_of}
 use Rattle.charmlet_engine.proofs.Advancing.{advances_after}
 use Rattle.charmlet_lab.specs.Lines.{Drains}
-use Rattle.charmlet_lab.proofs.Advancing.{advances_as_shown}
 use Rattle.charmlet_lab.proofs.Lines.{drains_all, drains_no_more, drains_on}
 use Rattle.charmlet_lab.proofs.round.drain.Goals as goal
 
 pub loop-init : goal.loop-init
 loop-init g c =
-    let laws = g.met.D.Disk g.world.𝓛 g.world.𝓜 g.world.𝓡 ((λ s x. x), (λ x. x), (λ x. x), (λ x. x)) in
-    let engine = c.args.engine.now in
     let all : c.args.most - 0 ≡ c.args.most = omega arith in (
-      advances_as_shown g.D.Disk engine c.facts.ensures.lawful (λ honest o left. laws.only_now engine.disk o honest left),
-      λ last drained. subst (λ n. Drains n (view_of engine) last) all drained,
+      c.facts.ensures.still,
+      λ last drained. subst (λ n. Drains n (view_of c.args.engine.now) last) all drained,
     )
 
 pub returns-then-not-deliver_next-clause-advances : goal.returns-then-not-deliver_next-clause-advances

@@ -7,15 +7,11 @@ use Rattle.charmlet_script.specs.Script.{blanks_in, blanks_of}
 use Rattle.charmlet_requests.specs.Handlers.{handler_of}
 use Rattle.charmlet_engine.specs.Engine.{view_of}
 use Rattle.charmlet_engine.proofs.Advancing.{advances_after}
-use Rattle.charmlet_lab.proofs.Advancing.{advances_as_shown}
 use Rattle.charmlet_lab.proofs.Lines.{run_all, run_no_more, run_on}
 use Rattle.charmlet_lab.proofs.round.run_lines.Goals as goal
 
 pub loop-line-init : goal.loop-line-init
-loop-line-init g c =
-    let laws = g.met.D.Disk g.world.𝓛 g.world.𝓜 g.world.𝓡 ((λ s x. x), (λ x. x), (λ x. x), (λ x. x)) in
-    let engine = c.args.engine.now in
-    (advances_as_shown g.D.Disk engine c.facts.ensures.lawful (λ honest o left. laws.only_now engine.disk o honest left), c.requires.enough, λ last ran. ran)
+loop-line-init g c = (c.facts.ensures.still, c.requires.enough, λ last ran. ran)
 
 pub run_line-requires-clause-enough : goal.run_line-requires-clause-enough
 run_line-requires-clause-enough g c κs within = λ kind.

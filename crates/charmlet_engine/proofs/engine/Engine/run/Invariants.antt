@@ -3,7 +3,7 @@ use Rattle.std.specs.Vec.{vec_capacity, vec_len}
 use Rattle.charmlet_model.specs.Run.{Runs}
 use Rattle.charmlet_model.specs.RunLaws.{AllTold}
 use Rattle.charmlet_model.specs.Sound.{IsSound}
-use Rattle.charmlet_disk.specs.File.{MayLeave, Outcome}
+use Rattle.charmlet_disk.specs.File.{MayLeave, CrashBytes}
 use Rattle.charmlet_engine.specs.Advances.{Advances}
 use Rattle.charmlet_engine.specs.Engine.{HasImage, core_of, supplied_of, view_of}
 use Rattle.charmlet_engine.specs.Outcomes.{AreFlushedAnyway, ends_with_image, faults_through, is_lawful_now}
@@ -14,7 +14,7 @@ abbrev pub invariant-loop-step : goal.invariant-loop-step
 invariant-loop-step g l =
     record {
       sound : IsSound (core_of l.self);
-      now : g.D.Disk.honest l.fn.self.disk → (outcome : Outcome) → MayLeave (g.D.Disk.file l.self.disk) outcome → is_lawful_now (core_of l.self) outcome;
+      now : g.D.Disk.honest l.fn.self.disk → (outcome : CrashBytes) → MayLeave (g.D.Disk.file l.self.disk) outcome → is_lawful_now (core_of l.self) outcome;
       runs : Runs (view_of l.fn.self) (take l.step-index l.steps) l.answers.items (view_of l.self);
       told : AllTold (core_of l.self).opening (take (core_of l.self).durable (core_of l.self).history) (take l.step-index l.steps) l.answers.items;
       flushed : AreFlushedAnyway (take l.step-index l.steps) l.answers.items;

@@ -7,7 +7,7 @@ use Rattle.charmlet_model.specs.declared.logged.Logged.TheVariants as log
 use Rattle.charmlet_record.specs.Backlog.{Batched, HasRoomFor, IsBacklog}
 use Rattle.charmlet_world.specs.Changed as worlds
 use Rattle.charmlet_world.specs.Seen.{Seen, client_at, seen}
-use Rattle.charmlet_history.specs.Kept.{Kept, IsConsistent, accepted, core_in, limit_gates, repeats, roomless, turn_gates}
+use Rattle.charmlet_history.specs.Kept.{Kept, IsConsistent, accepted, core_in, limit_checks, repeats, roomless, turn_checks}
 use Rattle.charmlet_history.specs.Whole.{HasReceivers, kept_of}
 use Rattle.charmlet_history.proofs.Entries.{receivers_with}
 use Rattle.charmlet_history.proofs.Requests.{accepted_consistent, request_new}
@@ -39,8 +39,8 @@ accept-requires c =
     let same = sym c.self.view_is in
     let running : k.halted ≡ false = ap (λ (k : Kept). k.halted) c.self.view_is ∙ c.requires.running in
     let new : repeats k c.args.client r.number ≡ false = ap (λ k. repeats k c.args.client r.number) c.self.view_is ∙ c.requires.new in
-    let turns : None ≡ first_refusal (turn_gates (client_at k.clients c.args.client).present r.number) = subst (λ (k : Kept). None ≡ first_refusal (turn_gates (client_at k.clients c.args.client).present r.number)) same (sym c.requires.turn) in
-    let fits : None ≡ first_refusal (limit_gates k c.args.client r.to.array r.words.now) = subst (λ (k : Kept). None ≡ first_refusal (limit_gates k c.args.client r.to.array r.words.now)) same (sym c.requires.fits) in
+    let turns : None ≡ first_refusal (turn_checks (client_at k.clients c.args.client).present r.number) = subst (λ (k : Kept). None ≡ first_refusal (turn_checks (client_at k.clients c.args.client).present r.number)) same (sym c.requires.turn) in
+    let fits : None ≡ first_refusal (limit_checks k c.args.client r.to.array r.words.now) = subst (λ (k : Kept). None ≡ first_refusal (limit_checks k c.args.client r.to.array r.words.now)) same (sym c.requires.fits) in
     let event : IsRequest c.args.client r.number r.to r.entry r.words.now = search rules in
     record { apart = request_new k c.self.invariant.consistent running c.args.client r.number r.to r.entry r.words.now (λ _. 0) new turns fits event }
 
@@ -54,8 +54,8 @@ invariant_of-self-2 c =
     let same = sym c.self.view_is in
     let running : k.halted ≡ false = ap (λ (k : Kept). k.halted) c.self.view_is ∙ c.requires.running in
     let new : repeats k c.args.client r.number ≡ false = ap (λ k. repeats k c.args.client r.number) c.self.view_is ∙ c.requires.new in
-    let turns : None ≡ first_refusal (turn_gates (client_at k.clients c.args.client).present r.number) = subst (λ (k : Kept). None ≡ first_refusal (turn_gates (client_at k.clients c.args.client).present r.number)) same (sym c.requires.turn) in
-    let fits : None ≡ first_refusal (limit_gates k c.args.client r.to.array r.words.now) = subst (λ (k : Kept). None ≡ first_refusal (limit_gates k c.args.client r.to.array r.words.now)) same (sym c.requires.fits) in
+    let turns : None ≡ first_refusal (turn_checks (client_at k.clients c.args.client).present r.number) = subst (λ (k : Kept). None ≡ first_refusal (turn_checks (client_at k.clients c.args.client).present r.number)) same (sym c.requires.turn) in
+    let fits : None ≡ first_refusal (limit_checks k c.args.client r.to.array r.words.now) = subst (λ (k : Kept). None ≡ first_refusal (limit_checks k c.args.client r.to.array r.words.now)) same (sym c.requires.fits) in
     let event : IsRequest c.args.client r.number r.to r.entry r.words.now = search rules in
     let fresh = unwritten (core_in k) in
     let b = c.push.new.self in

@@ -1,6 +1,6 @@
 use Rattle.std.proofs.Common.{◌≡◌, [], length, sym, subst, ◌∙◌, ap, arith}
 use Rattle.std.specs.Prelude.{None}
-use Rattle.charmlet_model.specs.Core.{end_of_flush, first_refusal, gates}
+use Rattle.charmlet_model.specs.Core.{end_of_flush, first_refusal, checks}
 use Rattle.charmlet_model.specs.Core as core
 use Rattle.charmlet_world.specs.Seen.{Held}
 use Rattle.charmlet_world.specs.Standing.{risen}
@@ -15,7 +15,7 @@ invariant_of-self c =
     let h = c.self.inside in
     let k = kept_of h in
     let room = c.self.invariant.room in
-    let passes : first_refusal (gates (core_in k) plenty core.Flush) ≡ None = subst (λ (k : Kept). first_refusal (gates (core_in k) plenty core.Flush) ≡ None) (sym c.self.view_is) (sym c.in_ok-log_end.ensures.refused) in
+    let passes : first_refusal (checks (core_in k) plenty core.Flush) ≡ None = subst (λ (k : Kept). first_refusal (checks (core_in k) plenty core.Flush) ≡ None) (sym c.self.view_is) (sym c.in_ok-log_end.ensures.refused) in
     let end : c.in_ok-log_end.log_end ≡ end_of_flush (core_in k) = c.in_ok-log_end.ensures.ok ∙ ap (λ (k : Kept). end_of_flush (core_in k)) (sym c.self.view_is) in
     let made = c.make_durable.ensures in
     let events = c.make_durable.new.events in

@@ -6,7 +6,7 @@ use Rattle.std.specs.Map.{lookup}
 use Rattle.std.proofs.lemmas.Bool.{eq-eqb, ne_eqb}
 use Rattle.charmlet_model.specs.World.{message_among}
 use Rattle.charmlet_model.specs.Core as core
-use Rattle.charmlet_model.specs.Core.{first_refusal, gates, next_core}
+use Rattle.charmlet_model.specs.Core.{first_refusal, checks, next_core}
 use Rattle.charmlet_model.proofs.Fits.{IfSome-map}
 use Rattle.charmlet_world.specs.declared.element.Element.{Element}
 use Rattle.charmlet_world.specs.Seen.{element_at, seen}
@@ -23,7 +23,7 @@ returns-then-place_or_home-processor c =
     let k = kept_of c.self.inside in
     let x = c.args.elem in
     let p = c.args.processor in
-    let can : first_refusal (gates (core_in k) plenty (core.Move x p)) ≡ None = subst (λ (k : Kept). first_refusal (gates (core_in k) plenty (core.Move x p)) ≡ None) (sym c.self.view_is) c.requires.can in
+    let can : first_refusal (checks (core_in k) plenty (core.Move x p)) ≡ None = subst (λ (k : Kept). first_refusal (checks (core_in k) plenty (core.Move x p)) ≡ None) (sym c.self.view_is) c.requires.can in
     record {
       moved = subst (λ (k : Kept). core_in k ≡ next_core (core_in k) (core.Move x p)) c.self.view_is
           (stays_there k c.self.invariant.consistent x p can (eq-eqb (place_or_home_in k x) p (sym c.place_or_home.ensures ∙ c.if-place_or_home-processor.true)));
@@ -32,7 +32,7 @@ returns-then-place_or_home-processor c =
 pub relocate-requires : goal.relocate-requires
 relocate-requires c =
     let k = kept_of c.self.inside in
-    let can : first_refusal (gates (core_in k) plenty (core.Move c.args.elem c.args.processor)) ≡ None = subst (λ (k : Kept). first_refusal (gates (core_in k) plenty (core.Move c.args.elem c.args.processor)) ≡ None) (sym c.self.view_is) c.requires.can in
+    let can : first_refusal (checks (core_in k) plenty (core.Move c.args.elem c.args.processor)) ≡ None = subst (λ (k : Kept). first_refusal (checks (core_in k) plenty (core.Move c.args.elem c.args.processor)) ≡ None) (sym c.self.view_is) c.requires.can in
     moves_there k c.self.invariant.consistent c.args.elem c.args.processor can
 
 pub invariant_of-self : goal.invariant_of-self
@@ -42,7 +42,7 @@ invariant_of-self c =
     let x = c.args.elem in
     let p = c.args.processor in
     let room = c.self.invariant.room in
-    let can : first_refusal (gates (core_in k) plenty (core.Move x p)) ≡ None = subst (λ (k : Kept). first_refusal (gates (core_in k) plenty (core.Move x p)) ≡ None) (sym c.self.view_is) c.requires.can in
+    let can : first_refusal (checks (core_in k) plenty (core.Move x p)) ≡ None = subst (λ (k : Kept). first_refusal (checks (core_in k) plenty (core.Move x p)) ≡ None) (sym c.self.view_is) c.requires.can in
     let away = ne_eqb (place_or_home_in k x) p (λ same. c.if-place_or_home-processor.false (c.place_or_home.ensures ∙ same)) in
     let put : kept_of (record h { present = c.relocate.new.self }) ≡ relocated k x p = λ i. kept_with k (c.relocate.ensures.seen i) (c.relocate.ensures.promised i) in
     let w : Element = record (element_at k.elements x) { place = Some p } in
@@ -63,7 +63,7 @@ returns c =
     let k = kept_of h in
     let x = c.args.elem in
     let p = c.args.processor in
-    let can : first_refusal (gates (core_in k) plenty (core.Move x p)) ≡ None = subst (λ (k : Kept). first_refusal (gates (core_in k) plenty (core.Move x p)) ≡ None) (sym c.self.view_is) c.requires.can in
+    let can : first_refusal (checks (core_in k) plenty (core.Move x p)) ≡ None = subst (λ (k : Kept). first_refusal (checks (core_in k) plenty (core.Move x p)) ≡ None) (sym c.self.view_is) c.requires.can in
     let away = ne_eqb (place_or_home_in k x) p (λ same. c.if-place_or_home-processor.false (c.place_or_home.ensures ∙ same)) in
     let put : kept_of (record h { present = c.relocate.new.self }) ≡ relocated k x p = λ i. kept_with k (c.relocate.ensures.seen i) (c.relocate.ensures.promised i) in
     record { moved = ap core_in put ∙ moved_core k c.self.invariant.consistent x p can away ∙ ap (λ (k : Kept). next_core (core_in k) (core.Move x p)) c.self.view_is }

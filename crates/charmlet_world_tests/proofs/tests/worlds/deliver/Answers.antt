@@ -6,7 +6,7 @@ use Rattle.charmlet_model.specs.Fit.{IsFit}
 use Rattle.charmlet_model.specs.World.{World, can, message_among, reaction_of}
 use Rattle.charmlet_model.proofs.Fits.{fit-after}
 use Rattle.charmlet_chare.specs.declared.output.Output.{Output}
-use Rattle.charmlet_world.specs.Changed.{IsOutcome, Suits}
+use Rattle.charmlet_world.specs.Changed.{IsOutputOf, Suits}
 use Rattle.charmlet_world.specs.Seen.{IsSlot, Shows, seen}
 use Rattle.charmlet_world.proofs.Suiting.{deliveries_suit}
 use Rattle.charmlet_world_tests.proofs.tests.worlds.deliver.Goals as goal
@@ -27,7 +27,7 @@ commit-requires-clause-suits c =
     let output : Output = record { sends = r.sends; reply = r.reply; is_destroyed = c.is_none.result } in
     let can_be : can w (Deliver id) ≡ true = sym c.can.ensures ∙ c.if-not-can.false in
     let reacts = ap (option_and_then (reaction_of w)) (sym c.in-Some.ensures) ∙ sym c.in_ok-reaction.ensures ∙ c.in-Some-2.is in
-    let outcome : IsOutcome w id output = (r, reacts, λ i. record { sends = r.sends; reply = r.reply; is_destroyed = gone r.state c.is_none.result c.is_none.ensures i }) in
+    let outcome : IsOutputOf w id output = (r, reacts, λ i. record { sends = r.sends; reply = r.reply; is_destroyed = gone r.state c.is_none.result c.is_none.ensures i }) in
     let is : message_among id c.args.world.now.pending ≡ Some m = ap (message_among id) c.requires.shows.pending ∙ sym c.in-Some.ensures in
     let still : message_among id c.assign.new.self.pending ≡ Some m = ap (message_among id) c.in_ok-slot.ensures.pending ∙ is in
     let at : IsSlot c.assign.new.self.rows c.in_ok-slot.slot m.to = subst (λ o. IfSome o (λ m. IsSlot c.assign.new.self.rows c.in_ok-slot.slot m.to)) is c.in_ok-slot.ensures.slot in
@@ -42,7 +42,7 @@ returns c =
     let output : Output = record { sends = r.sends; reply = r.reply; is_destroyed = c.is_none.result } in
     let can_be : can w (Deliver id) ≡ true = sym c.can.ensures ∙ c.if-not-can.false in
     let reacts = ap (option_and_then (reaction_of w)) (sym c.in-Some.ensures) ∙ sym c.in_ok-reaction.ensures ∙ c.in-Some-2.is in
-    let outcome : IsOutcome w id output = (r, reacts, λ i. record { sends = r.sends; reply = r.reply; is_destroyed = gone r.state c.is_none.result c.is_none.ensures i }) in
+    let outcome : IsOutputOf w id output = (r, reacts, λ i. record { sends = r.sends; reply = r.reply; is_destroyed = gone r.state c.is_none.result c.is_none.ensures i }) in
     let next = c.in_ok-after.ensures.after can_be in
     let promised = c.in_ok-slot.ensures.promised in
     record {

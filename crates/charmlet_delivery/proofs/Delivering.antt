@@ -1,0 +1,365 @@
+-- Deliveries that are under way, and what they make of the world.
+use Rattle.std.proofs.Common.{◌≡◌, ℕ, ◌+◌, ◌==◌, ◌<◌, Bool, true, false, cond, List, refl, sym, ap, subst, ◌∙◌}
+use Rattle.std.specs.Prelude.{Option, Some, None, IfSome, IsSome, is_none, is_some, nat_le, option_and_then, unwrap_or, ◌&&◌, ◌||◌, if◌then◌else◌}
+use Rattle.std.specs.Ordering.{eq_by_cmp}
+use Rattle.std.specs.BTreeMap.{is_at}
+use Rattle.std.specs.Map.{lookup}
+use Rattle.std.proofs.lemmas.Map.Views.{exact_unsigned_eq, tells_apart}
+use Rattle.charmlet_model.specs.declared.names.Elem.{Elem}
+use Rattle.charmlet_model.specs.declared.names.MsgId.{MsgId}
+use Rattle.charmlet_model.specs.declared.message.Message.{Message}
+use Rattle.charmlet_model.specs.declared.kind.Kind.{Kind}
+use Rattle.charmlet_model.specs.declared.edition.Edition.{Edition}
+use Rattle.charmlet_model.specs.declared.state.State.{State}
+use Rattle.charmlet_model.specs.declared.state.Record.{Record}
+use Rattle.charmlet_model.specs.declared.reaction.Reaction.{Reaction}
+use Rattle.charmlet_model.specs.declared.TheConstants.{CONSTRUCT}
+use Rattle.charmlet_model.specs.Names.{elem_cmp}
+use Rattle.charmlet_model.specs.Fit.{IsMessage}
+use Rattle.charmlet_model.specs.declared.refusal.Refusal.TheVariants as refusals
+use Rattle.charmlet_model.specs.Reaction.{constructed, edition_of, greatest, react}
+use Rattle.charmlet_model.specs.Packed.{IsState}
+use Rattle.charmlet_model.specs.World.{World, advanced, performed, record_of, reaction_of, edition_of_array, can_deliver}
+use Rattle.charmlet_model.specs.Core.{Core, home, present, pending_message, place_of, place_or_home, assigned_to, next_core, committed, Commit, Release, Done, blank_for, blank_of_id, with_given}
+use Rattle.charmlet_model.specs.Run.{Goes, StoreView}
+use Rattle.charmlet_model.specs.Sound.{IsAssigned}
+use Rattle.charmlet_model.specs.Shelves.{if_here, if_there, there_in}
+use Rattle.charmlet_model.proofs.Maps.{elem_exact, tied_elem}
+use Rattle.charmlet_model.proofs.Fits.{found}
+use Rattle.charmlet_model.proofs.Histories.{record_at-insert}
+use Rattle.charmlet_model.proofs.SoundLemmas.{sound_fit}
+use Rattle.charmlet_chare.specs.declared.chare.Chare.{Ghosts}
+use Rattle.charmlet_history.specs.declared.history.History.{History}
+use Rattle.charmlet_history.specs.Kept.{Kept, IsConsistent, assigned_message, core_in}
+use Rattle.charmlet_shelf.specs.Due.{Due, newcomer_due, reaction_in, record_after}
+use Rattle.charmlet_shelf.specs.Shelf.{Assigns, IsDueAt, View, done_by, has_newcomer, is_idle, refusal_at, performed as performed_phase, receiver_edition, settled, with_record, without_output}
+use Rattle.charmlet_shelf.proofs.Records.{found_with, rising_with}
+use Rattle.charmlet_shelf.specs.Count.{is_newcomer_of, objects_on}
+use Rattle.charmlet_shelf.specs.declared.phase.Phase.{Phase}
+use Rattle.charmlet_shelf.specs.declared.phase.Phase.TheVariants as phases
+use Rattle.charmlet_stock.specs.Stock.{blanks_in}
+use Rattle.charmlet_delivery.specs.Workplace.{Workplace, IsWithin, ShowsOn, ShowsPart, IsIdleWorkplace}
+use Rattle.charmlet_migrate.specs.Moving.{store_with}
+use Rattle.charmlet_delivery.specs.UnderWay.{IsBusyAt, IsDelivering, IsUnderWay}
+use Rattle.charmlet_delivery.proofs.Assigning.{goes_back, is_committed}
+use Rattle.charmlet_delivery.proofs.Places.{if_here_same, others_stay, present_next, receiver_shown, same_processors, seen_is, stands_here}
+use Rattle.charmlet_model.specs.Own.{advanced_if}
+
+-- ---- the assigned message
+
+some_of : {A : Type 0} (o : Option A) → is_some o ≡ true → (x : A) × (o ≡ Some x)
+some_of None h = absurd (let never : ⊥ = cc in never)
+some_of (Some x) h = (x, refl)
+
+and_then_some : {A B : Type 0} (f : A → Option B) (o : Option A) (y : B) → option_and_then f o ≡ Some y → (x : A) × (o ≡ Some x) × (f x ≡ Some y)
+and_then_some f None y h = cc
+and_then_some f (Some x) y h = (x, refl, h)
+
+-- an element that has the processor as its place is seen there
+seen_there : (place : Option ℕ) (p other : ℕ) (r : Record) → unwrap_or place other ≡ p → is_some place ≡ true → is_some (if_here place p r) ≡ true
+seen_there None p other r on some = absurd (let never : ⊥ = cc in never)
+seen_there (Some q) p other r on some = ap (λ n. is_some (if_here (Some n) p r)) on ∙ ap is_some (if_here_same p r)
+
+module _ (k : Kept) (consistent : IsConsistent k) (p : ℕ) where
+  abbrev core : Core
+  core = core_in k
+
+  abbrev w : World
+  w = present core
+
+  module _ (m : Message) (here : assigned_message core p ≡ Some m) where
+    its : (id : MsgId) × (assigned_to core p ≡ Some id) × (pending_message core id ≡ Some m)
+    its = and_then_some (pending_message core) (assigned_to core p) m here
+
+    can_be : can_deliver w (Some m) ≡ true
+    can_be =
+        let assigned : IsAssigned core p its.0 = subst (λ o. IfSome o (IsAssigned core p)) its.1 (consistent.sound.assigned p) in
+        ap (can_deliver w) (sym its.2) ∙ assigned.can_be
+
+    -- the delivery to a receiver that is there
+    pub under_way_there : (records : List (Elem × Record)) → ShowsOn p records core.places w → (due : Due) → IsDueAt records m due → IsUnderWay core p due
+    under_way_there records shows due at =
+        let receiver : record_of w m.to ≡ due.receiver = seen_is (place_of core m.to) p (record_of w m.to) due.receiver (sym (shows.shown m.to) ∙ at.1) in
+        let state : (record_of w m.to).state ≡ Some at.0 = ap (λ (r : Record). r.state) receiver ∙ at.2 in
+        let edition : edition_of_array w m.to.array ≡ Some (edition_of at.0) =
+        (subst (λ o. IfSome o (λ s. (edition_of_array w m.to.array ≡ Some (edition_of s)) × IsState s)) state ((sound_fit core consistent.sound).records m.to).state).0 in
+        subst (IsUnderWay core p) (sym at.3) (record {
+          message = here;
+          edition = edition;
+          receiver = receiver;
+          reacts = ap (λ o. is_some (react (edition_of at.0) m.to o m.entry m.words)) at.2;
+        })
+
+    -- the receiver of a message for which no blank is wanted is there, on the processor's shelf
+    module _ (unwanted : blank_of_id core (assigned_to core p) ≡ None) where
+      -- else it were to be constructed, in its array's edition
+      not_constructed : (entry received sent : Bool) (edition : Option Edition) → (entry && received && sent) ≡ true → IsSome edition → (if entry then edition else None) ≡ None → ⊥
+      not_constructed true received sent (Some edition) can some none = cc
+      not_constructed true received sent None can some none = cc
+      not_constructed false received sent edition can some none = cc
+
+      receiver_there : (o : Option State) → (record_of w m.to).state ≡ o → is_some o ≡ true
+      receiver_there (Some s) is = refl
+      receiver_there None is =
+          let its_edition : IsSome (edition_of_array w m.to.array) = (found (IsMessage w) its.0 w.pending m its.2 (sound_fit core consistent.sound).messages).to.array in
+          let none : blank_for core m ≡ None = ap (option_and_then (blank_for core)) (sym here) ∙ unwanted in
+          let received = nat_le ((record_of w m.to).received + 1) greatest in
+          let sent = nat_le ((record_of w m.to).sent + 16) greatest in
+          absurd (not_constructed (m.entry == CONSTRUCT) received sent (edition_of_array w m.to.array)
+          (ap (λ o. (is_some o || (m.entry == CONSTRUCT)) && received && sent) (sym is) ∙ can_be)
+          its_edition
+          (ap (λ o. if is_some o then None else (if m.entry == CONSTRUCT then edition_of_array w m.to.array else None)) (sym is) ∙ none))
+
+      pub receiver_seen : (records : List (Elem × Record)) → ShowsOn p records core.places w → is_some (lookup (is_at (elem_cmp m.to)) records) ≡ true
+      receiver_seen records shows =
+          let on : place_or_home core m.to ≡ p = stands_here core consistent.sound p its.0 m its.1 its.2 in
+          let placed : is_some (place_of core m.to) ≡ true = (consistent.sound.placed m.to).there ∙ receiver_there (record_of w m.to).state refl in
+          ap is_some (shows.shown m.to) ∙ seen_there (place_of core m.to) p (home m.to core.processors) (record_of w m.to) on placed
+
+    -- a message for which a blank is wanted constructs its receiver, which isn't there
+    module _ (edition : Edition) (wanted : blank_of_id core (assigned_to core p) ≡ Some edition) where
+      abbrev Wants : Type 0
+      Wants = ((record_of w m.to).state ≡ None) × (m.entry ≡ CONSTRUCT) × (edition_of_array w m.to.array ≡ Some edition)
+
+      by_entry : (record_of w m.to).state ≡ None → (if m.entry == CONSTRUCT then edition_of_array w m.to.array else None) ≡ Some edition → Wants
+      by_entry none h = elim (m.entry == CONSTRUCT) as (λ b. (m.entry == CONSTRUCT) ≡ b → (if b then edition_of_array w m.to.array else None) ≡ Some edition → Wants) [
+        | true ↦ λ same array. (none, exact_unsigned_eq m.entry CONSTRUCT same, array)
+        | false ↦ λ _ no. absurd (let never : ⊥ = cc in never)
+      ] refl h
+
+      by_state : (o : Option State) → (record_of w m.to).state ≡ o → (if is_some o then None else (if m.entry == CONSTRUCT then edition_of_array w m.to.array else None)) ≡ Some edition → Wants
+      by_state (Some s) is h = absurd (let never : ⊥ = cc in never)
+      by_state None is h = by_entry is h
+
+      pub wants_new : Wants
+      wants_new = by_state (record_of w m.to).state refl (ap (option_and_then (blank_for core)) (sym here) ∙ wanted)
+
+      -- the delivery that constructs it
+      pub under_way_new : (sent received : ℕ) → sent ≡ (record_of w m.to).sent → received ≡ (record_of w m.to).received → IsUnderWay core p (newcomer_due m edition sent received)
+      under_way_new sent received sends receives = record {
+        message = here;
+        edition = wants_new.2;
+        receiver = λ i. record { state = wants_new.0 i; sent = sym sends i; received = sym receives i };
+        reacts = ap (λ e. is_some (if e == CONSTRUCT then Some (constructed edition m.to m.words) else None)) wants_new.1;
+      }
+
+  -- ---- what a delivery makes of the world
+
+  module _ (due : Due) (under_way : IsUnderWay core p due) where
+    reaction_is : reaction_of w due.message ≡ reaction_in due
+    reaction_is =
+        ap (option_and_then (λ edition. react edition due.message.to (record_of w due.message.to).state due.message.entry due.message.words)) under_way.edition
+        ∙ ap (λ (r : Record). react due.edition due.message.to r.state due.message.entry due.message.words) under_way.receiver
+
+    made : (r : Reaction) × (reaction_in due ≡ Some r)
+    made = some_of (reaction_in due) under_way.reacts
+
+    abbrev its_message : (id : MsgId) × (assigned_to core p ≡ Some id) × (pending_message core id ≡ Some due.message)
+    its_message = its due.message under_way.message
+
+    after_is : (r : Reaction) → reaction_in due ≡ Some r → present (next_core core (Commit p)) ≡ performed w due.message (Some r)
+    after_is r is = present_next core consistent.sound p its_message.0 due.message its_message.1 its_message.2 ∙ ap (performed w due.message) (reaction_is ∙ is)
+
+    -- the records once it is settled are those of the world after it
+    pub shows_settled : (records : List (Elem × Record)) → ShowsOn p records core.places w →
+        ShowsOn p (with_record records due.message.to (record_after due)) (next_core core (Commit p)).places (present (next_core core (Commit p)))
+    shows_settled records shows =
+        let r = made.0 in
+        let x = due.message.to in
+        let id = its_message.0 in
+        let next = advanced (record_of w x) r in
+        let core_after = next_core core (Commit p) in
+        let after : record_after due ≡ next = ap (advanced_if due.receiver) made.1 ∙ ap (λ old. advanced old r) (sym under_way.receiver) in
+        let written : record_of (performed w due.message (Some r)) x ≡ next = record_at-insert w.records x next x ∙ ap (λ b. cond b next (record_of w x)) (tied_elem x) in
+        let becomes : record_of (performed w due.message (reaction_of w due.message)) x ≡ next = ap (λ o. record_of (performed w due.message o) x) (reaction_is ∙ made.1) ∙ written in
+        let receives : record_of (present core_after) x ≡ next = ap (λ (v : World). record_of v x) (after_is r made.1) ∙ written in
+        let receiver : if_here (place_of core_after x) p next ≡ if_there next = receiver_shown core consistent.sound p id due.message its_message.1 its_message.2 next becomes in
+        subst (λ n. ShowsOn p (with_record records x n) core_after.places (present core_after)) (sym after) (record {
+          rising = rising_with records shows.rising x next;
+          shown = λ q.
+              found_with records shows.rising x q next
+              ∙ elim (eq_by_cmp elem_cmp q x) as (λ b. eq_by_cmp elem_cmp q x ≡ b → cond b (if_there next) (lookup (is_at (elem_cmp q)) records) ≡ if_here (place_of core_after q) p (record_of (present core_after) q)) [
+                | true ↦ λ same.
+                    subst (λ q. if_there next ≡ if_here (place_of core_after q) p (record_of (present core_after) q)) (sym (tells_apart elem_exact q x same))
+                    (sym receiver ∙ ap (if_here (place_of core_after x) p) (sym receives))
+                | false ↦ λ other.
+                    let stays = others_stay core consistent.sound p id due.message its_message.1 its_message.2 q other in
+                    shows.shown q ∙ (λ i. if_here (sym stays.0 i) p (sym stays.1 i))
+              ] refl;
+        })
+
+    -- ---- the blank that it took
+
+    abbrev pub blank_taken : Option Edition
+    blank_taken = if is_some due.receiver.state then None else Some due.edition
+
+    blank_by : (o : Option State) → due.receiver.state ≡ o → is_some (react due.edition due.message.to o due.message.entry due.message.words) ≡ true →
+        (if is_some o then None else (if due.message.entry == CONSTRUCT then Some due.edition else None)) ≡ (if is_some o then None else Some due.edition)
+    blank_by (Some s) is reacts = refl
+    blank_by None is reacts =
+        elim (due.message.entry == CONSTRUCT) as (λ b. is_some (if b then Some (constructed due.edition due.message.to due.message.words) else None) ≡ true → (if b then Some due.edition else None) ≡ Some due.edition) [
+          | true ↦ λ _. refl
+          | false ↦ λ no. absurd (let never : ⊥ = cc in never)
+        ] reacts
+
+    pub blank_is : blank_of_id core (assigned_to core p) ≡ blank_taken
+    blank_is =
+        ap (option_and_then (blank_for core)) under_way.message
+        ∙ ap (λ (r : Record). if is_some r.state then None else (if due.message.entry == CONSTRUCT then edition_of_array w due.message.to.array else None)) under_way.receiver
+        ∙ ap (λ o. if is_some due.receiver.state then None else (if due.message.entry == CONSTRUCT then o else None)) under_way.edition
+        ∙ blank_by due.receiver.state refl under_way.reacts
+
+-- ---- a workplace with a delivery under way
+
+has_assigned : (core : Core) (p : ℕ) (due : Due) → IsUnderWay core p due → is_some (assigned_to core p) ≡ true
+has_assigned core p due under_way = ap is_some (and_then_some (pending_message core) (assigned_to core p) due.message under_way.message).1
+
+module _ {C : Type 0} {G : Ghosts C} (old : Workplace C G) (due : Due) where
+  abbrev its_core : Core
+  its_core = core_in old.history
+
+  abbrev on : ℕ
+  on = old.shelf.number
+
+  abbrev its_store : StoreView
+  its_store = store_with old.history old.stock
+
+  -- its step is a commit, or a release that gives the blank back
+  pub commits : {phase : Phase} → IsBusyAt old due phase → Goes its_store (Commit on) Done (record { core = next_core its_core (Commit on); blanks = blanks_in old.stock })
+  commits busy = is_committed its_core (blanks_in old.stock) on (has_assigned its_core on due busy.delivering.under_way) busy.running
+
+  pub releases : {phase : Phase} (busy : IsBusyAt old due phase) →
+      Goes its_store (Release on) Done (record { core = next_core its_core (Release on); blanks = with_given (blank_taken old.history busy.history on due busy.delivering.under_way) (blanks_in old.stock) })
+  releases busy =
+      subst (λ o. Goes its_store (Release on) Done (record { core = next_core its_core (Release on); blanks = with_given o (blanks_in old.stock) })) (blank_is old.history busy.history on due busy.delivering.under_way)
+      (goes_back its_core (blanks_in old.stock) on (has_assigned its_core on due busy.delivering.under_way) busy.running)
+
+  -- ---- a delivery that was performed
+
+  module _ (busy : IsBusyAt old due (done_by due (reaction_in due))) where
+    abbrev pub taken : View
+    taken = record old.shelf { phase = without_output old.shelf.phase }
+
+    same_newcomer : (kind : Kind) (phase : Phase) → is_newcomer_of kind (without_output phase) ≡ is_newcomer_of kind phase
+    same_newcomer kind phases.Idle = refl
+    same_newcomer kind (phases.Assigned due) = refl
+    same_newcomer kind (phases.Done done) = refl
+
+    -- the objects are counted as before once the output was taken
+    pub counted_taken : (kind : Kind) → objects_on taken kind ≡ objects_on old.shelf kind
+    counted_taken kind = ap (λ b. there_in old.shelf.records kind + cond b 1 0) (same_newcomer kind old.shelf.phase)
+
+    pub counted_so : (shelf : View) → shelf ≡ taken → (kind : Kind) → objects_on shelf kind ≡ objects_on old.shelf kind
+    counted_so shelf is kind = ap (λ v. objects_on v kind) is ∙ counted_taken kind
+
+    pub settled_is : settled taken ≡ record { number = on; records = with_record old.shelf.records due.message.to (record_after due); phase = phases.Idle }
+    settled_is =
+        let made = some_of (reaction_in due) busy.delivering.under_way.reacts in
+        ap (λ phase. settled (record old.shelf { phase = without_output phase })) (busy.delivering.phase_is ∙ ap (done_by due) made.1)
+
+    -- once it is settled the workplace is idle
+    pub settled_consistent : (new : Workplace C G) → IsConsistent new.history → core_in new.history ≡ next_core its_core (Commit on) → new.shelf ≡ settled taken → IsWithin new.shelf new.stock → IsIdleWorkplace new
+    settled_consistent new consistent committed shelf census =
+        let is = shelf ∙ settled_is in
+        let number : new.shelf.number ≡ on = ap (λ (v : View). v.number) is in
+        record {
+          history = consistent;
+          shelf = record {
+            on = subst (λ (core : Core). new.shelf.number < core.processors) (sym committed)
+                (subst (λ n. n < (next_core its_core (Commit on)).processors) (sym number) (subst (λ n. on < n) (sym (same_processors its_core on)) busy.delivering.part.on));
+            objects = subst (λ (core : Core). ShowsOn new.shelf.number new.shelf.records core.places (present core)) (sym committed)
+                (subst (λ (v : View). ShowsOn v.number v.records (next_core its_core (Commit on)).places (present (next_core its_core (Commit on)))) (sym is)
+                (shows_settled old.history busy.history on due busy.delivering.under_way old.shelf.records busy.delivering.part.objects));
+          };
+          idle = ap (λ (v : View). v.phase) is;
+          census = census;
+        }
+
+  -- ---- an assignment that is taken back
+
+  module _ (busy : IsBusyAt old due (phases.Assigned due)) where
+    -- its newcomer, if it has one
+    pub newcomer_is : (result : Bool) → result ≡ has_newcomer old.shelf.phase → result ≡ is_none due.receiver.state
+    newcomer_is result is = is ∙ ap has_newcomer busy.delivering.phase_is
+
+    pub edition_is : (edition : Edition) → Some edition ≡ receiver_edition old.shelf.phase → edition ≡ due.edition
+    edition_is edition is = let both : Some edition ≡ Some due.edition = is ∙ ap receiver_edition busy.delivering.phase_is in cc
+
+  -- a blank was taken for a newcomer
+  pub takes_blank : {phase : Phase} (busy : IsBusyAt old due phase) → is_none due.receiver.state ≡ true → blank_taken old.history busy.history on due busy.delivering.under_way ≡ Some due.edition
+  takes_blank busy none = by due.receiver.state none
+    where
+      by : (o : Option State) → is_none o ≡ true → (if is_some o then None else Some due.edition) ≡ Some due.edition
+      by None h = refl
+      by (Some s) h = absurd (let never : ⊥ = cc in never)
+
+-- a shelf shows its part of a world that stays, with the places of its elements
+pub same_part : (history next : History) (old shelf : View) (core : Core) → shelf ≡ old → core_in next ≡ core → core.processors ≡ (core_in history).processors → core.places ≡ (core_in history).places →
+    present core ≡ present (core_in history) → ShowsPart history old → ShowsPart next shelf
+same_part history next old shelf core same is processors places world shows = record {
+  on = subst (λ n. shelf.number < n) (sym (ap (λ (core : Core). core.processors) is ∙ processors)) (subst (λ (v : View). v.number < (core_in history).processors) (sym same) shows.on);
+  objects =
+      let here : ShowsOn shelf.number shelf.records (core_in history).places (present (core_in history)) =
+      subst (λ (v : View). ShowsOn v.number v.records (core_in history).places (present (core_in history))) (sym same) shows.objects in
+      subst (λ (core : Core). ShowsOn shelf.number shelf.records core.places (present core)) (sym is)
+      (subst (λ (w : World). ShowsOn shelf.number shelf.records core.places w) (sym world) (subst (λ ps. ShowsOn shelf.number shelf.records ps (present (core_in history))) (sym places) here));
+}
+
+-- once its receiver has reacted the objects are counted as before
+pub performed_objects : (old : View) (shelf : View) → shelf ≡ record old { phase = performed_phase old.phase } → objects_on shelf ≡ objects_on old
+performed_objects old shelf is = λ i kind. each kind i
+  where
+    by_reaction : (kind : Kind) (due : Due) (r : Option Reaction) → is_newcomer_of kind (done_by due r) ≡ is_newcomer_of kind (phases.Assigned due)
+    by_reaction kind due None = refl
+    by_reaction kind due (Some r) = refl
+
+    by_phase : (kind : Kind) (phase : Phase) → is_newcomer_of kind (performed_phase phase) ≡ is_newcomer_of kind phase
+    by_phase kind phases.Idle = refl
+    by_phase kind (phases.Assigned due) = by_reaction kind due (reaction_in due)
+    by_phase kind (phases.Done done) = refl
+
+    each : (kind : Kind) → objects_on shelf kind ≡ objects_on old kind
+    each kind = ap (λ v. objects_on v kind) is ∙ ap (λ b. there_in old.records kind + cond b 1 0) (by_phase kind old.phase)
+
+-- ---- a message that is assigned on the shelf
+
+module _ (history : History) (consistent : IsConsistent history) (old shelf : View) (shows : ShowsPart history old) (idle : old.phase ≡ phases.Idle) (m : Message) (here : assigned_message (core_in history) old.number ≡ Some m) where
+  -- it isn't refused where no blank is wanted for it
+  pub not_refused : blank_of_id (core_in history) (assigned_to (core_in history) old.number) ≡ None → refusal_at old m.to ≡ None
+  not_refused unwanted =
+      let seen = receiver_seen history consistent old.number m here unwanted old.records shows.objects in
+      λ i. if is_idle (idle i) then (if seen i then None else Some refusals.Absent) else Some refusals.Uncommitted
+
+  -- with a receiver that is there
+  module _ (assigns : Assigns old m shelf) where
+    abbrev due_there : Due
+    due_there = assigns.0
+
+    is_there : shelf ≡ record old { phase = phases.Assigned due_there }
+    is_there = assigns.2
+
+    pub delivering_there : (due : Due) × IsDelivering history shelf due (phases.Assigned due)
+    delivering_there = (
+      due_there,
+      subst (λ (v : View). IsDelivering history v due_there (phases.Assigned due_there)) (sym is_there) (record {
+        phase_is = refl;
+        under_way = under_way_there history consistent old.number m here old.records shows.objects due_there assigns.1;
+        part = record { on = shows.on; objects = shows.objects };
+      }),
+    )
+
+  -- with a newcomer
+  module _ {C : Type 0} (state : C → State) (blank : C) (wanted : blank_of_id (core_in history) (assigned_to (core_in history) old.number) ≡ Some (edition_of (state blank)))
+      (sent received : ℕ) (is : shelf ≡ record old { phase = phases.Assigned (newcomer_due m (edition_of (state blank)) sent received) }) where
+    abbrev due_new : Due
+    due_new = newcomer_due m (edition_of (state blank)) sent received
+
+    pub delivering_new : sent ≡ (record_of (present (core_in history)) m.to).sent → received ≡ (record_of (present (core_in history)) m.to).received → (due : Due) × IsDelivering history shelf due (phases.Assigned due)
+    delivering_new sends receives = (
+      due_new,
+      subst (λ (v : View). IsDelivering history v due_new (phases.Assigned due_new)) (sym is) (record {
+        phase_is = refl;
+        under_way = under_way_new history consistent old.number m here (edition_of (state blank)) wanted sent received sends receives;
+        part = record { on = shows.on; objects = shows.objects };
+      }),
+    )

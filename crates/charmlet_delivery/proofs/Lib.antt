@@ -1,0 +1,5 @@
+pub mod Assigning
+pub mod Places
+pub mod Delivering
+pub mod Counting
+pub mod Entering
