@@ -39,7 +39,7 @@ use Rattle.charmlet_shelf.specs.declared.phase.Phase.{Phase}
 use Rattle.charmlet_shelf.specs.declared.phase.Phase.TheVariants as phases
 use Rattle.charmlet_stock.specs.Stock.{blanks_in}
 use Rattle.charmlet_delivery.specs.Workplace.{Workplace, IsWithin, ShowsOn, ShowsPart, IsIdleWorkplace}
-use Rattle.charmlet_migrate.specs.Moving.{store_with}
+use Rattle.charmlet_delivery.specs.Workplace.{store_with}
 use Rattle.charmlet_delivery.specs.UnderWay.{IsBusyAt, IsDelivering, IsUnderWay}
 use Rattle.charmlet_delivery.proofs.Assigning.{goes_back, is_committed}
 use Rattle.charmlet_delivery.proofs.Places.{if_here_same, others_stay, present_next, receiver_shown, same_processors, seen_is, stands_here}

@@ -11,4 +11,3 @@ pub use Rattle.charmlet_shelf.specs.Lending
 pub use Rattle.charmlet_shelf.specs.Shelf
 pub use Rattle.charmlet_stock.specs.Stock
 pub use Rattle.charmlet_history.specs.Kept
-pub use Rattle.charmlet_migrate.specs.Moving

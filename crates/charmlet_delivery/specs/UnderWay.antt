@@ -15,7 +15,7 @@ use Rattle.charmlet_shelf.specs.Due.{Due, reaction_in}
 use Rattle.charmlet_shelf.specs.Shelf.{View}
 use Rattle.charmlet_shelf.specs.declared.phase.Phase.{Phase}
 use Rattle.charmlet_shelf.specs.declared.phase.Phase.TheVariants.{Assigned, Idle}
-use Rattle.charmlet_migrate.specs.Moving.{store_with}
+use Rattle.charmlet_delivery.specs.Workplace.{store_with}
 use Rattle.charmlet_delivery.specs.Workplace.{Workplace, IsWithin, ShowsPart}
 
 -- the core has assigned the delivery's message to the processor; its receiver is of this edition,

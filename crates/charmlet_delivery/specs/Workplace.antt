@@ -1,14 +1,16 @@
 -- What the delivery on one of many processors works on: its workplace.
-use Rattle.std.specs.Prelude.{◌≡◌, ℕ, ◌+◌, ◌≤◌, ◌<◌, List}
+use Rattle.std.specs.Prelude.{◌≡◌, ℕ, ◌+◌, ◌≤◌, ◌<◌, List, Result, Ok, Err}
 use Rattle.std.specs.BTreeMap.{is_at}
 use Rattle.std.specs.List.Sorted.{IsStrictlySortedBy}
 use Rattle.std.specs.Map.{keys_of, lookup}
 use Rattle.charmlet_model.specs.declared.kind.Kind.{Kind}
 use Rattle.charmlet_model.specs.declared.names.Elem.{Elem}
+use Rattle.charmlet_model.specs.declared.refusal.Refusal.{Refusal}
 use Rattle.charmlet_model.specs.declared.state.Record.{Record}
 use Rattle.charmlet_model.specs.Names.{elem_cmp}
 use Rattle.charmlet_model.specs.World.{World, record_of}
-use Rattle.charmlet_model.specs.Core.{present}
+use Rattle.charmlet_model.specs.Core.{CoreAnswer, Done, Refuses, present}
+use Rattle.charmlet_model.specs.Run.{StoreView}
 use Rattle.charmlet_model.specs.Shelves.{if_here}
 use Rattle.charmlet_chare.specs.declared.chare.Chare.{Ghosts}
 use Rattle.charmlet_history.specs.declared.history.History.{History}
@@ -28,6 +30,15 @@ pub record Workplace (C : Type 0) (G : Ghosts C) : Type 0 where
 -- a workplace of these three
 abbrev pub workplace_of : {C : Type 0} {G : Ghosts C} → History → View → Stock C G → Workplace C G
 workplace_of history shelf stock = record { history = history; shelf = shelf; stock = stock }
+
+-- a history and a stock as a core and blanks
+abbrev pub store_with : {C : Type 0} {G : Ghosts C} → History → Stock C G → StoreView
+store_with history stock = record { core = core_in history; blanks = blanks_in stock }
+
+-- the answer to a step that answers nothing, or why it is refused
+abbrev pub done_or_refused : {T : Type 0} → Result T Refusal → CoreAnswer
+done_or_refused (Ok x) = Done
+done_or_refused (Err refusal) = Refuses refusal
 
 -- how many objects of each kind are on the shelf, in the stock, or retired
 abbrev pub held_in : {C : Type 0} {G : Ghosts C} → View → Stock C G → Kind → ℕ

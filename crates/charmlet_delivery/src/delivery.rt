@@ -14,7 +14,7 @@ ghost use Rattle.charmlet_shelf.specs.Due.{Due, reaction_in};
 ghost use Rattle.charmlet_shelf.specs.Lending.{IsCarriedOut};
 ghost use Rattle.charmlet_shelf.specs.Shelf.{View, done_by};
 ghost use Rattle.charmlet_shelf.specs.declared.phase.Phase.TheVariants as phases;
-ghost use Rattle.charmlet_migrate.specs.Moving.{store_with};
+ghost use Rattle.charmlet_delivery.specs.Workplace.{store_with};
 ghost use Rattle.charmlet_stock.specs.Stock.{keeping_of, supplied_to};
 ghost use Rattle.charmlet_delivery.specs.Workplace.{ShowsPart, IsIdleWorkplace, workplace_of, held_in};
 ghost use Rattle.charmlet_delivery.specs.UnderWay.{Ends, IsAssignedBy, IsBusyAt, IsDelivering, IsEntered, IsUnderWay};

@@ -9,3 +9,4 @@ pub use Rattle.charmlet_model.specs.Shelves
 pub use Rattle.charmlet_shelf.specs.Shelf
 pub use Rattle.charmlet_stock.specs.Stock
 pub use Rattle.charmlet_history.specs.Kept
+pub use Rattle.charmlet_delivery.specs.Workplace

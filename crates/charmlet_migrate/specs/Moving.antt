@@ -1,11 +1,9 @@
 -- Elements that move between processors.
-use Rattle.std.specs.Prelude.{◌≡◌, ℕ, List, Result, Ok, Err, map, sum_by}
+use Rattle.std.specs.Prelude.{◌≡◌, ℕ, List, map, sum_by}
 use Rattle.charmlet_model.specs.declared.kind.Kind.{Kind}
 use Rattle.charmlet_model.specs.declared.names.Elem.{Elem}
-use Rattle.charmlet_model.specs.declared.refusal.Refusal.{Refusal}
 use Rattle.charmlet_model.specs.declared.state.Record.{Record}
-use Rattle.charmlet_model.specs.Core.{CoreAnswer, Done, Refuses, present}
-use Rattle.charmlet_model.specs.Run.{StoreView}
+use Rattle.charmlet_model.specs.Core.{present}
 use Rattle.charmlet_model.specs.Shelves.{AddsUp, Shows}
 use Rattle.charmlet_chare.specs.declared.chare.Chare.{Ghosts}
 use Rattle.charmlet_history.specs.declared.history.History.{History}
@@ -32,10 +30,6 @@ IsIdle shelf = shelf.phase ≡ Idle
 abbrev pub objects_among : List View → Kind → ℕ
 objects_among shelves kind = sum_by (λ shelf. objects_on shelf kind) shelves
 
--- a history and a stock as a core and blanks
-abbrev pub store_with : {C : Type 0} {G : Ghosts C} → History → Stock C G → StoreView
-store_with history stock = record { core = core_in history; blanks = blanks_in stock }
-
 -- the shelves show the present world, each element on the shelf of its place
 abbrev pub ShowsPresent : List View → History → Type 0
 ShowsPresent shelves history = Shows (records_on shelves)
@@ -45,8 +39,3 @@ ShowsPresent shelves history = Shows (records_on shelves)
 abbrev pub IsCountedAmong : {C : Type 0} {G : Ghosts C} → List View → Stock C G → Type 0
 IsCountedAmong shelves stock = AddsUp (supplied_to stock) (objects_among shelves) (blanks_in stock)
     (λ kind. (tally_in stock kind).retired)
-
--- the answer to a move
-abbrev pub move_answer : {T : Type 0} → Result T Refusal → CoreAnswer
-move_answer (Ok x) = Done
-move_answer (Err refusal) = Refuses refusal

@@ -10,7 +10,7 @@ ghost use Rattle.charmlet_model.specs.Shelves.{count_of};
 ghost use Rattle.charmlet_model.specs.Sound.{new_world, opened};
 ghost use Rattle.charmlet_locate.specs.Locations.{is_processor_count};
 ghost use Rattle.charmlet_history.specs.Kept.{core_in, next_in, told_or_refused};
-ghost use Rattle.charmlet_migrate.specs.Moving.{move_answer};
+ghost use Rattle.charmlet_delivery.specs.Workplace.{done_or_refused};
 ghost use Rattle.charmlet_stock.specs.ByKind.{for_all, with_at};
 ghost use Rattle.charmlet_stock.specs.Pile.{with_out};
 ghost use Rattle.charmlet_stock.specs.Stock.{blanks_in, census_of, keeping_of, part_of, tally_in};
@@ -170,7 +170,7 @@ impl<C: Chare> Store<C> {
 
     /// Moves an element to a processor. Where it is refused, all is as before.
     pub fn relocate(&mut self, elem: Elem, processor: u16) -> Result<(), Refusal>
-        ensures goes { Goes (store_in self.old) (core.Move elem processor) (move_answer result)
+        ensures goes { Goes (store_in self.old) (core.Move elem processor) (done_or_refused result)
             (store_in self.new) }
         ensures supplied { supplied_in self.new ≡ supplied_in self.old }
         ensures keeping { self.new.keeping ≡ self.old.keeping }

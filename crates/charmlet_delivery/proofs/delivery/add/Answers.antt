@@ -10,7 +10,7 @@ use Rattle.charmlet_shelf.specs.Shelf.{View}
 use Rattle.charmlet_stock.specs.Stock.{blanks_in}
 use Rattle.charmlet_stock.proofs.Blanks.{retired_blanks, same_supplied}
 use Rattle.charmlet_stock.proofs.Results.{when_ok}
-use Rattle.charmlet_migrate.specs.Moving.{store_with}
+use Rattle.charmlet_delivery.specs.Workplace.{store_with}
 use Rattle.charmlet_delivery.specs.Workplace.{workplace_of, held_in}
 use Rattle.charmlet_delivery.proofs.Counting.{in_hand, is_out, moved_held, retired_as_before}
 use Rattle.charmlet_delivery.proofs.Delivering.{commits}

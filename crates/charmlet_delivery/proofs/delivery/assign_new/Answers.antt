@@ -12,7 +12,7 @@ use Rattle.charmlet_shelf.specs.Due.{Due}
 use Rattle.charmlet_shelf.specs.Shelf.{View}
 use Rattle.charmlet_shelf.specs.declared.phase.Phase.TheVariants.{Assigned}
 use Rattle.charmlet_stock.specs.Stock.{blanks_in, supplied_to}
-use Rattle.charmlet_migrate.specs.Moving.{store_with}
+use Rattle.charmlet_delivery.specs.Workplace.{store_with}
 use Rattle.charmlet_delivery.specs.Workplace.{workplace_of, held_in}
 use Rattle.charmlet_delivery.specs.UnderWay.{IsDelivering}
 use Rattle.charmlet_delivery.proofs.Assigning.{still_runs, Has, assigned_here, has_no_blank, has_no_memory, is_assigned, is_released, taken_and_given}

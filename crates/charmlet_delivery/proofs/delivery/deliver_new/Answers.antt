@@ -1,4 +1,4 @@
-use Rattle.charmlet_migrate.specs.Moving.{store_with}
+use Rattle.charmlet_delivery.specs.Workplace.{store_with}
 use Rattle.charmlet_delivery.proofs.Assigning.{ends_so}
 use Rattle.charmlet_delivery.proofs.delivery.deliver_new.Goals as goal
 

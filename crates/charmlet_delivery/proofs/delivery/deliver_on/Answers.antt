@@ -4,7 +4,7 @@ use Rattle.charmlet_model.specs.declared.refusal.Refusal.{Refusal}
 use Rattle.charmlet_model.specs.Core.{Assign, first_refusal, checks}
 use Rattle.charmlet_history.specs.Kept.{core_in, plenty}
 use Rattle.charmlet_stock.specs.Stock.{blanks_in}
-use Rattle.charmlet_migrate.specs.Moving.{store_with}
+use Rattle.charmlet_delivery.specs.Workplace.{store_with}
 use Rattle.charmlet_delivery.specs.UnderWay.{Ends}
 use Rattle.charmlet_delivery.proofs.Assigning.{is_refused_so}
 use Rattle.charmlet_delivery.proofs.delivery.deliver_on.Goals as goal

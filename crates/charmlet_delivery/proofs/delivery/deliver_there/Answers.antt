@@ -7,7 +7,7 @@ use Rattle.charmlet_history.specs.Kept.{core_in}
 use Rattle.charmlet_shelf.specs.Shelf.{View}
 use Rattle.charmlet_stock.specs.Stock.{blanks_in}
 use Rattle.charmlet_stock.proofs.Results.{when_ok}
-use Rattle.charmlet_migrate.specs.Moving.{store_with}
+use Rattle.charmlet_delivery.specs.Workplace.{store_with}
 use Rattle.charmlet_delivery.proofs.Assigning.{Has, assigned_here, is_assigned, is_released}
 use Rattle.charmlet_delivery.proofs.Entering.{objects_out}
 use Rattle.charmlet_delivery.proofs.delivery.deliver_there.Goals as goal

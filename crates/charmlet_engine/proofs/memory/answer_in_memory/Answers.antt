@@ -1,7 +1,7 @@
 use Rattle.std.proofs.Common.{◌∙◌, ap}
 use Rattle.charmlet_model.specs.Core as core
 use Rattle.charmlet_history.specs.Kept.{told_or_refused}
-use Rattle.charmlet_migrate.specs.Moving.{move_answer}
+use Rattle.charmlet_delivery.specs.Workplace.{done_or_refused}
 use Rattle.charmlet_store.specs.Store.{store_in}
 use Rattle.charmlet_engine.specs.Outcomes.{is_no_fault, is_still}
 use Rattle.charmlet_engine.proofs.Quiets.{ends_quiet, goes_quiet, told_goes_on, told_still}
@@ -23,11 +23,11 @@ returns-in-Err-clause-quiet g c = ends_quiet (store_in c.args.store.now) (store_
 
 pub returns-in-Ok-relocate-clause-quiet : goal.returns-in-Ok-relocate-clause-quiet
 returns-in-Ok-relocate-clause-quiet g c =
-    goes_quiet (store_in c.args.store.now) (store_in c.relocate.new.self) (core.Move c.in-Move.elem c.in-Move.processor) (move_answer c.relocate.result) tt c.relocate.ensures.goes
+    goes_quiet (store_in c.args.store.now) (store_in c.relocate.new.self) (core.Move c.in-Move.elem c.in-Move.processor) (done_or_refused c.relocate.result) tt c.relocate.ensures.goes
 
 pub returns-in-Err-relocate-clause-quiet : goal.returns-in-Err-relocate-clause-quiet
 returns-in-Err-relocate-clause-quiet g c =
-    goes_quiet (store_in c.args.store.now) (store_in c.relocate.new.self) (core.Move c.in-Move.elem c.in-Move.processor) (move_answer c.relocate.result) tt c.relocate.ensures.goes
+    goes_quiet (store_in c.args.store.now) (store_in c.relocate.new.self) (core.Move c.in-Move.elem c.in-Move.processor) (done_or_refused c.relocate.result) tt c.relocate.ensures.goes
 
 pub returns-in-Request-clause-still : goal.returns-in-Request-clause-still
 returns-in-Request-clause-still g c =

@@ -4,7 +4,8 @@ use Rattle.std.proofs.lemmas.List.{length-map, with_items_is}
 use Rattle.charmlet_history.specs.Kept.{core_in}
 use Rattle.charmlet_shelf.specs.Shelf.{View}
 use Rattle.charmlet_stock.specs.Stock.{blanks_in}
-use Rattle.charmlet_migrate.specs.Moving.{IsCountedAmong, move_answer, numbers_of, store_with}
+use Rattle.charmlet_migrate.specs.Moving.{IsCountedAmong, numbers_of}
+use Rattle.charmlet_delivery.specs.Workplace.{done_or_refused, store_with}
 use Rattle.charmlet_model.specs.Core.{Move}
 use Rattle.charmlet_store.proofs.Shelved.{move_processors, moved_consistent}
 use Rattle.charmlet_model.specs.Run.{Goes}
@@ -22,12 +23,12 @@ invariant_of-self g c =
     let fits : length last ≡ old.shelves.len = sym (length-map last number) ∙ ap length numbers ∙ length-map first number ∙ sym old.shelves.ok.0 in
     let counted : IsCountedAmong c.as_mut_slice.result.now old.stock = subst (λ shelves. IsCountedAmong shelves old.stock) (sym c.as_mut_slice.ensures.value) c.self.invariant.census in
     let processors = move_processors (core_in old.history) (blanks_in old.stock) c.args.elem c.args.processor
-    (record { answer = move_answer c.move_to.result; core = core_in new.history; blanks = blanks_in new.stock }) c.move_to.ensures.goes in
+    (record { answer = done_or_refused c.move_to.result; core = core_in new.history; blanks = blanks_in new.stock }) c.move_to.ensures.goes in
     moved_consistent old new c.self.invariant last (with_items_is old.shelves last fits) numbers processors c.move_to.ensures.idle c.move_to.ensures.shows (c.move_to.ensures.census counted)
 
 pub returns-clause-goes : goal.returns-clause-goes
 returns-clause-goes g c =
-    subst (λ (now : StoreShown). Goes (store_in now) (Move c.args.elem c.args.processor) (move_answer c.move_to.result) (store_with c.move_to.new.history c.move_to.new.stock)) c.self.view_is c.move_to.ensures.goes
+    subst (λ (now : StoreShown). Goes (store_in now) (Move c.args.elem c.args.processor) (done_or_refused c.move_to.result) (store_with c.move_to.new.history c.move_to.new.stock)) c.self.view_is c.move_to.ensures.goes
 
 pub returns-clause-supplied : goal.returns-clause-supplied
 returns-clause-supplied g c = c.move_to.ensures.supplied ∙ ap supplied_in c.self.view_is
