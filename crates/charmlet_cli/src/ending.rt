@@ -22,12 +22,12 @@ impl Failure {
     ghost use Rattle.charmlet_cli.specs.Failure.{Says, failure_status};
 
     /// The exit status: 2 for a bad command line or a call for help, and else that of the stop.
-    fn status(&self) -> u8
+    fn exit_status(&self) -> u8
         ensures { result ≡ failure_status self.now }
     {
         match self {
             Failure::Command(_) => 2,
-            Failure::Stopped(stop) => stop.status(),
+            Failure::Stopped(stop) => stop.exit_status(),
         }
     }
 
@@ -93,6 +93,6 @@ pub fn end_program<W: Write>(ran: &Result<(), Failure>, errors: &mut W) -> (u8, 
 {
     match ran {
         Ok(()) => (0, Ok(())),
-        Err(failure) => (failure.status(), failure.say(errors)),
+        Err(failure) => (failure.exit_status(), failure.say(errors)),
     }
 }

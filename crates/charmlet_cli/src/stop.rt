@@ -38,7 +38,7 @@ impl Stop {
 
     /// The program's exit status: 1 where it can't go on, has no store, shows none, or found bad
     /// outcomes, and 2 for a script that can't be run.
-    pub fn status(&self) -> u8
+    pub fn exit_status(&self) -> u8
         ensures { result ≡ status_of self.now }
     {
         match self {

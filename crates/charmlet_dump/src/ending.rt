@@ -25,7 +25,7 @@ impl<'a> Failure<'a> {
     ghost use Rattle.charmlet_dump.specs.Ending.{failure_status};
 
     /// The exit status: 2 for a bad command line or a call for help, and else 1.
-    fn status(&self) -> u8
+    fn exit_status(&self) -> u8
         ensures { result ≡ failure_status self.now }
     {
         match self {
@@ -109,6 +109,6 @@ pub fn end_program<W: Write>(ran: &Result<(), Failure<'_>>, errors: &mut W) -> (
 {
     match ran {
         Ok(()) => (0, Ok(())),
-        Err(failure) => (failure.status(), writeln!(errors, "{failure}")),
+        Err(failure) => (failure.exit_status(), writeln!(errors, "{failure}")),
     }
 }

@@ -7,7 +7,7 @@ use Rattle.charmlet_disk.specs.Disk.{IsSettled}
 use Rattle.charmlet_halves.specs.Bytes.{FirstGate}
 
 -- an image stands in the half after its closed first gate, up to the closed gate at this place
-pub record IsWaiting (bytes : List ℕ) (at : ℕ) : Type 0 where
+pub record IsPreparedAt (bytes : List ℕ) (at : ℕ) : Type 0 where
   pub some : 0 < at
   pub inside : at < length bytes
   pub first : slice_index bytes 0 ≢ 1
@@ -25,4 +25,4 @@ pub record IsReady (files : Half → File) (taken : Half) (log_end : ℕ) (spare
   pub closed : slice_index (files taken).now log_end ≢ 1
   pub spare : FirstGate spare_closed (files (other taken)).now
   pub image : (at : ℕ) → prepared ≡ Some at → (spare_closed ≡ true)
-      × IsWaiting (files (other taken)).now at
+      × IsPreparedAt (files (other taken)).now at

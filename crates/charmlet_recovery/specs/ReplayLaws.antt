@@ -16,7 +16,7 @@ use Rattle.charmlet_model.specs.Logging.{logged_all}
 use Rattle.charmlet_record.specs.Reading.{Kinds}
 use Rattle.charmlet_recovery.specs.Bases.{redelivered_all}
 use Rattle.charmlet_recovery.specs.Faults.{is_caught_up, first_failure, event_tests}
-use Rattle.charmlet_recovery.specs.Replays.{or_else, last_reply, reply_if, Pass, IsBeginning, listed, replayed, AreReceivers, replay_tests, replay_records, passes, pass_after, fits_own, message_of, caught_own, deliveries_to}
+use Rattle.charmlet_recovery.specs.Replays.{or_else, last_reply, reply_if, LogPass, IsBeginning, listed, replayed, AreReceivers, replay_tests, replay_records, passes, pass_after, fits_own, message_of, caught_own, deliveries_to}
 
 -- the records of a history are those that each element's own messages give, in whatever order the
 -- elements are taken
@@ -28,21 +28,21 @@ ListsGiveRecords = (w : World) (before : ℕ) (history : List Event) (xs : List 
 -- a pass over the log of a history, which runs no entry method, gives each element the messages
 -- that the history delivers to it
 abbrev pub ListsNeedNoEntries : Type 0
-ListsNeedNoEntries = (w : World) (before : ℕ) (history : List Event) (pass : Pass) (x : Elem) →
+ListsNeedNoEntries = (w : World) (before : ℕ) (history : List Event) (pass : LogPass) (x : Elem) →
     IsFit w → IsLegal w before history → IsBeginning w pass →
     listed x pass (logged_all w history) ≡ own x w history
 
 -- such a pass ends with the pending messages, the counts of sent messages and the clients' rows of
 -- the world, but for the replies' words
 abbrev pub PassesEndAsWorlds : Type 0
-PassesEndAsWorlds = (w : World) (before : ℕ) (history : List Event) (pass : Pass) → IsFit w →
+PassesEndAsWorlds = (w : World) (before : ℕ) (history : List Event) (pass : LogPass) → IsFit w →
     IsLegal w before history → IsBeginning w pass →
     IsBeginning (world w history) (pass_after pass (logged_all w history))
 
 -- In any log, the first record that the pass or its receiver's worker finds wrong is the first one
 -- that can't happen as it is written.
 abbrev pub ReplayFindsFirstFault : Type 0
-ReplayFindsFirstFault = (w : World) (before : ℕ) (pass : Pass) (log : List Logged) →
+ReplayFindsFirstFault = (w : World) (before : ℕ) (pass : LogPass) (log : List Logged) →
     IsBeginning w pass →
     first_failure (replay_tests w.manifest pass w.records before log)
     ≡ first_failure (event_tests w before log)
@@ -50,7 +50,7 @@ ReplayFindsFirstFault = (w : World) (before : ℕ) (pass : Pass) (log : List Log
 -- In any log, the record of an element that a replay comes to is what the messages listed for the
 -- element make of it.
 abbrev pub ReplayedRecordsAreOwn : Type 0
-ReplayedRecordsAreOwn = (manifest : Kinds) (pass : Pass) (records : List (Elem × Record))
+ReplayedRecordsAreOwn = (manifest : Kinds) (pass : LogPass) (records : List (Elem × Record))
     (log : List Logged) (x : Elem) →
     record_at (replay_records manifest pass records log) x
     ≡ received (lookup (is_at (nat_cmp x.array)) manifest) x (record_at records x)
@@ -59,7 +59,7 @@ ReplayedRecordsAreOwn = (manifest : Kinds) (pass : Pass) (records : List (Elem �
 -- In any log, the test of a place is that of the pass, and that of its receiver's worker by its own
 -- list up to there.
 abbrev pub TestsAreOwn : Type 0
-TestsAreOwn = (manifest : Kinds) (pass : Pass) (records : List (Elem × Record)) (before : ℕ)
+TestsAreOwn = (manifest : Kinds) (pass : LogPass) (records : List (Elem × Record)) (before : ℕ)
     (earlier : List Logged) (l : Logged) (later : List Logged) →
     slice_index_or (replay_tests manifest pass records before (earlier ++ l ∷ later))
     (length earlier) true
