@@ -21,7 +21,7 @@ IsFolder (Folder disk) = ⊤
 IsFolder (Memory disk) = ⊥
 IsFolder (Failing fuse) = ⊥
 
--- its two files, where it is in memory
+-- its two files, if it is in memory
 abbrev pub files_of : AnyDisk → Half → File
 files_of (Folder disk) = λ _. clean []
 files_of (Memory disk) = memories.files disk
@@ -52,7 +52,7 @@ faults_beneath (Folder disk) = folders.faults_of disk
 faults_beneath (Memory disk) = memories.faults_of disk
 faults_beneath (Failing fuse) = memories.faults_of (fuses.inside fuse)
 
--- how many writes and syncs it passes still, where it fails by itself after them
+-- how many writes and syncs it still passes, if it fails by itself after them
 abbrev pub calls_left : AnyDisk → Option ℕ
 calls_left (Folder disk) = None
 calls_left (Memory disk) = None

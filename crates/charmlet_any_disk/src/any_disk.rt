@@ -11,7 +11,7 @@ use std::alloc::{AllocError, Global};
 pub enum AnyDisk {
     /// The two files of a folder.
     Folder(FileDisk),
-    /// In memory. It fails only where memory is refused.
+    /// In memory. It fails only when out of memory.
     Memory(MemDisk),
     /// In memory, but each write and each sync fails from some call on.
     Failing(FuseDisk<MemDisk>),
@@ -24,8 +24,8 @@ impl AnyDisk {
     ghost use Rattle.charmlet_disk.specs.Disk.{IsSettled};
     ghost use Rattle.charmlet_disk.specs.File.{MayLeave, clean};
 
-    /// A disk over the two files of the folder at this path, with no failure counted. The error is
-    /// that there is no memory for the path.
+    /// A disk over the two files of the folder at this path, with no failure counted. It fails only
+    /// when there is no memory for the path.
     pub fn folder(rt: HostRuntime, path: &str) -> Result<AnyDisk, AllocError>
         ensures folder { IfOk result IsFolder }
         ensures faults { IfOk result (λ disk. faults_of disk ≡ 0) }
@@ -55,7 +55,7 @@ impl AnyDisk {
     }
 
     /// What a crash leaves of a disk in memory, by its choice: a disk in memory that doesn't fail
-    /// by itself, of which all is sure. A folder's disk stays as it is.
+    /// by itself, all of it sure. A folder's disk stays as it is.
     pub fn crash(self, choice: CrashChoice) -> AnyDisk
         ensures left { is_honest self → (half : _) →
             files_of result half ≡ clean (left_by choice (files_of self half)) }

@@ -40,9 +40,9 @@ impl Outbox {
         }
     }
 
-    /// Sends a message to an element, after those that were sent before. An entry sends at most
-    /// `MAX_SENDS`, each of at most `MAX_WORDS` words. It fails only when out of memory, and then
-    /// leaves the outbox as it was.
+    /// Sends a message to an element, after those sent before. An entry sends at most `MAX_SENDS`,
+    /// each of at most `MAX_WORDS` words. It fails only when out of memory, and the outbox is then
+    /// unchanged.
     pub fn send(&mut self, to: Elem, entry: u16, words: &[u64]) -> Result<(), AllocError>
         requires room { length self.old.sends < MAX_SENDS }
         requires short { length words.now ≤ MAX_WORDS }
@@ -54,8 +54,8 @@ impl Outbox {
         Ok(())
     }
 
-    /// Makes these words the reply, at most `MAX_WORDS` of them, in the place of an earlier one. It
-    /// fails only when out of memory, and then leaves the outbox as it was.
+    /// Sets the reply, at most `MAX_WORDS` words, which replaces an earlier one. It fails only when
+    /// out of memory, and the outbox is then unchanged.
     pub fn reply(&mut self, words: &[u64]) -> Result<(), AllocError>
         requires { length words.now ≤ MAX_WORDS }
         ensures ok { OnOk result (self.new ≡ with_reply self.old words.now) }
@@ -65,7 +65,7 @@ impl Outbox {
         Ok(())
     }
 
-    /// Says that the object is destroyed once its entry ends.
+    /// Has the object destroyed once its entry ends.
     pub fn destroy(&mut self)
         ensures { self.new ≡ record self.old { is_destroyed = true } }
     {

@@ -50,7 +50,7 @@ dir_option = record (new_rule (codes "dir")) {
   action = Some Set;
 }
 
--- `--pes N`, a 16-bit number, which is 1 where the line doesn't have it
+-- `--pes N`, a 16-bit number, which is 1 if the line doesn't have it
 abbrev pub pes_option : Rule
 pes_option = record (new_rule (codes "pes")) {
   long = Some (codes "pes");
@@ -86,8 +86,8 @@ charmlet_line =
     run_line.top) show_line.top) restart_line.top) lab_line.top
 
 -- what is asked for: a run of a script, maybe with a folder for its store; a showing of the store
--- in a folder; a restart of the store in a folder, on so many processors, with a script; or a trial
--- of a script's crashes
+-- in a folder; a restart of the store in a folder, on a number of processors, with a script; or a
+-- trial of a script's crashes
 pub data Asked : Type 0 where
   Runs : (script : Text) (dir : Option Text) → Asked
   Shows : (dir : Text) → Asked
@@ -151,11 +151,11 @@ asked_in (Lab script) = Tries script.now
 abbrev pub Asks : List Text → Command → Type 0
 Asks words command = asked words ≡ Some (asked_in command)
 
--- why words ask for nothing: clap's faults, and where it finds none, the want of a subcommand
+-- why words ask for nothing: clap's faults, or, if it finds none, the missing subcommand
 abbrev pub faults_of : List Text → Kinds
 faults_of words = or_else (fault_of charmlet_line words) (MissingSubcommand ∷ [])
 
--- the words ask for no command, and the error tells why, lack of memory aside
+-- the words ask for no command, and the error tells why, ignoring lack of memory
 abbrev pub AsksNothing : List Text → CommandError → Type 0
 AsksNothing words Memory = Unit {0}
 AsksNothing words (Line error) = (asked words ≡ None) × IsAmong (kind_of error) (faults_of words)

@@ -27,8 +27,8 @@ pub enum Command<'a> {
         dir: &'a str,
     },
     /// Restart the store in the folder `dir` on `processors` processors, and run the script in the
-    /// file `script` on it. The number is any of 16 bits: whether a store can come back on so many,
-    /// the command line doesn't know.
+    /// file `script` on it. The number is any 16-bit number: the command line doesn't check that a
+    /// store can have that many.
     Restart {
         dir: &'a str,
         script: &'a str,
@@ -407,9 +407,9 @@ fn command_in<'a>(matches: &ArgMatches<'a>) -> Option<Command<'a>>
 
 /// What the words ask for; the first is the program's name. Only `run SCRIPT`, with or without
 /// `--dir DIR`, `show DIR`, `restart DIR SCRIPT`, with or without `--pes N`, and `lab SCRIPT` are
-/// commands. N is a 16-bit number, and 1 where it isn't there. Every other line, a call for help
-/// among them, is answered by `CommandError::Line` with clap's text and a kind of error that clap's
-/// meaning of the words has, and lack of memory by `CommandError::Memory`.
+/// commands. N is a 16-bit number, and 1 if it isn't given. Every other line, including a call for
+/// help, is answered by `CommandError::Line`, with clap's text and a kind of error that clap finds
+/// in the words, and lack of memory by `CommandError::Memory`.
 pub fn command_of<'a, S: AsStr>(alloc: Global, words: &'a [S]) -> Result<Command<'a>, CommandError>
     ensures ok { IfOk result (Asks (map S.text words.entry.now)) }
     ensures err { IfErr result (AsksNothing (map S.text words.entry.now)) }

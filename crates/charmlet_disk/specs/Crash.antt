@@ -5,7 +5,7 @@ use Rattle.charmlet_disk.specs.declared.crash.CrashChoice.{CrashChoice}
 use Rattle.charmlet_disk.specs.declared.crash.CrashChoice.TheVariants.{Old, New, Zeros, Ones, Sevens, FirstHalves}
 use Rattle.charmlet_disk.specs.File.{File, covers}
 
--- so many bytes, each by its place
+-- n bytes, each by its place
 abbrev pub by_place : ℕ → (ℕ → ℕ) → List ℕ
 by_place n byte_at = map byte_at (range_with_len 0 n)
 
@@ -18,7 +18,7 @@ filled byte file = by_place (length file.now)
 abbrev pub first_halves : List (ℕ × ℕ) → List (ℕ × ℕ)
 first_halves ranges = map (λ range. (range.0, range.1 / 2)) ranges
 
--- where a range ends, or 0 where it is empty
+-- where a range ends, or 0 if it is empty
 abbrev pub range_end : ℕ × ℕ → ℕ
 range_end (at, zero) = 0
 range_end (at, suc n) = at + suc n

@@ -18,7 +18,7 @@ calls_of disk = disk.calls.items
 abbrev pub faults_of : MemDisk → ℕ
 faults_of disk = disk.faults
 
--- one call more is on record
+-- one more call is on record
 abbrev pub Records : MemDisk → MemDisk → Type 0
 Records old new = (call : Call) × (calls_of new ≡ calls_of old ++ call ∷ [])
 

@@ -1,4 +1,4 @@
--- What a disk shows of which one call fails.
+-- What a disk that fails one call shows.
 use Rattle.std.specs.Prelude.{◌≡◌, ◌≢◌, ℕ, ◌-◌, Bool, false, nat_eq, if◌then◌else◌, Option, Some, None}
 use Rattle.charmlet_disk.specs.declared.once_disk.OnceDisk.{OnceDisk}
 use Rattle.charmlet_disk.specs.Disk.{faults_after}
@@ -15,7 +15,7 @@ calls_before once = once.left
 abbrev pub failed_calls : {D : Type 0} → OnceDisk D → ℕ
 failed_calls once = once.failed
 
--- after one call more
+-- after one more call
 abbrev pub one_less : Option ℕ → Option ℕ
 one_less None = None
 one_less (Some calls) = if nat_eq calls 0 then None else Some (calls - 1)

@@ -49,7 +49,7 @@ not_within k at n beside =
 pub covers_one : (range : ℕ × ℕ) (k : ℕ) → covers (range ∷ []) k ≡ is_within k range
 covers_one range k = or-false (is_within k range)
 
--- one range more
+-- one more range
 pub covers_push : (ranges : List (ℕ × ℕ)) (range : ℕ × ℕ) (k : ℕ) → covers (ranges ++ range ∷ []) k
     ≡ (covers ranges k || is_within k range)
 covers_push ranges range k = list_any-append (is_within k) ranges (range ∷ []) ∙ ap

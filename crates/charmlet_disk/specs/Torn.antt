@@ -4,7 +4,7 @@ use Rattle.charmlet_model.specs.declared.half.Half.{Half}
 use Rattle.charmlet_model.specs.Half.{other}
 use Rattle.charmlet_disk.specs.File.{File, CrashBytes}
 
--- new is old, but for any bytes in a range and past the old end, up to the end of the range
+-- new is old, except for any bytes in a range and past the old end, up to the end of the range
 pub record Torn (at n : ℕ) (old new : List ℕ) : Type 0 where
   pub front : take at new ≡ take at old
   pub later : drop (at + n) new ≡ drop (at + n) old

@@ -20,7 +20,7 @@ impl From<DeviceFault> for Refusal {
     }
 }
 
-/// Two files under one clock, of which nobody else writes to either.
+/// Two files under one clock. Nobody else writes to either.
 ///
 /// What the clauses say of bytes and of crashes, they say of an honest disk: there a read gives
 /// what was written, and a crash leaves of each file its bytes at the last sync, but for any bytes
@@ -54,8 +54,8 @@ pub trait Disk: Send + Drop {
         ensures honest { (honest self.old → honest self.new) × (honest self.new → honest self.old) }
         ensures counted { faults self.new ≡ faults_after (is_ok result) (faults self.old) };
 
-    /// Reads as many bytes of a half as there is place for, from an offset on. After a fault `into`
-    /// holds anything.
+    /// Fills `into` with the bytes of a half from an offset on. After a fault `into` holds
+    /// anything.
     fn read_at(&mut self, half: Half, offset: u64, into: &mut [u8]) -> Result<(), DeviceFault>
         requires { honest self.old → offset + length into.old ≤ length (file self.old half).now }
         ensures bytes { honest self.old →
@@ -81,8 +81,8 @@ pub trait Disk: Send + Drop {
         ensures honest { (honest self.old → honest self.new) × (honest self.new → honest self.old) }
         ensures counted { faults self.new ≡ faults_after (is_ok result) (faults self.old) };
 
-    /// Makes a half sure: from then on a crash leaves of it what a read gives, its length too. A
-    /// sync that fails makes nothing sure.
+    /// Makes a half sure: from then on a crash leaves exactly what a read gives, including its
+    /// length. A sync that fails makes nothing sure.
     fn sync(&mut self, half: Half) -> Result<(), DeviceFault>
         ensures durable { honest self.old →
             OnOk result (file self.new half ≡ clean (file self.old half).now) }

@@ -100,7 +100,7 @@ impl FileDisk {
 
     /// A disk over the folder at this path, with no failure counted. It asks nothing of the system:
     /// the first call looks for the folder, and each one after it does. A path that isn't absolute
-    /// begins at the current directory. The error is that there is no memory for the path.
+    /// begins at the current directory. It fails only when there is no memory for the path.
     pub fn new(rt: HostRuntime, folder: &str) -> Result<FileDisk, AllocError>
         ensures { IfOk result (λ disk. faults_of disk ≡ 0) }
     {

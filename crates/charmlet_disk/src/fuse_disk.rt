@@ -5,8 +5,7 @@ use crate::{DeviceFault, Disk};
 use charmlet_model::Half;
 
 /// A disk that passes a given number of calls of `write_at` and `sync` on to another one, and then
-/// fails each further one without touching the other disk, so that it stays as that one was at some
-/// call. Lengths and reads are passed on always.
+/// fails each further one without touching the other disk. Lengths and reads are always passed on.
 ///
 /// It is honest if and only if the other disk is. Its `failures` are the other disk's and those
 /// that it made itself.
@@ -20,7 +19,7 @@ pub struct FuseDisk<D: Disk> {
 impl<D: Disk> FuseDisk<D> {
     ghost use Rattle.charmlet_disk.specs.Fuse.{inside, calls_left, refusals};
 
-    /// A fuse before a disk, which passes that many calls.
+    /// A fuse in front of `disk`, which passes `calls` calls.
     pub fn new(disk: D, calls: u64) -> FuseDisk<D>
         ensures disk { inside result ≡ disk }
         ensures calls { calls_left result ≡ calls }
@@ -46,7 +45,7 @@ impl<D: Disk> FuseDisk<D> {
     }
 }
 
-// One call less, or a refusal more.
+// Uses up one call, or counts one more refusal.
 fn spend(left: &mut u64, refused: &mut u64) -> Result<(), DeviceFault>
     ensures blown { IsErr result ↔ (left.old ≡ 0) }
     ensures spent { left.new ≡ left.old - 1 }

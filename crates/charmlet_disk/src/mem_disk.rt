@@ -17,8 +17,8 @@ use crate::{CrashChoice, DeviceFault, Disk};
 use charmlet_model::Half;
 use std::alloc::{AllocError, Global};
 
-/// A disk in memory, which is honest. It fails only where memory is refused, and leaves all as it
-/// is then.
+/// A disk in memory, which is honest. It fails only when out of memory, and nothing has changed
+/// then.
 ///
 /// A write costs what is written, a sync what was written to its half since the last one, and a
 /// crash the file. The record of calls grows as long as the disk lives.
@@ -27,7 +27,7 @@ pub struct MemDisk {
     alloc: Global,
     zero: MemFile,
     one: MemFile,
-    /// Each call that changed the disk, the oldest first. Where something isn't sure, there is room
+    /// Each call that changed the disk, the oldest first. While anything isn't sure, there is room
     /// for a crash.
     calls: Vec<Call>,
     faults: u64,
@@ -37,7 +37,7 @@ pub struct MemDisk {
         → ((file_of zero).ranges ≡ []) × ((file_of one).ranges ≡ []) },
 }
 
-// Writes to a half, and puts that on record; or leaves both as they are, where memory is refused.
+// Writes to a half, and records the call. When out of memory, both stay as they are.
 fn write_to(
     alloc: Global,
     half: Half,
@@ -66,7 +66,7 @@ fn write_to(
     Ok(())
 }
 
-// Makes a half sure, and puts that on record; or leaves both as they are, where memory is refused.
+// Makes a half sure, and records the call. When out of memory, both stay as they are.
 fn sync_to(half: Half, file: &mut MemFile, calls: &mut Vec<Call>) -> Result<(), AllocError>
     requires { IsSound (file_of file.old) }
     ensures synced { OnOk result (file_of file.new ≡ clean (file_of file.old).now) }
@@ -153,7 +153,7 @@ impl MemDisk {
         self.zero.is_clean() && self.one.is_clean()
     }
 
-    // Writes; or leaves all as it is, where memory is refused.
+    // Writes. When out of memory, everything stays as it is.
     fn try_write(&mut self, half: Half, offset: usize, bytes: &[u8]) -> Result<(), AllocError>
         requires { offset ≤ length (files self.old half).now }
         ensures written { OnOk result (files self.new half
@@ -184,7 +184,7 @@ impl MemDisk {
         }
     }
 
-    // Makes a half sure; or leaves all as it is, where memory is refused.
+    // Makes a half sure. When out of memory, everything stays as it is.
     fn try_sync(&mut self, half: Half) -> Result<(), AllocError>
         ensures synced { OnOk result (files self.new half ≡ clean (files self.old half).now) }
         ensures other { files self.new (other half) ≡ files self.old (other half) }

@@ -1,12 +1,12 @@
-//! A disk of which one call fails.
+//! A disk that fails one call.
 ghost use Rattle.std.specs.Prelude.{◌≡◌, ◌+◌, ◌-◌, ◌^◌, ◌↔◌, min, is_ok, if◌then◌else◌, IsErr, Some};
 ghost use Rattle.charmlet_disk.specs.Once.{one_less};
 
 use crate::{DeviceFault, Disk};
 use charmlet_model::Half;
 
-/// A disk that passes a given number of calls on to another one, lengths and reads among them,
-/// fails the next one without touching the other disk, and passes all later ones on.
+/// A disk that passes a given number of calls on to another one, including lengths and reads, fails
+/// the next one without touching the other disk, and passes all later ones on.
 ///
 /// It is honest if and only if the other disk is. Its `failures` are the other disk's and the one
 /// that it made itself.
@@ -21,7 +21,7 @@ impl<D: Disk> OnceDisk<D> {
     ghost use Rattle.std.specs.Prelude.{Some};
     ghost use Rattle.charmlet_disk.specs.Once.{inner_disk, calls_before, failed_calls};
 
-    /// A disk before another one, of which the call after that many fails.
+    /// A disk in front of `disk`, which passes `calls` calls and fails the next one.
     pub fn new(disk: D, calls: u64) -> OnceDisk<D>
         ensures disk { inner_disk result ≡ disk }
         ensures calls { calls_before result ≡ Some calls }
@@ -47,7 +47,7 @@ impl<D: Disk> OnceDisk<D> {
     }
 }
 
-// One call less before the one that fails, or that one.
+// Uses up one call before the one that fails, or fails.
 fn spend(left: &mut Option<u64>, failed: &mut u64) -> Result<(), DeviceFault>
     ensures fails { IsErr result ↔ (left.old ≡ Some 0) }
     ensures spent { left.new ≡ one_less left.old }

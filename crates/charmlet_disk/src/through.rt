@@ -11,7 +11,7 @@ use charmlet_model::Half;
 /// Writes bytes to a half of a settled disk from an offset on, which is no further than its end,
 /// and syncs it: two calls of the disk. A crash at any moment of them leaves the half as it was,
 /// but for any bytes in the range and past the old end, and the other half as it is. Answers
-/// [`DeviceFault`] where either call does; how much of the range is written is unknown then.
+/// [`DeviceFault`] if either call does; how much of the range is written is unknown then.
 pub fn write_through<D: Disk>(
     disk: &mut D,
     half: Half,
@@ -35,8 +35,8 @@ pub fn write_through<D: Disk>(
 }
 
 /// Syncs both halves, half 0 first, so that the disk is settled: two calls of the disk. No outcome
-/// is new. Answers [`DeviceFault`] where either sync does; where the first one does, the second
-/// isn't made.
+/// is new. Answers [`DeviceFault`] if either sync does; if the first one does, the second isn't
+/// made.
 pub fn sync_both<D: Disk>(disk: &mut D) -> Result<(), DeviceFault>
     ensures settled { D.honest disk.old → OnOk result (IsSettled (D.file disk.new)) }
     ensures same { D.honest disk.old → (half : _) →

@@ -7,7 +7,7 @@ use charmlet_model::Half;
 use std::process::Abort;
 use std::{fs, io};
 
-// No test reads more bytes at once.
+// The most bytes that a test reads at once.
 const MAX_READ: usize = 8;
 
 // An empty folder of this name, whatever an earlier run left there.
@@ -28,22 +28,22 @@ fn count_names(rt: &HostRuntime, folder: &str) -> io::Result<u64> {
     Ok(names)
 }
 
-// The same, or none where the folder can't be read.
+// The same, or `None` if the folder can't be read.
 fn names_in(rt: &HostRuntime, folder: &str) -> Option<u64> {
     count_names(rt, folder).ok()
 }
 
-// Whether something has this path.
+// Whether there is something at this path.
 fn exists(rt: &HostRuntime, path: &str) -> bool {
     fs::metadata(rt, path).is_ok()
 }
 
-// So many calls were faults.
+// `failures` calls were faults.
 fn has_failures(rt: &impl Abort, disk: &FileDisk, failures: u64) {
     assert_eq!(rt; disk.failures(), failures);
 }
 
-// A half is of this length.
+// A half has this length.
 fn has_len(rt: &impl Abort, disk: &mut FileDisk, half: Half, len: u64) {
     assert_eq!(rt; disk.len(half), Ok(len), "{half}");
 }
@@ -54,7 +54,7 @@ fn writes(rt: &impl Abort, disk: &mut FileDisk, half: Half, offset: u64, bytes: 
     assert_eq!(rt; written, Ok(()), "{half} at {offset}: {bytes:?}");
 }
 
-// The bytes can't be written there, and that counts.
+// The bytes can't be written there, and the failure is counted.
 fn fails_to_write(rt: &impl Abort, disk: &mut FileDisk, half: Half, offset: u64, bytes: &[u8]) {
     let before = disk.failures();
     let written = disk.write_at(half, offset, bytes);
@@ -71,7 +71,7 @@ fn reads(rt: &impl Abort, disk: &mut FileDisk, half: Half, offset: u64, bytes: &
     assert_eq!(rt; &into[..count], bytes, "{half} at {offset}");
 }
 
-// So many bytes can't be read there, and that counts.
+// `count` bytes can't be read there, and the failure is counted.
 fn fails_to_read(rt: &impl Abort, disk: &mut FileDisk, half: Half, offset: u64, count: usize) {
     let before = disk.failures();
     let mut into = [9; MAX_READ];
@@ -86,14 +86,14 @@ fn syncs(rt: &impl Abort, disk: &mut FileDisk, half: Half) {
     assert_eq!(rt; disk.sync(half), Ok(()), "{half}");
 }
 
-// A half can't be synced, and that counts.
+// A half can't be synced, and the failure is counted.
 fn fails_to_sync(rt: &impl Abort, disk: &mut FileDisk, half: Half) {
     let before = disk.failures();
     assert_eq!(rt; disk.sync(half), Err(DeviceFault), "{half}");
     has_failures(rt, disk, before.saturating_add(1));
 }
 
-// Each call of this half but its sync is a fault, and counts.
+// Each call of this half but its sync is a fault, and is counted.
 fn half_has_faults(rt: &impl Abort, disk: &mut FileDisk, half: Half) {
     let before = disk.failures();
     assert_eq!(rt; disk.len(half), Err(DeviceFault), "{half}");
@@ -102,7 +102,7 @@ fn half_has_faults(rt: &impl Abort, disk: &mut FileDisk, half: Half) {
     fails_to_write(rt, disk, half, 0, b"a");
 }
 
-// Each call of the disk is a fault, and counts.
+// Each call of the disk is a fault, and is counted.
 fn has_faults(rt: &impl Abort, disk: &mut FileDisk) {
     for half in [Half::Zero, Half::One] {
         half_has_faults(rt, disk, half);

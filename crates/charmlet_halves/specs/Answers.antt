@@ -3,7 +3,7 @@ use Rattle.std.specs.Prelude.{◌≡◌, ℕ, ◌+◌, ◌^◌, nat_le, ◌||◌
 use Rattle.charmlet_model.specs.declared.refusal.Refusal.{Refusal}
 use Rattle.charmlet_model.specs.declared.refusal.Refusal.TheVariants.{Damaged, Device, Halted, ImageFull, LogFull, Memory, NothingHere}
 
--- the call is refused so, or it is done unless the device fails
+-- the call has this refusal, or it is done unless the device fails
 abbrev pub Answers : {X : Type 0} → Option Refusal → Result X Refusal → Type 0
 Answers (Some refusal) result = result ≡ Err refusal
 Answers None result = IfErr result (λ refusal. refusal ≡ Device)

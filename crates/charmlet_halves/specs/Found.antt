@@ -19,7 +19,7 @@ abbrev pub bytes_of : List ℕ → List ℕ → Half → List ℕ
 bytes_of first second Zero = first
 bytes_of first second One = second
 
--- what is answered where nothing is taken
+-- what is answered if nothing is taken
 abbrev pub Refuses : Taken → Refusal → Type 0
 Refuses t (refusals.Damaged half offset) = t ≡ DamagedAt half offset
 Refuses t refusals.NothingHere = t ≡ NothingHere
@@ -31,7 +31,7 @@ Chooses first second (Ok half) = taken first second
     ≡ taken_half half (found (bytes_of first second half))
 Chooses first second (Err refusal) = Refuses (taken first second) refusal
 
--- of two headers the one of the later generation, if there is one before it
+-- of two headers the one of the later generation, if the generations are consecutive
 abbrev pub ComesLater : Header → Header → Result Half Refusal → Type 0
 ComesLater first second result =
     result ≡ (if second.generation == first.generation + 1 then Ok One

@@ -78,7 +78,7 @@ pub record SameTaken {D : Type 0} {G : Ghosts D} (old new : Halves D G) : Type 0
   pub log_end : new.log_end ≡ old.log_end
   pub going : new.halted ≡ false
 
--- the halves are halted, and else what is taken stays
+-- the halves are halted, and otherwise what is taken stays
 pub record HaltsOnly {D : Type 0} {G : Ghosts D} (old new : Halves D G) : Type 0 where
   pub taken : new.taken ≡ old.taken
   pub generation : new.generation ≡ old.generation
@@ -93,7 +93,7 @@ pub record TakesOther {D : Type 0} {G : Ghosts D} (old new : Halves D G) (at : �
   pub prepared : new.prepared ≡ None
   pub going : new.halted ≡ false
 
--- the same is taken, with a log that is longer by so many bytes
+-- the same half is taken, with a log that is longer by `size` bytes
 pub record Lengthens {D : Type 0} {G : Ghosts D} (old new : Halves D G) (size : ℕ) : Type 0 where
   pub taken : new.taken ≡ old.taken
   pub generation : new.generation ≡ old.generation

@@ -14,8 +14,8 @@ pub record IsPreparedAt (bytes : List ℕ) (at : ℕ) : Type 0 where
   pub closed : slice_index bytes at ≢ 1
 
 -- Both halves are on the disk. The taken one is open, and the closed gate after its last batch is
--- at `log_end`. Of the other one its first gate is known, and where an image stands that was
--- prepared.
+-- at `log_end`. What is known of the other one is its first gate, and where a prepared image
+-- stands.
 pub record IsReady (files : Half → File) (taken : Half) (log_end : ℕ) (spare_closed : Bool)
     (prepared : Option ℕ) : Type 0 where
   pub settled : IsSettled files

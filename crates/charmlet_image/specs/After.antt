@@ -1,11 +1,11 @@
--- How lists are read whose items depend on those before them, as where they have to rise or to be
+-- How lists are read whose items depend on those before them: they have to rise, say, or to be
 -- distinct.
 use Rattle.std.specs.Prelude.{ℕ, zero, suc, Bool, List, [], ◌∷◌, ◌++◌}
 use Rattle.charmlet_model.specs.declared.names.MsgId.{MsgId}
 use Rattle.charmlet_model.specs.declared.message.Message.{Message}
 use Rattle.charmlet_record.specs.Reading.{Reads, ◌>>=◌, yield, checked, read_within, Kinds, read_id, read_message_of}
 
--- so many items, one after the other; what may come next is known from the items before it
+-- that many items, one after the other; what may come next depends on the items before it
 unfoldable pub read_after : {X : Type 0} → (List X → Reads X) → ℕ → List X → Reads (List X)
 read_after read zero before = yield before
 read_after read (suc n) before = do

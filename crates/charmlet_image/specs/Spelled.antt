@@ -14,7 +14,7 @@ pub record Spells (bytes text : List ℕ) : Type 0 where
 abbrev pub IsClosed : List ℕ → Type 0
 IsClosed bytes = 1 < length bytes → slice_index bytes 0 ≢ 1
 
--- closed halves are shut, and no other ones
+-- closed halves are shut, and only they are
 pub record ClosedIsShut (bytes : List ℕ) : Type 0 where
   pub shut : IsClosed bytes → top bytes ≡ Shut
   pub closed : top bytes ≡ Shut → IsClosed bytes

@@ -29,8 +29,8 @@ pub fn halves_are_lawful()
     ensures appended { BatchesAreAppended }
 {}
 
-/// A fault is named by a place among the bytes that are read, or by their end, so that its offset
-/// is at most the file's length.
+/// A fault is at one of the bytes that are read, or at their end, so its offset is at most the
+/// file's length.
 pub fn faults_are_within()
     ensures images { (mark : Mark) → Within (read_image mark) }
     ensures headers { Within read_header }
@@ -43,8 +43,8 @@ pub fn later_halves_are_taken()
     ensures { LaterHalvesAreTaken }
 {}
 
-/// Each record of a half that is read stands at its offset, which the lengths of the records before
-/// it say.
+/// Each record of a half that is read stands at its offset, which follows from the lengths of the
+/// records before it.
 pub fn records_stand_there()
     ensures { RecordsStandThere }
 {}

@@ -3,7 +3,7 @@
 ghost use Rattle.std.specs.Prelude.{◌≡◌};
 ghost use Rattle.charmlet_model.specs.Reaction.{word};
 
-/// A word of a payload; one that it lacks counts as 0.
+/// A word of a payload, or 0 if there is none.
 pub fn word_at(payload: &[u64], index: usize) -> u64
     ensures { result ≡ word payload.now index }
 {

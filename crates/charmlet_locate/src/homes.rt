@@ -10,9 +10,9 @@ use charmlet_model::{Elem, Refusal};
 /// The most processors of a store.
 pub const MAX_PROCESSORS: u16 = 64;
 
-/// The home of an element on 1 to 64 processors: the sum of its array and its index, which may be
-/// past 64 bits, modulo the number of processors. So it is a processor's number, from 0 on.
-/// `BadPes` for any other number of processors, and for nothing else. It takes no memory.
+/// The home of an element on 1 to 64 processors: the sum of its array and its index, which may not
+/// fit in 64 bits, modulo the number of processors. Processors count from 0. `BadPes` for any other
+/// number of processors, and for nothing else. It takes no memory.
 pub fn home(elem: Elem, processors: u16) -> Result<u16, Refusal>
     ensures ok { IfOk result (λ place. place ≡ home elem processors) }
     ensures which { is_ok result ≡ is_processor_count processors }
@@ -24,15 +24,15 @@ pub fn home(elem: Elem, processors: u16) -> Result<u16, Refusal>
     Ok(home_of(elem, processors))
 }
 
-/// Whether a store can have so many processors: 1 to 64.
+/// Whether a store can have this number of processors: 1 to 64.
 pub fn is_processor_count(processors: u16) -> bool
     ensures { result ≡ is_processor_count processors }
 {
     (1..=MAX_PROCESSORS).contains(&processors)
 }
 
-/// The home of an element on so many processors, of which there is at least one. Each part is
-/// reduced before they are added, so that the sum can't wrap.
+/// The home of an element on `processors` processors, at least one. Each part is reduced before
+/// they are added, so that the sum can't wrap.
 #[tactic(auto, using(crate::proofs::Sums::sum_of_reduced))]
 pub(crate) fn home_of(elem: Elem, processors: u16) -> u16
     requires { 1 ≤ processors }

@@ -27,7 +27,7 @@ impl Locations {
     ghost use Rattle.std.specs.Map.{lookup};
     ghost use Rattle.charmlet_model.specs.Names.{elem_cmp};
 
-    /// No element stands anywhere. It takes no memory.
+    /// No elements. It takes no memory.
     pub(crate) fn new(alloc: Global) -> Self
         ensures { result ≡ [] }
     {
@@ -43,8 +43,8 @@ impl Locations {
         self.places.get(&elem).copied()
     }
 
-    /// An element comes to a processor, wherever it stood before. Any 16-bit number is a
-    /// processor's here. It fails only when out of memory, and then nothing has changed.
+    /// Places an element on a processor, wherever it stood before. Any 16-bit number is allowed
+    /// here. It fails only when out of memory, and then nothing has changed.
     pub(crate) fn place(&mut self, elem: Elem, processor: u16) -> Result<(), AllocError>
         ensures ok { OnOk result (self.new ≡ insert_entry elem_cmp self.old elem processor) }
         ensures err { OnErr result (self.new ≡ self.old) }

@@ -2,7 +2,7 @@
 use Rattle.charmlet_model.specs.declared.half.Half.{Half}
 use Rattle.charmlet_model.specs.declared.half.Half.TheVariants.{Zero, One}
 
--- the half that this one is not
+-- the other half
 abbrev pub other : Half → Half
 other Zero = One
 other One = Zero

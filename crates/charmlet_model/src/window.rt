@@ -7,8 +7,8 @@ use arrayvec::ArrayVec;
 use std::alloc::{AllocError, Global};
 use std::marker::Model;
 
-/// Up to eight items, the oldest first: each is the reply to a request, or none while there is no
-/// reply. A contract sees the list. None of its calls but `copy` takes memory.
+/// Up to eight items, the oldest first: each is the reply to a request, or `None` until there is
+/// one. A contract sees the list. Only `copy` takes memory.
 #[derive(Debug)]
 pub struct Window {
     items: ArrayVec<Option<Words>, 8>,
@@ -22,8 +22,8 @@ impl Model for Window {
     ghost view = { λ window. window.items.items };
 }
 
-// By hand, so that what drops the eight places is proved here, and not in each crate that drops a
-// client.
+// Written by hand, so that dropping the eight places is proved here, and not in each crate that
+// drops a client.
 impl Drop for Window {
     fn drop(self) {
         let Window { items } = self;
@@ -58,7 +58,7 @@ impl Window {
         self.items.is_empty()
     }
 
-    /// The reply at a place, where there is one. Places count from 0, the oldest item's.
+    /// The reply at `place`, if there is one. Places count from 0, which is the oldest item.
     pub fn get(&self, place: usize) -> Option<&Words>
         ensures { option_copied result ≡ slice_index_or self.now place None }
     {
@@ -69,7 +69,7 @@ impl Window {
         }
     }
 
-    /// Keeps the reply at a place.
+    /// Stores the reply at `place`.
     pub fn set(&mut self, place: usize, reply: Words)
         requires { place < length self.old }
         ensures { self.new ≡ slice_set self.old place (Some reply) }
@@ -77,7 +77,7 @@ impl Window {
         self.items[place] = Some(reply);
     }
 
-    /// Puts an item after the others, where there are fewer than eight.
+    /// Appends an item. There have to be fewer than eight.
     pub fn push(&mut self, item: Option<Words>)
         requires { length self.old < 8 }
         ensures { self.new ≡ self.old ++ item ∷ [] }
@@ -85,7 +85,7 @@ impl Window {
         self.items.push(item);
     }
 
-    /// Takes the oldest item out.
+    /// Removes the oldest item and returns it. There has to be one.
     pub fn remove_first(&mut self) -> Option<Words>
         requires { 0 < length self.old }
         ensures { self.old ≡ result ∷ self.new }
@@ -93,7 +93,7 @@ impl Window {
         self.items.remove(0)
     }
 
-    /// The same items, in memory of their own. It fails only when out of memory.
+    /// A copy of the items. It fails only when out of memory.
     pub fn copy(&self, alloc: Global) -> Result<Self, AllocError>
         ensures { IfOk result (λ copy. copy ≡ self.now) }
     {
@@ -104,7 +104,7 @@ impl Window {
         Ok(copy)
     }
 
-    /// Takes all items out.
+    /// Removes all items.
     pub fn clear(&mut self)
         ensures { self.new ≡ [] }
     {
@@ -112,7 +112,7 @@ impl Window {
     }
 }
 
-/// The same reply, if there is one, in memory of its own. It fails only when out of memory.
+/// A copy of the reply, if there is one. It fails only when out of memory.
 fn copy_of(alloc: Global, reply: Option<&Words>) -> Result<Option<Words>, AllocError>
     ensures { IfOk result (λ copy. copy ≡ option_copied reply.entry) }
 {

@@ -30,7 +30,7 @@ fn answer(
     reaction.expect(rt, "a reaction")
 }
 
-// The children of the tree are sent that they are of depth 1.
+// The children of the tree are constructed with depth 1.
 fn are_children(rt: &impl Abort, sends: &[Outgoing]) {
     assert_eq!(rt; sends.len(), 2);
     assert_eq!(rt; sends[0].to, Elem { array: 2, index: 7 });
@@ -44,7 +44,7 @@ fn tree_is_constructed_with_its_children(rt: HostRuntime) {
     are_children(&rt, made.sends.as_slice());
 }
 
-// An account of 10 is asked to pay this amount, and replies so.
+// An account of 10 is asked to pay this amount, and has this reply.
 fn pays(rt: &(impl AllocGlobal + Abort), amount: u64, reply: u64) -> Reaction {
     let account = State::Account { balance: 10 };
     let paid = answer(rt, Edition::Account, Some(&account), 0, &[9, amount]);
@@ -59,7 +59,7 @@ fn account_pays_what_it_has(rt: HostRuntime) {
     pays(&rt, 11, 0);
 }
 
-// A message with this word makes this of an object, and replies so.
+// A message with this word makes this of an object, and has this reply.
 fn makes(
     rt: &(impl AllocGlobal + Abort),
     edition: Edition,
@@ -177,13 +177,13 @@ fn manifests_have_distinct_arrays(rt: HostRuntime) {
     assert!(rt; manifest_of(&rt, &[(0, 1), (0, 2)]).is_none());
 }
 
-// It is printed so.
+// The value is printed like this.
 fn is_printed<T: Display>(rt: &(impl AllocGlobal + Abort), value: &T, wanted: &str) {
     let text = format!(in rt.alloc(); "{value}").expect(rt, "memory");
     assert_eq!(rt; text.as_str(), wanted);
 }
 
-// The refusal has this number, and is printed so.
+// The refusal has this number, and is printed like this.
 fn is_refusal(rt: &(impl AllocGlobal + Abort), refusal: Refusal, number: u8, wanted: &str) {
     assert_eq!(rt; refusal.number(), number);
     is_printed(rt, &refusal, wanted);
@@ -218,7 +218,7 @@ fn ids_and_refusals_are_printed(rt: HostRuntime) {
     is_refusal(&rt, Refusal::Strayed, 22, "Strayed");
 }
 
-// A client that made eight requests, of which the first and the third one were replied to.
+// A client that made eight requests. The first and the third one have their replies.
 fn full_row(rt: &(impl AllocGlobal + Abort)) -> ClientRow {
     let reply = Words::from_slice(rt.alloc(), &[6]).expect(rt, "memory");
     let mut row = ClientRow::new();
@@ -232,7 +232,7 @@ fn full_row(rt: &(impl AllocGlobal + Abort)) -> ClientRow {
     row
 }
 
-// The same with a request more.
+// The same with one more request.
 fn moved_row(rt: &(impl AllocGlobal + Abort), row: &ClientRow) -> ClientRow {
     let mut moved = row.copy(rt.alloc()).expect(rt, "memory");
     moved.accept(9);
@@ -240,7 +240,7 @@ fn moved_row(rt: &(impl AllocGlobal + Abort), row: &ClientRow) -> ClientRow {
     moved
 }
 
-// The client is told so of a request.
+// The client is told this about a request.
 fn is_told(rt: &(impl AllocGlobal + Abort), row: &ClientRow, number: u64, wanted: &str) {
     let told = row.told(rt.alloc(), number).expect(rt, "memory");
     is_printed(rt, &told, wanted);

@@ -1,6 +1,6 @@
-//! Definitions of the model a second time, as programs that are kept as plain as they can be and
-//! are proved equal to them: the kind table, packed objects, and the world with its events. Tests
-//! run them, and faster code is compared with them.
+//! The model's definitions a second time, as programs that are as plain as possible and are proved
+//! equal to them: the kind table, packed objects, and the world with its events. Tests run them,
+//! and faster code is compared with them.
 #![tactic(auto)]
 
 mod kind_table;

@@ -6,7 +6,8 @@ ghost use Rattle.charmlet_model.specs.Upgrade.{up, up_record, up_records};
 use charmlet_model::{Elem, Record, State};
 use std::collections::BTreeMap;
 
-/// What is kept of each element goes on in the newest version of its kind. It takes no memory.
+/// Brings what is kept of each element forward to the newest version of its kind. It takes no
+/// memory.
 pub(crate) fn upgrade_records(records: &mut BTreeMap<Elem, Record>)
     ensures { records.new.entries ≡ up_records records.old.entries }
 {
@@ -20,7 +21,7 @@ pub(crate) fn upgrade_records(records: &mut BTreeMap<Elem, Record>)
     );
 }
 
-/// What is kept of an element goes on in the newest version: its state does, if it is there.
+/// Brings what is kept of an element forward to the newest version: its state, if it is there.
 fn upgrade_record(record: &mut Record)
     ensures { record.new ≡ up_record record.old }
 {
@@ -37,8 +38,8 @@ fn newest_of(state: Option<State>) -> Option<State>
     }
 }
 
-/// The state in the newest version of its kind. A counter of version 1 has its count as its peak
-/// then, and each other state is as it was.
+/// The state in the newest version of its kind. A counter of version 1 gets its count as its peak,
+/// and each other state is unchanged.
 fn newest(state: State) -> State
     ensures { result ≡ up state }
 {

@@ -57,7 +57,7 @@ later_choice h k =
     if k.generation == h.generation + 1 then choices.Take One
     else (if h.generation == k.generation + 1 then choices.Take Zero else choices.Damaged One 5)
 
--- what is taken of two halves, where the choice is so
+-- what is taken of two halves by this choice
 abbrev pub choice_made : List ℕ → List ℕ → Choice → Taken
 choice_made first second choices.Neither = NothingHere
 choice_made first second (choices.Take Zero) = taken_half Zero (found first)

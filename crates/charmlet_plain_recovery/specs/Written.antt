@@ -23,7 +23,7 @@ as_written_from (Takes half s) = recovered_by half s (meaning_as_written s)
 unfoldable pub recovered_as_written : (Half → List ℕ) → Recovered
 recovered_as_written outcome = as_written_from (taken (outcome Zero) (outcome One))
 
--- a world that is found goes on in the newest versions of its kinds
+-- a world that is found is brought forward to the newest versions of its kinds
 abbrev pub gone_on : Recovered → Recovered
 gone_on Nothing = Nothing
 gone_on (Damaged half offset) = Damaged half offset

@@ -11,8 +11,8 @@ use charmlet_plain::PlainWorld;
 use std::alloc::AllocError;
 
 /// Makes the deliveries of a catch-up list, in order, up to the first one that is at fault, and
-/// answers the place of that one, if there is one. A delivery that its receiver's record has
-/// already is skipped. It fails only when out of memory.
+/// returns its place, if there is one. A delivery that its receiver's record already has is
+/// skipped. It fails only when out of memory.
 pub fn catch_up(
     plain: &mut PlainWorld,
     deliveries: &[CaughtUp],
@@ -31,8 +31,8 @@ pub fn catch_up(
     Ok(None)
 }
 
-/// Makes a delivery, or skips it, and answers whether it is no fault. It fails only when out of
-/// memory.
+/// Makes a delivery, or skips it, and returns whether it is free of fault. It fails only when out
+/// of memory.
 fn redeliver(plain: &mut PlainWorld, delivery: &CaughtUp) -> Result<bool, AllocError>
     ensures good { IfOk result (λ good. good ≡ is_caught_up plain.old.manifest (record_of plain.old
         delivery.now.message.to) delivery.now) }

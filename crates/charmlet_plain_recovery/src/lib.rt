@@ -1,4 +1,4 @@
-//! What two files recover to a second time, as a program that is kept as plain as it can be and is
+//! What two files recover to, a second time, as a program that is as plain as possible and is
 //! proved equal to the definition, whatever the bytes of the files are. Tests run it, and faster
 //! code is compared with it.
 #![tactic(auto)]

@@ -22,7 +22,7 @@ pub fn first_unsent(plain: &PlainWorld) -> Option<usize>
 }
 
 /// Whether the message's element has sent at least as many messages as its number says, or its
-/// client's window has the number, and no reply to it.
+/// client's window has the number, without a reply.
 fn was_sent(plain: &PlainWorld, id: MsgId) -> bool
     ensures { result ≡ was_sent plain.now id.origin id.number }
 {
@@ -38,7 +38,7 @@ fn was_sent(plain: &PlainWorld, id: MsgId) -> bool
     }
 }
 
-/// Whether the client's window has the number, and no reply to it.
+/// Whether the client's window has the number, without a reply.
 fn awaits(row: &ClientRow, number: u64) -> bool
     ensures { result ≡ awaits row.now number }
 {

@@ -22,8 +22,8 @@ abbrev pub reaction : Kinds → Record → Message → Option Reaction
 reaction manifest r m = option_and_then (λ kind. react kind m.to r.state m.entry m.words)
     (lookup (is_at (nat_cmp m.to.array)) manifest)
 
--- the records once x, of this record, has made the reaction, if there is one: its state and its two
--- counts change, and nothing else
+-- the records after x, with this record, has made the reaction, if there is one: its state and its
+-- two counts change, and nothing else
 abbrev pub records_after : List (Elem × Record) → Elem → Record → Option Reaction →
     List (Elem × Record)
 records_after records x r None = records
@@ -33,7 +33,7 @@ records_after records x r (Some o) = insert_entry elem_cmp records x (advanced r
 abbrev pub is_skipped : Record → CaughtUp → Bool
 is_skipped r d = nat_le d.received r.received
 
--- a delivery that the receiver's record has already is skipped, and any other one is made again
+-- a delivery that the receiver's record already has is skipped, and any other one is made again
 abbrev pub redelivered : Kinds → List (Elem × Record) → CaughtUp → List (Elem × Record)
 redelivered manifest records d =
     if is_skipped (record_at records d.message.to) d then records

@@ -18,8 +18,8 @@ use Rattle.charmlet_recovery.specs.Bases.{is_skipped, redelivered_all, recovered
 use Rattle.charmlet_recovery.specs.Faults.{catch_up_tests, first_failure, first_fault}
 use Rattle.charmlet_recovery.specs.Blanks.{array_is, one_if, wanted, wanted_by_records, made, made_by_catch_up}
 
--- Where there is no fault, the blanks that are wanted by what is written are the objects that a
--- recovery makes.
+-- If there is no fault, what is written wants exactly as many blanks of each kind as a recovery
+-- makes objects of it.
 abbrev pub BlanksAreThoseMade : Type 0
 BlanksAreThoseMade = (mark : Mark) (image : Image) (before : ℕ) (log : List Logged) (kind : Kind) →
     IsImage mark image → before ≤ 2 ^ 40 →
@@ -38,7 +38,7 @@ BlanksSuffice = (mark : Mark) (image : Image) (before : ℕ) (log : List Logged)
     first_fault image before (take i log) ≡ None →
     made image (take i log) kind ≤ wanted image log kind)
 
--- So a replay that takes a blank where a construction is written finds one, also at the record that
+-- So a replay that takes a blank at each written construction finds one, even at the record that
 -- proves faulty.
 abbrev pub BlanksSufficeNext : Type 0
 BlanksSufficeNext = (mark : Mark) (image : Image) (before : ℕ) (kind : Kind) →

@@ -9,8 +9,8 @@ use Rattle.charmlet_recovery.specs.Bases.{base, redelivered_all, recovered_world
 use Rattle.charmlet_recovery.specs.Faults.{Place, InCatchUp, InPending, InEvents, is_caught_up, catch_up_tests, was_sent, pending_tests, happens, first_failure, first_fault}
 use Rattle.charmlet_recovery.specs.Meanings.{Faulty, meaning}
 
--- a fault is the place of a record, and what stands before it in its round and in the rounds before
--- has none
+-- a fault is the place of a record, and no record before it, in its round or in an earlier one, has
+-- a fault
 abbrev pub FaultsArePlaces : Type 0
 FaultsArePlaces = (image : Image) (before : ℕ) (log : List Logged) (i : ℕ) →
     (first_fault image before log ≡ Some (InCatchUp i) →
@@ -42,7 +42,7 @@ CatchUpGoesOn = (image : Image) (before : ℕ) (log : List Logged) (earlier late
     (record_at (redelivered_all image.manifest image.records earlier) d.message.to) d ≡ false →
     meaning image before log ≡ Faulty (InCatchUp (length earlier)))
 
--- so with the pending messages, once the catch-up list has no fault
+-- the same for the pending messages, if the catch-up list has no fault
 abbrev pub PendingGoesOn : Type 0
 PendingGoesOn = (image : Image) (before : ℕ) (log : List Logged) (earlier later : List Message)
     (m : Message) → image.pending ≡ earlier ++ m ∷ later →
@@ -53,7 +53,7 @@ PendingGoesOn = (image : Image) (before : ℕ) (log : List Logged) (earlier late
     × (was_sent (base image) m.id.origin m.id.number ≡ false → meaning image before log
     ≡ Faulty (InPending (length earlier)))
 
--- and with the events, once both have none
+-- the same for the events, if both have none
 abbrev pub EventsGoOn : Type 0
 EventsGoOn = (image : Image) (before : ℕ) (earlier later : List Logged) (l : Logged) →
     first_fault image before earlier ≡ None →

@@ -71,7 +71,7 @@ pub record IsSoundMeaning (image : Image) (before : ℕ) (log : List Logged) (w 
   pub counted : count ≡ before + length log
   pub in_limit : count ≤ 2 ^ 40
 
--- what the format has and has no fault is so
+-- the meaning of an image and a log in the format, without a fault, is sound
 abbrev pub FaultlessIsSound : Type 0
 FaultlessIsSound = (mark : Mark) (image : Image) (before : ℕ) (log : List Logged) (w : World)
     (count : ℕ) → IsImage mark image → before ≤ 2 ^ 40 →

@@ -11,12 +11,12 @@ pub data Meaning : Type 0 where
   Faulty : Place → Meaning
   Whole : World → ℕ → Meaning
 
--- the fault, if there is one, and else the world and the count
+-- the fault, if there is one, or else the world and the count
 abbrev pub unless_faulty : Option Place → World → ℕ → Meaning
 unless_faulty None w count = Whole w count
 unless_faulty (Some place) w count = Faulty place
 
--- what an image and its log come to; so many events came before the image's world
+-- what an image and its log come to; `before` events came before the image's world
 abbrev pub meaning : Image → ℕ → List Logged → Meaning
 meaning image before log = unless_faulty (first_fault image before log) (recovered_world image log)
     (before + length log)

@@ -24,7 +24,7 @@ noted w m (Some o) = record {
   effect = effect_between (record_of w m.to).state o.state;
 } ∷ []
 
--- the same of the message that a delivery finds
+-- the same for the message that a delivery finds
 abbrev pub noted_if : World → Option Message → List CaughtUp
 noted_if w None = []
 noted_if w (Some m) = noted w m (reaction_of w m)

@@ -6,8 +6,8 @@ use Rattle.charmlet_model.specs.World.{World, world}
 use Rattle.charmlet_recovery.specs.Recovered.{Found, recovered}
 use Rattle.charmlet_recovery.specs.Stores.{Stores}
 
--- The files recover to the world after some events of the history, the durable ones among them. So
--- many events came before the history, which began in the world w.
+-- The files recover to the world after some events of the history, including the durable ones.
+-- `before` events came before the history, which began in the world w.
 pub record IsLawful (w : World) (before : ℕ) (history : List Event) (durable : ℕ)
     (outcome : Half → List ℕ) : Type 0 where
   pub kept : ℕ

@@ -83,7 +83,7 @@ CatchUpTestsAreOwn = (manifest : Kinds) (records : List (Elem × Record)) (earli
     (deliveries_to d.message.to earlier)) d
 
 -- A reply that a client's window has in the end, as such a pass knows, has the words of the last
--- one to this request, and else those that it had.
+-- one to this request, or else those that it had.
 abbrev pub RepliesAreLast : Type 0
 RepliesAreLast = (w : World) (before : ℕ) (history : List Event) (client number : ℕ) → IsFit w →
     IsLegal w before history →

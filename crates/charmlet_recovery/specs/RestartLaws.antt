@@ -23,24 +23,24 @@ use Rattle.charmlet_recovery.specs.Restarts.{wanted_of, taken_refusal, restart_r
 abbrev pub IsEnough : Blanks → Blanks → Type 0
 IsEnough given needed = (kind : Kind) → needed kind ≤ given kind
 
--- fewer are given of the kind than are wanted, so many are wanted in all, and of no lesser kind
--- fewer are given
+-- fewer of the kind are given than are wanted, `count` are wanted in all, and no lower kind is
+-- short
 pub record IsLeastShort (given needed : Blanks) (kind : Kind) (count : ℕ) : Type 0 where
   pub short : given kind < needed kind
   pub all : count ≡ needed kind
   pub least : (lesser : Kind) → kind_number lesser < kind_number kind → needed lesser ≤ given lesser
 
--- what is lacking, if anything is: the least kind of which fewer are given, and else there are
--- enough of each
+-- what is missing, if anything: the lowest kind that is short, and how many of it are wanted;
+-- otherwise there are enough of each
 abbrev pub Lacks : Blanks → Blanks → Option (Kind × ℕ) → Type 0
 Lacks given needed None = IsEnough given needed
 Lacks given needed (Some lack) = IsLeastShort given needed lack.0 lack.1
 
--- the least kind that is short is found, and all that are wanted of it
+-- the lowest kind that is short is found, and how many of it are wanted
 abbrev pub LeastShortIsFound : Type 0
 LeastShortIsFound = (given needed : Blanks) → Lacks given needed (least_short given needed)
 
--- why a restart is refused is known from what is taken of the two halves
+-- why a restart is refused follows from what is taken of the two halves
 abbrev pub RestartsAreTaken : Type 0
 RestartsAreTaken = (given : Blanks) (outcome : Half → List ℕ) → restart_refusal given outcome
     ≡ taken_refusal given (taken (outcome Zero) (outcome One))
@@ -72,7 +72,7 @@ abbrev pub RestartsAreRefusedForCause : Type 0
 RestartsAreRefusedForCause = (given : Blanks) (outcome : Half → List ℕ) →
     IsRefused given outcome (restart_refusal given outcome)
 
--- files that recover to a world lack blanks alone
+-- a restart from files that recover to a world is refused only for missing blanks
 abbrev pub FoundLacksBlanksAlone : Type 0
 FoundLacksBlanksAlone = (given : Blanks) (outcome : Half → List ℕ) (w : World)
     (count generation : ℕ) (half : Half) (s : Saved) →

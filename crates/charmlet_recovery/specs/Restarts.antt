@@ -23,12 +23,12 @@ abbrev pub fault_refusal : Half → Saved → Meaning → Option Refusal
 fault_refusal half s (Faulty place) = Some (refusals.Damaged half (offset_of s place))
 fault_refusal half s (Whole w count) = None
 
--- a kind of which blanks lack is named before any fault of a record
+-- a kind with missing blanks is named before any fault of a record
 abbrev pub short_refusal : Option (Kind × ℕ) → Option Refusal → Option Refusal
 short_refusal None later = later
 short_refusal (Some lack) later = Some (refusals.BlanksWanted lack.0 lack.1)
 
--- by what is taken of two halves: nothing, a fault of the format, blanks that lack, or a fault of a
+-- by what is taken of two halves: nothing, a fault of the format, missing blanks, or a fault of a
 -- record, in this order
 abbrev pub taken_refusal : Blanks → Taken → Option Refusal
 taken_refusal given NothingHere = Some refusals.NothingHere
@@ -58,7 +58,7 @@ image_refusal s (Faulty place) = None
 image_refusal s (Whole w count) = if is_current s then None
     else limit_refusal s.header.generation w
 
--- so it is with what is taken of two halves
+-- the same for what is taken of two halves
 abbrev pub taken_image_refusal : Taken → Option Refusal
 taken_image_refusal NothingHere = None
 taken_image_refusal (DamagedAt half offset) = None
@@ -74,7 +74,7 @@ is_old (Takes half s) = not (is_current s)
 unfoldable pub wants_image : (Half → List ℕ) → Bool
 wants_image outcome = is_old (taken (outcome Zero) (outcome One))
 
--- a cause that comes first, and else the next one
+-- the first cause, or else the next one
 abbrev pub either_refusal : Option Refusal → Option Refusal → Option Refusal
 either_refusal None later = later
 either_refusal (Some refusal) later = Some refusal

@@ -9,7 +9,7 @@ ghost use Rattle.charmlet_recovery.specs.BlankLaws.{BlanksAreThoseMade, BlanksSu
 ghost use Rattle.charmlet_recovery.specs.ReplayLaws.{CatchUpIsOwn, CatchUpTestsAreOwn, ListsGiveRecords, ListsNeedNoEntries, PassesEndAsWorlds, ReplayFindsFirstFault, ReplayedRecordsAreOwn, RepliesAreLast, TestsAreOwn};
 
 /// An image of a fit world and the log of a legal history come to the world after it. Events that
-/// are appended to a log are there too, whatever image and log came before.
+/// are appended to a log are in it too, whatever image and log came before.
 pub fn histories_recover()
     ensures plain { HistoriesRecover }
     ensures appended { AppendedEventsRecover }
@@ -25,13 +25,14 @@ pub fn seals_recover()
     ensures written { SealedImagesAreWritten }
 {}
 
-/// What the format has and has no fault, whoever wrote it, comes to a fit world by a legal history.
+/// An image and a log in the format and without a fault, whoever wrote them, come to a fit world by
+/// a legal history.
 pub fn faultless_is_sound()
     ensures { FaultlessIsSound }
 {}
 
-/// A fault is the place of a record, and none stands before it. It stays the first one where the
-/// log grows.
+/// A fault is the place of a record, with no fault before it. It stays the first one when the log
+/// grows.
 pub fn faults_are_places()
     ensures places { FaultsArePlaces }
     ensures stay { FaultsStay }
@@ -45,8 +46,8 @@ pub fn records_are_tested_in_order()
     ensures rounds { RoundsEnd }
 {}
 
-/// A restart without faults uses exactly the blanks that are wanted by what is written. Up to the
-/// first fault it uses no more, also at the record that proves faulty.
+/// A restart without faults uses exactly the blanks that the files call for. With a fault it uses
+/// no more up to there, including the faulty record.
 pub fn blanks_are_those_made()
     ensures made { BlanksAreThoseMade }
     ensures suffice { BlanksSuffice }
@@ -54,8 +55,8 @@ pub fn blanks_are_those_made()
 {}
 
 /// The messages of each element alone give the records of a history. A pass over the log, which
-/// runs no entry method, gives these messages, and ends with all else that the world is but the
-/// words of replies. These are those of the last reply to each request.
+/// runs no entry method, gives these messages, and ends with everything else in the world except
+/// the words of replies. Those are the words of the last reply to each request.
 pub fn lists_give_records()
     ensures records { ListsGiveRecords }
     ensures lists { ListsNeedNoEntries }
@@ -77,9 +78,9 @@ pub fn catch_up_is_own()
     ensures tests { CatchUpTestsAreOwn }
 {}
 
-/// What one half has is taken, where the other one is superseded by it, and what is taken of bytes
-/// was stored so. A half is superseded by the next generation. Two closed halves recover to
-/// nothing, and only they do.
+/// What one half has is taken if it supersedes the other half, and what is taken from bytes was
+/// stored there. The next generation supersedes a half. Two closed halves recover to nothing, and
+/// only they do.
 pub fn stored_is_taken()
     ensures taken { StoredIsTaken }
     ensures superseded { SpelledIsSuperseded }
@@ -97,9 +98,9 @@ pub fn stored_is_recovered()
     ensures one { StoredIsOne }
 {}
 
-/// The image of a fit world and the log of a legal history can be written, and mean the world after
-/// it, to which files that are spelled so recover. So it is with a batch more, after whatever was
-/// stored. What files of bytes recover to is a fit world.
+/// The image of a fit world and the log of a legal history can be written, and files that hold them
+/// recover to the world after it. The same is true with one more batch, whatever was stored before.
+/// What files of bytes recover to is a fit world.
 pub fn histories_are_saved()
     ensures histories { HistoriesAreSaved }
     ensures files { FilesOfHistoriesRecover }
@@ -107,8 +108,8 @@ pub fn histories_are_saved()
     ensures fit { RecoveredIsFit }
 {}
 
-/// Files that keep the durable events of a history are lawful, and what is lawful stays so: where
-/// the history grows, where less is asked to be durable, and from one opening world to another.
+/// Files that keep the durable events of a history are lawful, and what is lawful stays so: when
+/// the history grows, when less of it has to be durable, and from one opening world to another.
 /// What a client was told of the durable events is true of what a lawful outcome recovers.
 pub fn lawful_outcomes_stay_lawful()
     ensures kept { KeptIsLawful }
@@ -120,9 +121,9 @@ pub fn lawful_outcomes_stay_lawful()
     ensures told { ToldIsRecovered }
 {}
 
-/// A restart is refused for its cause alone: nothing is there, a half is damaged by its format, the
-/// least kind is named of which blanks lack, or a record has a fault, in this order. Files that
-/// recover to a world lack blanks alone.
+/// A restart is refused only for these causes, in this order: nothing is there, a half breaks the
+/// format, blanks are missing (the lowest such kind is named), or a record has a fault. If the
+/// files recover to a world, it is refused only for missing blanks.
 pub fn restarts_are_refused_for_cause()
     ensures short { LeastShortIsFound }
     ensures taken { RestartsAreTaken }
@@ -137,7 +138,7 @@ pub fn faults_stand_there()
     ensures rise { OffsetsRise }
 {}
 
-/// How many bytes an image of a world takes, and a half with a batch more.
+/// How many bytes an image of a world takes, and a half with one more batch.
 pub fn halves_have_sizes()
     ensures image { ImagesHaveSize }
     ensures half { HalvesHaveSize }
@@ -150,8 +151,8 @@ pub fn legal_histories_have_parts()
     ensures join { LegalHistoriesJoin }
 {}
 
-/// What a half that is spelled so stores beside a spare one, whichever step of a flush, of a
-/// checkpoint or of a creation a crash comes in: the world before, or the one after.
+/// What a half stores beside a spare one, at whichever step of a flush, a checkpoint or a creation
+/// a crash comes: the world before, or the one after.
 pub fn written_worlds_are_stored()
     ensures stands { StandingIsStored }
     ensures stored { StoredIsStanding }
@@ -163,8 +164,8 @@ pub fn written_worlds_are_stored()
     ensures creation { CreationsAreStored }
 {}
 
-/// Lawful outcomes are refused to a restart for blanks that lack, and for nothing else; where
-/// nothing was created, there is nothing.
+/// A restart from a lawful outcome is refused only for missing blanks. If nothing was created, a
+/// restart finds nothing.
 pub fn lawful_outcomes_restart()
     ensures nothing { NothingIsRefused }
     ensures lawful { LawfulLacksBlanksAlone }

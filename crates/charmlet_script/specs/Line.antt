@@ -38,7 +38,7 @@ parts_of separator = slice_split (λ b. b == separator)
 abbrev pub words_of : Text → List Text
 words_of line = filter (λ word. not (is_empty word)) (parts_of 32 line)
 
--- a decimal number of so many bits; leading zeros are allowed
+-- a decimal number of that many bits; leading zeros are allowed
 unfoldable pub number_of : ℕ → Text → Option ℕ
 number_of bits word =
     if list_all is_ascii_digit word
@@ -53,7 +53,7 @@ numbers_of (word ∷ words) = do
   ns ← numbers_of words
   Some (n ∷ ns)
 
--- a 32-bit number that is at most so great
+-- a 32-bit number up to this limit
 unfoldable pub count_up_to : ℕ → Text → Option ℕ
 count_up_to most word = do
   n ← number_of 32 word

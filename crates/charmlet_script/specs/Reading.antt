@@ -22,17 +22,17 @@ use Rattle.charmlet_script.specs.Line.{◌>>=◌, is_empty, item_of, parts_of}
 
 -- ---- what a reader of one line answers
 
--- nothing was spelled, lack of memory aside
+-- nothing was spelled, ignoring lack of memory
 abbrev pub IsNotSpelled : {A : Type 0} → LineFault → Option A → Type 0
 IsNotSpelled faults.Memory spelled = Unit {0}
 IsNotSpelled faults.Malformed spelled = spelled ≡ None
 
--- it answers what was spelled, lack of memory aside
+-- it answers what was spelled, ignoring lack of memory
 abbrev pub Spells : {A : Type 0} → Result A LineFault → Option A → Type 0
 Spells (Ok x) spelled = spelled ≡ Some x
 Spells (Err fault) spelled = IsNotSpelled fault spelled
 
--- it leaves what was spelled, lack of memory aside
+-- it leaves what was spelled, ignoring lack of memory
 abbrev pub LeavesLines : {A : Type 0} → Result A LineFault → Contents → Option Contents → Type 0
 LeavesLines (Ok x) new spelled = spelled ≡ Some new
 LeavesLines (Err fault) new spelled = IsNotSpelled fault spelled
@@ -74,8 +74,8 @@ with_array purpose script line =
     if may_add purpose script line then Some (record script { arrays = script.arrays ++ line ∷ [] })
     else None
 
--- a line of the number of processors stands in the header of a run's script, before the other
--- lines, once
+-- a `pes` line, which gives the number of processors, stands in the header of a run's script,
+-- before the other lines, once
 abbrev pub may_declare : Purpose → Contents → Bool
 may_declare purpose script = describes_store purpose
     && (is_empty script.lines && is_none script.declared_processors)
@@ -145,15 +145,15 @@ restart_script_of bytes = restart_lines_spell (lines_of (within max_length bytes
 
 -- ---- what a reader of a script answers
 
--- it answers what the bytes spell, lack of memory and a failed read aside
+-- it answers what the bytes spell, ignoring lack of memory and a failed read
 abbrev pub Answers : {A : Type 0} → Result A ReadError → Result A ℕ → Type 0
 Answers (Ok script) spelled = spelled ≡ Ok script
 Answers (Err (errors.Malformed number)) spelled = spelled ≡ Err number
 Answers (Err errors.Memory) spelled = Unit {0}
 Answers (Err (errors.Failed error)) spelled = Unit {0}
 
--- a failed read is no lack of memory, which is told as that, and no interruption, after which it
--- goes on
+-- a failed read is neither lack of memory, which has its own error, nor an interruption, after
+-- which it goes on
 abbrev pub TellsFailure : ReadError → Type 0
 TellsFailure (errors.Failed error) = (error_kind error ≢ OutOfMemory)
     × (error_kind error ≢ Interrupted)

@@ -8,8 +8,8 @@ use Rattle.charmlet_script.specs.declared.script.HandlerLine.{HandlerLine}
 use Rattle.charmlet_script.specs.declared.script.Line.{Line}
 use Rattle.charmlet_script.specs.declared.script.Line.TheVariants as lines
 
--- the header of a script, which is how many processors it declares, if it does, its arrays and its
--- handlers; and the lines after it
+-- the header of a script: how many processors it declares, if it does, its arrays and its handlers;
+-- and the lines after it
 pub record Contents : Type 0 where
   pub declared_processors : Option ℕ
   pub arrays : List ArrayLine
@@ -29,7 +29,7 @@ no_lines = record { declared_processors = None; arrays = []; handlers = []; line
 abbrev pub for_restart : Contents → RestartContents
 for_restart script = record { handlers = script.handlers; lines = script.lines }
 
--- how many processors a script has, 1 where it declares none
+-- how many processors a script has, 1 if it declares none
 abbrev pub processors_of : Contents → ℕ
 processors_of script = unwrap_or script.declared_processors 1
 

@@ -41,7 +41,7 @@ pub enum ReadError {
     /// Memory ran out.
     #[error("out of memory")]
     Memory,
-    /// A read failed, for another reason than lack of memory.
+    /// A read failed, for a reason other than lack of memory.
     #[error("cannot read script: {0}")]
     Failed(io::Error),
     /// The number of the first malformed line. Lines count from 1.

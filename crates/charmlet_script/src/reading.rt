@@ -56,8 +56,8 @@ fn add_array(purpose: Purpose, script: &mut Draft, line: ArrayLine) -> Result<()
     Ok(())
 }
 
-/// Whether a line of the number of processors may stand here: in the header of a run's script,
-/// before the other lines, once.
+/// Whether a `pes` line may stand here: in the header of a run's script, before the other lines,
+/// once.
 fn may_declare(purpose: Purpose, script: &Draft) -> bool
     ensures { result ≡ may_declare purpose script.now }
 {
@@ -75,7 +75,7 @@ fn add_processors(purpose: Purpose, script: &mut Draft, processors: u16) -> Resu
     Ok(())
 }
 
-/// Adds a handler, where its line may stand there: in a header, before the other lines.
+/// Adds a handler, if its line may stand there: in a header, before the other lines.
 #[tactic(auto, unfolding(crate::specs::Reading::with_handler))]
 fn add_handler(script: &mut Draft, line: HandlerLine) -> Result<(), LineFault>
     ensures { LeavesLines result script.new (with_handler script.old line) }
@@ -87,7 +87,7 @@ fn add_handler(script: &mut Draft, line: HandlerLine) -> Result<(), LineFault>
     Ok(())
 }
 
-/// Adds what a line spells, where it may stand there.
+/// Adds what a line spells, if it may stand there.
 #[tactic(auto, unfolding(crate::specs::Reading::with_item))]
 fn add_item(purpose: Purpose, script: &mut Draft, item: Item) -> Result<(), LineFault>
     ensures { LeavesLines result script.new (with_item purpose script.old item) }
@@ -196,7 +196,7 @@ fn read_start<R: Read>(alloc: Global, reader: &mut R) -> Result<Vec<u8>, io::Err
     Ok(text)
 }
 
-/// Puts one byte that no line may hold in the place of what goes past the greatest length.
+/// Replaces what goes past the greatest length by one byte that no line may hold.
 #[tactic(auto, unfolding(crate::specs::Reading::within))]
 fn cut(text: &mut Vec<u8>) -> Result<(), AllocError>
     ensures text { OnOk result (text.new.items ≡ within MAX_LENGTH text.old.items) }
@@ -221,12 +221,12 @@ fn read_text<R: Read>(alloc: Global, reader: &mut R) -> Result<Vec<u8>, io::Erro
     Ok(text)
 }
 
-/// Reads the script of a run, of at most 1,048,576 bytes, and nothing past the byte after these.
+/// Reads the script of a run, of at most 1,048,576 bytes, and at most one byte after these.
 ///
-/// Where a line is malformed, it answers `ReadError::Malformed` with the number of the first one,
-/// or with 1 where no line spells an array; where a read fails, `ReadError::Failed`, and where
-/// memory runs out, `ReadError::Memory`. An interrupted read is tried again. After an error the
-/// reader has given any part of its bytes.
+/// If a line is malformed, it answers `ReadError::Malformed` with the number of the first one, or
+/// with 1 if no line spells an array; if a read fails, `ReadError::Failed`; and when out of memory,
+/// `ReadError::Memory`. An interrupted read is tried again. After an error the reader has given any
+/// part of its bytes.
 pub fn read_script<R: Read>(alloc: Global, reader: &mut R) -> Result<Script, ReadError>
     ensures reads { IfSome (R.remaining reader.old) (λ bytes. Answers result (script_of bytes)) }
     ensures failure { IfErr result TellsFailure }
@@ -236,13 +236,13 @@ pub fn read_script<R: Read>(alloc: Global, reader: &mut R) -> Result<Script, Rea
     read_lines(alloc, &lines)
 }
 
-/// Reads the script of a restart, of at most 1,048,576 bytes, and nothing past the byte after
-/// these. The header of such a script is its `handler` lines, and it may have no line at all.
+/// Reads the script of a restart, of at most 1,048,576 bytes, and at most one byte after these. The
+/// header of such a script is its `handler` lines, and it may have no line at all.
 ///
-/// Where a line is malformed, it answers `ReadError::Malformed` with the number of the first one;
-/// an `array` line and a `pes` line are malformed wherever they stand. Where a read fails, it
-/// answers `ReadError::Failed`, and where memory runs out, `ReadError::Memory`. An interrupted read
-/// is tried again. After an error the reader has given any part of its bytes.
+/// If a line is malformed, it answers `ReadError::Malformed` with the number of the first one; an
+/// `array` line and a `pes` line are malformed wherever they stand. If a read fails, it answers
+/// `ReadError::Failed`, and when out of memory, `ReadError::Memory`. An interrupted read is tried
+/// again. After an error the reader has given any part of its bytes.
 pub fn read_restart_script<R: Read>(
     alloc: Global,
     reader: &mut R,

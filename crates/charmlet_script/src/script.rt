@@ -40,7 +40,7 @@ pub enum Line {
     State(Elem),
     /// `pending`: the ids of the pending messages are shown.
     Pending,
-    /// `census`: it is shown of each kind where its objects are.
+    /// `census`: for each kind it is shown where its objects are.
     Census,
     /// `call C N NAME I W..`: a client asks for a delivery to the element with index I of the array
     /// that the name is registered for, at the entry that it is registered for.
@@ -148,8 +148,8 @@ impl Script {
         }
     }
 
-    /// How many processors there are, 1 where no line says it. It may be any 16-bit number: whether
-    /// there can be a store with so many, the script doesn't know.
+    /// How many processors there are, 1 if no line says so. It may be any 16-bit number: the script
+    /// doesn't check that a store can have that many.
     pub fn processors(&self) -> u16
         ensures { result ≡ processors_of self.now }
     {

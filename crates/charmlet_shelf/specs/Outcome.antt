@@ -10,8 +10,8 @@ pub record Performed : Type 0 where
   pub due : Due
   pub output : Option Output
 
--- of this reaction: so many sends, at most 16, whether the object is destroyed, and the output
--- until that is taken
+-- what is kept of this reaction: `count` sends, at most 16, whether the object is destroyed, and
+-- the output until it is taken
 pub record IsOf (count : ℕ) (gone : Bool) (left : Option Output) (r : Reaction) : Type 0 where
   pub sends : count ≡ length r.sends
   pub destroyed : gone ≡ is_none r.state

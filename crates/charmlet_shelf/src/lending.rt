@@ -1,4 +1,4 @@
-//! Deliveries of messages that are only lent.
+//! Deliveries of messages that are only borrowed.
 
 ghost use Rattle.std.specs.Prelude.{◌≡◌, ◌+◌, ◌≤◌, length, IfOk, IfSome, OnErr};
 ghost use Rattle.std.specs.BTreeMap.{is_at};
@@ -26,8 +26,8 @@ pub struct Delivered<C> {
     pub destroyed: Option<C>,
 }
 
-/// Delivers a message to the element at this index. Where memory is refused, the objects show what
-/// they showed.
+/// Delivers a message to the element at this index. When out of memory, the objects show what they
+/// showed.
 pub(crate) fn deliver_at<C: Chare>(
     alloc: Global,
     residents: &mut IndexMap<Elem, Resident<C>>,
@@ -62,8 +62,8 @@ pub(crate) fn deliver_at<C: Chare>(
     Ok(Delivered { output, destroyed })
 }
 
-/// Has a resident react to a message, and counts that. Where memory is refused, it shows what it
-/// showed.
+/// Has a resident react to a message, and counts the message. When out of memory, the resident
+/// shows what it showed.
 fn advance<C: Chare>(
     alloc: Global,
     resident: &mut Resident<C>,

@@ -4,8 +4,8 @@ use crate::delivery::Delivery;
 use charmlet_chare::Output;
 use std::marker::Model;
 
-/// A delivery that was performed, and what its receiver sent and replied by it, until that is
-/// taken: what the kind table says of the message and of the receiver's state before it.
+/// A delivery that was performed, and, until it is taken, what its receiver sent and replied: what
+/// the kind table gives for the message and the receiver's state before it.
 #[derive(Drop)]
 pub struct Outcome {
     delivery: Delivery,
@@ -30,7 +30,7 @@ impl Outcome {
     ghost use Rattle.charmlet_chare.specs.Output.{output_of};
     ghost use Rattle.charmlet_shelf.specs.Due.{reaction_in, record_after};
 
-    /// The outcome of a delivery by which its receiver sent and replied this. It takes no memory.
+    /// The outcome of a delivery with this output. It takes no memory.
     pub(crate) fn new(delivery: Delivery, output: Output) -> Self
         requires made { (r : Reaction) × (reaction_in delivery ≡ Some r) × (output ≡ output_of r) }
         requires few { length output.sends ≤ 16 }

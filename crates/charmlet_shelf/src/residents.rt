@@ -22,7 +22,7 @@ pub(crate) fn index_of<C: Chare>(
     residents.get_index_of(&elem)
 }
 
-/// Where an element stands, if it is there. Where that is this index, it takes one comparison.
+/// Where an element stands, if it is there. If that is `index`, one comparison finds it.
 pub(crate) fn index_from<C: Chare>(
     residents: &IndexMap<Elem, Resident<C>>,
     index: usize,
@@ -42,7 +42,7 @@ pub(crate) fn index_from<C: Chare>(
 fn stands_at<C: Chare>(residents: &IndexMap<Elem, Resident<C>>, index: usize, elem: Elem) -> bool
     ensures { result ≡ true → StandsAt residents.now.entries elem index }
 {
-    // The length is what says that no element stands there twice.
+    // The length is what tells that no element stands there twice.
     let _len = residents.len();
     match residents.get_index(index) {
         Some((key, _)) => *key == elem,
@@ -50,8 +50,8 @@ fn stands_at<C: Chare>(residents: &IndexMap<Elem, Resident<C>>, index: usize, el
     }
 }
 
-/// Puts an element's resident into the table, in the place of the one that was there. Where memory
-/// is refused, the resident comes back, and the table is as before.
+/// Puts an element's resident into the table, replacing the one that was there. When out of memory,
+/// the resident comes back, and the table is as before.
 pub(crate) fn put<C: Chare>(
     residents: &mut IndexMap<Elem, Resident<C>>,
     elem: Elem,

@@ -7,8 +7,8 @@ ghost use Rattle.charmlet_model.specs.declared.state.State.{State};
 use charmlet_chare::Chare;
 use std::marker::Model;
 
-/// The state in which an object was seen. It has no bytes, and only contracts read it: what ties
-/// the state to an object that has changed since are the clauses of whoever keeps it.
+/// The state that an object had at some moment. It has no bytes, and only contracts read it. The
+/// clauses of whoever keeps it tie it to the object, which may have changed since.
 #[derive(Drop)]
 pub(crate) struct SeenState {
     pub ghost state: { State },
@@ -24,7 +24,7 @@ unsafe impl Send for SeenState {}
 unsafe impl Sync for SeenState {}
 
 impl SeenState {
-    /// The state in which an object is. It does nothing at run time.
+    /// The object's state at this moment. It does nothing at run time.
     pub(crate) fn of<C: Chare>(_object: &C) -> Self
         ensures { result.state ≡ C.state _object.now }
     {

@@ -22,11 +22,11 @@ nothing = record { supplied = 0; in_stock = 0; retired = 0 }
 abbrev pub IsOut : Tally → Type 0
 IsOut t = t.in_stock + t.retired < t.supplied
 
--- so many objects more were supplied
+-- n more objects were supplied
 abbrev pub supplied_more : Tally → ℕ → Tally
 supplied_more t n = record t { supplied = t.supplied + n; in_stock = t.in_stock + n }
 
--- so many blanks went out
+-- n blanks went out
 abbrev pub with_out : Tally → ℕ → Tally
 with_out t n = record t { in_stock = t.in_stock - n }
 
@@ -34,7 +34,7 @@ with_out t n = record t { in_stock = t.in_stock - n }
 abbrev pub with_one_back : Tally → Tally
 with_one_back t = record t { in_stock = t.in_stock + 1 }
 
--- one object that was out is no more
+-- one object that was out was retired
 abbrev pub with_one_retired : Tally → Tally
 with_one_retired t = record t { retired = t.retired + 1 }
 
@@ -42,7 +42,7 @@ with_one_retired t = record t { retired = t.retired + 1 }
 abbrev pub with_retired_back : Tally → Tally
 with_retired_back t = record t { in_stock = t.in_stock + t.retired; retired = 0 }
 
--- room for so many objects more, and for all that are out
+-- room for that many more objects, and for all that are out
 abbrev pub HasRoomFor : {C : Type 0} {G : Ghosts C} → Pile C G → ℕ → Type 0
 HasRoomFor pile n = (pile.supplied + n ≤ vec_capacity pile.objects
     + dropped_of pile.keeps pile.retired) × (pile.supplied + n < 2 ^ 64)

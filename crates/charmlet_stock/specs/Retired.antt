@@ -1,4 +1,4 @@
--- Retired objects: where they are kept they stay with the blanks, and else they are dropped.
+-- Retired objects: they are kept with the blanks, or dropped.
 use Rattle.std.specs.Prelude.{ℕ, Bool, if◌then◌else◌}
 
 -- how many of the retired objects were dropped

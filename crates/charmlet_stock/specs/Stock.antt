@@ -33,7 +33,7 @@ blanks_in stock kind = (tally_in stock kind).in_stock
 abbrev pub supplied_to : {C : Type 0} {G : Ghosts C} → Stock C G → Kind → ℕ
 supplied_to stock kind = (tally_in stock kind).supplied
 
--- so many of one kind
+-- `count` of one kind
 abbrev pub part_of : Kind → ℕ → Kind → ℕ
 part_of kind count k = if kind_number k == kind_number kind then count else 0
 

@@ -9,8 +9,8 @@ use charmlet_chare::Chare;
 use charmlet_model::Kind;
 use std::alloc::{AllocError, Global};
 
-/// Of one kind: how many objects were supplied, are in the stock, and were retired. The others are
-/// out.
+/// The objects of one kind: how many were supplied, are in the stock, and were retired. The others
+/// are out.
 #[derive(Clone, Copy, Debug, PartialEq, Eq)]
 pub struct Tally {
     pub supplied: u64,
@@ -18,9 +18,8 @@ pub struct Tally {
     pub retired: u64,
 }
 
-/// The blanks of one kind, in room for all that are out. Where retired objects are kept, as many
-/// objects more are here as were retired: all are of one kind, so that it doesn't matter which of
-/// them are blanks.
+/// The blanks of one kind, with room for all objects that are out. If retired objects are kept,
+/// they are here too: all are of one kind, so it doesn't matter which of them are blanks.
 #[derive(Drop)]
 pub(crate) struct Pile<C: Chare> {
     pub(crate) kind: Kind,
@@ -40,7 +39,7 @@ impl<C: Chare> Pile<C> {
     ghost use Rattle.charmlet_stock.specs.Pile.{HasRoomFor, IsOut, nothing, supplied_more, tally_of, with_one_back, with_one_retired, with_out, with_retired_back};
     ghost use Rattle.charmlet_stock.specs.Retired.{dropped_of, kept_of};
 
-    /// No object of this kind, and retired ones will be dropped. It takes no memory.
+    /// An empty pile of this kind, which drops retired objects. It takes no memory.
     pub(crate) fn new(alloc: Global, kind: Kind) -> Self
         ensures kind { result.kind ≡ kind }
         ensures keeps { result.keeps ≡ false }
@@ -80,8 +79,8 @@ impl<C: Chare> Pile<C> {
         }
     }
 
-    /// Makes room for so many objects more. It fails where memory is refused, or where more than
-    /// 2^64-1 objects would have been supplied, and then nothing has changed.
+    /// Makes room for `count` more objects. It fails when out of memory, or if more than 2^64-1
+    /// objects would have been supplied, and then nothing has changed.
     pub(crate) fn reserve(&mut self, count: usize) -> Result<(), AllocError>
         ensures ok { OnOk result (HasRoomFor self.new count) }
         ensures kind { self.new.kind ≡ self.old.kind }
@@ -96,7 +95,7 @@ impl<C: Chare> Pile<C> {
         Ok(())
     }
 
-    /// Takes in an object that is supplied, in the room that was made.
+    /// Adds a supplied object, in the room that was made.
     pub(crate) fn add(&mut self, object: C)
         requires kind { kind_of (C.state object) ≡ self.old.kind }
         requires room { HasRoomFor self.old 1 }
@@ -137,7 +136,8 @@ impl<C: Chare> Pile<C> {
         self.objects.push_reserved(object);
     }
 
-    /// Retires an object that is out: it is kept where retired objects are kept, and else dropped.
+    /// Retires an object that is out: it is kept if retired objects are kept, and dropped
+    /// otherwise.
     pub(crate) fn retire(&mut self, object: C)
         requires kind { kind_of (C.state object) ≡ self.old.kind }
         requires out { IsOut (tally_of self.old) }
@@ -163,7 +163,7 @@ impl<C: Chare> Pile<C> {
         self.keeps = true;
     }
 
-    /// Has each retired object, all of which were kept, be a blank again.
+    /// Makes each retired object a blank again. All of them have to have been kept.
     pub(crate) fn take_back(&mut self)
         requires { self.old.keeps ≡ true }
         ensures kind { self.new.kind ≡ self.old.kind }

@@ -21,13 +21,13 @@ flushed rows = same_rows rows.present
 
 -- ---- what is kept
 
--- the first items as the durable row has them: each with its reply where that is durable
+-- the first items as the durable row has them: each with its reply if that is durable
 abbrev pub shown : List Bool → List (Option (List ℕ)) → List (Option (List ℕ))
 shown [] items = []
 shown (b ∷ bs) [] = []
 shown (b ∷ bs) (item ∷ items) = (if b then item else None) ∷ shown bs items
 
--- the durable row: its last number, the items that the present window has no more, and those that
+-- the durable row: its last number, the items that the present window has dropped, and those that
 -- it still has
 abbrev pub durable_row : ClientRow → ℕ → List (Option (List ℕ)) → List Bool → ClientRow
 durable_row present last dropped durable =

@@ -6,7 +6,7 @@ use Rattle.charmlet_model.specs.declared.names.Elem.{Elem}
 use Rattle.charmlet_model.specs.Names.{elem_cmp, same_elem}
 use Rattle.charmlet_world.specs.declared.element.Element.{Element}
 
--- the elements in the order in which they came, and for how many more there is room
+-- the elements in the order in which they came, and how many more there is room for
 pub record Standing : Type 0 where
   pub entries : List (Elem × Element)
   pub room : ℕ

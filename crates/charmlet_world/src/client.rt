@@ -18,7 +18,7 @@ pub struct Client {
     present: ClientRow,
     /// The last number of the durable row.
     durable_last: u64,
-    /// The items of the durable window that the present one has no more.
+    /// The items of the durable window that the present one has dropped.
     dropped: Window,
     /// For each other item of the durable window, whether its reply is durable. These are the first
     /// items of the present window.
@@ -70,8 +70,8 @@ impl Client {
         &self.present
     }
 
-    /// Takes the client's next request, which has this number. The durable row stays. It takes no
-    /// memory.
+    /// Accepts the client's next request, which is `number`. The durable row stays as it is. It
+    /// takes no memory.
     pub fn accept(&mut self, number: u64)
         ensures { self.new ≡ with_present self.old (with_request self.old.present number) }
     {
@@ -86,7 +86,8 @@ impl Client {
         self.present.last = number;
     }
 
-    /// Keeps the reply to a request that waits for it. The durable row stays. It takes no memory.
+    /// Stores the reply to a request that waits for it. The durable row stays as it is. It takes no
+    /// memory.
     pub fn answer(&mut self, number: u64, reply: Words)
         requires { awaits self.old.present number ≡ true }
         ensures { self.new ≡ with_present self.old (with_reply self.old.present number reply) }
@@ -105,8 +106,8 @@ impl Client {
         mark_durable(&mut self.durable, self.present.window.len());
     }
 
-    /// What the client is told of a request, by its durable row. It fails only when out of memory,
-    /// and takes none where the answer has no words.
+    /// What the durable row tells the client about request `number`. It fails only when out of
+    /// memory, and takes none if the answer has no words.
     pub fn told(&self, alloc: Global, number: u64) -> Result<Told, AllocError>
         ensures told { IfOk result (λ told. told ≡ told_of self.now.durable number) }
         ensures words { OnErr result (has_words (told_of self.now.durable number) ≡ true) }
@@ -121,7 +122,7 @@ impl Client {
         tell(alloc, self.durable_reply((number - below - 1) as usize))
     }
 
-    /// The number before those of the durable window.
+    /// The number just below the durable window.
     fn durable_below(&self) -> u64
         ensures { result ≡ below self.now.durable }
     {
@@ -129,7 +130,7 @@ impl Client {
         self.durable_last.saturating_sub(count as u64)
     }
 
-    /// The reply at a place of the durable window, where there is one.
+    /// The reply at a place of the durable window, if there is one.
     fn durable_reply(&self, place: usize) -> Option<&Words>
         ensures { option_copied result ≡ slice_index_or self.now.durable.window place None }
     {
@@ -146,8 +147,8 @@ impl Client {
     }
 }
 
-/// What a client is told of a request of its window that has this reply, if it has one. It fails
-/// only for lack of memory, and takes none where the answer has no words.
+/// What a client is told about a request in its window, given its reply, if it has one. It fails
+/// only when out of memory, and takes none if the answer has no words.
 fn tell(alloc: Global, reply: Option<&Words>) -> Result<Told, AllocError>
     ensures told { IfOk result (λ told. told ≡ told_of_item (option_copied reply.entry)) }
     ensures words { OnErr result (has_words (told_of_item (option_copied reply.entry)) ≡ true) }
@@ -158,7 +159,7 @@ fn tell(alloc: Global, reply: Option<&Words>) -> Result<Told, AllocError>
     }
 }
 
-/// Takes the first item out of a full window, and keeps it where the durable row has it.
+/// Takes the first item out of a full window, and keeps it if the durable row has it.
 fn drop_first(window: &mut Window, dropped: &mut Window, durable: &mut ArrayVec<bool, 8>)
     requires full { length window.old ≡ 8 }
     requires within { IsWithin window.old dropped.old durable.old.items }
@@ -174,7 +175,7 @@ fn drop_first(window: &mut Window, dropped: &mut Window, durable: &mut ArrayVec<
     }
 }
 
-/// Keeps an item after the others, with its reply where that is durable.
+/// Appends an item, with its reply if that is durable.
 fn keep(dropped: &mut Window, item: Option<Words>, is_durable: bool)
     requires { length dropped.old < 8 }
     ensures { dropped.new ≡ dropped.old ++ (if is_durable then item else None) ∷ [] }
@@ -186,7 +187,7 @@ fn keep(dropped: &mut Window, item: Option<Words>, is_durable: bool)
     }
 }
 
-/// The reply at the place isn't durable.
+/// Marks the reply at `place` as not durable.
 fn unmark(durable: &mut ArrayVec<bool, 8>, place: usize)
     ensures { durable.new.items ≡ slice_set durable.old.items place false }
 {
@@ -195,7 +196,7 @@ fn unmark(durable: &mut ArrayVec<bool, 8>, place: usize)
     }
 }
 
-/// The replies of the first items are durable.
+/// Marks the replies of the first `count` items as durable.
 fn mark_durable(durable: &mut ArrayVec<bool, 8>, count: usize)
     requires { count ≤ 8 }
     ensures { durable.new.items ≡ replicate count true }

@@ -10,7 +10,7 @@ use charmlet_model::{MsgId, Origin, Words};
 use std::alloc::AllocError;
 use std::collections::BTreeMap;
 
-/// Notes the client's next request. Where memory is refused, nothing is noted.
+/// Records the client's next request. When out of memory, nothing changes.
 pub(crate) fn note_request(
     clients: &mut BTreeMap<u32, Client>,
     client: u32,

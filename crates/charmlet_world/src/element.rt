@@ -42,7 +42,7 @@ impl Element {
         self.place.is_some() || self.received > 0
     }
 
-    /// Counts one more delivery, by which the element sent `sends` messages, and after which it
+    /// Counts one more delivery, which made the element send `sends` messages. The element then
     /// stands at `place`, or nowhere.
     pub fn advance(&mut self, place: Option<u16>, sends: u64)
         requires sent { self.old.sent + sends ≤ greatest }

@@ -17,8 +17,8 @@ use std::alloc::{AllocError, Global};
 use std::collections::BTreeMap;
 use std::marker::Model;
 
-/// Where an element is kept. It stays so, since no element is ever forgotten. A contract sees its
-/// number.
+/// Where an element is kept. It stays valid, since no element is ever forgotten. A contract sees
+/// its number.
 #[derive(Clone, Copy, Debug)]
 pub struct Slot {
     index: usize,
@@ -63,7 +63,7 @@ impl Elements {
         }
     }
 
-    /// No elements, and room for so many. It fails only for lack of memory.
+    /// No elements, and room for `count` of them. It fails only when out of memory.
     fn with_room(alloc: Global, count: usize) -> Result<Self, AllocError>
         ensures { IfOk result (λ elements. elements.entries ≡ []) }
     {
@@ -72,7 +72,7 @@ impl Elements {
         Ok(Elements { rows, expected: 0 })
     }
 
-    /// What this tree has, and nothing else. It fails only for lack of memory.
+    /// The elements of this tree. It fails only when out of memory.
     pub fn of_tree(alloc: Global, tree: BTreeMap<Elem, Element>) -> Result<Self, AllocError>
         ensures { IfOk result (λ elements. risen elements.entries ≡ tree.entries) }
     {
@@ -83,7 +83,7 @@ impl Elements {
         Ok(elements)
     }
 
-    /// Keeps this of an element, whatever was kept of it. It fails only for lack of memory.
+    /// Sets what is kept of an element. It fails only when out of memory.
     fn put(&mut self, elem: Elem, element: Element) -> Result<(), AllocError>
         ensures { OnOk result (risen self.new.entries
             ≡ insert_entry elem_cmp (risen self.old.entries) elem element) }
@@ -93,7 +93,7 @@ impl Elements {
         Ok(())
     }
 
-    /// Where an element is kept, if it is.
+    /// The slot of an element, if it has one.
     pub fn slot_of(&self, elem: Elem) -> Option<Slot>
         ensures found { IfSome result (λ slot. slice_get self.now.entries slot
             ≡ Some (elem, element_in self.now.entries elem)) }
@@ -105,8 +105,8 @@ impl Elements {
         }
     }
 
-    /// Looks for the row of this element, so that from now on it is found by one comparison.
-    /// Nothing that is kept changes.
+    /// Looks up the row of this element, so that from now on one comparison finds it. Nothing that
+    /// is kept changes.
     pub(crate) fn expect(&mut self, elem: Elem)
         ensures { self.new ≡ self.old }
     {
@@ -115,8 +115,8 @@ impl Elements {
         }
     }
 
-    /// What is kept of an element: of one that was never constructed, that it stands nowhere and
-    /// that its counts are 0.
+    /// What is kept of an element. One that was never constructed stands nowhere, and its counts
+    /// are 0.
     pub fn element(&self, elem: Elem) -> Element
         ensures element { result ≡ element_in self.now.entries elem }
         ensures risen { lookup (is_at (elem_cmp elem)) (risen self.now.entries)
@@ -129,15 +129,15 @@ impl Elements {
         }
     }
 
-    /// What is kept, in rising order of the elements, in memory of its own.
+    /// A copy of what is kept, in rising order of the elements. It fails only when out of memory.
     pub fn rising(&self, alloc: Global) -> Result<BTreeMap<Elem, Element>, AllocError>
         ensures { IfOk result (λ tree. tree.entries ≡ risen self.now.entries) }
     {
         rising_rows(&self.rows, alloc)
     }
 
-    /// The processor of each element that is there, in rising order of the elements, in memory of
-    /// its own. It takes none where no element is there.
+    /// The processor of each element that is there, in rising order of the elements. It fails only
+    /// when out of memory, and takes none if no element is there.
     pub fn places(&self, alloc: Global) -> Result<BTreeMap<Elem, u16>, AllocError>
         ensures places { IfOk result (λ tree. tree.entries ≡ places_of (risen self.now.entries)) }
         ensures nothing { places_of (risen self.now.entries) ≡ [] → IsOk result }
@@ -145,7 +145,7 @@ impl Elements {
         rising_places(&self.rows, alloc)
     }
 
-    /// What is kept there.
+    /// What is kept in this slot.
     pub fn at(&self, slot: Slot) -> Element
         requires { slot < length self.now.entries }
         ensures { slice_get (values_of self.now.entries) slot ≡ Some result }
@@ -153,7 +153,7 @@ impl Elements {
         self.rows[slot.index]
     }
 
-    /// Keeps this there.
+    /// Sets what is kept in this slot.
     pub fn set(&mut self, slot: Slot, element: Element)
         requires { slot < length self.old.entries }
         ensures entries { self.new.entries ≡ set_value_at self.old.entries slot element }
@@ -170,8 +170,7 @@ impl Elements {
         *row = element;
     }
 
-    /// Where an element is kept, from now on if it wasn't. Where memory is refused, nothing
-    /// changes.
+    /// The slot of an element, which gets one if it has none. When out of memory, nothing changes.
     pub fn slot_for(&mut self, elem: Elem) -> Result<Slot, AllocError>
         ensures found { IfOk result (λ slot. slice_get self.new.entries slot
             ≡ Some (elem, element_in self.old.entries elem)) }
@@ -198,7 +197,7 @@ fn index_of(rows: &IndexMap<Elem, Element>, expected: usize, elem: Elem) -> Opti
         ≡ Some (elem, element_in rows.now.entries elem)) }
     ensures which { is_some result ≡ is_some (lookup (same_elem elem) rows.now.entries) }
 {
-    // The length is what says that the elements are distinct.
+    // The length is what tells that the elements are distinct.
     let _len = rows.len();
     if let Some((here, _element)) = rows.get_index(expected) {
         if *here == elem {
@@ -248,7 +247,7 @@ fn rising_places(
     Ok(tree)
 }
 
-/// Puts the place of an element into the tree, if it has one. It takes no memory where it has none.
+/// Puts the place of an element into the tree, if it has one. It takes no memory if it has none.
 fn put_place(
     tree: &mut BTreeMap<Elem, u16>,
     elem: Elem,

@@ -41,7 +41,7 @@ use std::marker::Model;
 
 /// The present world without its objects: the place and the counts of each element, the pending
 /// messages in order of birth, and the clients' rows in the present and in the durable world. A
-/// contract sees what is kept, and for how many deliveries there is room.
+/// contract sees what is kept, and how many deliveries there is room for.
 #[derive(Drop)]
 pub struct PresentWorld {
     manifest: Manifest,
@@ -72,8 +72,8 @@ impl Model for PresentWorld {
 }
 
 impl PresentWorld {
-    /// A world with these arrays and so many processors, in which nothing has happened. It takes no
-    /// memory.
+    /// A world with these arrays and `processors` processors, in which nothing has happened. It
+    /// takes no memory.
     pub fn new(alloc: Global, manifest: Manifest, processors: u16) -> Self
         requires { is_processor_count processors ≡ true }
         ensures empty { result ≡ record {
@@ -97,7 +97,7 @@ impl PresentWorld {
     }
 
     /// A world with these arrays, this number of processors, and these elements, pending messages
-    /// and clients. It fails only for lack of memory.
+    /// and clients. It fails only when out of memory.
     pub fn of(
         alloc: Global,
         manifest: Manifest,
@@ -128,7 +128,7 @@ impl PresentWorld {
         })
     }
 
-    /// The world goes on in the newest versions of its kinds. It takes no memory.
+    /// Brings the world forward to the newest versions of its kinds. It takes no memory.
     pub fn upgrade(&mut self)
         ensures { self.new ≡ record self.old { manifest = up_manifest self.old.manifest } }
     {
@@ -171,7 +171,7 @@ impl PresentWorld {
         self.elements.element(elem)
     }
 
-    /// What is kept there.
+    /// What is kept in this slot.
     pub fn at(&self, slot: Slot) -> Element
         requires { slot < length self.now.rows }
         ensures { slice_get (values_of self.now.rows) slot ≡ Some result }
@@ -201,16 +201,16 @@ impl PresentWorld {
         place_in(self.processors, elem, self.element(elem).place)
     }
 
-    /// What is kept of each element, in rising order, in memory of its own. It sorts, and fails
-    /// only for lack of memory.
+    /// A copy of what is kept of each element, in rising order. It sorts, and fails only when out
+    /// of memory.
     pub fn rising(&self, alloc: Global) -> Result<BTreeMap<Elem, Element>, AllocError>
         ensures { IfOk result (λ tree. tree.entries ≡ (seen self.now).elements) }
     {
         self.elements.rising(alloc)
     }
 
-    /// The processor of each element that is there, in rising order of the elements, in memory of
-    /// its own. It takes none where no element is there.
+    /// The processor of each element that is there, in rising order of the elements. It fails only
+    /// when out of memory, and takes none if no element is there.
     pub fn places(&self, alloc: Global) -> Result<BTreeMap<Elem, u16>, AllocError>
         ensures places { IfOk result (λ tree. tree.entries ≡ places_of (seen self.now).elements) }
         ensures nothing { places_of (seen self.now).elements ≡ [] → IsOk result }
@@ -232,8 +232,8 @@ impl PresentWorld {
         &self.clients
     }
 
-    /// What a client is told by its durable row. It fails only when out of memory, and takes none
-    /// where the answer has no words.
+    /// What a client's durable row tells it about request `number`. It fails only when out of
+    /// memory, and takes none if the answer has no words.
     pub fn told(&self, alloc: Global, client: u32, number: u64) -> Result<Told, AllocError>
         ensures told { IfOk result (λ told. told
             ≡ told_of (client_at self.now.clients client).durable number) }
@@ -246,7 +246,8 @@ impl PresentWorld {
         }
     }
 
-    /// The oldest pending message that can be delivered by the counts that are kept.
+    /// The oldest pending message that can be delivered: its receiver is there or is constructed,
+    /// and has room in its counts.
     pub fn oldest(&self) -> Option<MsgId>
         ensures { result ≡ oldest (seen self.now) self.now.pending }
     {
@@ -258,8 +259,8 @@ impl PresentWorld {
         None
     }
 
-    /// The oldest pending message that can be delivered by the counts that are kept, and before it
-    /// the processor of its receiver, or the home of one that isn't there.
+    /// The oldest pending message that can be delivered, and before it the processor of its
+    /// receiver, or the home of one that isn't there.
     pub fn next(&self) -> Option<(u16, MsgId)>
         ensures { result ≡ next_due (seen self.now) self.now.pending }
     {
@@ -279,8 +280,8 @@ impl PresentWorld {
         is_taken_by(&self.element(letter.to), letter)
     }
 
-    /// Takes a client's request, whose id no pending message has. The room of deliveries stays.
-    /// Where memory is refused, nothing changes.
+    /// Accepts a client's request, whose id no pending message may have. The room for deliveries
+    /// stays. When out of memory, nothing changes.
     pub fn accept(
         &mut self,
         client: u32,
@@ -313,8 +314,7 @@ impl PresentWorld {
         Ok(())
     }
 
-    /// Where an element is kept, from now on if it wasn't. Where memory is refused, nothing
-    /// changes.
+    /// The slot of an element, which gets one if it has none. When out of memory, nothing changes.
     pub fn slot_for(&mut self, elem: Elem) -> Result<Slot, AllocError>
         ensures slot { IfOk result (λ slot. IsSlot self.new.rows slot elem) }
         ensures seen { OnOk result (seen self.new
@@ -329,9 +329,9 @@ impl PresentWorld {
         self.elements.slot_for(elem)
     }
 
-    /// Makes all room for the delivery of a pending message, so that its commit takes no memory,
-    /// and says where its receiver is kept. There are at most 64 such deliveries. Where memory is
-    /// refused, nothing changes.
+    /// Makes all the room for the delivery of a pending message, so that its commit takes no
+    /// memory, and returns its receiver's slot. There are at most 64 such deliveries at a time.
+    /// When out of memory, nothing changes.
     pub fn assign(&mut self, id: MsgId) -> Result<Slot, AllocError>
         requires pending { IsSome (message_among id self.old.pending) }
         requires few { self.old.promised < 64 }
@@ -359,7 +359,7 @@ impl PresentWorld {
         Ok(slot)
     }
 
-    /// Gives up the room of one delivery.
+    /// Gives up the room for one delivery.
     pub fn release(&mut self)
         requires { 0 < self.old.promised }
         ensures seen { seen self.new ≡ seen self.old }
@@ -369,9 +369,9 @@ impl PresentWorld {
         self.promised -= 1;
     }
 
-    /// Delivers a pending message, for which `assign` made room: it leaves, its receiver advances,
-    /// what it sent goes last, and its reply is kept with the client that asked. It takes no
-    /// memory.
+    /// Delivers a pending message for which `assign` made room: the message is removed, its
+    /// receiver advances, what the receiver sent is appended, and its reply is kept for the client
+    /// that asked. It takes no memory.
     pub fn commit(&mut self, slot: Slot, id: MsgId, output: Output)
         requires promised { 0 < self.old.promised }
         requires pending { IsSome (message_among id self.old.pending) }
@@ -403,8 +403,7 @@ impl PresentWorld {
         self.expect_oldest();
     }
 
-    /// Looks for the receiver of the oldest message, which is mostly the next one that is
-    /// delivered.
+    /// Looks up the receiver of the oldest message, which is usually delivered next.
     fn expect_oldest(&mut self)
         ensures { self.new ≡ self.old }
     {
@@ -413,7 +412,7 @@ impl PresentWorld {
         }
     }
 
-    /// An element that is there stands on the processor from now on. It takes no memory.
+    /// Moves an element that is there to the processor. It takes no memory.
     pub fn relocate(&mut self, elem: Elem, processor: u16)
         requires { is_some (element_at (seen self.old).elements elem).place ≡ true }
         ensures seen { seen self.new ≡ relocated (seen self.old) elem processor }
@@ -458,8 +457,8 @@ fn place_in(processors: u16, elem: Elem, place: Option<u16>) -> u16
     home
 }
 
-/// Where an element stands after a delivery, given what was kept of it before: nowhere, if that
-/// destroyed it.
+/// Where an element stands after a delivery, given what was kept of it before: nowhere, if the
+/// delivery destroyed it.
 fn place_after(processors: u16, elem: Elem, element: &Element, is_destroyed: bool) -> Option<u16>
     requires { is_processor_count processors ≡ true }
     ensures { result ≡ (if is_destroyed then None

@@ -8,7 +8,7 @@ ghost use Rattle.charmlet_model.specs.World.{numbered};
 use crate::pending::Pending;
 use charmlet_model::{Elem, Message, MsgId, Origin, Outgoing};
 
-/// Adds what an element sent, which had sent `sent` messages before. It takes no memory.
+/// Adds what an element sent. It had sent `sent` messages before. It takes no memory.
 pub(crate) fn push_sends(pending: &mut Pending, from: Elem, sent: u64, sends: Vec<Outgoing>)
     requires counts { sent + length sends.items ≤ greatest }
     requires room { length sends.items ≤ pending.old.room }

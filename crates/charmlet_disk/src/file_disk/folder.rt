@@ -9,8 +9,8 @@ use std::io::{self, ErrorKind};
 use std::os::unix::fs::MetadataExt;
 
 /// A folder with the files `half0` and `half1`. Each call looks for the folder first, and locks it
-/// where none before could; then it opens its half, if that is there. After a sync that failed each
-/// call is an error, and so it is after the sync of a half that was found.
+/// where none before could; then it opens its half, if that is there. After a failed sync each call
+/// is an error, also if it was the sync of a half that was found.
 #[derive(Drop)]
 pub struct Folder {
     rt: HostRuntime,

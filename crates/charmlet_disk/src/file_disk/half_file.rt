@@ -26,7 +26,7 @@ impl HalfFile {
         }
     }
 
-    /// Opens the file, settled, if it is there and not open yet. Where its sync fails, the disk is
+    /// Opens the file and syncs it, if it is there and not open yet. If the sync fails, the disk is
     /// lost.
     pub fn find(&mut self, rt: &HostRuntime, is_lost: &mut bool) -> io::Result<()>
         ensures kept { IsTrue is_lost.old → IsTrue is_lost.new }
@@ -37,7 +37,7 @@ impl HalfFile {
         Ok(())
     }
 
-    /// The length in bytes, which is 0 where the file is missing.
+    /// The length in bytes, which is 0 if the file is missing.
     pub fn len(&self) -> io::Result<u64> {
         match &self.file {
             Some(file) => len_of(file),
@@ -88,7 +88,7 @@ impl HalfFile {
     }
 }
 
-// Whether so many bytes from an offset on are in a file of this length.
+// Whether `count` bytes from an offset on are inside a file of length `len`.
 fn is_inside(offset: u64, count: usize, len: u64) -> bool
     ensures { IsTrue result ↔ (offset + count ≤ len) }
 {

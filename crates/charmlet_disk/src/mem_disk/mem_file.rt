@@ -42,7 +42,7 @@ fn overwrite(old: &mut Vec<u8>, offset: usize, bytes: &[u8]) -> Result<(), Alloc
     Ok(())
 }
 
-// Makes bytes the first so many of them, with these in their places.
+// Cuts `bytes` to the length of `others`, and writes `others` over them.
 fn cut_to(bytes: &mut Vec<u8>, others: &[u8])
     requires { length others.now ≤ length bytes.old.items }
     ensures same { bytes.new.items ≡ others.now }
@@ -108,7 +108,7 @@ impl MemFile {
         self.ranges.is_empty()
     }
 
-    /// Writes; or leaves the file as it is, where memory is refused.
+    /// Writes. When out of memory, the file stays as it is.
     pub fn write(&mut self, offset: usize, bytes: &[u8]) -> Result<(), AllocError>
         requires { offset ≤ length (file_of self.old).now }
         ensures ok { OnOk result (file_of self.new ≡ wrote offset bytes.now (file_of self.old)) }
@@ -158,7 +158,7 @@ impl MemFile {
         self.ranges.clear();
     }
 
-    // Has one byte wherever it was written.
+    // Sets each place that was written to `byte`.
     fn fill(&mut self, byte: u8)
         ensures { file_of self.new ≡ clean (filled byte (file_of self.old)) }
     {
@@ -168,7 +168,7 @@ impl MemFile {
         self.ranges.clear();
     }
 
-    // Keeps of what was written the first half of each range.
+    // Keeps only the first half of each range that was written.
     fn keep_first_halves(&mut self)
         requires { IsSound (file_of self.old) }
         ensures { file_of self.new ≡ clean (half_written (file_of self.old)) }

@@ -3,7 +3,7 @@ ghost use Rattle.std.specs.Prelude.{◌≡◌, ◌⊎◌, ℕ, ◌≤◌, ◌<�
 ghost use Rattle.charmlet_disk.specs.Overlay.{IsOverlaid};
 ghost use Rattle.charmlet_disk.specs.Crash.{first_halves, last_end, range_end};
 
-// One byte at each place of a range that the bytes have.
+// Sets each place of a range to `byte`, as far as the bytes go.
 fn fill_range(bytes: &mut [u8], offset: usize, count: usize, byte: u8)
     ensures inside { (k : ℕ) → offset ≤ k → k < offset + count → k < length bytes.old
         → slice_index bytes.new k ≡ byte }
@@ -16,7 +16,7 @@ fn fill_range(bytes: &mut [u8], offset: usize, count: usize, byte: u8)
     }
 }
 
-// The bytes of others at each place of a range that they have.
+// Copies `from` at each place of a range, as far as the bytes go.
 fn copy_range(to: &mut [u8], from: &[u8], offset: usize, count: usize)
     requires { length from.now ≡ length to.old }
     ensures inside { (k : ℕ) → offset ≤ k → k < offset + count → k < length to.old
@@ -30,7 +30,7 @@ fn copy_range(to: &mut [u8], from: &[u8], offset: usize, count: usize)
     }
 }
 
-// One byte at each place of the ranges.
+// Sets each place of the ranges to `byte`.
 fn fill_ranges(bytes: &mut [u8], ranges: &[(usize, usize)], byte: u8)
     ensures { IsOverlaid ranges.now (λ _. byte) bytes.old bytes.new }
 {
@@ -39,7 +39,7 @@ fn fill_ranges(bytes: &mut [u8], ranges: &[(usize, usize)], byte: u8)
     }
 }
 
-// The bytes of others, of which there are as many, at each place of the ranges.
+// Copies `from`, which is as long, at each place of the ranges.
 fn copy_ranges(to: &mut [u8], from: &[u8], ranges: &[(usize, usize)])
     requires { length from.now ≡ length to.old }
     ensures { IsOverlaid ranges.now (slice_index from.now) to.old to.new }
@@ -49,7 +49,7 @@ fn copy_ranges(to: &mut [u8], from: &[u8], ranges: &[(usize, usize)])
     }
 }
 
-// Leaves of each range its first half.
+// Cuts each range to its first half.
 fn halve_ranges(ranges: &mut [(usize, usize)])
     ensures { ranges.new ≡ first_halves ranges.old }
 {
@@ -59,7 +59,7 @@ fn halve_ranges(ranges: &mut [(usize, usize)])
     }
 }
 
-/// One byte at each place of the ranges.
+/// Sets each place of the ranges to `byte`.
 pub fn fill(bytes: &mut Vec<u8>, ranges: &[(usize, usize)], byte: u8)
     ensures filled { IsOverlaid ranges.now (λ _. byte) bytes.old.items bytes.new.items }
     ensures capacity { vec_capacity bytes.new ≡ vec_capacity bytes.old }
@@ -67,7 +67,7 @@ pub fn fill(bytes: &mut Vec<u8>, ranges: &[(usize, usize)], byte: u8)
     fill_ranges(bytes, ranges, byte);
 }
 
-/// The bytes of others, of which there are as many, at each place of the ranges.
+/// Copies `from`, which is as long, at each place of the ranges.
 pub fn copy(to: &mut Vec<u8>, from: &[u8], ranges: &[(usize, usize)])
     requires { length from.now ≡ length to.old.items }
     ensures copied { IsOverlaid ranges.now (slice_index from.now) to.old.items to.new.items }
@@ -76,14 +76,14 @@ pub fn copy(to: &mut Vec<u8>, from: &[u8], ranges: &[(usize, usize)])
     copy_ranges(to, from, ranges);
 }
 
-/// Leaves of each range its first half, rounded down.
+/// Cuts each range to its first half, rounded down.
 pub fn halve(ranges: &mut Vec<(usize, usize)>)
     ensures { ranges.new.items ≡ first_halves ranges.old.items }
 {
     halve_ranges(ranges);
 }
 
-// Where a range ends, or 0 where it is empty.
+// Where a range ends, or 0 if it is empty.
 fn range_end(offset: usize, count: usize) -> usize
     requires { range_end (offset, count) < 2 ^ 64 }
     ensures { result ≡ range_end (offset, count) }

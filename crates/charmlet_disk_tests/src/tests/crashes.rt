@@ -9,7 +9,7 @@ use std::test::Fail;
 #[derive(Clone, Copy)]
 struct Write(u64, &'static [u8]);
 
-// Writes, where the offset is no further than the end.
+// Writes, if the offset is no further than the end.
 fn put<D: Disk>(disk: &mut D, half: Half, offset: u64, bytes: &[u8]) -> bool {
     match disk.len(half) {
         Ok(end) if offset <= end => disk.write_at(half, offset, bytes).is_ok(),
@@ -32,7 +32,7 @@ fn settles(rt: &impl Abort, disk: &mut MemDisk) {
     assert!(rt; sync_both(disk).is_ok());
 }
 
-// The half is of this length.
+// The half has this length.
 fn has_len(rt: &impl Abort, disk: &mut MemDisk, half: Half, len: u64) {
     assert_eq!(rt; disk.len(half), Ok(len));
 }
@@ -165,7 +165,7 @@ fn crashes_cut_off_what_is_past_the_old_end(rt: HostRuntime) -> Result<(), Fail>
     leaves(&rt, Half::One, b"", &one, &wanted)
 }
 
-// A disk of whose half 0 all is sure, and of whose half 1 nothing is.
+// A disk with all of half 0 sure, and nothing of half 1.
 fn half_sure(rt: &(impl AllocGlobal + Abort)) -> MemDisk {
     let mut disk = written(rt, Half::Zero, b"sure", &[]);
     puts(rt, &mut disk, Half::One, 0, b"lost");
@@ -173,7 +173,7 @@ fn half_sure(rt: &(impl AllocGlobal + Abort)) -> MemDisk {
     disk
 }
 
-// A sync of one half makes nothing of the other one sure.
+// A sync of one half makes nothing sure of the other one.
 #[test]
 fn crashes_leave_what_was_synced(rt: HostRuntime) -> Result<(), Fail> {
     let mut left = half_sure(&rt).crash(CrashChoice::Old);
@@ -193,7 +193,7 @@ fn bytes_written_through_are_sure(rt: HostRuntime) -> Result<(), Fail> {
     Ok(())
 }
 
-// No call is on record.
+// No calls are on record.
 fn has_no_calls(rt: &impl Abort, disk: &MemDisk) {
     assert!(rt; disk.calls().is_empty());
 }
@@ -221,7 +221,7 @@ fn calls_are_on_record(rt: HostRuntime) -> Result<(), Fail> {
     )
 }
 
-// So many calls were faults.
+// `failures` calls were faults.
 fn has_failures(rt: &impl Abort, disk: &MemDisk, failures: u64) {
     assert_eq!(rt; disk.failures(), failures);
 }

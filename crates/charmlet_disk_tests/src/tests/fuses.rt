@@ -6,7 +6,8 @@ use charmlet_disk::{DeviceFault, Disk, FuseDisk, MemDisk, OnceDisk};
 use charmlet_model::Half;
 use std::process::Abort;
 
-// Writes a byte to the end of a half, and syncs it, so many times. How many of the calls succeeded.
+// Writes a byte to the end of a half and syncs it, `times` times. Returns how many of the calls
+// succeeded.
 fn lengthen<D: Disk>(disk: &mut D, half: Half, times: u64) -> u64 {
     let mut done = 0u64;
     for _ in 0..times {
@@ -23,28 +24,28 @@ fn is_number(rt: &impl Abort, found: u64, wanted: u64) {
     assert_eq!(rt; found, wanted);
 }
 
-// So many calls succeed while a half is lengthened so many times.
+// `calls` calls succeed while a half is lengthened `times` times.
 fn lengthens<D: Disk>(rt: &impl Abort, disk: &mut D, half: Half, times: u64, calls: u64) {
     is_number(rt, lengthen(disk, half, times), calls);
 }
 
-// So many calls were faults.
+// `failures` calls were faults.
 fn has_failures<D: Disk>(rt: &impl Abort, disk: &D, failures: u64) {
     is_number(rt, disk.failures(), failures);
 }
 
-// The half is of this length.
+// The half has this length.
 fn has_len<D: Disk>(rt: &impl Abort, disk: &mut D, half: Half, len: u64) {
     let found = disk.len(half).ok().expect(rt, "a length");
     is_number(rt, found, len);
 }
 
-// So many calls are on record.
+// `calls` calls are on record.
 fn has_calls(rt: &impl Abort, disk: &MemDisk, calls: u64) {
     is_number(rt, disk.calls().len() as u64, calls);
 }
 
-// A fuse passes so many of twelve calls, and lengths too.
+// A fuse passes `calls` of twelve calls, and lengths too.
 fn passes_calls(rt: &impl Abort, fuse: &mut FuseDisk<MemDisk>, calls: u64)
     requires { calls ≤ 12 }
 {
@@ -54,7 +55,7 @@ fn passes_calls(rt: &impl Abort, fuse: &mut FuseDisk<MemDisk>, calls: u64)
     has_failures(rt, fuse, 12 - calls);
 }
 
-// The disk under a fuse that passed so many calls got these alone, and none of them failed.
+// The disk under a fuse got only the `calls` calls that passed, and none of them failed.
 fn got_calls(rt: &impl Abort, disk: &mut MemDisk, calls: u64) {
     has_calls(rt, disk, calls);
     has_len(rt, disk, Half::One, calls.div_ceil(2));
@@ -99,15 +100,15 @@ fn blown_fuses_pass_lengths_and_reads(rt: HostRuntime) {
     has_failures(&rt, &fuse, 3);
 }
 
-// The disk got so many calls, and none of them failed.
+// The disk got `calls` calls, and none of them failed.
 fn got_rest(rt: &impl Abort, disk: &mut MemDisk, calls: u64) {
     has_calls(rt, disk, calls);
     has_failures(rt, disk, 0);
     lengthens(rt, disk, Half::One, 1, 2);
 }
 
-// Each time a length is asked for, a byte is written and the half is synced; where the length
-// fails, the write isn't made.
+// Each time a length is asked for, a byte is written and the half is synced. If the length fails,
+// the write isn't made.
 #[test]
 fn once_disks_fail_one_call(rt: HostRuntime) {
     for calls in 0..13 {

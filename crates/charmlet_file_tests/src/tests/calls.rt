@@ -8,11 +8,11 @@ use charmlet_model::Half;
 use std::fs;
 use std::process::Abort;
 
-// No half grows longer, so that it has up to three pages of a file system.
+// The greatest length of a half, so that it has up to three pages of a file system.
 const MAX_LEN: usize = 9000;
 
 // A call. An offset is brought inside the half, or to its end. A read ends inside the half too, and
-// a write where the half has `MAX_LEN` bytes.
+// a write ends where the half would have `MAX_LEN` bytes.
 #[derive(Clone, Copy, Debug)]
 enum Call {
     Len(Half),
@@ -73,8 +73,8 @@ fn within(offset: u64, len: u64) -> u64
     }
 }
 
-// Makes the call, and answers with its number of bytes, or with the length that was asked for. The
-// bytes of a read come into the buffer.
+// Makes the call, and returns its number of bytes, or the length that was asked for. The bytes of a
+// read go into the buffer.
 fn make<D: Disk>(disk: &mut D, call: Call, buffer: &mut [u8]) -> Result<u64, DeviceFault> {
     match call {
         Call::Len(half) => disk.len(half),
@@ -209,7 +209,7 @@ fn files_answer_as_memory_does(rt: HostRuntime) {
     }
 }
 
-// Makes a call, one time in four a write past the end, and says whether it is a fault.
+// Makes a call, one time in four a write past the end, and returns whether it is a fault.
 fn is_fault(disk: &mut FileDisk, numbers: &mut Numbers, buffer: &mut [u8]) -> bool {
     let call = numbers.call();
     if numbers.next() % 4 == 0 {
@@ -219,7 +219,7 @@ fn is_fault(disk: &mut FileDisk, numbers: &mut Numbers, buffer: &mut [u8]) -> bo
     }
 }
 
-// This holds also where any call of the system is refused that reads, writes or syncs a half.
+// This also holds if any system call that reads, writes or syncs a half is refused.
 #[test]
 fn each_fault_counts_once(rt: HostRuntime) {
     let folder = "file_disk_count";

@@ -79,7 +79,7 @@ fn missing_folder_is_a_fault_at_each_call(rt: HostRuntime) {
     writes(&rt, &mut disk, Half::Zero, 0, b"a");
     drop(disk);
     fs::remove_dir_all(&rt, folder).expect(&rt, "a folder");
-    // Nothing is looked for below the root where the path is empty.
+    // Nothing is looked for below the root if the path is empty.
     has_faults(&rt, &mut FileDisk::new(rt, "").expect(&rt, "memory"));
     has_faults(
         &rt,
@@ -177,7 +177,7 @@ fn is_read(rt: &impl Abort, disk: &mut FileDisk) {
     syncs(rt, disk, Half::One);
 }
 
-// What can't be written of it is a fault, and can still be read.
+// A write to either half is a fault, and what is there can still be read.
 fn is_not_written(rt: &impl Abort, disk: &mut FileDisk) {
     fails_to_write(rt, disk, Half::Zero, 0, b"x");
     fails_to_write(rt, disk, Half::One, 0, b"x");
@@ -185,7 +185,7 @@ fn is_not_written(rt: &impl Abort, disk: &mut FileDisk) {
     reads(rt, disk, Half::One, 0, b"abc");
 }
 
-// The superuser may do all the same. So what is refused is only tried where the system refuses it.
+// The superuser may do everything. So what is refused is only tried if the system refuses it.
 #[test]
 fn folder_without_the_right_to_write_is_read(rt: HostRuntime) {
     let folder = "file_disk_read_only";
@@ -207,7 +207,7 @@ fn folder_without_the_right_to_write_is_read(rt: HostRuntime) {
     fs::remove_dir_all(&rt, folder).expect(&rt, "a folder");
 }
 
-// It passes also where any one allocation is refused.
+// It also passes if any one allocation is refused.
 #[test]
 fn refused_memory_makes_no_disk(rt: HostRuntime) -> Result<(), Fail> {
     let folder = "file_disk_refused_memory";

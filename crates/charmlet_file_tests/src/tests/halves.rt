@@ -78,7 +78,7 @@ fn calls_past_the_end_are_faults(rt: HostRuntime) {
     fs::remove_dir_all(&rt, folder).expect(&rt, "a folder");
 }
 
-// A file is of this length from now on.
+// Sets the length of a file.
 fn cut(rt: &HostRuntime, path: &str, len: u64) -> io::Result<()> {
     OpenOptions::new().write(true).open(rt, path)?.set_len(len)
 }
@@ -111,7 +111,7 @@ fn half_that_lost_its_name_is_a_fault(rt: HostRuntime) {
     half_has_faults(&rt, &mut disk, Half::Zero);
     has_len(&rt, &mut disk, Half::One, 0);
     fails_to_sync(&rt, &mut disk, Half::Zero);
-    // What a sync that failed was to make durable is lost, and no later call says otherwise.
+    // What a failed sync was to make durable is lost, and no later call says otherwise.
     half_has_faults(&rt, &mut disk, Half::One);
     fails_to_sync(&rt, &mut disk, Half::One);
     has_failures(&rt, &disk, 8);
@@ -124,8 +124,8 @@ fn half_that_lost_its_name_is_a_fault(rt: HostRuntime) {
     fs::remove_dir_all(&rt, folder).expect(&rt, "a folder");
 }
 
-// Makes the file as long as the system lets it be, with no byte written, and answers with its
-// length. None where it may be neither of two lengths that are the limits of file systems.
+// Makes the file as long as the system lets it be, with no byte written, and returns its length, or
+// `None` if it can have neither of two lengths that are the limits of file systems.
 fn grow(rt: &HostRuntime, path: &str) -> io::Result<Option<u64>> {
     let file = OpenOptions::new().write(true).open(rt, path)?;
     for len in [(1 << 63) - 1, (1 << 44) - 4096] {
@@ -136,7 +136,7 @@ fn grow(rt: &HostRuntime, path: &str) -> io::Result<Option<u64>> {
     Ok(None)
 }
 
-// A half of this length, whose first byte is an a, is the greatest that there is.
+// A half of this length, whose first byte is an a, can't grow any more.
 fn is_greatest(rt: &impl Abort, disk: &mut FileDisk, len: u64) {
     has_len(rt, disk, Half::One, len);
     fails_to_write(rt, disk, Half::One, len, b"z");

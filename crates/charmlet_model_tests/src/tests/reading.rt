@@ -24,7 +24,7 @@ impl Read for Failing {
     }
 }
 
-// A reader that fails so.
+// A reader that fails with this kind of error.
 fn failing_with(kind: ErrorKind) -> Failing {
     Failing {
         is_started: false,
@@ -32,22 +32,22 @@ fn failing_with(kind: ErrorKind) -> Failing {
     }
 }
 
-// Why no script is read of a reader that fails so.
+// The error of reading a script from a reader that fails with this kind of error.
 fn failure(rt: &(impl AllocGlobal + Abort), kind: ErrorKind) -> ReadError {
     read_script(rt.alloc(), &mut failing_with(kind)).expect_err(rt, "it fails")
 }
 
-// Why no script of a restart is read of a reader that fails so.
+// The error of reading a restart's script from a reader that fails with this kind of error.
 fn failure_of_restart(rt: &(impl AllocGlobal + Abort), kind: ErrorKind) -> ReadError {
     read_restart_script(rt.alloc(), &mut failing_with(kind)).expect_err(rt, "it fails")
 }
 
-// Whether a read failed for want of a permission.
+// Whether a read failed for lack of permission.
 fn is_denied(error: ReadError) -> bool {
     matches!(error, ReadError::Failed(error) if error.kind() == ErrorKind::PermissionDenied)
 }
 
-// Whether a read failed for want of memory.
+// Whether a read failed for lack of memory.
 fn is_memory(error: ReadError) -> bool {
     matches!(error, ReadError::Memory)
 }
@@ -76,7 +76,7 @@ impl Read for Interrupted {
     }
 }
 
-// A script of an array and a flush, of which each read is interrupted at first.
+// A script of an array and a flush. Each read of it is interrupted at first.
 fn interrupted_script() -> Interrupted {
     Interrupted {
         bytes: b"array 0 1\nflush\n",

@@ -277,7 +277,7 @@ fn event_of(rt: &(impl AllocGlobal + Abort), request: &Request<'_>) -> Event {
     }
 }
 
-// A text of its own.
+// An owned copy of a text.
 fn owned(rt: &(impl AllocGlobal + Abort), text: &str) -> String {
     String::from_str(rt.alloc(), text).expect(rt, "memory")
 }
@@ -315,7 +315,7 @@ impl Story {
         }
     }
 
-    // Whether it repeats a request of the client's window.
+    // Whether it repeats a request in the client's window.
     fn is_repeat(&self, request: &Request<'_>) -> bool {
         match self.now.client(request.client) {
             Some(row) => row.in_window(request.number),
@@ -348,7 +348,7 @@ impl Story {
         format!(in rt.alloc(); "flushed {}", self.flushed).expect(rt, "memory")
     }
 
-    // Delivers the oldest message that can be delivered, so many times at most, and counts them.
+    // Delivers the oldest message that can be delivered, up to `most` times, and counts them.
     fn deliver_oldest(&mut self, rt: &impl Abort, most: u64) -> u64 {
         for count in 0..most {
             let Some(id) = self.oldest() else {
@@ -486,7 +486,7 @@ fn numbers(rt: &(impl AllocGlobal + Abort), text: &str, separator: char) -> Vec<
     numbers
 }
 
-// The id that is printed so.
+// The id with this text.
 fn id_of(rt: &(impl AllocGlobal + Abort), text: &str) -> MsgId {
     let numbers = numbers(rt, text.trim_start_matches(['c', 'e']), '.');
     if numbers.len() == 2 {
@@ -542,7 +542,7 @@ fn transcripts_are_as_they_were_told(rt: HostRuntime) {
     play(&rt, 0, 5, TREE);
 }
 
-// The first request of a client, with so many words, all of them 1, has this answer.
+// The first request of a client, with `words` words, all of them 1, has this answer.
 fn asks_first(
     rt: &(impl AllocGlobal + Abort),
     story: &mut Story,
@@ -609,8 +609,8 @@ fn life_of_a_tree(alloc: Global) -> Result<Vec<Event>, AllocError> {
     Ok(events)
 }
 
-// Whether an event happened. Where memory is refused for it the world has to be as it was, and it
-// is tried again.
+// Whether an event happened. When out of memory, the world has to be as it was, and the event is
+// tried again.
 fn happened(alloc: Global, world: &mut PlainWorld, event: &Event) -> Result<bool, AllocError> {
     let before = format!(in alloc; "{world:?}")?;
     let happened = world.after(event);

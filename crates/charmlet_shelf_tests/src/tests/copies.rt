@@ -1,4 +1,4 @@
-//! Copies that are refused while a delivery is under way, which no run comes to.
+//! Copies that are refused while a delivery is under way, which happens in no run.
 
 ghost use Rattle.std.specs.Prelude.{◌≡◌, ◌∷◌, []};
 ghost use Rattle.charmlet_kinds.specs.Ring.{state_of};
@@ -66,7 +66,7 @@ fn releases<C: Chare>(rt: &impl Abort, shelf: &mut Shelf<C>) {
     assert!(rt; shelf.release().is_none());
 }
 
-// The copy is refused so, since a delivery is under way.
+// The copy has this refusal, since a delivery is under way.
 fn is_uncommitted(rt: &impl Abort, copied: Result<(), (Refusal, Ring)>) {
     let (refusal, _) = copied.err().expect(rt, "it is refused");
     assert_eq!(rt; refusal, Refusal::Uncommitted);

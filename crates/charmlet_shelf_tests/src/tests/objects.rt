@@ -1,5 +1,5 @@
-//! What no run shows of an object of each kind: bytes that are none of its own, a construction of
-//! one that was used, and its versions.
+//! What no run shows of the objects of each kind: bytes that aren't their own, a construction of
+//! one that was used, and versions.
 
 ghost use Rattle.std.specs.Prelude.{◌≤◌, length};
 
@@ -37,12 +37,12 @@ fn are_bytes(rt: &impl Abort, found: &[u8], wanted: &[u8]) {
     assert_eq!(rt; found, wanted);
 }
 
-// The object is sized so.
+// The object has this size.
 fn has_size<C: Chare>(rt: &impl Abort, object: &mut C, size: usize) {
     assert_eq!(rt; object.size(), size);
 }
 
-// The object packs to these bytes, and is sized so.
+// The object packs to these bytes, and its size is their number.
 fn packs_to<C: Chare>(
     rt: &(impl AllocGlobal + Abort),
     object: &mut C,
@@ -111,7 +111,7 @@ fn faults_leave_the_tape(rt: HostRuntime) -> Result<(), Fail> {
     refuses(&rt, &mut tape, &many, PupFault::TooMany, &ITEMS[..20])
 }
 
-// An object that has these bytes is constructed by no word, and then has the bytes of a blank.
+// An object with these bytes is constructed with no words, and then has the bytes of a blank.
 fn begins_anew<C: Chare>(
     rt: &(impl AllocGlobal + Abort),
     object: &mut C,
@@ -136,7 +136,7 @@ fn used_objects_are_constructed_anew(rt: HostRuntime) -> Result<(), Fail> {
 }
 
 // Whatever the object was, it is made a blank of this version, with the blank's packed form. Then
-// it takes another one, and has the upgraded one once it goes on in the newest version.
+// it takes another one, and has the upgraded one once it is brought forward to the newest version.
 fn goes_on<C: Chare>(
     rt: &(impl AllocGlobal + Abort),
     object: &mut C,
@@ -160,7 +160,8 @@ fn goes_on<C: Chare>(
 // A counter at 1 that was at 3.
 const FALLEN: [u8; 16] = [1, 0, 0, 0, 0, 0, 0, 0, 3, 0, 0, 0, 0, 0, 0, 0];
 
-// A counter of version 1 goes on with its count as its peak, and all others go on as they were.
+// A counter of version 1 is brought forward with its count as its peak, and all others are
+// unchanged.
 #[test]
 fn objects_go_on_in_the_newest_version(rt: HostRuntime) -> Result<(), Fail> {
     let mut counter = Counter::blank();

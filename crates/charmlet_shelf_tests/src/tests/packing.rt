@@ -67,7 +67,7 @@ impl<C: Chare> Chare for Packer<C> {
     }
 }
 
-// The same element, with an object that counts so.
+// The same element, with such a counting object.
 fn counted<C: Chare>(
     rt: &impl Abort,
     element: Resident<C>,
@@ -90,7 +90,7 @@ fn no_packings(rt: &(impl AllocGlobal + Abort)) -> Arc<AtomicU64> {
     Arc::new(rt.alloc(), AtomicU64::new(0)).expect(rt, "a count")
 }
 
-// So often were objects sized or packed.
+// Objects were sized or packed `count` times.
 fn has_packed(rt: &impl Abort, packings: &Arc<AtomicU64>, count: u64) {
     assert!(rt; packings.load(Ordering::SeqCst) == count);
 }
@@ -113,7 +113,7 @@ fn releases<C: Chare>(rt: &impl Abort, shelf: &mut Shelf<C>) {
     assert!(rt; shelf.release().is_none());
 }
 
-// The element has an image, where memory is there for it.
+// The element has an image, if there is memory for it.
 fn has_image<C: Chare>(rt: &impl Abort, shelf: &mut Shelf<C>) {
     assert!(rt; shelf.image(ME).is_ok());
 }

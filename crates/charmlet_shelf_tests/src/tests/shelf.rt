@@ -48,7 +48,7 @@ pub(super) fn resident<C>(object: C, sent: u64, received: u64) -> Resident<C>
     }
 }
 
-// A message of client 1. Where memory is refused it is made at the second try.
+// A message of client 1. When out of memory, it is made at the second try.
 pub(super) fn message(
     rt: &(impl AllocGlobal + Abort),
     to: Elem,
@@ -72,8 +72,8 @@ pub(super) fn message(
     }
 }
 
-// The shelf of processor 3, with one element. Where memory is refused, the shelf is as before, and
-// the element is placed at the second try.
+// The shelf of processor 3, with one element. When out of memory, the shelf is as before, and the
+// element is placed at the second try.
 pub(super) fn shelf_with<C: Chare>(
     rt: &(impl AllocGlobal + Abort),
     elem: Elem,
@@ -110,8 +110,8 @@ pub(super) fn assigned<C: Chare>(
     shelf
 }
 
-// The shelf of processor 3, where an element is to be constructed from a blank. Where memory is
-// refused, the shelf is as before, and the message is assigned at the second try.
+// The shelf of processor 3, where an element is to be constructed from a blank. When out of memory,
+// the shelf is as before, and the message is assigned at the second try.
 fn constructing<C: Chare>(
     rt: &(impl AllocGlobal + Abort),
     blank: Resident<C>,
@@ -130,8 +130,8 @@ fn constructing<C: Chare>(
     shelf
 }
 
-// Performs the assigned message. Where memory is refused, it stays assigned, and is performed at
-// the second try.
+// Performs the assigned message. When out of memory, it stays assigned, and is performed at the
+// second try.
 fn performs<C: Chare>(rt: &impl Abort, shelf: &mut Shelf<C>)
     requires { is_assigned shelf.old.phase ≡ true }
     ensures { shelf.new.records ≡ shelf.old.records }
@@ -167,7 +167,7 @@ fn are_words(rt: &impl Abort, found: &[u64], wanted: &[u64]) {
     assert!(rt; found == wanted);
 }
 
-// Packs the object. Where memory is refused, it is packed at the second try.
+// Packs the object. When out of memory, it is packed at the second try.
 fn packs_into<C: Chare>(rt: &impl Abort, object: &mut C, packed: &mut Vec<u8>) {
     if object.pack(packed).is_err() {
         assert!(rt; object.pack(packed).is_ok());
@@ -356,7 +356,7 @@ fn refuses_construction(rt: &impl Abort, shelf: &mut Shelf<Ring>, construction: 
     assert!(rt; matches!(back.words.as_slice(), [9]));
 }
 
-// No message that is lent is delivered.
+// No message that is borrowed is delivered.
 fn refuses_lent_message(rt: &impl Abort, shelf: &mut Shelf<Ring>, elem: Elem, refusal: Refusal)
     requires { IfSome (lookup (is_at (elem_cmp elem)) shelf.old.records) HasCounts }
     ensures { shelf.new ≡ shelf.old }

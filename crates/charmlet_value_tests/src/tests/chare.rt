@@ -10,7 +10,7 @@ use std::test::Fail;
 // The element that gets the messages.
 const TO: Elem = Elem { array: 1, index: 2 };
 
-// There are so many of them.
+// There are `wanted` of them.
 fn is_count(rt: &impl Abort, found: usize, wanted: usize) {
     assert_eq!(rt; found, wanted);
 }
@@ -71,7 +71,7 @@ fn outbox_keeps_what_is_put_into_it(rt: HostRuntime) -> Result<(), Fail> {
     Ok(())
 }
 
-// Puts the words into the outbox as a reply and as the words of as many messages as it takes.
+// Puts the words into the outbox as a reply, and in as many messages as it takes.
 fn fill_up(out: &mut Outbox, words: &[u64]) -> Result<(), AllocError>
     requires { length words.now ≤ MAX_WORDS }
 {
@@ -84,7 +84,7 @@ fn fill_up(out: &mut Outbox, words: &[u64]) -> Result<(), AllocError>
     Ok(())
 }
 
-// The output is as great as one can be.
+// The output is as large as possible.
 fn is_full(rt: &impl Abort, output: &Output) {
     is_count(rt, output.reply.len(), 512);
     is_count(rt, output.sends.as_slice().len(), 16);

@@ -14,7 +14,7 @@ const LAST: Elem = Elem {
     index: 0xffff_ffff_ffff_ffff,
 };
 
-// The home on so many processors.
+// The home on `processors` processors.
 fn has_home(rt: &impl Abort, elem: Elem, processors: u16, wanted: u16) {
     let found = home(elem, processors).ok().expect(rt, "a home");
     assert_eq!(rt; found, wanted);
@@ -50,7 +50,7 @@ fn homes_are_by_array_and_index(rt: HostRuntime) {
     has_home(&rt, early, 4, 0);
 }
 
-// There can't be so many processors.
+// There can't be this many processors.
 fn has_no_homes(rt: &(impl AllocGlobal + Abort), processors: u16) {
     let of_home = home(ME, processors).err().expect(rt, "a refusal");
     assert_eq!(rt; of_home, Refusal::BadPes);
@@ -99,7 +99,7 @@ fn row(alloc: Global) -> Result<Vec<Elem>, AllocError> {
     Ok(elems)
 }
 
-// Where the elements restart on three processors. Where memory is refused, it is tried once more.
+// Where the elements restart on three processors. When out of memory, it is tried once more.
 fn restarted(rt: &(impl AllocGlobal + Abort), elems: &[Elem]) -> Result<Locations, Fail> {
     match restart_map(rt.alloc(), elems, 3) {
         Ok(locations) => Ok(locations),

@@ -158,7 +158,7 @@ fn is_set(rt: &impl Abort, mark: bool) {
     assert!(rt; mark);
 }
 
-// The value packs to so many bytes.
+// The value packs to `size` bytes.
 fn has_size<P: Pup>(rt: &impl Abort, value: &mut P, size: usize) {
     assert_eq!(rt; size_of(value), size);
 }

@@ -56,7 +56,7 @@ fn lacks(rt: &impl Abort, pending: &Pending, id: MsgId)
     assert!(rt; pending.find(id).is_none(), "{id} is there");
 }
 
-// Adds a message at both ends of both lists. Where memory is refused, nothing has changed.
+// Adds a message at both ends of both lists. When out of memory, nothing has changed.
 fn birth(
     rt: &(impl AllocGlobal + Abort),
     lists: &mut Lists,
@@ -71,7 +71,7 @@ fn birth(
     Ok(())
 }
 
-// So many messages are added, from this number on.
+// Adds the messages with numbers from `first` up to, but not including, `end`.
 fn births(rt: &(impl AllocGlobal + Abort), lists: &mut Lists, first: u64, end: u64) {
     for number in first..end {
         birth(rt, lists, number).expect(rt, "memory");
@@ -119,9 +119,9 @@ fn are_same(rt: &impl Abort, lists: &Lists) {
 struct Choice {
     seed: u64,
     steps: u64,
-    // So many of a hundred steps are births.
+    // How many of a hundred steps are births.
     births: u32,
-    // So many of a hundred takes are at random, the others are of the oldest.
+    // How many of a hundred takes are at random. The others take the oldest.
     random: u32,
 }
 
@@ -230,7 +230,7 @@ fn a_taken_id_comes_again_as_the_last(rt: HostRuntime) {
     are_same(&rt, &lists);
 }
 
-// Adds a message, and once more where memory is refused, after which nothing has changed.
+// Adds a message. When out of memory, nothing has changed, and it is tried once more.
 fn birth_again(
     rt: &(impl AllocGlobal + Abort),
     lists: &mut Lists,

@@ -283,7 +283,7 @@ fn both(rt: &(impl AllocGlobal + Abort)) -> (PresentWorld, PlainWorld)
     (world, PlainWorld::new(rt.alloc(), same))
 }
 
-// So many tries of a history, and how many events happened.
+// Tries `tries` events of a history, and returns how many happened.
 fn history(rt: &(impl AllocGlobal + Abort), seed: u64, tries: u32) -> u64 {
     let mut rng = Pcg32::new(seed, 54);
     let (mut world, mut plain) = both(rt);
