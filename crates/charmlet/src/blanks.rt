@@ -1,4 +1,4 @@
-//! Blank objects of all kinds, for whatever is done with them.
+//! Blank objects of all kinds, and the tasks that need them.
 
 ghost use Rattle.std.specs.Prelude.{◌≡◌, true, IfErr, IfOk};
 ghost use Rattle.charmlet_model.specs.Core.{Blanks};
@@ -27,26 +27,26 @@ use std::alloc::{AllocError, Global};
 /// An object of any kind.
 pub(crate) type Object = Box<dyn Chare + Send>;
 
-/// What is done with blank objects.
+/// A task that needs blank objects.
 pub(crate) trait Task: Drop {
-    /// What it answers.
+    /// What it returns.
     type Answer: Drop;
 
-    /// It may begin.
+    /// When it may begin.
     ghost may_begin: { Self → Type 0 };
 
-    /// How many blanks of a kind there have to be for the elements of a store that comes back.
+    /// How many blanks of a kind the elements of a store that comes back need.
     fn blanks(&self, kind: Kind) -> u64;
 
     /// How many blanks of a kind the lines of its script supply.
     fn supplies(&self, kind: Kind) -> u64;
 
-    /// Does it, with so many blanks.
+    /// Does it, with these blanks.
     fn begin(self, blanks: Vec<Object>, supplies: Vec<Object>) -> Self::Answer
         requires { may_begin self };
 }
 
-/// An object, boxed, or none where memory is refused.
+/// A boxed object, or `None` when out of memory.
 macro_rules! boxed {
     ($alloc:expr, $object:expr) => {
         match Box::new($alloc, $object) {
@@ -56,9 +56,9 @@ macro_rules! boxed {
     };
 }
 
-/// A new blank object of a kind, boxed, or the error of refused memory. It is a macro, since the
-/// checker has each function make the boxes of a `dyn` type that it needs, and none hand them out.
-/// It has no `?`, since each would drop all that its function owns there.
+/// A new boxed blank object of a kind, or the error of lacking memory. It is a macro, since the
+/// checker has each function make the boxes of a `dyn` type that it needs, and none can return
+/// them. It has no `?`, since each would drop all that its function owns there.
 macro_rules! blank {
     ($alloc:expr, $kind:expr) => {{
         let blank: Option<Object> = match $kind {
@@ -73,7 +73,7 @@ macro_rules! blank {
     }};
 }
 
-/// Makes the blanks that a task needs, and has it begin with them. The error is that there is no
+/// Makes the blanks that a task needs, and starts it with them. It fails only when there is no
 /// memory for them.
 pub(crate) fn with_blanks<T: Task>(alloc: Global, task: T) -> Result<T::Answer, AllocError>
     requires { T.may_begin task }

@@ -10,12 +10,11 @@ use std::io;
 use std::io::{BufWriter, IsTerminal, Write};
 use std::time::Instant;
 
-/// What is said of how far the laboratory is: on standard error, where that is a terminal, once a
-/// second.
+/// The laboratory's progress: on standard error, if that is a terminal, once a second.
 #[derive(Drop)]
 struct Progress {
     rt: HostRuntime,
-    /// When something was said last, or when the laboratory began; none where nothing is said.
+    /// When it was last written, or when the laboratory began; `None` if nothing is written.
     last: Option<Instant>,
     is_shown: bool,
 }
@@ -34,7 +33,7 @@ impl Progress {
         }
     }
 
-    /// Takes away what was said.
+    /// Clears what was written.
     fn clear(&self) {
         if self.is_shown {
             let _cleared = eprint!(self.rt; "\r\x1b[K");
@@ -43,7 +42,7 @@ impl Progress {
 }
 
 impl Watch for Progress {
-    /// Says what was found so far, in the place of what was said before.
+    /// Writes what was found so far, over what was written before.
     fn tell(&mut self, line: &LabLine) {
         let Some(last) = &self.last else {
             return;

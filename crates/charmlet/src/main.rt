@@ -48,7 +48,7 @@ fn charmlet(rt: HostRuntime) -> Result<(), Failure> {
 }
 
 fn main(rt: HostRuntime) -> ExitCode {
-    // Where nothing can be said, the status alone tells of the failure.
+    // If nothing can be written, only the status tells of the failure.
     let (status, _) = end_program(&charmlet(rt), &mut rt.stderr());
     ExitCode::from(status)
 }

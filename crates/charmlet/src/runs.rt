@@ -72,7 +72,7 @@ pub(crate) fn run(rt: HostRuntime, path: &str, dir: Option<&str>) -> Result<(), 
 }
 
 /// A run of a script over the store on this disk, which comes back on this number of processors,
-/// with the blanks that it wants.
+/// with the blanks that the restart wants.
 #[derive(Drop)]
 struct ScriptRestart<'a, W: Write> {
     alloc: Global,
@@ -113,7 +113,7 @@ impl<W: Write> Task for ScriptRestart<'_, W> {
 }
 
 /// Reads a script, and then runs it over the store in the two files of a folder, which comes back
-/// on so many processors.
+/// on `processors` processors.
 pub(crate) fn restart(rt: HostRuntime, dir: &str, path: &str, processors: u16) -> Result<(), Stop> {
     let alloc = rt.alloc();
     let script = restart_script_in(rt, path)?;

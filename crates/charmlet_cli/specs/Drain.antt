@@ -18,7 +18,7 @@ DeliversNext store (Ok false) last = (next_in store.core ≡ None) × (last ≡ 
 DeliversNext store (Err refusal) last = (processor : ℕ) × (id : MsgId)
     × (next_in store.core ≡ Some (processor, id)) × IsNotDelivered store processor id refusal last
 
--- so many deliveries one after another, each of the oldest message that can be delivered
+-- this many deliveries one after another, each of the oldest message that can be delivered
 abbrev pub Drains : StoreView → ℕ → StoreView → Type 0
 Drains store zero last = last ≡ store
 Drains store (suc k) last = (mid : StoreView) × Drains store k mid × DeliversNext mid (Ok true) last
@@ -34,12 +34,12 @@ abbrev pub DrainsUpTo : StoreView → (n k : ℕ) → Option Refusal → StoreVi
 DrainsUpTo store n k refusal last = (k ≤ n)
     × ((mid : StoreView) × Drains store k mid × Stops n k mid refusal last)
 
--- how many messages it delivered, and how many are pending then
+-- how many messages it delivered, and how many are then pending
 abbrev pub drain_text : ℕ → StoreView → Text
 drain_text k last = drained_text
     (record { delivered = k; left = length (present last.core).pending })
 
--- what it prints: that, and the refusal that stopped it
+-- what it prints: that, and the refusal that stopped it, if one did
 abbrev pub drain_texts : ℕ → StoreView → Option Refusal → List Text
 drain_texts k last None = drain_text k last ∷ []
 drain_texts k last (Some refusal) = drain_text k last ∷ answer_text (Refused refusal) ∷ []

@@ -10,17 +10,17 @@ use Rattle.charmlet_cli.specs.declared.stop.Stop.TheVariants as stops
 use Rattle.charmlet_cli.specs.Lines.{in_lines}
 use Rattle.charmlet_cli.specs.Stop.{status_of, stop_text}
 
--- what a command line that asks for nothing comes to
+-- the failure of a command line that asks for nothing
 abbrev pub failure_of : CommandError → Failure
 failure_of commands.Memory = Stopped stops.CannotGoOn
 failure_of (commands.Line error) = Command error
 
--- 2 for a bad command line or a call for help, and else the stop's
+-- 2 for a bad command line or a call for help, otherwise the stop's
 abbrev pub failure_status : Failure → ℕ
 failure_status (Command error) = 2
 failure_status (Stopped stop) = status_of stop
 
--- 0 where the script ran to its end
+-- 0 if the script ran to its end
 abbrev pub exit_status : {T : Type 0} → Result T Failure → ℕ
 exit_status (Ok done) = 0
 exit_status (Err failure) = failure_status failure

@@ -38,7 +38,7 @@ half_line f = record { half = f.half; generation = f.generation; base = f.before
 abbrev pub array_texts : ℕ × Edition → List Text
 array_texts e = array_line_text (record { array = e.0; edition = e.1 }) ∷ []
 
--- the line of a kind of which so many blanks are wanted, if any are
+-- the line of a kind, if any blanks of it are wanted
 abbrev pub count_texts : Kind → ℕ → List Text
 count_texts kind count = if nat_lt 0 count
     then wanted_line_text (record { kind = kind; count = count }) ∷ [] else []
@@ -47,7 +47,7 @@ count_texts kind count = if nat_lt 0 count
 abbrev pub wanted_texts : Wanted → Kind → List Text
 wanted_texts wanted kind = count_texts kind (blanks_in wanted kind)
 
--- the half, then each array and each kind of which blanks are wanted, in rising order
+-- the half, then each array and each kind with wanted blanks, in rising order
 abbrev pub found_texts : Found → List Text
 found_texts f = half_line_text (half_line f) ∷ []
     ++ (flat_map array_texts f.manifest ++ flat_map (wanted_texts f.wanted) all_kinds)

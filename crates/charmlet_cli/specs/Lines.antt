@@ -55,7 +55,7 @@ pub record Ledger (D : Type 0) : Type 0 where
   pub supplied : Kind → ℕ
   pub disk : D
 
--- of an engine that runs
+-- the ledger of a running engine
 abbrev pub ledger_in : {D : Type 0} → EngineShown D → Ledger D
 ledger_in engine = record {
   store = view_of engine;
@@ -83,7 +83,7 @@ Names = Text → Option Handler
 abbrev pub no_names : Names
 no_names name = None
 
--- of these lines the last one with the name says it
+-- the last of these lines with the name tells
 abbrev pub named_by : List HandlerLine → Names
 named_by [] name = None
 named_by (line ∷ lines) name =
@@ -99,35 +99,35 @@ named_at desk name = handler_of desk.handlers name
 abbrev pub in_lines : List Text → Text
 in_lines = flat_map (λ text. text ++ 10 ∷ [])
 
--- the line where memory is refused
+-- the line when out of memory
 abbrev pub memory_text : Text
 memory_text = answer_text (Refused Memory)
 
--- so many blanks of a kind more, in the stock and in what was supplied
+-- `count` more blanks of a kind, in the stock and in what was supplied
 pub record IsSupplied {D : Type 0} (kind : Kind) (count : ℕ) (old new : Ledger D) : Type 0 where
   pub core : new.store.core ≡ old.store.core
   pub blanks : (k : Kind) → new.store.blanks k ≡ old.store.blanks k + part_of kind count k
   pub supplied : (k : Kind) → new.supplied k ≡ old.supplied k + part_of kind count k
   pub disk : new.disk ≡ old.disk
 
--- a supply line adds its blanks, or is refused memory and changes nothing
+-- a supply line adds its blanks, or is out of memory and changes nothing
 abbrev pub Supplies : {D : Type 0} → Ledger D → Kind → ℕ → Text → Ledger D → Type 0
 Supplies old kind count text new = ((text ≡ supplied_text (record { kind = kind; count = count }))
     × IsSupplied kind count old new) ⊎ ((text ≡ memory_text) × (new ≡ old))
 
--- a state line shows the element's processor and record; memory may be refused where the element is
+-- a state line shows the element's processor and record; it may be out of memory if the element is
 -- there
 abbrev pub ShowsState : StoreView → Elem → Text → Type 0
 ShowsState store elem text =
     (text ≡ record_text elem (place_or_home store.core elem) (record_of (present store.core) elem))
     ⊎ (IsSome (record_of (present store.core) elem).state × (text ≡ memory_text))
 
--- a pending line shows the ids of the pending messages, or memory is refused
+-- a pending line shows the ids of the pending messages, or is out of memory
 abbrev pub ShowsPending : StoreView → Text → Type 0
 ShowsPending store text = (text ≡ pending_text (map (λ m. m.id) (present store.core).pending))
     ⊎ (text ≡ memory_text)
 
--- a census shows, kind by kind, where the objects are that were supplied so far
+-- a census shows, kind by kind, where the objects supplied so far are
 abbrev pub ShowsCensus : {D : Type 0} → Ledger D → List Text → Type 0
 ShowsCensus old texts =
     (retired : Kind → ℕ)
@@ -136,9 +136,9 @@ ShowsCensus old texts =
     all_kinds)
 
 module _ {D : Type 0} (G : disks.Ghosts D) where
-  -- The store goes on: its history grows; on an honest disk each crash from the one to the other
-  -- leaves the world after some of it, with all that was durable at the first among it; and the
-  -- disk is as honest as before.
+  -- The store goes on: its history grows; on an honest disk each crash between the two leaves the
+  -- world after some of it, with all that was durable at the old one; and the disk is as honest as
+  -- before.
   pub record Continues (old new : Ledger D) : Type 0 where
     pub onward : Onward old.store.core new.store.core
     pub any_moment : G.honest old.disk →
@@ -146,10 +146,10 @@ module _ {D : Type 0} (G : disks.Ghosts D) where
         (is_lawful_since old.store.core new.store.core)
     pub honest : (G.honest old.disk → G.honest new.disk) × (G.honest new.disk → G.honest old.disk)
 
-  -- A step is answered: what clients are told is true of the durable events; the device fails once
-  -- if and only if the answer says so; after an answer to what writes nothing the disk is as it
-  -- was; a flush isn't refused when out of memory; and a crash in a checkpoint of a store that
-  -- isn't halted leaves the old store or the image.
+  -- A step has this answer: what clients are told is true of the durable events; the device fails
+  -- once if and only if the answer says so; after a step that writes nothing the disk is as it was;
+  -- a flush isn't refused when out of memory; and a crash in a checkpoint of a store that isn't
+  -- halted leaves the old store or the image.
   pub record IsAnswered (step : Step) (answer : Answer) (old new : Ledger D) : Type 0 where
     pub does : Does old.store step answer new.store
     pub told : IsToldTrue new.store.core.opening
@@ -182,7 +182,7 @@ module _ {D : Type 0} (G : disks.Ghosts D) (named : Names) where
       × (answer : Answer) × IsAnswered G (steps.Request client number to entry words) answer old new
       × (texts ≡ answer_text answer ∷ [])
 
-  -- a line is run, and its texts are written after what was written before, or where that fails a
+  -- a line is run, and its texts are written after what was written before, or, if that fails, a
   -- beginning of them
   abbrev pub IsPrinted : {T E : Type 0} → Result T E → Ledger D → Line → Ledger D →
       (before after : Option Text) → Type 0

@@ -44,7 +44,7 @@ abbrev pub restarted_line_text : RestartedLine → Text
 restarted_line_text line = codes "restarted generation " ++ decimal line.generation
     ++ codes " events " ++ decimal line.events ++ codes " on " ++ decimal line.processors
 
--- the first line after a restart: the generation at which the store goes on, and how many events
+-- the first line after a restart: the generation that the store goes on at, and how many events
 -- came back
 abbrev pub restarted_text : Core → Text
 restarted_text core = in_lines
@@ -54,7 +54,7 @@ restarted_text core = in_lines
       processors = core.processors;
     }) ∷ [])
 
--- the only line where no store comes back
+-- the only line if no store comes back
 abbrev pub refusal_text : Refusal → Text
 refusal_text refusal = in_lines (answer_text (Refused refusal) ∷ [])
 
@@ -79,18 +79,18 @@ given_of state objects kind = count_of state objects kind
 -- ---- restarts
 
 module _ {D : Type 0} (G : disks.Ghosts D) where
-  -- what a crash might have left before the restart
+  -- what a crash might leave before the restart
   abbrev pub is_left_by : D → CrashBytes → Type 0
   is_left_by first = MayLeave (G.file first)
 
   -- A store came back from the first disk. Nothing has happened since, and each element that is
-  -- there stands on its home. Of an honest disk it has the world and the count of events to which
-  -- the files recover, at their generation, or at the next one where an image was wanted; of each
-  -- kind the stock has what the half that is taken didn't want of the blanks, and the log goes on
-  -- where that half ends, or after the image. After a crash in any life of the store all that
-  -- clients were told is true. The disk is settled, and each crash now leaves that world. Unless an
-  -- image was wanted nothing was written; and each crash since the beginning leaves what one before
-  -- might have left, or files that recover to that world, at their generation or the next.
+  -- there stands on its home. From an honest disk it has the world and the count of events that the
+  -- files recover to, at their generation, or at the next one if an image was wanted. The stock has
+  -- the blanks that the taken half didn't want, and the log goes on where that half ends, or after
+  -- the image. After a crash in any life of the store all that clients were told is true. The disk
+  -- is settled, and each crash now leaves that world. Nothing was written unless an image was
+  -- wanted; and each crash since the beginning leaves what one might leave before, or files that
+  -- recover to that world, at their generation or the next.
   pub record IsBack (processors : ℕ) (given : Blanks) (first : D) (back : Ledger D) : Type 0 where
     pub opens : IsOpenedOn processors back.store.core
     pub found : G.honest first → IsFound (bytes_on (G.file first)) back.store.core
@@ -147,10 +147,10 @@ module _ {D : Type 0} (G : disks.Ghosts D) where
 
   -- No store came back from the first disk, for a cause that is found in its files or its blanks,
   -- the number of processors, lack of memory, or a failure of the device. After a crash of an
-  -- earlier run the files alone are never the cause, but where an image is wanted that can't be
-  -- written. What was read is sure. Nothing is written unless an image is wanted, and then only
-  -- where the device failed; and each crash since the beginning leaves what one before might have
-  -- left, or files that recover to the same world, at the same generation or the next.
+  -- earlier run the files alone are never the cause, unless an image is wanted that can't be
+  -- written. What was read is sure. Nothing is written unless an image is wanted, and then only if
+  -- the device failed; and each crash since the beginning leaves what one might leave before, or
+  -- files that recover to the same world, at the same generation or the next.
   pub record WasNotRestarted (processors : ℕ) (given : Blanks) (first end : D)
       (refusal : Refusal) : Type 0 where
     pub kind : is_engine_refusal refusal ≡ true
@@ -177,8 +177,8 @@ module _ {D : Type 0} (G : disks.Ghosts D) where
       × AppendsBeginning before after (refusal_text refusal))
       ⊎ IsRestartCutOff processors given first end script before after
 
-  -- A restart that had enough objects for its script ends early where no store comes back, or where
-  -- the output fails or memory for a line's text is refused.
+  -- A restart that had enough objects for its script ends early if no store comes back, or if the
+  -- output fails or there is no memory for a line's text.
   abbrev pub EndsRestart : {C : Type 0} → (processors : ℕ) → Blanks → (first end : D) →
       RestartContents → (before after : Option Text) → RestartError C → Type 0
   EndsRestart processors given first end script before after (TooFewBlanks back others) = ⊥
@@ -189,9 +189,9 @@ module _ {D : Type 0} (G : disks.Ghosts D) where
   EndsRestart processors given first end script before after (Output error) =
       EndsRestartWrite processors given first end script before after
 
-  -- Where the objects for the script's lines are too few, and only there, all come back. Then the
-  -- disk and the output stay as they were, and so they do where memory is refused before the store
-  -- is to come back. A refused restart writes its line.
+  -- All objects come back if and only if there are too few for the script's lines. The disk and the
+  -- output then stay as they were, as they do when out of memory before the store is to come back.
+  -- A refused restart writes its line.
   abbrev pub RestartLeaves : {C W : Type 0} → (C → State) → (W → Option Text) → (processors : ℕ) →
       (first end : D) → (blanks supplies : List C) → RestartContents →
       (before after : W) → RestartError C → Type 0
@@ -221,7 +221,7 @@ stop_restarted (TooFewBlanks blanks supplies) = stops.CannotGoOn
 stop_restarted Memory = stops.CannotGoOn
 stop_restarted (Output error) = stops.CannotGoOn
 
--- and where no store is found
+-- the same if no store is found
 abbrev pub stop_found : FindError → Stop
 stop_found (finds.Refused refusal) = stops.NotRestarted refusal
 stop_found (finds.Output error) = stops.CannotGoOn

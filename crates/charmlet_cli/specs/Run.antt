@@ -21,8 +21,8 @@ use Rattle.charmlet_script.specs.Script.{Contents, processors_of}
 use Rattle.charmlet_cli.specs.Lines.{AreRun, BreakOff, Ledger, in_lines, kinds_of, named_by, opening_of}
 use Rattle.charmlet_cli.specs.Writing.{AppendsBeginning}
 
--- why a store isn't created: for the number of its processors, and else since one is here already,
--- when out of memory, or since the device failed
+-- why a store isn't created: for the number of its processors, or else because one is here already,
+-- when out of memory, or because the device failed
 abbrev pub IsCreationRefusal : ℕ → Refusal → Type 0
 IsCreationRefusal processors refusal =
     ((refusal ≡ BadPes) ↔ (is_processor_count processors ≡ false))
@@ -37,7 +37,7 @@ abbrev pub IsNotCreated : Contents → Refusal → (before after : Option Text) 
 IsNotCreated script refusal before after = IsCreationRefusal (processors_of script) refusal
     × Appends before after (creation_text refusal)
 
--- or only a beginning of it
+-- the same, with only a beginning of it printed
 abbrev pub IsNotSaid : Contents → Refusal → (before after : Option Text) → Type 0
 IsNotSaid script refusal before after = IsCreationRefusal (processors_of script) refusal
     × AppendsBeginning before after (creation_text refusal)
@@ -52,7 +52,7 @@ IsEarlierOrLawful earlier core outcome = earlier outcome
     ⊎ IsLawful core.opening core.before core.history 0 outcome
 
 module _ {D : Type 0} (G : disks.Ghosts D) where
-  -- A store was made on the first disk: of an honest one no half was open; the device hasn't
+  -- A store was made on the first disk: if that is honest, no half was open; the device hasn't
   -- failed, the disk is as honest as before, and each crash leaves nothing or the new store.
   pub record IsCreated (kinds : Kinds) (first made : D) : Type 0 where
     pub closed : G.honest first → IsClosed (G.file first Zero).now × IsClosed (G.file first One).now
@@ -60,9 +60,9 @@ module _ {D : Type 0} (G : disks.Ghosts D) where
     pub honest : (G.honest first → G.honest made) × (G.honest made → G.honest first)
     pub any_moment : G.honest first → LeavesOnly G.moment G.since first made (IsNothingOrNew kinds)
 
-  -- The disk at the end is the last store's. Where the first one was honest, each crash since the
+  -- The disk at the end is the last store's. If the first one was honest, each crash since the
   -- beginning leaves what there was earlier, or the world after some of the run, and each from now
-  -- on has all durable events among it.
+  -- on has all durable events.
   pub record Stands (earlier : CrashBytes → Type 0) (first end : D) (last : Ledger D) : Type 0 where
     pub disk : last.disk ≡ end
     pub any_moment : G.honest first →
@@ -88,10 +88,10 @@ module _ {D : Type 0} (G : disks.Ghosts D) where
       × (last : Ledger D) × BreakOff G (named_by script.handlers)
       (opening_of script made) script.lines last before after × Stands IsNothing first end last
 
-  -- Of an honest disk on which no store was made: a store that is here already has an open half,
-  -- and memory lacks only where neither is open; unless the device failed, nothing was written; and
-  -- each crash leaves what it would have left before, or of a disk without a store nothing or the
-  -- new store.
+  -- No store was made on an honest disk: a store that is here already has an open half, and it is
+  -- out of memory only if neither is open; unless the device failed, nothing was written; and each
+  -- crash leaves what it would have left before, or, if the disk had no store, nothing or the new
+  -- store.
   pub record WasRefused (first end : D) (kinds : Kinds) (refusal : Refusal) : Type 0 where
     pub here : refusal ≡ AlreadyHere → IsOpen (G.file first Zero).now
         ⊎ IsOpen (G.file first One).now
@@ -104,7 +104,7 @@ module _ {D : Type 0} (G : disks.Ghosts D) where
     pub any_moment : IsClosed (G.file first Zero).now → IsClosed (G.file first One).now →
         LeavesOnly G.moment G.since first end (IsNothingOrNew kinds)
 
-  -- a disk on which no store was made comes back; the device has failed once if and only if that is
+  -- the disk comes back without a new store; the device has failed once if and only if that is
   -- why
   abbrev pub IsHandedBack : (first end : D) → Contents → Refusal → Type 0
   IsHandedBack first end script refusal =

@@ -20,8 +20,8 @@ module _ {D : Type 0} (G : disks.Ghosts D) where
       × IsHandedBack G first end script refusal)
       ⊎ IsCutOff G first end script before after
 
-  -- A run that had enough objects ends early where its store isn't created, or where the output
-  -- fails or memory for a line's text is refused.
+  -- A run that had enough objects ends early if its store isn't created, or if the output fails or
+  -- there is no memory for a line's text.
   abbrev pub EndsRun : {C : Type 0} → (first end : D) → Contents → (before after : Option Text) →
       RunError C → Type 0
   EndsRun first end script before after (TooFewBlanks back) = ⊥
@@ -30,8 +30,8 @@ module _ {D : Type 0} (G : disks.Ghosts D) where
   EndsRun first end script before after Memory = ⊥
   EndsRun first end script before after (Output error) = EndsWrite first end script before after
 
-  -- Where the objects are too few, and only there, all come back. Then the disk and the output stay
-  -- as they were, and so they do where memory is refused before the store is to be created.
+  -- All objects come back if and only if there are too few. The disk and the output then stay as
+  -- they were, as they do when out of memory before the store is to be created.
   abbrev pub Leaves : {C W : Type 0} → (C → State) → (W → Option Text) → (first end : D) → List C →
       Contents → (before after : W) → RunError C → Type 0
   Leaves state contents first end objects script before after (TooFewBlanks back) =
@@ -46,7 +46,7 @@ module _ {D : Type 0} (G : disks.Ghosts D) where
       AreEnough state objects script.lines × EndsWrite first end script (contents before)
       (contents after)
 
--- there are too few objects, and all come back; or memory is refused where there are enough
+-- there are too few objects, and all come back; or there are enough, and it is out of memory
 abbrev pub Lacks : {C : Type 0} → (C → State) → List C → Contents → RunError C → Type 0
 Lacks state objects script (TooFewBlanks back) = (back.items ≡ objects)
     × ¬ AreEnough state objects script.lines

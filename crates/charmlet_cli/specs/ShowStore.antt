@@ -24,8 +24,8 @@ abbrev pub texts_of : Result Found Refusal → List Text
 texts_of (Ok f) = found_texts f
 texts_of (Err refusal) = answer_text (answers.Refused refusal) ∷ []
 
--- these lines are written, and the call is refused where nothing is found; or a beginning of them
--- is, and the output failed
+-- these lines are written, and the call is refused if nothing is found; or a beginning of them is
+-- written, and the output failed
 abbrev pub IsSaid : {T : Type 0} → Result Found Refusal → Result T ShowError →
     (before after : Option Text) → Type 0
 IsSaid answer (Ok done) before after = IsOk answer

@@ -9,7 +9,7 @@ use Rattle.charmlet_script.specs.declared.error.ReadError.TheVariants.{Memory, F
 use Rattle.charmlet_cli.specs.declared.stop.Stop.{Stop}
 use Rattle.charmlet_cli.specs.declared.stop.Stop.TheVariants.{CannotGoOn, NotCreated, NotRestarted, NotShown, NotSurvived, UnreadableScript, MalformedLine}
 
--- 1 where it can't go on, has no store, shows none, or found bad outcomes, and 2 for a script that
+-- 1 if it can't go on, has no store, shows none, or found bad outcomes, and 2 for a script that
 -- can't be run
 abbrev pub status_of : Stop → ℕ
 status_of CannotGoOn = 1
@@ -20,7 +20,7 @@ status_of NotSurvived = 1
 status_of UnreadableScript = 2
 status_of (MalformedLine line) = 2
 
--- what to do where there is no store for this reason
+-- what to do if there is no store for this reason
 abbrev pub advice_of : Refusal → Text
 advice_of AlreadyHere = codes ": the folder has one; go on with 'charmlet restart DIR SCRIPT'"
 advice_of NothingHere = codes ": the folder has none; 'charmlet run SCRIPT --dir DIR' makes one"
@@ -39,7 +39,7 @@ stop_text NotSurvived = codes "cannot survive each crash"
 stop_text UnreadableScript = codes "cannot read script"
 stop_text (MalformedLine line) = codes "script line " ++ decimal line
 
--- what a script that isn't read stops
+-- the stop for a script that wasn't read
 abbrev pub stop_of : ReadError → Stop
 stop_of Memory = CannotGoOn
 stop_of (Failed error) = UnreadableScript

@@ -1,4 +1,4 @@
-//! Where clients ask: the handlers that are registered, and the clients' passes.
+//! The desk where clients ask: the registered handlers, and the clients' passes.
 
 ghost use Rattle.std.specs.Prelude.{◌≡◌, ℕ, List, IfOk, IfSome};
 ghost use Rattle.charmlet_model.specs.declared.names.Elem as names;
@@ -19,8 +19,8 @@ use std::alloc::{AllocError, Global};
 use std::collections::BTreeMap;
 
 /// The handlers of a script, and the passes of its clients. Each client has one from its first
-/// request or question on; where memory for it is refused it goes without one, and is answered the
-/// same.
+/// request or question on. If there is no memory for it, the client goes without one, and has the
+/// same answers.
 #[derive(Drop)]
 pub(crate) struct Desk {
     handlers: Handlers,
@@ -39,8 +39,8 @@ pub(crate) struct Call<'a> {
 }
 
 impl Desk {
-    /// A desk with these handlers, of which the last one of a name counts. It fails only when out
-    /// of memory.
+    /// A desk with these handlers. If a name comes twice, the last line counts. It fails only when
+    /// out of memory.
     pub(crate) fn new(alloc: Global, lines: &[HandlerLine]) -> Result<Self, AllocError>
         ensures { IfOk result (λ desk. (name : List ℕ) →
             named_at desk name ≡ named_by lines.now name) }
@@ -60,7 +60,7 @@ impl Desk {
         engine.lend(&mut self.passes, client).ok()
     }
 
-    /// Holds a client's pass. One for which there is no memory is dropped, and isn't lent again.
+    /// Holds a client's pass. If there is no memory for it, it is dropped, and isn't lent again.
     fn hold(&mut self, pass: ClientPass)
         ensures { self.new.handlers ≡ self.old.handlers }
     {
@@ -92,7 +92,7 @@ impl Desk {
         told
     }
 
-    /// What is durable of a client's request, by its pass.
+    /// Tells a client by its pass what is durable of its request.
     pub(crate) fn status<D: Disk, C: Chare>(
         &mut self,
         engine: &mut Engine<D, C>,
@@ -143,8 +143,8 @@ impl Desk {
     }
 }
 
-/// The handlers of these lines, of which the last one of a name counts. It fails only when out of
-/// memory.
+/// The handlers of these lines. If a name comes twice, the last line counts. It fails only when out
+/// of memory.
 fn handlers_of(alloc: Global, lines: &[HandlerLine]) -> Result<Handlers, AllocError>
     ensures { IfOk result (λ handlers. (name : List ℕ) →
         handler_of handlers name ≡ named_by lines.now name) }

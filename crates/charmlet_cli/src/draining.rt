@@ -18,8 +18,8 @@ use std::io;
 use std::io::Write;
 
 /// Delivers the oldest message that can be delivered, up to `most` times, and then writes how many
-/// it delivered and how many are still pending. A refused delivery ends it, and is written too. An
-/// error is as `write_line` has it, once all is delivered.
+/// it delivered and how many are still pending. A refused delivery ends it, and is written too.
+/// Fails as `write_line` does, after all deliveries.
 pub fn drain_line<D: Disk, C: Chare, W: Write>(
     alloc: Global,
     engine: &mut Engine<D, C>,
@@ -39,8 +39,8 @@ pub fn drain_line<D: Disk, C: Chare, W: Write>(
     write_answer(alloc, writer, &Answer::Refused(refusal))
 }
 
-/// Delivers the oldest message that can be delivered, up to `most` times. Returns how often it did,
-/// and the refusal that ended it, if one did.
+/// Delivers the oldest message that can be delivered, up to `most` times. Returns how many it
+/// delivered, and the refusal that ended it, if one did.
 fn drain<D: Disk, C: Chare>(engine: &mut Engine<D, C>, most: u32) -> (u32, Option<Refusal>)
     ensures advances { Advances D.Disk engine.old engine.new }
     ensures drains { DrainsUpTo (view_of engine.old) most result.0 result.1 (view_of engine.new) }

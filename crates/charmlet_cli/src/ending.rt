@@ -11,7 +11,7 @@ use std::io::Write;
 /// Why the program doesn't run a script to its end.
 #[derive(Debug, Drop)]
 pub enum Failure {
-    /// The command line is bad, or calls for help, which clap's text says.
+    /// The command line is bad, or calls for help; clap's text says which.
     Command(clap::Error),
     /// The program stops before its work is done.
     Stopped(Stop),
@@ -21,7 +21,7 @@ impl Failure {
     ghost use Rattle.std.specs.Prelude.{◌≡◌, OnOk};
     ghost use Rattle.charmlet_cli.specs.Failure.{Says, failure_status};
 
-    /// The exit status: 2 for a bad command line or a call for help, and else that of the stop.
+    /// The exit status: 2 for a bad command line or a call for help, otherwise that of the stop.
     fn exit_status(&self) -> u8
         ensures { result ≡ failure_status self.now }
     {
@@ -31,7 +31,7 @@ impl Failure {
         }
     }
 
-    /// Says why, and takes no memory: clap's text as it is, and a stop in a line.
+    /// Writes why, clap's text as it is, and a stop in a line. It takes no memory.
     fn say<W: Write>(&self, errors: &mut W) -> io::Result<()>
         ensures { OnOk result (Says self.now (W.contents errors.old) (W.contents errors.new)) }
     {
@@ -82,9 +82,9 @@ impl From<io::Error> for Failure {
     }
 }
 
-/// Says on `errors`, the program's standard error, why it failed, if it did. Gives its exit status,
-/// and whether that could be said: 0 where the script ran to its end, 2 for a bad command line or a
-/// call for help, and else the status of the stop. The status is the same where `errors` fails.
+/// Writes to `errors`, the program's standard error, why it failed, if it did. Returns its exit
+/// status, and whether the write succeeded. The status is 0 if the script ran to its end, 2 for a
+/// bad command line or a call for help, and otherwise that of the stop, even if `errors` fails.
 pub fn end_program<W: Write>(ran: &Result<(), Failure>, errors: &mut W) -> (u8, io::Result<()>)
     ensures status { result.0 ≡ exit_status ran.now }
     ensures said { OnOk result.1 (IfErr ran.now

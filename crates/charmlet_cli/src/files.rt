@@ -7,8 +7,8 @@ use crate::stop::Stop;
 use std::fs::File;
 use std::rt::Files;
 
-/// Opens a script's file, to be read from its beginning. Where there is none, or it can't be
-/// opened, the answer is `Stop::UnreadableScript`.
+/// Opens a script's file, to be read from its beginning. `Stop::UnreadableScript` if there is none,
+/// or it can't be opened.
 pub fn open_script<R: Files>(rt: &R, path: &str) -> Result<R::File, Stop>
     ensures { IfErr result (λ stop. stop ≡ stops.UnreadableScript) }
 {

@@ -3,8 +3,7 @@
 use charmlet_model::{Edition, Half, Kind};
 use std::fmt;
 
-/// Of the half that is taken: its generation, how many events came before its image, and how many
-/// its log has.
+/// The taken half: its generation, how many events came before its image, and how many its log has.
 #[derive(Clone, Copy, Debug, PartialEq, Eq)]
 pub struct HalfLine {
     pub half: Half,

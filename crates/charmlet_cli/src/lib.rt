@@ -1,5 +1,5 @@
-//! Runs scripts over a store, line by line, a new one or one that comes back, shows a store, and
-//! says how the program ends.
+//! Runs scripts, line by line, over a new store or one that comes back, shows a store, and decides
+//! how the program ends.
 #![tactic(auto)]
 
 mod desk;

@@ -38,23 +38,23 @@ use std::{fmt, io};
 /// Why it isn't known which blanks a restart needs.
 #[derive(Debug, Drop)]
 pub enum FindError {
-    /// No store is found, for this reason, whose line is all that was written.
+    /// No store is found, for this reason. Only its line was written.
     Refused(Refusal),
-    /// That line couldn't be written: the output failed, or memory for the line's text was refused.
+    /// That line couldn't be written: the output failed, or there was no memory for its text.
     Output(io::Error),
 }
 
 /// Why a script wasn't run to its last line over a store that was to come back.
 #[derive(Drop)]
 pub enum RestartError<C: Chare> {
-    /// There are fewer objects of a kind than the script supplies. All come back, those for the
-    /// restart first, and nothing was written.
+    /// There are fewer objects of a kind than the script supplies. All objects come back, those for
+    /// the restart first, and nothing was written.
     TooFewBlanks(Vec<C>, Vec<C>),
-    /// No store came back, for this reason, whose line is all that was written. No line was run.
+    /// No store came back, for this reason. Only its line was written, and no line was run.
     NotRestarted(Refusal),
-    /// Memory was refused before the store was to come back. Nothing was written.
+    /// Out of memory before the store was to come back. Nothing was written.
     Memory,
-    /// A line couldn't be written: the output failed, or memory for the line's text was refused. A
+    /// A line couldn't be written: the output failed, or there was no memory for its text. A
     /// beginning of what is printed was written.
     Output(io::Error),
 }
@@ -67,8 +67,8 @@ pub struct Restarted<D: Disk, C: Chare> {
     pub result: Result<(), RestartError<C>>,
 }
 
-/// That a store came back: the generation at which it goes on, how many events came back, and on
-/// how many processors it goes on.
+/// A store came back: the generation that it goes on at, how many events came back, and the number
+/// of processors.
 #[derive(Clone, Copy, Debug, PartialEq, Eq)]
 pub struct RestartedLine {
     pub generation: u64,
@@ -97,9 +97,9 @@ impl fmt::Display for RestartedLine {
 /// How many blank objects of each kind a restart of the store on this disk needs, on this number of
 /// processors. It only reads the disk, and writes nothing.
 ///
-/// Where no store is found the refusal's line is written: `BadPes` where there aren't 1 to 64
-/// processors, before anything is read; else `Damaged`, `NothingHere`, `Memory` or `Device`, as
-/// [`charmlet_recover::manifest`] has them.
+/// If no store is found, the refusal's line is written: `BadPes` if there aren't 1 to 64
+/// processors, before anything is read; otherwise `Damaged`, `NothingHere`, `Memory` or `Device`,
+/// as [`charmlet_recover::manifest`] has them.
 pub fn find_blanks<D: Disk, W: Write>(
     alloc: Global,
     disk: &mut D,
@@ -135,29 +135,29 @@ pub fn find_blanks<D: Disk, W: Write>(
 }
 
 /// Goes on with the store on a disk, whatever a crash left there, on this number of processors, and
-/// runs a script's lines. First it writes the generation at which the store goes on, how many
-/// events came back, and the number of processors; then what the lines print: all that a line
-/// prints is written before the next line is run. `blanks` are the objects of which the store's
-/// elements are made, as many as [`find_blanks`] names, and those beyond come to its stock;
-/// `supplies` those that the script's lines supply, of which those beyond are dropped at the end. A
-/// refusal is an answer, and the run goes on. The disk comes back in any case.
+/// runs a script's lines. First it writes the generation that the store goes on at, how many events
+/// came back, and the number of processors; then what the lines print: all that a line prints is
+/// written before the next line is run. `blanks` are the objects that the store's elements are made
+/// from, as many as [`find_blanks`] says; any more go to its stock. `supplies` are those that the
+/// script's lines supply; any more are dropped at the end. A refusal is an answer, and the run goes
+/// on. The disk comes back in any case.
 ///
-/// Where the half that is taken has its kinds in their newest versions alone, the restart writes
-/// nothing to the disk, and the store goes on at its generation. Else an image of the store in the
-/// newest versions takes its place, at the next generation, as [`Engine::restart`] says; a crash
-/// meanwhile leaves what one before might have left, or files that recover to the same world.
+/// If the taken half has all its kinds in their newest versions, the restart writes nothing to the
+/// disk, and the store goes on at its generation. Otherwise an image of the store in the newest
+/// versions replaces it, at the next generation, as [`Engine::restart`] says; a crash meanwhile
+/// leaves what one might leave before, or files that recover to the same world.
 ///
 /// No store comes back for the reasons of [`Engine::restart`], in its order. Then the refusal is
-/// written, no line is run, and all objects are dropped. Nothing on the disk is changed, unless the
-/// device failed while that image was to be written.
+/// written, no line is run, and all objects are dropped. The disk is unchanged, unless the device
+/// failed while that image was being written.
 ///
-/// After a crash at any moment of an earlier run on this disk the store has the world after some of
-/// what had happened, with all that was durable among it, and what clients were told before is
-/// true. What is said of a run's disk by [`crate::run_script`] holds here too: from the end of each
-/// line on, a crash leaves files with all events that were durable then.
+/// After a crash at any moment of an earlier run on this disk, the store has the world after some
+/// of what had happened, with all that was durable, and what clients were told before is true. As
+/// in [`crate::run_script`], from the end of each line on, a crash leaves files with all events
+/// that were durable then.
 ///
-/// The disk's count of failures grows by one for each `Device` that is answered, and for nothing
-/// else. The disk is as honest as before. `RestartError` says what each error means.
+/// The disk's count of failures grows by one for each `Device` answer, and for nothing else. The
+/// disk is as honest as before. `RestartError` says what each error means.
 pub fn restart_script<D: Disk, C: Chare, W: Write>(
     alloc: Global,
     disk: D,
@@ -203,7 +203,7 @@ fn supplied_by(script: &RestartScript) -> Wanted
     }
 }
 
-/// What a restart for a script begins with: the objects of which the store's elements are made,
+/// What a restart for a script begins with: the objects that the store's elements are made from,
 /// those that the script's lines supply, and its handlers.
 #[derive(Drop)]
 struct Prepared<C: Chare> {
@@ -239,7 +239,7 @@ fn prepare<C: Chare>(
     })
 }
 
-/// Has the store come back and runs lines over it, or writes why none came back.
+/// Brings the store back and runs lines over it, or writes why none came back.
 fn restart_with<D: Disk, C: Chare, W: Write>(
     alloc: Global,
     disk: D,

@@ -40,15 +40,14 @@ use std::io::Write;
 /// Why a script wasn't run to its last line.
 #[derive(Drop)]
 pub enum RunError<C: Chare> {
-    /// There are fewer objects of a kind than the script supplies. All come back, and nothing was
-    /// written.
+    /// There are fewer objects of a kind than the script supplies. All objects come back, and
+    /// nothing was written.
     TooFewBlanks(Vec<C>),
-    /// The store wasn't created, for this reason, whose line is all that was written. No line was
-    /// run.
+    /// The store wasn't created, for this reason. Only its line was written, and no line was run.
     NotCreated(Refusal),
-    /// Memory was refused before the store was to be created. Nothing was written.
+    /// Out of memory before the store was to be created. Nothing was written.
     Memory,
-    /// A line couldn't be written: the output failed, or memory for the line's text was refused. A
+    /// A line couldn't be written: the output failed, or there was no memory for its text. A
     /// beginning of what the script prints was written.
     Output(io::Error),
 }
@@ -78,23 +77,23 @@ pub struct Ran<D: Disk, C: Chare> {
 
 /// Makes the script's store on a disk, runs its lines there, and writes what they print: all that a
 /// line prints is written before the next line is run. `blanks` are the objects that the script's
-/// lines supply; those beyond are dropped at the end. A refusal is an answer, and the run goes on.
-/// The disk has to be settled, and comes back in any case.
+/// lines supply; any more are dropped at the end. A refusal is an answer, and the run goes on. The
+/// disk has to be settled, and comes back in any case.
 ///
-/// There is no store where the script's number of processors is outside 1 to 64, `BadPes`; a half
-/// of the disk is open, `AlreadyHere`; memory is refused, `Memory`; or the device fails, `Device`.
+/// No store is made if the script's number of processors is outside 1 to 64, `BadPes`; a half of
+/// the disk is open, `AlreadyHere`; it is out of memory, `Memory`; or the device fails, `Device`.
 /// Then the refusal is written, no line is run, and all objects are dropped.
 ///
 /// On an honest disk a crash at any moment of the run leaves files that recover to nothing, or to
-/// the world after some of the run's history. From the end of each line on it is one that has all
-/// events which were durable then: what a line has told, or counted as durable, stays so. And so it
-/// is from the run's end on, whether each line was run or not.
+/// the world after some of the run's history. From the end of each line on, that world has all
+/// events that were durable then: what a line has told, or counted as durable, stays so. The same
+/// holds from the run's end on, whether each line was run or not.
 ///
-/// The disk's count of failures grows by one for each `Device` that is answered, and for nothing
-/// else. The disk is as honest as before.
+/// The disk's count of failures grows by one for each `Device` answer, and for nothing else. The
+/// disk is as honest as before.
 ///
-/// `RunError` says what each error means; where there are too few objects, it comes before the test
-/// of the number of processors.
+/// `RunError` says what each error means. Whether there are too few objects is tested before the
+/// number of processors.
 pub fn run_script<D: Disk, C: Chare, W: Write>(
     alloc: Global,
     disk: D,
@@ -130,7 +129,7 @@ struct Prepared<C: Chare> {
 }
 
 /// The arrays of a script's store, its handlers, and a stock of the objects that its lines supply.
-/// `TooFewBlanks` where there aren't as many, and `Memory`.
+/// `TooFewBlanks` if there are fewer; otherwise `Memory`.
 fn prepare<C: Chare>(
     alloc: Global,
     script: &Script,
@@ -255,7 +254,7 @@ pub(crate) fn run_lines<D: Disk, C: Chare, W: Write>(
     Ok(())
 }
 
-/// Runs one line, and writes what it answers.
+/// Runs one line, and writes its answers.
 fn run_line<D: Disk, C: Chare, W: Write>(
     alloc: Global,
     engine: &mut Engine<D, C>,
@@ -356,7 +355,7 @@ fn told_answer(told: Result<Told, Refusal>) -> Answer
     }
 }
 
-/// Supplies so many objects of a kind, and writes that it did, or that memory was refused.
+/// Supplies `count` objects of a kind, and writes that it did, or that it is out of memory.
 fn supply_line<D: Disk, C: Chare, W: Write>(
     alloc: Global,
     engine: &mut Engine<D, C>,

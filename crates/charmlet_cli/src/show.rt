@@ -1,4 +1,4 @@
-//! The showing of a store that is in two halves.
+//! Showing a store that is in two halves.
 
 ghost use Rattle.std.specs.Prelude.{◌≡◌, IfOk, Result};
 ghost use Rattle.std.specs.List.{flat_map};
@@ -29,19 +29,19 @@ use std::io::Write;
 /// Why a store isn't shown.
 #[derive(Debug, Drop)]
 pub enum ShowError {
-    /// Nothing is found, for this reason, whose line is all that was written.
+    /// Nothing is found, for this reason. Only its line was written.
     Refused(Refusal),
-    /// A line couldn't be written: the output failed, or memory for the line's text was refused. A
+    /// A line couldn't be written: the output failed, or there was no memory for its text. A
     /// beginning of what is shown was written.
     Output(io::Error),
 }
 
-/// Shows what is found in the two halves of a disk: the half that is taken, with its generation,
-/// how many events came before its image and how many its log has; then each array with its kind
-/// and its version; then how many blank objects of each kind a restart needs, where it needs some.
-/// It only reads the disk.
+/// Shows what is found in the two halves of a disk: the taken half, with its generation, how many
+/// events came before its image and how many its log has; then each array with its kind and its
+/// version; then how many blank objects of each kind a restart needs, if it needs any. It only
+/// reads the disk.
 ///
-/// Where nothing is found the refusal's line is written: `Damaged`, `NothingHere`, `Memory` or
+/// If nothing is found, the refusal's line is written: `Damaged`, `NothingHere`, `Memory` or
 /// `Device`, as [`charmlet_recover::manifest`] has them. `ShowError` says what each error means.
 pub fn show_store<D: Disk, W: Write>(
     alloc: Global,
@@ -102,8 +102,7 @@ fn list_found<D: Disk>(alloc: Global, disk: &mut D) -> Result<Listed, Refusal>
     }
 }
 
-/// Writes what is found. An error is as `write_line` has it, and the lines before that one stay
-/// written.
+/// Writes what is found. Fails as `write_line` does, and the lines before stay written.
 fn write_found<W: Write>(alloc: Global, writer: &mut W, listed: &Listed) -> io::Result<()>
     requires { listed.now.arrays.items ≡ listed.now.found.manifest }
     ensures { Writes result (W.contents writer.old) (W.contents writer.new)
@@ -140,7 +139,7 @@ fn write_arrays<W: Write>(
     Ok(())
 }
 
-/// Writes how many blanks of each kind are wanted, where some are.
+/// Writes how many blanks of each kind are wanted, if any are.
 fn write_wanted<W: Write>(alloc: Global, writer: &mut W, wanted: &Wanted) -> io::Result<()>
     ensures { Writes result (W.contents writer.old) (W.contents writer.new)
         (in_lines (flat_map (wanted_texts wanted.now) all_kinds)) }

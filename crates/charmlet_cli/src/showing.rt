@@ -1,4 +1,4 @@
-//! The running of lines that show something of an engine, and change nothing.
+//! Running lines that show something of an engine, and change nothing.
 
 ghost use Rattle.std.specs.Prelude.{◌≡◌, map, IfOk, IsOk, None};
 ghost use Rattle.std.specs.List.{flat_map};
@@ -23,8 +23,8 @@ use std::alloc::{AllocError, Global};
 use std::io;
 use std::io::Write;
 
-/// Writes where the element stands and its state, or that memory was refused. An error is as
-/// `write_line` has it.
+/// Writes where the element stands and its state, or that it is out of memory. Fails as
+/// `write_line` does.
 pub fn state_line<D: Disk, C: Chare, W: Write>(
     alloc: Global,
     engine: &mut Engine<D, C>,
@@ -41,8 +41,8 @@ pub fn state_line<D: Disk, C: Chare, W: Write>(
     write_line(alloc, writer, &shown)
 }
 
-/// What a line shows of an element. It fails only when out of memory, and not where the element
-/// isn't there.
+/// What a line shows of an element. It fails only when out of memory, and only if the element is
+/// there.
 fn shown<D: Disk, C: Chare>(
     alloc: Global,
     engine: &mut Engine<D, C>,
@@ -77,8 +77,7 @@ fn shown<D: Disk, C: Chare>(
     })
 }
 
-/// Writes the ids of the pending messages, or that memory was refused. An error is as `write_line`
-/// has it.
+/// Writes the ids of the pending messages, or that it is out of memory. Fails as `write_line` does.
 pub fn pending_line<D: Disk, C: Chare, W: Write>(
     alloc: Global,
     engine: &Engine<D, C>,
@@ -93,8 +92,8 @@ pub fn pending_line<D: Disk, C: Chare, W: Write>(
     write_line(alloc, writer, &PendingIds(ids.as_slice()))
 }
 
-/// Writes, for each kind of which objects were supplied, where they are, a line each. An error is
-/// as `write_line` has it, and the lines before that one stay written.
+/// Writes a line for each kind that objects were supplied of, with where they are. Fails as
+/// `write_line` does, and the lines before stay written.
 pub fn census_line<D: Disk, C: Chare, W: Write>(
     alloc: Global,
     engine: &Engine<D, C>,
@@ -137,7 +136,7 @@ fn count<D: Disk, C: Chare>(engine: &Engine<D, C>, kind: Kind) -> Counted
     }
 }
 
-/// Writes the counts of each kind of which objects were supplied.
+/// Writes the counts of each kind that objects were supplied of.
 fn write_counts<W: Write>(alloc: Global, writer: &mut W, counts: &[Counted]) -> io::Result<()>
     ensures { Writes result (W.contents writer.old) (W.contents writer.new)
         (in_lines (flat_map counted_texts counts.now)) }

@@ -36,7 +36,7 @@ impl Stop {
     ghost use Rattle.std.specs.Prelude.{◌≡◌};
     ghost use Rattle.charmlet_cli.specs.Stop.{status_of};
 
-    /// The program's exit status: 1 where it can't go on, has no store, shows none, or found bad
+    /// The program's exit status: 1 if it can't go on, has no store, shows none, or found bad
     /// outcomes, and 2 for a script that can't be run.
     pub fn exit_status(&self) -> u8
         ensures { result ≡ status_of self.now }
@@ -52,8 +52,8 @@ impl Stop {
     }
 }
 
-/// What to do where there is no store for this reason, to follow `cannot create store` and its
-/// like. It is empty where the refusal's own line says it all.
+/// What to do if there is no store for this reason, to follow `cannot create store` and its like.
+/// It is empty if the refusal's own line says it all.
 fn advice(refusal: &Refusal) -> &'static str
     ensures { result.now ≡ advice_of refusal.now }
 {

@@ -10,10 +10,10 @@ use std::alloc::Global;
 use std::io::{ErrorKind, Write};
 use std::{fmt, io};
 
-/// Writes a line and its line feed, and flushes, so that whoever reads the output has it at once.
+/// Writes a line and its line feed, and flushes, so that a reader of the output has it at once.
 ///
-/// An error is the writer's, and a beginning of the line is written; or memory for the line's text
-/// was refused, of kind `OutOfMemory`, and nothing of it is written.
+/// An error is the writer's, after a beginning of the line; or it is `OutOfMemory`, if there is no
+/// memory for the line's text, and nothing of it is written.
 pub fn write_line<T: fmt::Display, W: Write>(
     alloc: Global,
     writer: &mut W,
@@ -27,8 +27,8 @@ pub fn write_line<T: fmt::Display, W: Write>(
     write_bytes(writer, text.as_bytes())
 }
 
-/// Writes that memory was refused, for which it takes none. An error is the writer's, and a
-/// beginning of the line is written.
+/// Writes that it is out of memory, which takes none. An error is the writer's, after a beginning
+/// of the line.
 pub fn write_memory_refused<W: Write>(writer: &mut W) -> io::Result<()>
     ensures { Writes result (W.contents writer.old) (W.contents writer.new)
         (in_lines (memory_text ∷ [])) }
@@ -36,7 +36,7 @@ pub fn write_memory_refused<W: Write>(writer: &mut W) -> io::Result<()>
     write_bytes(writer, b"refused 1 Memory\n")
 }
 
-/// Writes an answer as a line does. That memory was refused takes none.
+/// Writes an answer in a line. The answer `Memory` takes none.
 pub(crate) fn write_answer<W: Write>(
     alloc: Global,
     writer: &mut W,
@@ -52,7 +52,7 @@ pub(crate) fn write_answer<W: Write>(
 }
 
 /// Writes these bytes, and flushes. An interrupted write is tried again. An error is the writer's,
-/// and a beginning of the bytes is written.
+/// after a beginning of the bytes.
 fn write_bytes<W: Write>(writer: &mut W, bytes: &[u8]) -> io::Result<()>
     ensures { Writes result (W.contents writer.old) (W.contents writer.new) bytes.now }
 {

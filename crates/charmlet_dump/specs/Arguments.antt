@@ -9,7 +9,7 @@ use Rattle.charmlet_dump.specs.declared.arguments.Request as requests
 use Rattle.charmlet_dump.specs.declared.writing.Form.{Form}
 use Rattle.charmlet_dump.specs.declared.writing.Form.TheVariants.{Plain, Json}
 
--- a dump of the store in this folder, on so many processors, in this form
+-- a dump of the store in this folder, on this number of processors, in this form
 pub record Request : Type 0 where
   pub folder : Text
   pub processors : ℕ
@@ -36,7 +36,7 @@ pub record Asked : Type 0 where
 abbrev pub nothing_asked : Asked
 nothing_asked = record { folder = None; processors = None; form = None; awaits = false }
 
--- a number with one more decimal digit, where that has 16 bits
+-- a number with one more decimal digit, if that has 16 bits
 abbrev pub next_number : ℕ → ℕ → Option ℕ
 next_number number digit =
     if is_ascii_digit digit && nat_lt (number * 10 + (digit - 48)) 65536
@@ -52,7 +52,7 @@ number_after (Some number) (digit ∷ digits) = number_after (next_number number
 abbrev pub number_of : Text → Option ℕ
 number_of digits = if length digits == 0 then None else number_after (Some 0) digits
 
--- the number of processors, by the word that says it
+-- what is asked for with the number of processors that this word gives
 abbrev pub with_number : Asked → Text → Option ℕ → Result Asked Bad
 with_number asked word None = Err (BadNumber word)
 with_number asked word (Some number) =
@@ -73,7 +73,7 @@ abbrev pub with_folder : Asked → Text → Result Asked Bad
 with_folder asked word = if is_some asked.folder then Err (TwoFolders word)
     else Ok (record asked { folder = Some word })
 
--- what comes after what is well so far
+-- the next step, if there is no fault so far
 abbrev pub then_so : {A B : Type 0} → Result A Bad → (A → Result B Bad) → Result B Bad
 then_so (Ok a) next = next a
 then_so (Err bad) next = Err bad
@@ -104,7 +104,7 @@ requested asked (Some folder) = Ok (record {
   form = unwrap_or asked.form Plain;
 })
 
--- what all words ask for: one processor and the plain form, where nothing else is said
+-- what all words ask for: one processor and the plain form, unless they say otherwise
 abbrev pub finished : Asked → Result Request Bad
 finished asked = if asked.awaits then Err NoNumber else requested asked asked.folder
 

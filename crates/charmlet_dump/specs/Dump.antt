@@ -11,14 +11,14 @@ use Rattle.charmlet_dump.specs.Facts.{Fact, Refused, world_facts}
 use Rattle.charmlet_dump.specs.Lines.{lines_of}
 use Rattle.charmlet_dump.specs.Writing.{AppendsBeginning}
 
--- the facts of what is found on so many processors, or why nothing is
+-- the facts of what is found on this number of processors, or why nothing is
 abbrev pub facts_of : ℕ → Result Found Refusal → List Fact
 facts_of processors (Ok found) =
     world_facts processors found.generation found.events found.world
 facts_of processors (Err refusal) = Refused refusal ∷ []
 
--- the lines of these facts are written, and the call is refused where nothing is found; or a
--- beginning of them is, and the output failed
+-- the lines of these facts are written, and the call is refused if nothing is found; or a beginning
+-- of them is written, and the output failed
 abbrev pub IsSaid : {T : Type 0} → Form → ℕ → Result Found Refusal → Result T DumpError →
     (before after : Option Text) → Type 0
 IsSaid form processors answer (Ok done) before after = IsOk answer

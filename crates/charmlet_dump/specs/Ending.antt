@@ -9,18 +9,18 @@ use Rattle.charmlet_dump.specs.declared.ending.Failure.TheVariants.{BadLine, Not
 use Rattle.charmlet_dump.specs.Arguments.{bad_in}
 use Rattle.charmlet_dump.specs.Usage.{bad_text}
 
--- what an error of a dump comes to
+-- the failure of a dump with this error
 abbrev pub failure_of : DumpError → Failure
 failure_of (errors.Refused refusal) = NotDumped
 failure_of (errors.Output error) = CannotGoOn
 
--- 2 for a bad command line or a call for help, and else 1
+-- 2 for a bad command line or a call for help, otherwise 1
 abbrev pub failure_status : Failure → ℕ
 failure_status (BadLine bad) = 2
 failure_status NotDumped = 1
 failure_status CannotGoOn = 1
 
--- 0 where the store was dumped
+-- 0 if the store was dumped
 abbrev pub exit_status : {T : Type 0} → Result T Failure → ℕ
 exit_status (Ok done) = 0
 exit_status (Err failure) = failure_status failure

@@ -24,7 +24,7 @@ pub data Fact : Type 0 where
   Request : (client number : ℕ) → Item → Fact
   Refused : Refusal → Fact
 
--- the fact that the code's value says
+-- the fact of the code's value
 abbrev pub fact_in : lines.Fact → Fact
 fact_in (lines.TheVariants.Store generation events) = Store generation events
 fact_in (lines.TheVariants.Array array edition) = Array array edition
@@ -35,7 +35,7 @@ fact_in (lines.TheVariants.Request client number reply) =
     Request client number (option_copied reply)
 fact_in (lines.TheVariants.Refused refusal) = Refused refusal
 
--- the requests of a window after these many
+-- the requests of a window, with the numbers after `below`
 abbrev pub window_facts : (client below : ℕ) → List Item → List Fact
 window_facts client below [] = []
 window_facts client below (item ∷ items) =
@@ -45,7 +45,7 @@ window_facts client below (item ∷ items) =
 abbrev pub array_facts : ℕ × Edition → List Fact
 array_facts e = Array e.0 e.1 ∷ []
 
--- an element, on so many processors
+-- an element, on this number of processors
 abbrev pub element_facts : ℕ → Elem × Record → List Fact
 element_facts processors e = Element e.0 (home e.0 processors) e.1 ∷ []
 
@@ -57,7 +57,7 @@ pending_facts m = Pending m ∷ []
 abbrev pub client_facts : ℕ × ClientRow → List Fact
 client_facts e = Client e.0 e.1.last ∷ window_facts e.0 (below e.1) e.1.window
 
--- all of a world that came of so many events, from an image of this generation
+-- all of a world after this many events, from an image of this generation
 abbrev pub world_facts : (processors generation events : ℕ) → World → List Fact
 world_facts processors generation events w =
     Store generation events ∷ []

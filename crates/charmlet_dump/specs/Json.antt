@@ -85,7 +85,7 @@ json_message m =
     codes "\"pending\":" ++ json_id m.id ++ codes ",\"to\":" ++ json_elem m.to
     ++ codes ",\"entry\":" ++ decimal m.entry ++ codes ",\"words\":" ++ json_numbers m.words
 
--- the name of a refusal, and where a half is damaged that half and the offset
+-- the name of a refusal, and, if a half is damaged, that half and the offset
 abbrev pub json_cause : Refusal → Text
 json_cause (Damaged half offset) =
     codes "\"Damaged\",\"half\":" ++ half_text half ++ codes ",\"offset\":" ++ decimal offset

@@ -38,7 +38,7 @@ abbrev pub plain_counts : (sent received : ℕ) → Text
 plain_counts sent received =
     codes " sent " ++ decimal sent ++ codes " received " ++ decimal received
 
--- element A.I pe P sent S received R K F.., or element A.I none sent S received R of one that isn't
+-- element A.I pe P sent S received R K F.., or element A.I none sent S received R if it isn't
 -- there
 abbrev pub plain_element : Elem → (home : ℕ) → Option State → (sent received : ℕ) → Text
 plain_element elem home None sent received =

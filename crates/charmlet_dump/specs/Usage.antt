@@ -1,4 +1,4 @@
--- What is said of a command line that asks for no dump.
+-- What is said about a command line that asks for no dump.
 use Rattle.std.specs.Prelude.{◌++◌, codes}
 use Rattle.charmlet_model.specs.Texts.{Text}
 use Rattle.charmlet_dump.specs.declared.arguments.TheConstants.{HELP}

@@ -7,7 +7,7 @@ use crate::writing::Form;
 use std::convert::AsStr;
 use std::fmt;
 
-/// What is said where the command line asks for help.
+/// What is said if the command line asks for help.
 pub const HELP: &str = "\
 charmlet_dump DIR [--pes N] [--json]
 
@@ -42,8 +42,8 @@ Exit status:
   1  the store could not be dumped, or memory or the output failed
   2  a bad command line, or a call for help";
 
-/// What a command line asks for: a dump of the store in this folder, each element at its home on so
-/// many processors.
+/// What a command line asks for: a dump of the store in this folder, each element at its home on
+/// this number of processors.
 #[derive(Clone, Copy)]
 pub struct Request<'a> {
     pub folder: &'a str,
@@ -60,13 +60,13 @@ pub enum BadLine<'a> {
     NoFolder,
     /// It names another folder after the first one.
     TwoFolders(&'a str),
-    /// It ends where the number of processors belongs.
+    /// It ends before the number of processors.
     NoNumber,
     /// This isn't a 16-bit decimal number.
     BadNumber(&'a str),
     /// There is no such option.
     UnknownOption(&'a str),
-    /// The option was there before.
+    /// The option is repeated.
     Repeated(&'a str),
 }
 
@@ -80,9 +80,9 @@ struct Asked<'a> {
     awaits_number: bool,
 }
 
-/// What the words ask for, of which the first is the program's name: `DIR [--pes N] [--json]`, in
-/// any order; `--pes=N` is the same as `--pes N`. Without `--pes` there is one processor. The first
-/// word that doesn't belong there is named.
+/// What the words ask for; the first is the program's name: `DIR [--pes N] [--json]`, in any order;
+/// `--pes=N` is the same as `--pes N`. Without `--pes` there is one processor. An error names the
+/// first word that doesn't belong there.
 pub fn arguments_of<'a, S: AsStr>(words: &'a [S]) -> Result<Request<'a>, BadLine<'a>>
     ensures { request_or_bad result ≡ arguments_of (map S.text words.entry.now) }
 {
@@ -98,7 +98,7 @@ pub fn arguments_of<'a, S: AsStr>(words: &'a [S]) -> Result<Request<'a>, BadLine
     finish(asked)
 }
 
-/// What the words ask for, this one among them.
+/// What the words ask for, including this one.
 fn read_word<'a>(asked: Asked<'a>, word: &'a str) -> Result<Asked<'a>, BadLine<'a>>
     ensures { asked_or_bad result ≡ asked_next (asked_in asked.entry) word.entry.now }
 {
@@ -123,7 +123,7 @@ fn read_word<'a>(asked: Asked<'a>, word: &'a str) -> Result<Asked<'a>, BadLine<'
     read_folder(asked, word)
 }
 
-/// A folder, where there was none before.
+/// A folder, if there was none before.
 fn read_folder<'a>(asked: Asked<'a>, word: &'a str) -> Result<Asked<'a>, BadLine<'a>>
     ensures { asked_or_bad result ≡ with_folder (asked_in asked.entry) word.entry.now }
 {
@@ -136,7 +136,7 @@ fn read_folder<'a>(asked: Asked<'a>, word: &'a str) -> Result<Asked<'a>, BadLine
     }
 }
 
-/// The JSON form, where it wasn't asked for before.
+/// The JSON form, if it wasn't asked for before.
 fn read_json<'a>(asked: Asked<'a>, word: &'a str) -> Result<Asked<'a>, BadLine<'a>>
     ensures { asked_or_bad result ≡ with_json (asked_in asked.entry) word.entry.now }
 {
@@ -149,7 +149,7 @@ fn read_json<'a>(asked: Asked<'a>, word: &'a str) -> Result<Asked<'a>, BadLine<'
     }
 }
 
-/// The number of processors comes next, where there was none before.
+/// The number of processors comes next, if there was none before.
 fn await_number<'a>(asked: Asked<'a>, word: &'a str) -> Result<Asked<'a>, BadLine<'a>>
     ensures { asked_or_bad result ≡ awaiting (asked_in asked.entry) word.entry.now }
 {
@@ -191,7 +191,7 @@ fn number_of(digits: &[u8]) -> Option<u16>
     Some(number)
 }
 
-/// The number with one more digit, where that has 16 bits.
+/// The number with one more digit, if that has 16 bits.
 fn next_number(number: u16, digit: u8) -> Option<u16>
     ensures { result ≡ next_number number digit }
 {
@@ -218,7 +218,7 @@ fn finish<'a>(asked: Asked<'a>) -> Result<Request<'a>, BadLine<'a>>
     })
 }
 
-/// Writes what is said of the command line on standard error, without a line feed.
+/// Writes what is said about the command line on standard error, without a line feed.
 impl<'a> fmt::Display for BadLine<'a> {
     ghost use Rattle.std.specs.Prelude.{Some};
     ghost use Rattle.charmlet_dump.specs.Arguments.{bad_in};

@@ -20,8 +20,8 @@ use std::io::Write;
 
 /// Writes all that is found: the generation and the count of events, then the arrays, the elements,
 /// the pending messages and the clients with their windows. Each element that is there is shown at
-/// its home on so many processors. An error is as `write_fact` has it, and the lines before that
-/// one stay written.
+/// its home on `processors` processors. Fails as `write_fact` does, and the lines before stay
+/// written.
 pub fn write_world<W: Write>(
     alloc: Global,
     writer: &mut W,

@@ -24,7 +24,7 @@ impl<'a> Failure<'a> {
     ghost use Rattle.std.specs.Prelude.{◌≡◌};
     ghost use Rattle.charmlet_dump.specs.Ending.{failure_status};
 
-    /// The exit status: 2 for a bad command line or a call for help, and else 1.
+    /// The exit status: 2 for a bad command line or a call for help, otherwise 1.
     fn exit_status(&self) -> u8
         ensures { result ≡ failure_status self.now }
     {
@@ -98,9 +98,9 @@ impl<'a> From<io::Error> for Failure<'a> {
     }
 }
 
-/// Says on `errors`, the program's standard error, why there is no dump, if there is none. Gives
-/// the exit status, and whether that could be said: 0 where the store was dumped, and else that of
-/// the failure. The status is the same where `errors` fails.
+/// Writes to `errors`, the program's standard error, why there is no dump, if there is none.
+/// Returns the exit status, and whether the write succeeded. The status is 0 if the store was
+/// dumped, and otherwise that of the failure, even if `errors` fails.
 pub fn end_program<W: Write>(ran: &Result<(), Failure<'_>>, errors: &mut W) -> (u8, io::Result<()>)
     ensures status { result.0 ≡ exit_status ran.now }
     ensures said { OnOk result.1 (IfErr ran.now

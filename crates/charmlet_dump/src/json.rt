@@ -39,7 +39,7 @@ struct JsonRecord<'a> {
 #[derive(Clone, Copy)]
 struct JsonMessage<'a>(&'a Message);
 
-/// What a client is told of a request: the reply, if there is one.
+/// What a client is told about a request: the reply, if there is one.
 #[derive(Clone, Copy)]
 struct JsonReply<'a>(Option<&'a Words>);
 
@@ -226,8 +226,8 @@ impl<'a> fmt::Display for JsonReply<'a> {
     }
 }
 
-/// Writes the keys: the refusal's number and its name, and where a half is damaged that half and
-/// the offset.
+/// Writes the keys: the refusal's number and its name, and, if a half is damaged, that half and the
+/// offset.
 impl fmt::Display for JsonRefusal {
     ghost use Rattle.std.specs.Prelude.{Some};
     ghost use Rattle.charmlet_dump.specs.Json.{json_refusal};

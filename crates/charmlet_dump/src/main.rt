@@ -53,9 +53,9 @@ fn main(rt: HostRuntime) -> ExitCode {
     end(rt, &ran)
 }
 
-/// Says why there is no dump, if there is none, and ends the program.
+/// Writes why there is no dump, if there is none, and ends the program.
 fn end(rt: HostRuntime, ran: &Result<(), Failure<'_>>) -> ExitCode {
-    // Where nothing can be said, the status alone tells of the failure.
+    // If nothing can be written, only the status tells of the failure.
     let (status, _) = end_program(ran, &mut rt.stderr());
     ExitCode::from(status)
 }

@@ -22,8 +22,8 @@ pub enum Form {
 
 /// Writes a fact in its line, with a line feed.
 ///
-/// An error is the writer's, and a beginning of the line is written; or memory for the line's text
-/// was refused, and nothing of it is written.
+/// An error is the writer's, after a beginning of the line; or there is no memory for the line's
+/// text, and nothing of it is written.
 pub fn write_fact<W: Write>(
     alloc: Global,
     writer: &mut W,
@@ -39,7 +39,7 @@ pub fn write_fact<W: Write>(
     }
 }
 
-/// Writes why nothing is dumped, as a fact. That memory was refused takes none.
+/// Writes why nothing is dumped, as a fact. The fact of `Memory` takes none.
 pub fn write_refusal<W: Write>(
     alloc: Global,
     writer: &mut W,
@@ -55,7 +55,7 @@ pub fn write_refusal<W: Write>(
     }
 }
 
-/// Writes that memory was refused, for which it takes none.
+/// Writes that it is out of memory, which takes none.
 fn write_memory_refused<W: Write>(writer: &mut W, form: Form) -> io::Result<()>
     ensures { Writes result (W.contents writer.old) (W.contents writer.new)
         (lines_of form (Refused Memory ∷ [])) }
@@ -76,8 +76,8 @@ fn write_line<T: fmt::Display, W: Write>(alloc: Global, writer: &mut W, line: &T
     write_bytes(writer, text.as_bytes())
 }
 
-/// Writes these bytes. An interrupted write is tried again. An error is the writer's, and a
-/// beginning of the bytes is written.
+/// Writes these bytes. An interrupted write is tried again. An error is the writer's, after a
+/// beginning of the bytes.
 fn write_bytes<W: Write>(writer: &mut W, bytes: &[u8]) -> io::Result<()>
     ensures { Writes result (W.contents writer.old) (W.contents writer.new) bytes.now }
 {

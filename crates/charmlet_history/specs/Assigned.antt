@@ -10,12 +10,12 @@ use Rattle.charmlet_model.specs.declared.names.MsgId.{MsgId}
 pub record Assignments : Type 0 where
   pub entries : List (ℕ × MsgId)
 
--- all entries, where one of them may be kept apart from the others
+-- all entries, one of which may be kept apart from the others
 abbrev pub all_entries : Option (ℕ × MsgId) → List (ℕ × MsgId) → List (ℕ × MsgId)
 all_entries None others = others
 all_entries (Some first) others = insert_entry nat_cmp others first.0 first.1
 
--- the processors of the others rise, and that of the one that is kept apart isn't among them
+-- the processors of the others rise, and the one that is kept apart isn't among them
 pub record AreApart (first : Option (ℕ × MsgId)) (others : List (ℕ × MsgId)) : Type 0 where
   pub rising : IsStrictlySortedBy nat_cmp (keys_of others)
   pub apart : IfSome first (λ e. lookup (is_at (nat_cmp e.0)) others ≡ None)

@@ -1,4 +1,4 @@
--- The fields of a history: what it keeps by them, and what always holds of them.
+-- The fields of a history: what it keeps in them, and what always holds of them.
 use Rattle.std.specs.Prelude.{◌≡◌, ℕ, ◌≤◌, length, IfSome, is_some, true}
 use Rattle.std.specs.BTreeMap.{is_at}
 use Rattle.std.specs.Map.{lookup}
@@ -12,7 +12,7 @@ use Rattle.charmlet_history.specs.declared.history.History.TheInside.{Inside}
 use Rattle.charmlet_history.specs.Kept.{IsConsistent, Kept, roomless}
 use Rattle.charmlet_history.specs.Opened.{with_arrays}
 
--- what a history keeps, its room aside; its opening world has the arrays of the present one
+-- what a history keeps, without its room; its opening world has the arrays of the present one
 abbrev pub kept_of : Inside → Kept
 kept_of h = record {
   opening = with_arrays h.present.manifest h.opening.world;
@@ -36,7 +36,7 @@ abbrev pub HasReceiver : Kept → MsgId → Type 0
 HasReceiver k id = IfSome (message_among id k.pending)
     (λ m. is_some (lookup (is_at (elem_cmp m.to)) k.elements) ≡ true)
 
--- and so has that of each assigned message
+-- the same for each assigned message
 abbrev pub HasReceivers : Kept → Type 0
 HasReceivers k = (processor : ℕ) →
     IfSome (lookup (is_at (nat_cmp processor)) k.assigned) (HasReceiver k)

@@ -11,11 +11,12 @@ use std::alloc::{AllocError, Global};
 use std::collections::BTreeMap;
 use std::marker::Model;
 
-/// The message that each processor is to deliver. Mostly there is one at most, which is kept in
+/// The message that each processor is to deliver. Usually there is at most one, which is kept in
 /// place; others are in a tree.
 #[derive(Drop)]
 pub(crate) struct Assigned {
-    /// The one that is kept in place, with its processor. There may be none where there are others.
+    /// The one that is kept in place, with its processor. It may be `None` even if there are
+    /// others.
     first: Option<(u16, MsgId)>,
     others: BTreeMap<u16, MsgId>,
 }
@@ -31,7 +32,7 @@ impl Model for Assigned {
 }
 
 impl Assigned {
-    /// No message. It takes no memory.
+    /// No messages. It takes no memory.
     pub(crate) fn new(alloc: Global) -> Self
         ensures { result.entries ≡ [] }
     {
@@ -70,8 +71,8 @@ impl Assigned {
         }
     }
 
-    /// Gives a message to the processor, which has none. Where no processor has one, it takes no
-    /// memory. Where memory is refused, all is as before.
+    /// Gives a message to the processor, which has to have none. If no processor has one, it takes
+    /// no memory. When out of memory, nothing changes.
     pub(crate) fn insert(&mut self, processor: u16, id: MsgId) -> Result<(), AllocError>
         requires { is_some (lookup (is_at (nat_cmp processor)) self.old.entries) ≡ false }
         ensures entries { OnOk result
@@ -87,7 +88,7 @@ impl Assigned {
         Ok(())
     }
 
-    /// Takes the processor's message away, and says whether it had one.
+    /// Removes the processor's message, and returns whether it had one.
     pub(crate) fn remove(&mut self, processor: u16) -> bool
         ensures value { result ≡ is_some (lookup (is_at (nat_cmp processor)) self.old.entries) }
         ensures entries { self.new.entries ≡

@@ -16,7 +16,7 @@ impl History {
         self.present.pending_count()
     }
 
-    /// The pending messages, in order of birth, each as its id and what is kept under it. It takes
+    /// The pending messages, in order of birth: the id of each, and what is kept under it. It takes
     /// no memory.
     pub fn messages(&self) -> Messages<'_>
         ensures { result ≡ (present (core_in self.now)).pending }
@@ -24,17 +24,17 @@ impl History {
         self.present.messages()
     }
 
-    /// The oldest pending message that can be delivered, if there is one, and before it the
-    /// processor that is to deliver it: the place of its receiver, or the home of one that isn't
-    /// there.
+    /// The processor of the oldest pending message that can be delivered, and that message's id, or
+    /// `None` if no message can be delivered. The processor is the place of the receiver, or its
+    /// home if it isn't there.
     pub fn next(&self) -> Option<(u16, MsgId)>
         ensures { result ≡ next_in (core_in self.now) }
     {
         self.present.next()
     }
 
-    /// The processor that is to deliver a pending message: the place of its receiver, or the home
-    /// of one that isn't there. None where no such message is pending.
+    /// The processor that is to deliver a pending message: the place of its receiver, or its home
+    /// if it isn't there. `None` if no such message is pending.
     pub fn due_on(&self, id: MsgId) -> Option<u16>
         ensures { result ≡ processor_for (core_in self.now) id }
     {

@@ -1,4 +1,4 @@
-//! The world with which a history opens.
+//! The world that a history opens with.
 
 ghost use Rattle.std.specs.Prelude.{◌≡◌};
 ghost use Rattle.std.specs.Borrow.{ftrue};
@@ -9,8 +9,8 @@ ghost use Rattle.charmlet_history.specs.Parts.{world_of};
 use charmlet_model::{ClientRow, Elem, Manifest, Message, Record};
 use std::marker::Model;
 
-/// A world that only contracts read. It has no bytes: what ties it to a store are the clauses of
-/// whoever keeps it.
+/// A world that only contracts read. It has no bytes. The clauses of whoever keeps it tie it to a
+/// store.
 #[derive(Drop)]
 pub struct SeenWorld {
     pub ghost world: { World },
@@ -20,7 +20,7 @@ impl Model for SeenWorld {
     ghost also_owns = { λ _. ftrue };
 }
 
-// It owns nothing, so threads may have it and share it.
+// It owns nothing, so threads may own and share it.
 unsafe impl Send for SeenWorld {}
 
 unsafe impl Sync for SeenWorld {}
@@ -40,7 +40,7 @@ impl SeenWorld {
     }
 }
 
-/// A new store has the world with its arrays in which nothing has happened.
+/// A new store has the world with its arrays and nothing else.
 impl HasWorld for Manifest {
     ghost world = { new_world };
 }

@@ -15,7 +15,7 @@ use Rattle.charmlet_disk.specs.File.{CrashBytes}
 use Rattle.charmlet_engine.specs.Engine.{EngineShown, supplied_of, view_of}
 use Rattle.charmlet_recover.specs.declared.restarting.NotRestarted.{NotRestarted}
 
--- how many events there are, those before the opening world among them
+-- how many events there are, including those before the opening world
 abbrev pub count_of : Core → ℕ
 count_of core = core.before + length core.history
 
@@ -32,8 +32,8 @@ abbrev pub IsGood : Kinds → List Event → (durable : Option ℕ) → Result C
 IsGood kinds events durable (Ok core) = HasFirst kinds events (unwrap_or durable 0) core
 IsGood kinds events durable (Err refusal) = (refusal ≡ NothingHere) × (durable ≡ None)
 
--- why a restart isn't judged, where a store came back: memory is lacking, or an image of it would
--- pass a limit; a refused restart always is
+-- why a restart isn't judged, if a store came back: out of memory, or an image of it would pass a
+-- limit; a refused restart always is judged
 abbrev pub IsNotJudged : Result Core Refusal → Refusal → Type 0
 IsNotJudged (Ok core) refusal = IsRefusal core refusal
 IsNotJudged (Err refused) refusal = ⊥

@@ -28,7 +28,7 @@ use Rattle.charmlet_lab.specs.Rounds.{arrays_of}
 abbrev pub Names : Type 0
 Names = Text → Option Handler
 
--- of these lines the last one with the name says it
+-- the last of these lines with the name tells
 abbrev pub named_by : List HandlerLine → Names
 named_by [] name = None
 named_by (line ∷ lines) name =
@@ -36,7 +36,7 @@ named_by (line ∷ lines) name =
     else if bytes_eq line.name name then Some (record { array = line.array; entry = line.entry })
     else None
 
--- so many blanks of a kind more
+-- `count` more blanks of a kind
 pub record IsSupplied (kind : Kind) (count : ℕ) (old new : StoreView) : Type 0 where
   pub core : new.core ≡ old.core
   pub blanks : (k : Kind) → new.blanks k ≡ old.blanks k + part_of kind count k
@@ -52,14 +52,14 @@ DeliversNone old new = ((next_in old.core ≡ None) × (new ≡ old))
     ⊎ ((processor : ℕ) × (id : MsgId) × (refusal : Refusal)
     × (next_in old.core ≡ Some (processor, id)) × IsNotDelivered old processor id refusal new)
 
--- up to so many deliveries one after another, until there is none
+-- up to n deliveries one after another, until there is none
 abbrev pub Drains : ℕ → StoreView → StoreView → Type 0
 Drains zero old new = new ≡ old
 Drains (suc n) old new = ((mid : StoreView) × DeliversNext old mid × Drains n mid new)
     ⊎ DeliversNone old new
 
--- A line leads from one store to another. Where memory for its blanks is refused, a supply line
--- changes nothing; nor does a line that shows something.
+-- A line leads from one store to another. A supply line that is out of memory for its blanks
+-- changes nothing, and neither does a line that shows something.
 abbrev pub Follows : Names → StoreView → Line → StoreView → Type 0
 Follows named old (Supply kind count) new = IsSupplied kind count old new ⊎ (new ≡ old)
 Follows named old (Drain count) new = Drains count old new
@@ -87,8 +87,8 @@ opening_of script = record {
 }
 
 -- A store that was made has run the script's lines up to the first failure of the device. These are
--- its events, so many of them are durable, and the run is stopped if and only if the device failed.
--- Where no store was said to be made, no line was run.
+-- its events, `durable` of them are durable, and the run is stopped if and only if the device
+-- failed. If no store was reported as made, no line was run.
 abbrev pub Leaves : Contents → (events : List Event) → (durable : Option ℕ) → (stopped : Bool) →
     Type 0
 Leaves script events (Some durable) stopped = (last : StoreView)

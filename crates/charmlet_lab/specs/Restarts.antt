@@ -24,18 +24,18 @@ use Rattle.charmlet_script.specs.Script.{Contents, processors_of}
 use Rattle.charmlet_lab.specs.Judged.{IsGood}
 use Rattle.charmlet_lab.specs.Rounds.{arrays_of}
 
--- the blanks that the store wants which was found, and none where none was
+-- the blanks that the found store wants, and none if none was found
 abbrev pub wanted_by : Result finding.Found Refusal → Blanks
 wanted_by (Ok found) = blanks_in found.wanted
 wanted_by (Err refusal) = λ _. 0
 
--- what was found is known: memory wasn't lacking, and the device hasn't failed
+-- what was found is known: there was memory, and the device hasn't failed
 abbrev pub IsKnown : Result finding.Found Refusal → Type 0
 IsKnown found = IfErr found (λ refusal. (refusal ≢ Memory) × (refusal ≢ Device))
 
 module _ {D : Type 0} (G : disks.Ghosts D) where
-  -- Of an honest disk the crash leaves what its choice says, which is one of what a crash may
-  -- leave, and all of it is sure. The disk is as honest as before.
+  -- Of an honest disk the crash leaves what its choice says. That is one of the outcomes that a
+  -- crash may leave, and all of it is sure. The disk is as honest as before.
   pub record IsCrash (choice : CrashChoice) (old new : D) : Type 0 where
     pub left : G.honest old → (half : Half) →
         G.file new half ≡ clean (left_by choice (G.file old half))
@@ -43,7 +43,7 @@ module _ {D : Type 0} (G : disks.Ghosts D) where
         MayLeave (G.file old) (λ half. left_by choice (G.file old half))
     pub honest : (G.honest old → G.honest new) × (G.honest new → G.honest old)
 
-  -- so many blanks of each kind are wanted by what a reading of this disk finds
+  -- what a reading of this disk finds wants this many blanks of each kind
   pub record AreWanted (disk : D) (wanted : Blanks) : Type 0 where
     pub found : Result finding.Found Refusal
     pub known : IsKnown found
@@ -52,9 +52,9 @@ module _ {D : Type 0} (G : disks.Ghosts D) where
         IsFoundIn (G.file disk Zero).now (G.file disk One).now found
     pub are : (kind : Kind) → wanted kind ≡ wanted_by found kind
 
-  -- A restart from this disk on so many processors, with these blanks, came to this store or this
-  -- refusal. Nothing has happened in the store since it opened, and of an honest disk it has the
-  -- world that the files recover to, at their generation, or at the next one where an image was
+  -- A restart from this disk on this number of processors, with these blanks, gave this store or
+  -- this refusal. Nothing has happened in the store since it opened. From an honest disk it has the
+  -- world that the files recover to, at their generation, or at the next one if an image was
   -- wanted; and a refusal has the cause that they give.
   pub record IsRestart (processors : ℕ) (given : Blanks) (disk : D)
       (back : Result Core Refusal) : Type 0 where
@@ -66,17 +66,17 @@ module _ {D : Type 0} (G : disks.Ghosts D) where
         AnswersBy (engine_refusal given (bytes_on (G.file disk))) back
     pub refusals : IfErr back (λ refusal. is_engine_refusal refusal ≡ true)
 
-  -- a restart from this disk, with these blanks and on the script's processors, is called bad if
-  -- and only if it is
+  -- a restart from this disk, with these blanks and on the script's processors, is reported as bad
+  -- if and only if it is
   pub record IsJudged (script : Contents) (given : Blanks) (disk : D) (events : List Event)
       (durable : Option ℕ) (bad : Bool) : Type 0 where
     pub back : Result Core Refusal
     pub restart : IsRestart (processors_of script) given disk back
     pub judged : (bad ≡ false) ↔ IsGood (arrays_of script) events durable back
 
-  -- why there is no such restart, or none that is judged: there are too few blanks, of this kind
-  -- and no lesser one; an image of the store that came back would pass a limit; or memory is
-  -- lacking
+  -- why there is no such restart, or none that is judged: there are too few blanks, of this
+  -- kind and no lesser one; an image of the store that came back would pass a limit; or out of
+  -- memory
   abbrev pub IsNotTried : Contents → (given wanted : Blanks) → D → Refusal → Type 0
   IsNotTried script given wanted disk (BlanksWanted kind count) =
       IsLeastShort given wanted kind count

@@ -29,16 +29,16 @@ abbrev pub needed_by : Contents → Blanks
 needed_by script kind = blanks_of kind script.lines
 
 -- The files recover to the world after some of the events, with all that were durable among them;
--- where the store wasn't said to be made, to nothing or to the new store.
+-- if the store wasn't reported as made, to nothing or to the new store.
 abbrev pub IsExpected : Kinds → List Event → (durable : Option ℕ) → CrashBytes → Type 0
 IsExpected kinds events None outcome = IsNothingOrNew kinds outcome
 IsExpected kinds events (Some durable) outcome = IsLawful (new_world kinds) 0 events durable outcome
 
 module _ {D : Type 0} (G : disks.Ghosts D) where
   -- A run on a disk leaves this. Its events can happen one after another; those that are durable
-  -- are among them; a store was made where the disk didn't fail, and on an honest disk only where
-  -- no half was open; and of an honest disk on which no store was, each crash afterwards leaves
-  -- what is expected.
+  -- are among them; a store was made if the disk didn't fail, and on an honest disk only if no
+  -- half was open; and if an honest disk had no store, each crash afterwards leaves what is
+  -- expected.
   pub record IsRound (kinds : Kinds) (first : D) (round : Round D) : Type 0 where
     pub legal : IsLegal (new_world kinds) 0 round.events.items
     pub within : IfSome round.durable (λ durable. durable ≤ length round.events.items)
@@ -50,9 +50,9 @@ module _ {D : Type 0} (G : disks.Ghosts D) where
         (outcome : CrashBytes) → MayLeave (G.file round.disk) outcome →
         IsExpected kinds round.events.items round.durable outcome
 
-  -- why there is no round: there can't be so many processors; a half of an honest disk is open;
-  -- this is the least kind of which the lines supply more than there is, so many; or memory is
-  -- lacking
+  -- why there is no round: there can't be this number of processors; a half of an honest disk is
+  -- open; the lines supply too many of this kind, the least such, and this is how many; or out of
+  -- memory
   abbrev pub IsNotRun : (given : Blanks) → Contents → (first : D) → Refusal → Type 0
   IsNotRun given script first BadPes = is_processor_count (processors_of script) ≡ false
   IsNotRun given script first AlreadyHere = G.honest first →

@@ -1,4 +1,4 @@
--- Maps of which one has all that another one has.
+-- Maps that have all the entries of another one.
 use Rattle.std.specs.Prelude.{◌≡◌, List, [], ◌∷◌, Some}
 use Rattle.std.specs.declared.cmp.Ordering.{Ordering}
 use Rattle.std.specs.BTreeMap.{is_at}

@@ -29,7 +29,7 @@ Place = ℕ × CrashChoice
 abbrev pub choices : List CrashChoice
 choices = Old ∷ New ∷ Zeros ∷ Ones ∷ Sevens ∷ FirstHalves ∷ []
 
--- the crashes of the stop after so many calls, one for each choice
+-- the crashes of the stop after this many calls, one for each choice
 abbrev pub places_at : ℕ → List Place
 places_at calls = map (λ choice. (calls, choice)) choices
 
@@ -42,8 +42,8 @@ places (suc n) = places n ++ places_at n
 abbrev pub most_stops : ℕ
 most_stops = 2 ^ 60
 
--- A crash that was tried: where, what its run left, the disk after it, the blanks that this wants,
--- those that were given, what the restart came to, and whether that was called bad.
+-- A crash that was tried: its place, what its run left, the disk after it, the blanks that this
+-- wants, those that were given, what the restart gave, and whether that was reported as bad.
 pub record Tried (D : Type 0) : Type 0 where
   pub place : Place
   pub round : Round D
@@ -54,7 +54,7 @@ pub record Tried (D : Type 0) : Type 0 where
   pub bad : Bool
 
 module _ {D : Type 0} (G : disks.Ghosts D) (calls_left : D → Option ℕ) where
-  -- a run of the script on a new disk that fails after so many calls left this
+  -- a run of the script on a new disk that fails after this many calls left this
   pub record IsRunAfter (script : Contents) (calls : ℕ) (round : Round D) : Type 0 where
     pub first : D
     pub fails : calls_left first ≡ Some calls
@@ -64,7 +64,7 @@ module _ {D : Type 0} (G : disks.Ghosts D) (calls_left : D → Option ℕ) where
     pub processors : is_processor_count (processors_of script) ≡ true
 
   -- The run was stopped, and its disk crashed. The restart was on the script's processors, with
-  -- enough of the blanks that the disk wanted, and was called bad if and only if it was.
+  -- enough of the blanks that the disk wanted, and was reported as bad if and only if it was.
   pub record IsTried (script : Contents) (t : Tried D) : Type 0 where
     pub run : IsRunAfter script t.place.0 t.round
     pub stopped : t.round.is_stopped ≡ true
@@ -83,29 +83,29 @@ module _ {D : Type 0} (G : disks.Ghosts D) (calls_left : D → Option ℕ) where
     pub outcomes : line.outcomes ≡ length tried
     pub bad : line.bad ≡ count_by (λ t. t.bad) tried
 
-  -- a run on a disk that fails after so many calls isn't stopped
+  -- a run on a disk that fails after this many calls isn't stopped
   pub record IsUnstopped (script : Contents) (calls : ℕ) : Type 0 where
     pub round : Round D
     pub run : IsRunAfter script calls round
     pub unstopped : round.is_stopped ≡ false
 
-  -- What is found of a script: all crashes of so many stops, and the first ones of the next stop,
-  -- at which a run wasn't stopped. It would take 2^60 stops to end before.
+  -- What is found for a script: all crashes of a number of stops, and the first ones of the next
+  -- stop, at which a run wasn't stopped. It would take 2^60 stops to end earlier.
   pub record Finds (script : Contents) (line : LabLine) : Type 0 where
     pub more : ℕ
     pub tried : AreTried script (places line.stops ++ take more (places_at line.stops)) line
     pub ended : IsUnstopped script line.stops ⊎ (line.stops ≡ most_stops)
 
-  -- what one trial comes to: the run wasn't stopped, or the restart after its crash is bad or not
+  -- what one trial gives: the run wasn't stopped, or the restart after its crash is bad or not
   abbrev pub ComesTo : Contents → Place → Option Bool → Type 0
   ComesTo script place None = IsUnstopped script place.0
   ComesTo script place (Some bad) = (t : Tried D) × IsTried script t × (t.place ≡ place)
       × (t.bad ≡ bad)
 
 module _ {D : Type 0} (G : disks.Ghosts D) where
-  -- why nothing is found: there can't be so many processors; there were too few blanks for a run or
-  -- a restart; an image of a store that came back would pass a limit; a new disk has an open half,
-  -- and isn't honest; a disk has failed once more, by its own count; or memory is lacking
+  -- why nothing is found: there can't be this number of processors; there were too few blanks for a
+  -- run or a restart; an image of a store that came back would pass a limit; a new disk has an open
+  -- half, and isn't honest; a disk has failed once more, by its own count; or out of memory
   abbrev pub IsNotFound : Contents → Refusal → Type 0
   IsNotFound script BadPes = is_processor_count (processors_of script) ≡ false
   IsNotFound script (BlanksWanted kind count) = (given : Blanks) × (wanted : Blanks)

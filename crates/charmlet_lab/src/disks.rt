@@ -1,4 +1,4 @@
-//! Disks of the laboratory: each fails from some call on, and can crash.
+//! The laboratory's disks: each fails from some call on, and can crash.
 
 ghost use Rattle.std.specs.Prelude.{◌≡◌, ℕ, [], Option, Some};
 ghost use Rattle.charmlet_model.specs.declared.half.Half.{Half};
@@ -9,19 +9,19 @@ use charmlet_any_disk::AnyDisk;
 use charmlet_disk::{CrashChoice, Disk};
 use std::alloc::Global;
 
-/// A disk that the laboratory runs scripts on. What its contracts say of files, they say of an
-/// honest one.
+/// A disk that the laboratory runs scripts on. What its contracts say about files holds if it is
+/// honest.
 pub trait LabDisk: Disk {
-    /// How many writes and syncs it passes still, where it fails each one after them.
+    /// How many writes and syncs it still passes, if it fails each one after them.
     ghost calls_left: { Self → Option ℕ };
 
-    /// A new disk with nothing on it, which passes so many writes and syncs, and then fails each.
+    /// A new disk with nothing on it, which passes `calls` writes and syncs, and then fails each.
     fn failing(alloc: Global, calls: u64) -> Self
         ensures calls { calls_left result ≡ Some calls }
         ensures empty { Self.honest result → (half : Half) → Self.file result half ≡ clean [] };
 
-    /// What a crash leaves of the disk, by its choice: one of the outcomes that it may leave, and
-    /// all of it is sure.
+    /// What a crash leaves of the disk, by `choice`: one of the outcomes that a crash may leave,
+    /// all of it sure.
     fn crash(self, choice: CrashChoice) -> Self
         ensures left { Self.honest self → (half : Half) →
             Self.file result half ≡ clean (left_by choice (Self.file self half)) }

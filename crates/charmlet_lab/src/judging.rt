@@ -25,14 +25,14 @@ use std::alloc::{AllocError, Global};
 /// The gate of an open half.
 const OPEN: u8 = 1;
 
-/// Whether a restart after a run's crash came to what it shouldn't: it was refused, though not for
-/// `NothingHere` where the store wasn't said to be made; or the store hasn't the world after the
-/// first events of the run, as many as it counts, or not all that were durable among them. The
-/// world is that of a plain program, which knows no file. The engine goes on as before. Its arrays
-/// have to be of the newest versions of their kinds, as a restart has them go on.
+/// Whether a restart after a run's crash is bad: it was refused, unless by `NothingHere` if the
+/// store wasn't reported as made; or the store lacks events that were durable, or doesn't have the
+/// world after the first events of the run, as many as it counts. A plain program that knows no
+/// files computes that world. The engine is as before. Its arrays have to have the newest versions
+/// of their kinds, as they do after a restart.
 ///
-/// `Memory` where memory is lacking; `ImageFull` where an image of the store, of which its world is
-/// read, would pass a limit.
+/// `Memory` if out of memory; `ImageFull` if an image of the store, which its world is read from,
+/// would pass a limit.
 pub fn lab_bad<D: Disk, C: Chare>(
     alloc: Global,
     script: &Script,
@@ -57,7 +57,7 @@ pub fn lab_bad<D: Disk, C: Chare>(
 }
 
 /// Whether a store has the world after the first of these events, as many as it counts and at least
-/// `durable` of them. Its arrays have to be of the newest versions of their kinds.
+/// `durable` of them. Its arrays have to have the newest versions of their kinds.
 fn has_first<D: Disk, C: Chare>(
     alloc: Global,
     script: &Script,
@@ -97,9 +97,9 @@ fn world_after(alloc: Global, script: &Script, events: &[Event]) -> Result<Plain
     Ok(plain)
 }
 
-/// The world of a store, read of its image by the plain program, which has it go on in the newest
-/// versions: so its arrays have to be of these. `Memory` where memory is lacking; `ImageFull` where
-/// the store is too large for an image. The engine goes on as before.
+/// The world of a store, which the plain program reads from its image and brings forward to the
+/// newest versions: so its arrays have to have these. `Memory` if out of memory; `ImageFull` if the
+/// store is too large for an image. The engine is as before.
 fn world_in<D: Disk, C: Chare>(
     alloc: Global,
     engine: &mut Engine<D, C>,

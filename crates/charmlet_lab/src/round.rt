@@ -36,7 +36,7 @@ pub struct Round<D: Disk> {
     pub disk: D,
     /// The events of the run, in order.
     pub events: Vec<Event>,
-    /// How many of them were durable, as the store says; none where it wasn't said to be made.
+    /// How many of them were durable, as the store says; `None` if it wasn't reported as made.
     pub durable: Option<u64>,
     /// Whether the disk failed.
     pub is_stopped: bool,
@@ -46,16 +46,16 @@ pub struct Round<D: Disk> {
 /// `blanks` are the objects that the script's lines supply. Nothing is printed. The disk has to be
 /// settled.
 ///
-/// The events are those of a run of the script's lines up to that failure, one after another, and
-/// as many of them are durable as the store says.
+/// The events are those of the script's lines up to that failure, one after another, and as many of
+/// them are durable as the store says.
 ///
-/// On an honest disk on which no store was, each crash after the run leaves files that recover to
-/// the world after some of the events, with all that were durable among them; where the store
-/// wasn't said to be made, to nothing or to the new store.
+/// On an honest disk that had no store, each crash after the run leaves files that recover to the
+/// world after some of the events, with all that were durable among them; if the store wasn't
+/// reported as made, to nothing or to the new store.
 ///
-/// `BlanksWanted` where the script's lines supply more blanks of a kind than there are, with the
-/// least such kind and all that they supply of it; `BadPes` where the script's number of processors
-/// isn't 1 to 64; `AlreadyHere` where a half of the disk is open; `Memory`.
+/// `BlanksWanted` if the script's lines supply more blanks of a kind than there are, with the
+/// lowest such kind and all that they supply of it; `BadPes` if the script's number of processors
+/// isn't 1 to 64; `AlreadyHere` if a half of the disk is open; `Memory`.
 pub fn lab_round<D: Disk, C: Chare>(
     alloc: Global,
     script: &Script,
@@ -125,7 +125,8 @@ fn supplied_by(script: &Script) -> Wanted
     }
 }
 
-/// The handlers of these lines, of which the last one of a name counts. `Memory` alone.
+/// The handlers of these lines. If a name comes twice, the last line counts. It fails only with
+/// `Memory`.
 fn handlers_of(alloc: Global, lines: &[HandlerLine]) -> Result<Handlers, Refusal>
     ensures named { IfOk result (λ handlers. (name : List ℕ) →
         handler_of handlers name ≡ named_by lines.now name) }
@@ -144,7 +145,7 @@ fn handlers_of(alloc: Global, lines: &[HandlerLine]) -> Result<Handlers, Refusal
     Ok(handlers)
 }
 
-/// The same events, in memory of their own. It fails only when out of memory.
+/// A copy of the events. It fails only when out of memory.
 fn copy_of(alloc: Global, events: &[Event]) -> Result<Vec<Event>, AllocError>
     ensures { IfOk result (λ copy. copy.items ≡ events.now) }
 {
@@ -155,7 +156,7 @@ fn copy_of(alloc: Global, events: &[Event]) -> Result<Vec<Event>, AllocError>
     Ok(copy)
 }
 
-/// The same event, in memory of its own. It fails only when out of memory.
+/// A copy of the event. It fails only when out of memory.
 fn event_of(alloc: Global, event: &Event) -> Result<Event, AllocError>
     ensures { IfOk result (λ copy. copy ≡ event.now) }
 {
@@ -200,8 +201,7 @@ fn run_lines<D: Disk, C: Chare>(
     }
 }
 
-/// Runs one line, and answers nothing. There have to be as many blanks as it supplies, and it takes
-/// no more.
+/// Runs one line. There have to be as many blanks as it supplies, and it takes no more.
 fn run_line<D: Disk, C: Chare>(
     engine: &mut Engine<D, C>,
     handlers: &Handlers,
@@ -239,7 +239,7 @@ fn run_line<D: Disk, C: Chare>(
                 entry: handler.entry,
                 words: words.as_slice(),
             };
-            // What the client is told isn't looked at, and so it is below.
+            // What the client is told isn't looked at, here and below.
             let _ = engine.ask(*client, &request);
         }
         Line::Step(step) => {
@@ -248,8 +248,8 @@ fn run_line<D: Disk, C: Chare>(
     }
 }
 
-/// Supplies so many blanks, which are there. Where memory is refused the line is refused, and the
-/// run goes on without them.
+/// Supplies `count` blanks, which have to be there. When out of memory, the line is refused, and
+/// the run goes on without them.
 fn supply<D: Disk, C: Chare>(
     engine: &mut Engine<D, C>,
     source: &mut Stock<C>,
@@ -265,12 +265,12 @@ fn supply<D: Disk, C: Chare>(
 {
     match engine.draw(source, kind, count as usize) {
         Ok(()) => {}
-        // Memory was refused, and the run goes on.
+        // Out of memory, and the run goes on.
         Err(AllocError) => {}
     }
 }
 
-/// Delivers the oldest message that can be delivered, up to so many times, or up to a refusal.
+/// Delivers the oldest message that can be delivered, up to `most` times, or up to a refusal.
 fn drain<D: Disk, C: Chare>(engine: &mut Engine<D, C>, most: u32)
     ensures drains { Drains most (view_of engine.old) (view_of engine.new) }
     ensures advances { Advances D.Disk engine.old engine.new }
@@ -283,7 +283,7 @@ fn drain<D: Disk, C: Chare>(engine: &mut Engine<D, C>, most: u32)
     }
 }
 
-/// Delivers the oldest message that can be delivered, and answers whether it did.
+/// Delivers the oldest message that can be delivered, and returns whether it did.
 fn deliver_next<D: Disk, C: Chare>(engine: &mut Engine<D, C>) -> bool
     ensures delivers { result ≡ true → DeliversNext (view_of engine.old) (view_of engine.new) }
     ensures none { result ≡ false → DeliversNone (view_of engine.old) (view_of engine.new) }

@@ -12,7 +12,7 @@ use charmlet_model::{ClientRow, Edition, Manifest, Message, Record, State, Windo
 use charmlet_plain::PlainWorld;
 use std::alloc::{AllocError, Global};
 
-/// Whether two worlds are the same one. It fails only when out of memory.
+/// Whether two worlds are the same. It fails only when out of memory.
 pub fn is_same_world(
     alloc: Global,
     one: &PlainWorld,

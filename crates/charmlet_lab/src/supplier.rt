@@ -1,4 +1,4 @@
-//! Who has the objects that a run and a restart need.
+//! Where the objects for runs and restarts come from.
 
 ghost use Rattle.std.specs.Prelude.{◌≡◌, true, IfErr, IfOk};
 ghost use Rattle.charmlet_model.specs.Core.{Blanks};
@@ -20,9 +20,9 @@ use charmlet_recover::Wanted;
 use charmlet_script::Script;
 use std::alloc::Global;
 
-/// A supplier of blank objects, of whatever type: it makes as many as a run or a restart needs, and
-/// has that begin with them. So whoever has objects of mixed kinds can box them in one function,
-/// which keeps them.
+/// A supplier of blank objects, of any type: it makes as many as a run or a restart needs, and
+/// starts that with them. So a supplier of mixed kinds can box them in one function, which keeps
+/// them.
 pub trait Supplier<D: LabDisk> {
     /// A run of the script on this disk, with the blanks that its lines supply, as
     /// [`crate::lab_round`] makes it.
@@ -36,7 +36,7 @@ pub trait Supplier<D: LabDisk> {
             × IsNotRun D.Disk given script.now disk refusal) };
 
     /// Whether a restart from this disk after a crash of such a run is bad, with the blanks that
-    /// are wanted, as [`crate::lab_outcome`] says it.
+    /// are wanted, as [`crate::lab_outcome`] says.
     fn restart(
         &self,
         alloc: Global,

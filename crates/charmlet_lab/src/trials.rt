@@ -16,24 +16,24 @@ use std::alloc::Global;
 /// No more stops are tried.
 const MOST_STOPS: u64 = 1 << 60;
 
-/// Who is told after each stop what was found so far.
+/// What is told after each stop what was found so far.
 pub trait Watch {
     /// This was found so far.
     fn tell(&mut self, line: &LabLine);
 }
 
-/// Tries the crashes of a script. It runs the script on new disks, of which the first one fails at
-/// its first write or sync, and each other one a call later than the one before, until a run isn't
-/// stopped. For each stop and each choice there is a run of its own, and after it a crash, and a
-/// restart from what that left, on the script's processors and with the blanks that are wanted. It
-/// answers how many stops there were, how many restarts, and how many of these were bad: those that
-/// came to no world of the run with all that was durable, or were refused, though not for
-/// `NothingHere` where the store wasn't said to be made.
+/// Tries the crashes of a script. It runs the script on new disks: the first fails at its first
+/// write or sync, and each other one fails one call later than the one before, until a run isn't
+/// stopped. For each stop and each choice there is a run of its own, then a crash, and a restart
+/// from what that left, on the script's processors and with the blanks that are wanted. Returns how
+/// many stops there were, how many restarts, and how many of these were bad: they gave no world of
+/// the run with all that was durable, or were refused, unless by `NothingHere` if the store wasn't
+/// reported as made.
 ///
-/// `BadPes` where the script's number of processors isn't 1 to 64; `BlanksWanted` where the
-/// supplier brings too few blanks; `AlreadyHere` where a new disk isn't empty; `Device` where a
-/// disk can't be read after its crash, and counts that failure; `ImageFull` where an image of a
-/// store that came back would pass a limit; `Memory`.
+/// `BadPes` if the script's number of processors isn't 1 to 64; `BlanksWanted` if the supplier
+/// brings too few blanks; `AlreadyHere` if a new disk isn't empty; `Device` if a disk can't be read
+/// after its crash, and counts that failure; `ImageFull` if an image of a store that came back
+/// would pass a limit; `Memory`.
 pub fn try_crashes<D: LabDisk, S: Supplier<D>, W: Watch>(
     alloc: Global,
     script: &Script,
@@ -57,8 +57,8 @@ pub fn try_crashes<D: LabDisk, S: Supplier<D>, W: Watch>(
     Ok(line)
 }
 
-/// Tries the crashes of one stop, and counts them. It answers false where a run isn't stopped, and
-/// tries no further then.
+/// Tries the crashes of one stop, and counts them. Returns false if a run isn't stopped, and then
+/// tries no more.
 fn try_stop<D: LabDisk, S: Supplier<D>>(
     alloc: Global,
     script: &Script,
@@ -87,8 +87,8 @@ fn try_stop<D: LabDisk, S: Supplier<D>>(
     Ok(true)
 }
 
-/// Whether the restart after a run and a crash is bad, where the disk of the run fails after
-/// `calls` calls; `None` where the run isn't stopped.
+/// Whether the restart after a run and a crash is bad, if the disk of the run fails after `calls`
+/// calls; `None` if the run isn't stopped.
 fn try_crash<D: LabDisk, S: Supplier<D>>(
     alloc: Global,
     script: &Script,

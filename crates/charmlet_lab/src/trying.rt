@@ -22,14 +22,14 @@ use charmlet_script::Script;
 use std::alloc::Global;
 
 /// Restarts from a disk after a run's crash, on as many processors as the script has and with these
-/// blanks, and answers whether that was bad, as [`lab_bad`] has it. Disk and objects are dropped.
+/// blanks, and returns whether that was bad, as [`lab_bad`] has it. Disk and objects are dropped.
 ///
-/// Where it wasn't, the files of an honest disk recover to the world after some of the events, with
-/// all that were durable among them; and where no store was said to be made, to that or to nothing.
+/// If it wasn't, the files of an honest disk recover to the world after some of the events, with
+/// all that were durable among them; if no store was reported as made, to that or to nothing.
 ///
-/// `BlanksWanted` where there are fewer blanks of a kind than are wanted, with the least such kind
-/// and all that are wanted of it: so blanks that weren't brought are never what makes a restart
-/// bad. `Memory` and `ImageFull` as [`lab_bad`] has them.
+/// `BlanksWanted` if there are fewer blanks of a kind than are wanted, with the lowest such kind
+/// and all that are wanted of it: so missing blanks never make a restart bad. `Memory` and
+/// `ImageFull` as [`lab_bad`] has them.
 pub fn lab_outcome<D: Disk, C: Chare>(
     alloc: Global,
     script: &Script,

@@ -12,10 +12,10 @@ use charmlet_model::Refusal;
 use charmlet_recover::{Wanted, manifest};
 use std::alloc::Global;
 
-/// How many blanks of each kind a restart from this disk wants, and none where no store is found
+/// How many blanks of each kind a restart from this disk wants, and none if no store is found
 /// there. It only reads.
 ///
-/// `Memory`, and `Device` where a read fails, which the disk counts: then it isn't known.
+/// It isn't known if out of memory, `Memory`, or if a read fails, `Device`, which the disk counts.
 pub(crate) fn wanted_on<D: Disk>(alloc: Global, disk: &mut D) -> Result<Wanted, Refusal>
     ensures ok { IfOk result (λ wanted. AreWanted D.Disk disk.old (blanks_in wanted)) }
     ensures err { IfErr result (λ refusal. (refusal ≡ refusals.Memory)
@@ -33,7 +33,7 @@ pub(crate) fn wanted_on<D: Disk>(alloc: Global, disk: &mut D) -> Result<Wanted, 
     }
 }
 
-/// No blank of any kind.
+/// No blanks of any kind.
 fn no_blanks() -> Wanted
     ensures { (kind : kinds.Kind) → blanks_in result kind ≡ 0 }
 {

@@ -11,7 +11,7 @@ abbrev pub handler_of : Handlers → List ℕ → Option Handler
 handler_of handlers name = get_by_text handlers.by_name name
 
 -- where a request to a handler goes, and at which entry; without a handler, to an element of an
--- array that isn't there
+-- array that isn't in the manifest
 abbrev pub IsTarget : World → ℕ → Option Handler → Elem → ℕ → Type 0
 IsTarget w index (Some handler) to entry = (to ≡ record { array = handler.array; index = index })
     × (entry ≡ handler.entry)

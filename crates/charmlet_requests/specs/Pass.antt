@@ -13,23 +13,23 @@ use Rattle.charmlet_model.specs.Told.{Holds, told_of}
 use Rattle.charmlet_model.specs.World.{client_of}
 use Rattle.charmlet_requests.specs.Knowing.{IsNoLess, heard}
 
--- A pass is of one client. Its accepts are those with the numbers after `lent_at` up to `last`; and
--- it knows what its client was told.
+-- A pass belongs to one client. Its accepts have the numbers after `lent_at` up to `last`, and it
+-- knows what its client was told.
 pub record Pass : Type 0 where
   pub client : ℕ
   pub lent_at : ℕ
   pub last : ℕ
   pub row : ClientRow
 
--- a pass that is lent to a client whose last number is this one, and which was told nothing
+-- a pass that is lent to a client with this last number, and was told nothing
 abbrev pub lent : ℕ → ℕ → Pass
 lent client last = record { client = client; lent_at = last; last = last; row = no_client }
 
--- the highest that a pass was told of a request, or that follows from what it was told
+-- the highest answer that a pass was told about a request, or that follows from what it was told
 abbrev pub known : Pass → ℕ → Told
 known pass number = told_of pass.row number
 
--- the pass was told this of a request
+-- the pass was told this about a request
 abbrev pub with_told : Pass → ℕ → Told → Pass
 with_told pass number told = record pass { row = heard pass.row number told }
 
@@ -58,9 +58,9 @@ IsTold pass core = (number : ℕ) →
 abbrev pub IsUpToDate : Pass → Core → Type 0
 IsUpToDate pass core = (client_of (present core) pass.client).last ≡ pass.last
 
--- A request or a question of this number by a pass is answered so. What is told is no less than
--- what the pass knew of it, and then the pass knows no less than that; of no request it knows less
--- than before; what it knows stays true; and a refusal leaves it as it was.
+-- The answer to a request or a question with this number by a pass. What is told is no less than
+-- what the pass knew about it, and then the pass knows no less than that; it knows no less about
+-- any request than before; what it knows stays true; and a refusal leaves it as it was.
 pub record IsHeard (pass next : Pass) (core after : Core) (number : ℕ)
     (result : Result Told Refusal) : Type 0 where
   pub no_less : IsTold pass core →

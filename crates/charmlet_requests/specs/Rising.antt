@@ -9,7 +9,7 @@ use Rattle.charmlet_model.specs.World.{World, world, client_of, IsLegal}
 use Rattle.charmlet_requests.specs.Knowing.{IsNoLess}
 use Rattle.charmlet_requests.specs.Pass.{numbers_after}
 
--- whatever legal events come, a client is told no less of a request than before, and no other words
+-- after any legal events, a client is told no less about a request than before, and no other words
 abbrev pub ToldRises : Type 0
 ToldRises = (w : World) (before : ℕ) (history more : List Event) (client number : ℕ) →
     IsFit w → IsLegal w before (history ++ more) → IsNoLess (told (world w history) client number)

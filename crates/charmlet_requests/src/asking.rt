@@ -1,4 +1,4 @@
-//! Requests and questions that go by a client's pass.
+//! Requests and questions by a client's pass.
 
 ghost use Rattle.std.specs.Prelude.{◌≡◌, ℕ, IfOk, OnErr};
 ghost use Rattle.charmlet_model.specs.Core as core;
@@ -10,12 +10,12 @@ use crate::pass::ClientPass;
 use charmlet_history::{History, Request};
 use charmlet_model::{Refusal, Told};
 
-/// A request of the pass's client, as [`History::request`] takes it, with the same refusals in the
-/// same order. Where it isn't refused the pass keeps that it was accepted, and what was told of it.
-/// A refusal changes nothing.
+/// A request of the pass's client, as [`History::request`] accepts it, with the same refusals in
+/// the same order. If it isn't refused, the pass records that it was accepted, and what was told
+/// about it. A refusal changes nothing.
 ///
-/// Where all that the pass knows is true of the durable events, so it is afterwards; and the client
-/// is told no less of the request than it knew, nor other words.
+/// If all that the pass knows is true of the durable events, it is still true afterwards. The
+/// client is then told no less about the request than the pass knew, and no other words.
 pub fn request(
     history: &mut History,
     pass: &mut ClientPass,
@@ -41,11 +41,11 @@ pub fn request(
 }
 
 /// Tells the pass's client what is durable of its request, as [`History::status`] does, with the
-/// same refusals in the same order; the pass keeps it. A refusal changes nothing. An answer without
-/// words takes no memory.
+/// same refusals in the same order. The pass records the answer. A refusal changes nothing. An
+/// answer without words takes no memory.
 ///
-/// Where all that the pass knows is true of the durable events, so it is afterwards; and the client
-/// is told no less of the request than it knew, nor other words.
+/// If all that the pass knows is true of the durable events, it is still true afterwards. The
+/// client is then told no less about the request than the pass knew, and no other words.
 pub fn status(history: &History, pass: &mut ClientPass, number: u64) -> Result<Told, Refusal>
     ensures steps { (blanks : Blanks) → Steps (core_in history.now) blanks
         (core.Status pass.old.client number)

@@ -11,8 +11,8 @@ pub struct Handler {
     pub entry: u16,
 }
 
-/// The handlers that are registered, by their names. They aren't stored: after a restart they are
-/// registered again.
+/// The registered handlers, by their names. They aren't stored, and have to be registered again
+/// after a restart.
 #[derive(Drop)]
 pub struct Handlers {
     alloc: Global,
@@ -35,8 +35,8 @@ impl Handlers {
         }
     }
 
-    /// Registers a handler under a name, in the place of another one of that name. `Memory`, and
-    /// then nothing changes.
+    /// Registers a handler under a name, replacing one that has the name already. It fails only
+    /// with `Memory`, and then nothing changes.
     pub fn register(&mut self, name: &str, handler: Handler) -> Result<(), Refusal>
         ensures ok { OnOk result ((other : List ℕ) → handler_of self.new other
             ≡ (if bytes_eq name.now other then Some handler else handler_of self.old other)) }

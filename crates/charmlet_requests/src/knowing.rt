@@ -1,4 +1,4 @@
-//! What a client knows of its requests, as a row of its own.
+//! What a client knows about its requests, as a row of its own.
 
 ghost use Rattle.std.specs.Prelude.{◌≡◌, ◌-◌, drop, true, OnErr, OnOk};
 ghost use Rattle.charmlet_model.specs.Core.{has_words};
@@ -9,8 +9,8 @@ ghost use Rattle.charmlet_requests.specs.Knowing.{IsWindowed, gone_on, heard, pa
 use charmlet_model::{ClientRow, MAX_UNANSWERED, Told, Window, Words};
 use std::alloc::{AllocError, Global};
 
-/// The row knows what was told of a request. It fails only when out of memory, and takes none where
-/// nothing was told that has words, or where the row has these already. Then nothing changes.
+/// Records in the row what was told about request `number`. It takes no memory if what was told has
+/// no words, or if the row has them already. When out of memory, nothing changes.
 pub(crate) fn hear(
     row: &mut ClientRow,
     alloc: Global,
@@ -37,8 +37,8 @@ pub(crate) fn hear(
     }
 }
 
-/// The row knows the reply to a request. It fails only when out of memory, and then nothing
-/// changes.
+/// Records the reply to request `number` in the row. It fails only when out of memory, and then
+/// nothing changes.
 fn hear_reply(
     row: &mut ClientRow,
     alloc: Global,
@@ -62,14 +62,14 @@ fn hear_reply(
     Ok(())
 }
 
-/// Whether the row's window has the number, and no reply to it.
+/// Whether `number` is in the row's window, without a reply.
 fn awaits(row: &ClientRow, number: u64) -> bool
     ensures { result ≡ awaits row.now number }
 {
     row.in_window(number) && row.reply(number).is_none()
 }
 
-/// All requests up to this number were accepted. It takes no memory.
+/// Records that all requests up to `number` were accepted. It takes no memory.
 fn reach(row: &mut ClientRow, number: u64)
     requires windowed { IsWindowed row.old }
     ensures reached { row.new ≡ reached row.old number }
@@ -79,7 +79,7 @@ fn reach(row: &mut ClientRow, number: u64)
     go_on(row, number);
 }
 
-/// Requests are accepted one after another, up to this number. It takes no memory.
+/// Accepts requests one after another, up to `number`. It takes no memory.
 fn go_on(row: &mut ClientRow, number: u64)
     requires windowed { IsWindowed row.old }
     ensures gone_on { row.new ≡ gone_on row.old (number - row.old.last) }
@@ -90,7 +90,7 @@ fn go_on(row: &mut ClientRow, number: u64)
     }
 }
 
-/// All requests up to this number are past. It takes no memory.
+/// Records that all requests up to `number` are past. It takes no memory.
 fn pass(row: &mut ClientRow, number: u64)
     requires windowed { IsWindowed row.old }
     ensures passed { row.new ≡ passed row.old number }
@@ -103,7 +103,7 @@ fn pass(row: &mut ClientRow, number: u64)
     }
 }
 
-/// Takes so many of the oldest items out, or all of them. It takes no memory.
+/// Removes the `count` oldest items, or all if there are fewer. It takes no memory.
 fn drop_first(window: &mut Window, count: u64)
     ensures { window.new ≡ drop count window.old }
 {

@@ -2,15 +2,15 @@
 
 ghost use Rattle.charmlet_requests.specs.Rising.{AcceptsAreNumbered, ToldRises, TruthIsTold};
 
-/// What a client is told of a request rises with the history: of Unknown, Accepted, Replied and
-/// Past it is never one before what it was, and never with other words. So it is with all that is
+/// What a client is told about a request rises with the history: it never goes back in the order
+/// Unknown, Accepted, Replied, Past, and its words never change. The same holds for all that is
 /// true of the history.
 pub fn told_rises()
     ensures rises { ToldRises }
     ensures truth { TruthIsTold }
 {}
 
-/// A client's accepts have the numbers that follow one another.
+/// A client's accepts have consecutive numbers.
 pub fn accepts_are_numbered()
     ensures { AcceptsAreNumbered }
 {}

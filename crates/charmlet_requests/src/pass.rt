@@ -5,18 +5,18 @@ use charmlet_model::{ClientRow, Told};
 use std::alloc::{AllocError, Global};
 use std::marker::Model;
 
-/// What a client has of its requests over one history: which of them were accepted since the pass
-/// was lent, and what it was told of them. Over the history it was lent for it is never told less
-/// than before, nor other words.
+/// What a client knows about its requests in one history: which of them were accepted since the
+/// pass was lent, and what it was told about them. In that history it is never told less than
+/// before, nor other words.
 #[derive(Debug, Drop)]
 pub struct ClientPass {
     alloc: Global,
     client: u32,
     /// The client's last number when the pass was lent.
     lent_at: u64,
-    /// The number of its last accept, or before one the same.
+    /// The number of its last accept, or the same as `lent_at` if there is none.
     last: u64,
-    /// What is known by what it was told.
+    /// What it knows from what it was told.
     row: ClientRow,
 }
 
@@ -45,7 +45,7 @@ impl ClientPass {
     ghost use Rattle.charmlet_requests.specs.Knowing.{IsNoLess};
     ghost use Rattle.charmlet_requests.specs.Pass.{IsTold, accepts_of, known, lent, with_accept, with_told};
 
-    /// A pass that is lent to a client whose last number is this one. It takes no memory.
+    /// A pass that is lent to a client whose last number is `last`. It takes no memory.
     pub(crate) fn lend(alloc: Global, client: u32, last: u64) -> Self
         ensures { result ≡ lent client last }
     {
@@ -65,7 +65,8 @@ impl ClientPass {
         self.client
     }
 
-    /// The number of its last accept; before one, the client's last number when the pass was lent.
+    /// The number of its last accept, or, if there is none, the client's last number when the pass
+    /// was lent.
     pub fn last(&self) -> u64
         ensures { result ≡ self.now.last }
     {
@@ -81,9 +82,10 @@ impl ClientPass {
         self.last - self.lent_at
     }
 
-    /// What is known of a request: the highest that the client was told of it, or what follows from
-    /// what it was told of others. Of the client's last eight requests replies are kept. It fails
-    /// only when out of memory, and takes none where what is known has no words.
+    /// What is known about request `number`: the highest answer that the client was told about it,
+    /// or what follows from what it was told about others. The replies to the client's last eight
+    /// requests are kept. It fails only when out of memory, and takes none if what is known has no
+    /// words.
     pub fn known(&self, number: u64) -> Result<Told, AllocError>
         ensures known { IfOk result (λ told. told ≡ known self.now number) }
         ensures words { OnErr result (has_words (known self.now number) ≡ true) }
@@ -91,9 +93,9 @@ impl ClientPass {
         self.row.told(self.alloc, number)
     }
 
-    /// Keeps what the client was told of a request, so that no less is known of any request than
-    /// before. It fails only when out of memory, and then nothing changes. It takes none where that
-    /// has no words.
+    /// Records what the client was told about request `number`. No less is then known about any
+    /// request than before. It fails only when out of memory, and then nothing changes. It takes
+    /// none if `told` has no words.
     pub fn hear(&mut self, number: u64, told: &Told) -> Result<(), AllocError>
         ensures ok { OnOk result (self.new ≡ with_told self.old number told.now) }
         ensures kept { (other : ℕ) → IsNoLess (known self.old other) (known self.new other) }
@@ -108,7 +110,8 @@ impl ClientPass {
         hear(&mut self.row, self.alloc, number, told)
     }
 
-    /// Keeps that a request was accepted, if its number is above the last one. It takes no memory.
+    /// Records that request `number` was accepted, if that is above the last number. It takes no
+    /// memory.
     pub fn accept(&mut self, number: u64)
         ensures { self.new ≡ with_accept self.old number }
     {

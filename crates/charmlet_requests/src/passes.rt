@@ -38,7 +38,7 @@ impl Passes {
     ghost use Rattle.charmlet_history.specs.Kept.{core_in};
     ghost use Rattle.charmlet_requests.specs.Pass.{is_out, lending_refusal, lent};
 
-    /// No pass is out. It takes no memory.
+    /// No passes are out. It takes no memory.
     pub fn new(alloc: Global) -> Self
         ensures { result ≡ [] }
     {
@@ -55,8 +55,8 @@ impl Passes {
         self.out.contains(&client)
     }
 
-    /// Lends a client its pass over this history. `PassOut` where it is out, else `Memory`; and
-    /// then nothing changes.
+    /// Lends a client its pass for this history. `PassOut` if it is out; otherwise `Memory`. When
+    /// refused, nothing changes.
     pub fn lend(&mut self, history: &History, client: u32) -> Result<ClientPass, Refusal>
         ensures lent { IfOk result (λ pass. pass
             ≡ lent client (client_of (present (core_in history.now)) client).last) }
@@ -72,7 +72,7 @@ impl Passes {
         Ok(ClientPass::lend(self.alloc, client, last_of(history, client)))
     }
 
-    /// Takes a pass in, so that it may be lent anew. It takes no memory.
+    /// Takes a pass back, so that it may be lent again. It takes no memory.
     pub fn give_back(&mut self, pass: ClientPass)
         ensures { self.new ≡ remove_key (is_at (nat_cmp pass.client)) self.old }
     {
