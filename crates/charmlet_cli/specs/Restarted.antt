@@ -79,7 +79,7 @@ given_of state objects kind = count_of state objects kind
 -- ---- restarts
 
 module _ {D : Type 0} (G : disks.Ghosts D) where
-  -- what a crash might leave before the restart
+  -- what a crash before the restart might have left
   abbrev pub is_left_by : D → CrashBytes → Type 0
   is_left_by first = MayLeave (G.file first)
 
@@ -89,8 +89,8 @@ module _ {D : Type 0} (G : disks.Ghosts D) where
   -- the blanks that the taken half didn't want, and the log goes on where that half ends, or after
   -- the image. After a crash in any life of the store all that clients were told is true. The disk
   -- is settled, and each crash now leaves that world. Nothing was written unless an image was
-  -- wanted; and each crash since the beginning leaves what one might leave before, or files that
-  -- recover to that world, at their generation or the next.
+  -- wanted; and each crash since the beginning leaves what one before the restart might have left,
+  -- or files that recover to that world, at their generation or the next.
   pub record IsBack (processors : ℕ) (given : Blanks) (first : D) (back : Ledger D) : Type 0 where
     pub opens : IsOpenedOn processors back.store.core
     pub found : G.honest first → IsFound (bytes_on (G.file first)) back.store.core
@@ -149,8 +149,8 @@ module _ {D : Type 0} (G : disks.Ghosts D) where
   -- the number of processors, lack of memory, or a failure of the device. After a crash of an
   -- earlier run the files alone are never the cause, unless an image is wanted that can't be
   -- written. What was read is sure. Nothing is written unless an image is wanted, and then only if
-  -- the device failed; and each crash since the beginning leaves what one might leave before, or
-  -- files that recover to the same world, at the same generation or the next.
+  -- the device failed; and each crash since the beginning leaves what one before the restart might
+  -- have left, or files that recover to the same world, at the same generation or the next.
   pub record WasNotRestarted (processors : ℕ) (given : Blanks) (first end : D)
       (refusal : Refusal) : Type 0 where
     pub kind : is_engine_refusal refusal ≡ true

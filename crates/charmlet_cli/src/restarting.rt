@@ -145,7 +145,7 @@ pub fn find_blanks<D: Disk, W: Write>(
 /// If the taken half has all its kinds in their newest versions, the restart writes nothing to the
 /// disk, and the store goes on at its generation. Otherwise an image of the store in the newest
 /// versions replaces it, at the next generation, as [`Engine::restart`] says; a crash meanwhile
-/// leaves what one might leave before, or files that recover to the same world.
+/// leaves what one before the restart might have left, or files that recover to the same world.
 ///
 /// No store comes back for the reasons of [`Engine::restart`], in its order. Then the refusal is
 /// written, no line is run, and all objects are dropped. The disk is unchanged, unless the device

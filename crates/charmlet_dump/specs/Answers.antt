@@ -15,8 +15,8 @@ use Rattle.charmlet_dump.specs.declared.finding.Found.{Found}
 abbrev pub read_of : (Half → File) → CrashBytes
 read_of files half = (files half).now
 
--- a world is found, or a refusal is answered, as two halves recover to it, unless memory is refused
--- or the device fails
+-- a world is found, or a refusal is answered, as two halves recover to it, unless out of memory or
+-- the device fails
 abbrev pub Comes : Recovered → Result Found Refusal → Type 0
 Comes r (Ok found) = r ≡ files.Found found.world found.events found.generation
 Comes r (Err (refusals.Damaged half offset)) = r ≡ files.Damaged half offset
@@ -25,7 +25,7 @@ Comes r (Err refusals.Memory) = Unit {0}
 Comes r (Err refusals.Device) = Unit {0}
 Comes r (Err refusal) = ⊥
 
--- the number of processors is refused, where and only where there aren't 1 to 64; else what these
+-- the number of processors is refused, if and only if there aren't 1 to 64; otherwise what these
 -- bytes recover to, in the versions that are written, is answered
 abbrev pub IsAnswer : ℕ → CrashBytes → Result Found Refusal → Type 0
 IsAnswer processors outcome (Err refusals.BadPes) = is_processor_count processors ≡ false
@@ -37,7 +37,7 @@ abbrev pub IsRecovered : Found → Type 0
 IsRecovered found = (outcome : CrashBytes)
     × (recovered_as_written outcome ≡ files.Found found.world found.events found.generation)
 
--- on any disk, it is refused for the number of processors, or else for a fault
+-- on any disk, it is refused for the number of processors, or otherwise for a fault
 abbrev pub IsRefusal : ℕ → Refusal → Type 0
 IsRefusal processors refusals.BadPes = is_processor_count processors ≡ false
 IsRefusal processors refusal =

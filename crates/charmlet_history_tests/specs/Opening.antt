@@ -18,7 +18,7 @@ array_editions = (0, editions.Counter) ∷ (1, editions.Tree) ∷ []
 abbrev pub counter_at : ℕ → Elem
 counter_at index = record { array = 0; index = index }
 
--- two counters that are there, and between them one that is there no more and has counts
+-- two counters that are there, and between them one that is no longer there and has counts
 abbrev pub records : List (Elem × Record)
 records =
     (counter_at 0, record { state = Some (Counter 5 5); sent = 0; received = 2 })
@@ -38,8 +38,8 @@ abbrev pub pending : List Message
 pending = message (Client 7) 2 0 4 (3 ∷ []) ∷ message (Element (counter_at 5)) 2 1 0 []
     ∷ message (Client 8) 2 5 4 [] ∷ []
 
--- a client with two requests, of which the first has its reply, and one whose window is full, and
--- whose first request has none
+-- a client with two requests, the first with its reply, and one with a full window, whose first
+-- request has none
 abbrev pub clients : List (ℕ × ClientRow)
 clients =
     (7, record { last = 2; window = Some (5 ∷ []) ∷ None ∷ [] })

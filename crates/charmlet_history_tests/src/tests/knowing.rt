@@ -1,4 +1,4 @@
-//! What a pass knows that is told less than before, as no history tells it.
+//! What a pass knows after it was told less than before, which no history does.
 
 ghost use Rattle.charmlet_model.specs.Fit.{IsFit};
 ghost use Rattle.charmlet_model.specs.Sound.{new_world};
@@ -35,13 +35,13 @@ fn replied(rt: &(impl AllocGlobal + Abort)) -> Told {
     Told::Replied(words.expect(rt, "memory"))
 }
 
-// Writes what the pass knows of this request.
+// Writes what the pass knows about this request.
 fn write_known(rt: &impl Abort, text: &mut String, pass: &ClientPass, number: u64) {
     let known = pass.known(number).expect(rt, "memory");
     write!(text, "{known}, ").expect(rt, "memory");
 }
 
-// What the pass knows of the requests 1 to 4.
+// What the pass knows about requests 1 to 4.
 fn knows(rt: &(impl AllocGlobal + Abort), pass: &ClientPass, wanted: &str) {
     let mut text = String::new(rt.alloc());
     for number in 1..5 {
@@ -50,8 +50,8 @@ fn knows(rt: &(impl AllocGlobal + Abort), pass: &ClientPass, wanted: &str) {
     assert_eq!(rt; text.as_str(), wanted);
 }
 
-// A pass that is told first this and then that, of these requests, knows this of the requests 1 to
-// 4.
+// A pass that is told these two answers, in this order, about these requests, knows this about
+// requests 1 to 4.
 fn knows_after(
     rt: &(impl AllocGlobal + Abort),
     first: (u64, Told),

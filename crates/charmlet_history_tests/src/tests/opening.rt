@@ -49,7 +49,7 @@ fn opening_parts(alloc: Global) -> Result<WorldParts, AllocError>
     })
 }
 
-// Counters, and trees of which there is none.
+// An array of counters, and one of trees that has no elements.
 fn manifest(alloc: Global) -> Result<Manifest, AllocError>
     ensures { IfOk result (λ manifest. manifest ≡ array_editions) }
 {
@@ -113,7 +113,7 @@ fn pending(alloc: Global) -> Result<Vec<Message>, AllocError>
     Ok(pending)
 }
 
-// A client with two requests, of which the first has its reply.
+// Two items, the first with a reply.
 fn short_window(alloc: Global) -> Result<Window, AllocError>
     ensures { IfOk result (λ window. window ≡ Some (5 ∷ []) ∷ None ∷ []) }
 {
@@ -124,7 +124,7 @@ fn short_window(alloc: Global) -> Result<Window, AllocError>
     Ok(window)
 }
 
-// Eight items, of which the first has no reply.
+// Eight items, the first without a reply.
 fn full_window(alloc: Global) -> Result<Window, AllocError>
     ensures { IfOk result (λ window. window
         ≡ None ∷ Some (3 ∷ []) ∷ Some [] ∷ Some [] ∷ Some [] ∷ Some [] ∷ Some [] ∷ Some (9 ∷ [])

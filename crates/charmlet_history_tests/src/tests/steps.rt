@@ -12,16 +12,16 @@ use charmlet_world::Element;
 use std::alloc::{AllocError, Global};
 use std::process::Abort;
 
-// What is asked of a history.
+// A step of a history.
 #[derive(Clone, Copy)]
 pub enum Step {
-    // This client's request of this number, to the counter of index 0 at an entry that it lacks.
+    // This client's request with this number, to counter 0 at an entry that it doesn't have.
     Ask(u32, u64),
     Status(u32, u64),
-    // Whether this client's request of this number can be assigned to the processor.
+    // Whether this client's request with this number can be assigned to the processor.
     Test(u16, u32, u64),
-    // The client's request, which is to a counter at an entry that it lacks, is assigned to the
-    // processor and committed.
+    // The client's request, which is to a counter at an entry that it doesn't have, is assigned to
+    // the processor and committed.
     Deliver(u16, u32, u64),
     // The same, but it isn't committed.
     Assign(u16, u32, u64),
@@ -30,7 +30,7 @@ pub enum Step {
     Assigned(u16),
     // Whether the element can move to the processor.
     Move(Elem, u16),
-    // The element moves to the processor, where it can.
+    // The element moves to the processor, if it can.
     Relocate(Elem, u16),
     Flush,
     Halt,
@@ -39,12 +39,12 @@ pub enum Step {
     Counts(Elem),
     Next,
     Pending,
-    // The same as `Assign`, and then the store is halted and the message committed. Nothing may
-    // come back but a refusal.
+    // The same as `Assign`, and then the store is halted and the message committed. Only a refusal
+    // may come back.
     HaltAssigned(u16, u32, u64),
 }
 
-// What is answered.
+// The answer to a step.
 #[derive(Drop)]
 pub enum Answer {
     Done,
@@ -58,7 +58,7 @@ pub enum Answer {
     Assigned(Option<MsgId>),
     Next(Option<(u16, MsgId)>),
     Pending(usize),
-    // Something came back beside a refusal.
+    // Something came back with a refusal.
     CameBack,
 }
 
@@ -69,7 +69,7 @@ fn of_client(client: u32, number: u64) -> MsgId {
     }
 }
 
-// Asks for an entry that counters lack.
+// Asks for an entry that counters don't have.
 fn ask(history: &mut History, client: u32, number: u64) -> Result<Told, Refusal> {
     let request = Request {
         number,
@@ -132,7 +132,7 @@ fn assigned(history: &History, processor: u16) -> Option<MsgId> {
     Some(id)
 }
 
-// The element moves to the processor, where it can.
+// The element moves to the processor, if it can.
 fn relocate(history: &mut History, elem: Elem, processor: u16) -> Option<Refusal> {
     match history.test_move(elem, processor) {
         Ok(_) => {
@@ -143,7 +143,7 @@ fn relocate(history: &mut History, elem: Elem, processor: u16) -> Option<Refusal
     }
 }
 
-// Takes a step, and answers.
+// Takes a step, and returns its answer.
 fn answer_to(history: &mut History, alloc: Global, step: Step) -> Answer {
     match step {
         Step::Ask(client, number) => told(ask(history, client, number)),
@@ -170,8 +170,8 @@ fn answer_to(history: &mut History, alloc: Global, step: Step) -> Answer {
     }
 }
 
-// Assigns a message to a counter at an entry that it lacks, so that nothing comes of it. The
-// counter of index 0 is there, and processor 3 is idle.
+// Assigns a message to a counter at an entry that it doesn't have, so that the delivery does
+// nothing. Counter 0 is there, and processor 3 is idle.
 fn assign(history: &mut History, processor: u16, id: MsgId) -> Option<Refusal>
     ensures outcome { IsNone result → IsAssignedOutput (core_in history.new) processor empty_output }
 {
@@ -198,7 +198,7 @@ fn assign(history: &mut History, processor: u16, id: MsgId) -> Option<Refusal>
     None
 }
 
-// What comes of such a message. It takes no memory.
+// The output of such a message. It takes no memory.
 fn nothing(alloc: Global) -> Output
     ensures { result ≡ empty_output }
 {
@@ -220,8 +220,8 @@ fn deliver(history: &mut History, alloc: Global, processor: u16, id: MsgId) -> O
     }
 }
 
-// Halts the store after such a message was assigned. The commit is refused, and what was handed in
-// comes back.
+// Halts the store after such a message was assigned. The commit is refused, and the output that was
+// passed in comes back.
 fn halt_assigned(history: &mut History, alloc: Global, processor: u16, id: MsgId) -> Answer {
     let refused = assign(history, processor, id);
     if refused.is_some() {
@@ -234,7 +234,7 @@ fn halt_assigned(history: &mut History, alloc: Global, processor: u16, id: MsgId
     }
 }
 
-// The refusal, where nothing that was sent or replied came back with it.
+// The refusal, if nothing that was sent or replied came back with it.
 fn came_back(refused: RefusedCommit) -> Answer {
     let RefusedCommit { refusal, output } = refused;
     if output.sends.as_slice().is_empty() && output.reply.is_empty() && !output.is_destroyed {
@@ -294,7 +294,7 @@ fn write_answer(text: &mut String, answer: &Answer) -> Result<(), AllocError> {
     }
 }
 
-// Takes the steps in order. What they answer is this text, a line each.
+// Takes the steps in order. Their answers are this text, a line each.
 pub fn run(rt: &(impl AllocGlobal + Abort), history: &mut History, steps: &[Step], wanted: &str) {
     let mut text = String::new(rt.alloc());
     for step in steps {

@@ -1,4 +1,4 @@
-//! What histories answer that open with a small world, at their limits, and after they were halted.
+//! What histories that open with a small world answer, at their limits and after they were halted.
 
 ghost use Rattle.std.specs.Prelude.{◌≡◌, ◌≤◌, ◌<◌, ◌^◌};
 
@@ -18,7 +18,7 @@ fn open(rt: &(impl AllocGlobal + Abort), before: u64, generation: u64, log_end: 
     history.ok().expect(rt, "memory")
 }
 
-// What such a history answers to the steps is this text.
+// Such a history's answers to the steps are this text.
 fn answers_from(
     rt: &(impl AllocGlobal + Abort),
     before: u64,
@@ -35,14 +35,14 @@ fn answers_from(
     run(rt, &mut history, steps, wanted);
 }
 
-// The same of the first file, whose log has no bytes.
+// The same for the first file, whose log has no bytes.
 fn answers(rt: &(impl AllocGlobal + Abort), before: u64, steps: &[Step], wanted: &str)
     requires { before ≤ 2 ^ 40 }
 {
     answers_from(rt, before, 1, 0, steps, wanted);
 }
 
-// The same of the last file, whose log has room for so many bytes more.
+// The same for the last file, whose log has room for this many more bytes.
 fn answers_at_limits(
     rt: &(impl AllocGlobal + Abort),
     before: u64,
@@ -61,12 +61,12 @@ const ONE_REQUEST: u32 = 46;
 
 const FIRST: Elem = Elem { array: 0, index: 0 };
 
-// It is there no more.
+// It is no longer there.
 const ABSENT: Elem = Elem { array: 0, index: 1 };
 
 const LAST: Elem = Elem { array: 0, index: 5 };
 
-// What is assigned counts as an event, until it is released.
+// An assigned message counts as an event until it is released.
 #[test]
 fn assigned_deliveries_count_at_the_last_event(rt: HostRuntime) {
     let steps = [
@@ -90,7 +90,7 @@ fn assigned_deliveries_count_at_the_last_event(rt: HostRuntime) {
     answers(&rt, (1 << 40) - 1, &steps, wanted);
 }
 
-// A log that is full by one byte takes no batch, and all else goes on.
+// A log with room for one byte too few takes no batch, and all else goes on.
 #[test]
 fn full_logs_refuse_a_flush(rt: HostRuntime) {
     let steps = [
@@ -138,9 +138,9 @@ fn logs_fill_to_their_last_byte(rt: HostRuntime) {
     answers_at_limits(&rt, 5, 2 * ONE_REQUEST, &steps, wanted);
 }
 
-// A message that was assigned before a store is halted stays, and is released; its commit is
-// refused, and nothing comes back with it. Else each step is refused, and what is only looked at is
-// answered as before.
+// A message that was assigned before a store is halted stays assigned until it is released; its
+// commit is refused, and nothing comes back with it. Each other step is refused, and calls that
+// change nothing answer as before.
 #[test]
 fn halted_stores_release_and_show(rt: HostRuntime) {
     let steps = [
@@ -192,8 +192,8 @@ fn halted_stores_release_and_show(rt: HostRuntime) {
     answers(&rt, 0, &steps, wanted);
 }
 
-// While a message is assigned to a processor no other one is, and no element comes to it or leaves
-// it. All else goes on.
+// While a message is assigned to a processor, no other one can be, and no element comes to it or
+// leaves it. All else goes on.
 #[test]
 fn one_message_is_assigned_at_a_time(rt: HostRuntime) {
     let steps = [

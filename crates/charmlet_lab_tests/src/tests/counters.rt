@@ -26,7 +26,7 @@ use std::alloc::{AllocError, Global};
 // Has as many counters as are wanted.
 pub(super) struct Counters;
 
-// So many blank counters.
+// `count` blank counters.
 pub(super) fn blank_counters(alloc: Global, count: u64) -> Result<Vec<Counter>, AllocError> {
     let mut blanks = Vec::new(alloc);
     for _ in 0..count {

@@ -1,4 +1,4 @@
-//! A disk that forgets what it is to keep.
+//! A disk that forgets what it should keep.
 
 ghost use Rattle.std.specs.Prelude.{◌≡◌, is_ok};
 ghost use Rattle.charmlet_disk.specs.Disk.{faults_after};
@@ -8,8 +8,8 @@ use charmlet_lab::LabDisk;
 use charmlet_model::Half;
 use std::alloc::Global;
 
-// A disk in memory whose syncs answer that all went well, and do nothing. So it isn't honest. It
-// passes so many writes and syncs, and then fails each.
+// A disk in memory whose syncs succeed and do nothing. So it isn't honest. It passes a number of
+// writes and syncs, and then fails each.
 #[derive(Drop)]
 pub(super) struct ForgetfulDisk {
     disk: MemDisk,
@@ -17,7 +17,7 @@ pub(super) struct ForgetfulDisk {
     faults: u64,
 }
 
-// Ends a call, and counts its fault.
+// Ends a call, and counts its fault if there is one.
 fn counted(done: Result<(), DeviceFault>, faults: &mut u64) -> Result<(), DeviceFault>
     ensures { faults.new ≡ faults_after (is_ok result) faults.old }
 {
@@ -28,7 +28,7 @@ fn counted(done: Result<(), DeviceFault>, faults: &mut u64) -> Result<(), Device
     Ok(())
 }
 
-// One call less is left, or none was.
+// Uses up one call, or fails if none is left.
 fn spend(left: &mut u64) -> Result<(), DeviceFault> {
     match left.checked_sub(1) {
         Some(fewer) => {
@@ -39,7 +39,7 @@ fn spend(left: &mut u64) -> Result<(), DeviceFault> {
     }
 }
 
-// Reads bytes, where they are inside.
+// Reads bytes, if they are inside.
 fn read(disk: &mut MemDisk, half: Half, offset: u64, into: &mut [u8]) -> Result<(), DeviceFault> {
     let length = disk.len(half)?;
     if length < offset || length - offset < into.len() as u64 {
@@ -48,7 +48,7 @@ fn read(disk: &mut MemDisk, half: Half, offset: u64, into: &mut [u8]) -> Result<
     disk.read_at(half, offset, into)
 }
 
-// Writes bytes, where a call is left, and they begin inside or at the end.
+// Writes bytes, if a call is left, and they begin inside or at the end.
 fn write(
     disk: &mut MemDisk,
     left: &mut u64,

@@ -41,7 +41,7 @@ fn an_honest_disk_is_found_good(rt: HostRuntime) -> Result<(), Fail> {
     Ok(())
 }
 
-// How many are bad was counted apart, by a model of the same files and crashes.
+// How many are bad was counted separately, by a model of the same files and crashes.
 #[test]
 fn a_disk_that_forgets_is_found_bad(rt: HostRuntime) -> Result<(), Fail> {
     let rt = &rt;
@@ -54,8 +54,8 @@ fn a_disk_that_forgets_is_found_bad(rt: HostRuntime) -> Result<(), Fail> {
     Ok(())
 }
 
-// How many events were durable, as the run was told, where the disk fails after so many calls;
-// none, if no store was made.
+// How many events were durable, as the run was told, if the disk fails after `calls` calls; `None`
+// if no store was made.
 fn durable_after(alloc: Global, calls: u64) -> Result<Option<u64>, Fail> {
     let script = read_script(alloc, &mut SCRIPT.as_bytes())?;
     let disk = AnyDisk::failing(alloc, calls);

@@ -1,4 +1,4 @@
-//! Restarts that are held against other events than those of their run.
+//! Restarts that are judged by other events than those of their run.
 
 use super::counters::blank_counters;
 use charmlet_any_disk::AnyDisk;
@@ -13,8 +13,8 @@ use std::test::Fail;
 const SCRIPT: &str = "array 0 1\nsupply 1 1\nreq 7 1 0 0 65535 5\ndeliver 0 c7.1\nflush\n\
     req 7 2 0 0 0 3\ndeliver 0 c7.2\n";
 
-// Whether it is bad to hold what a run leaves, whose disk failed after so many calls, against so
-// many of its events, of which so many are to be durable.
+// Whether the restart after a run whose disk failed after this many calls is bad, judged by the
+// first events of the run, with this many of them durable.
 fn held_against(
     alloc: Global,
     calls: u64,
@@ -45,11 +45,11 @@ fn held_against(
 fn worlds_of_other_runs_are_bad(rt: HostRuntime) -> Result<(), Fail> {
     let rt = &rt;
     let alloc = rt.alloc();
-    // The whole run, of which two events come back.
+    // The whole run. Two of its events come back.
     assert!(rt; !held_against(alloc, 99, 4, Some(2))?);
     assert!(rt; !held_against(alloc, 99, 2, Some(2))?);
     assert!(rt; !held_against(alloc, 99, 2, None)?);
-    // Three were to be durable, or there was but one.
+    // Three were to be durable, or there was only one.
     assert!(rt; held_against(alloc, 99, 4, Some(3))?);
     assert!(rt; held_against(alloc, 99, 1, Some(1))?);
     // No store is there.

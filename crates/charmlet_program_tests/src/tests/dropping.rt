@@ -16,7 +16,7 @@ fn drops_three(rt: &(impl AllocGlobal + Abort), text: &str, prints: &str) {
     assert_eq!(rt; notes.drops(), 3);
 }
 
-// One object is beyond what the script supplies, also where there is no store.
+// There is one object more than the script supplies, even if there is no store.
 #[test]
 fn all_objects_are_dropped_at_the_end(rt: HostRuntime) {
     drops_three(&rt, "array 0 1\nsupply 1 2\n", "supplied 1 2\n");

@@ -25,7 +25,7 @@ fn ends_with(
     assert_eq!(rt; errors.as_slice(), says, "{case}");
 }
 
-// The program stops so, with this exit status, and says this.
+// After this stop the program ends with this exit status, and says this.
 fn stops_with(rt: &(impl AllocGlobal + Abort), stop: Stop, wanted: u8, says: &str) {
     ends_with(rt, Failure::from(stop), wanted, says.as_bytes(), says);
 }
@@ -39,7 +39,7 @@ fn stops_end_with_1_or_2(rt: HostRuntime) {
     stops_with(&rt, last, 2, "script line 18446744073709551615\n");
 }
 
-// The program can't go on for this reason.
+// The program can't go on after this failure.
 fn lacks_memory(rt: &(impl AllocGlobal + Abort), failure: Failure, case: &str) {
     ends_with(rt, failure, 1, b"cannot go on\n".as_slice(), case);
 }

@@ -8,8 +8,8 @@ use std::io::{BufWriter, ErrorKind, Write};
 use std::process::Abort;
 use std::sync::Arc;
 
-// An output that notes, at each flush, how many bytes it took and how many entries were run. Past
-// so many flushes it fails.
+// An output that notes, at each flush, how many bytes it took and how many entries were run. After
+// a number of flushes it fails.
 #[derive(Drop)]
 struct Flushed {
     taken: Vec<u8>,
@@ -48,7 +48,7 @@ pending
 state 0 0
 ";
 
-// The last byte of each line that they print, and how many entries were run by then.
+// The end of each line that they print, and how many entries were run by then.
 const REACHED: [(usize, u64); 9] = [
     (13, 0),
     (26, 0),
@@ -61,7 +61,7 @@ const REACHED: [(usize, u64); 9] = [
     (205, 2),
 ];
 
-// An output that takes so many flushes.
+// An output that takes `most` flushes.
 fn output_with(rt: &(impl AllocGlobal + Abort), notes: &Arc<Notes>, most: usize) -> Flushed {
     let notes = notes.clone().expect(rt, "they are shared");
     Flushed {

@@ -1,4 +1,4 @@
-//! A log that is full, and an image that makes room. A log of 2^31 bytes takes as much memory, so
+//! A log that is full, and an image that makes room. A log of 2^31 bytes takes that much memory, so
 //! there is no disk here: a store in memory says that its log ends near its limit.
 
 use charmlet_checkpoint::image_of;

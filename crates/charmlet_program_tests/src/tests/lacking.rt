@@ -1,4 +1,4 @@
-//! Objects that are fewer than a run or a restart needs.
+//! Fewer objects than a run or a restart needs.
 
 use super::runs::{counters, run_anew, script_of};
 use charmlet_cli::{RestartError, Restarted, RunError, find_blanks, restart_script};
@@ -8,7 +8,7 @@ use charmlet_model::{Kind, Refusal};
 use charmlet_script::read_restart_script;
 use std::process::Abort;
 
-// Of three objects that a script supplies there are two: they come back, nothing is written, and no
+// A script supplies three objects, and there are two: they come back, nothing is written, and no
 // call of the disk is made.
 fn lacks_one(rt: &(impl AllocGlobal + Abort), text: &str) {
     let script = script_of(rt, text);
@@ -23,7 +23,7 @@ fn lacks_one(rt: &(impl AllocGlobal + Abort), text: &str) {
     assert!(rt; ran.disk.calls().is_empty());
 }
 
-// So it is also where there could be no store.
+// The same holds if there could be no store.
 #[test]
 fn too_few_objects_come_back(rt: HostRuntime) {
     lacks_one(&rt, "array 0 1\nsupply 1 2\nsupply 1 1\n");
@@ -40,7 +40,7 @@ fn stored_counter(rt: &(impl AllocGlobal + Abort)) -> MemDisk {
     ran.disk
 }
 
-// That store comes back with so many counters for a script, which may supply two.
+// That store comes back with this many counters for a script, which may supply two.
 fn restart_with(
     rt: &(impl AllocGlobal + Abort),
     count: usize,
@@ -54,8 +54,8 @@ fn restart_with(
     restart_script(rt.alloc(), disk, 1, &script, blanks, supplies, output)
 }
 
-// Objects that are fewer than the script supplies come back, with those for the restart, and
-// nothing is written.
+// If there are fewer objects than the script supplies, they come back, with those for the restart,
+// and nothing is written.
 #[test]
 fn too_few_supplies_come_back(rt: HostRuntime) {
     let mut output = Vec::new(rt.alloc());
@@ -87,7 +87,7 @@ fn wants_one(rt: &(impl AllocGlobal + Abort), disk: MemDisk) {
     assert!(rt; output.is_empty());
 }
 
-// The store that lacks its blank can be had again.
+// The store with a missing blank can still come back.
 #[test]
 fn blanks_that_lack_are_named(rt: HostRuntime) {
     let mut output = Vec::new(rt.alloc());

@@ -45,7 +45,7 @@ fn noted_counter(rt: &impl Abort, notes: &Arc<Notes>) -> Noted<Counter> {
     Noted { object, notes }
 }
 
-// So many of them.
+// `count` of them.
 pub(super) fn noted_counters(
     rt: &(impl AllocGlobal + Abort),
     notes: &Arc<Notes>,

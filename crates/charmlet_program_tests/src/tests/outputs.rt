@@ -1,4 +1,4 @@
-//! What is printed where the output fails.
+//! What is printed if the output fails.
 
 use super::runs::{counters, run_anew, script_of};
 use charmlet_cli::RunError;
@@ -7,7 +7,7 @@ use std::io;
 use std::io::{ErrorKind, Write};
 use std::process::Abort;
 
-// A client is told of its requests what is durable.
+// A client is told what is durable of its requests.
 const FIRST_RUN: &str = "\
 array 0 1
 supply 1 1
@@ -37,8 +37,8 @@ told replied 8
 told replied
 ";
 
-// An output that takes at most three bytes at a time, is interrupted before each time, and has
-// room for so many.
+// An output that takes at most three bytes at a time, is interrupted before each time, and has room
+// for a number of bytes.
 #[derive(Drop)]
 struct Trickle {
     taken: Vec<u8>,
@@ -63,8 +63,8 @@ impl Write for Trickle {
     }
 }
 
-// With room for so many bytes of what the script prints, these alone are written, and the run goes
-// to its end where that is all.
+// With room for `room` bytes of what the script prints, only these are written, and the run goes to
+// its end if they are all.
 fn fills(rt: &(impl AllocGlobal + Abort), script: &Script, wanted: &[u8], room: usize) {
     let mut output = Trickle {
         taken: Vec::new(rt.alloc()),

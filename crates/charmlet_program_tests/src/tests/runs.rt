@@ -14,7 +14,7 @@ pub(super) fn script_of(rt: &(impl AllocGlobal + Abort), text: &str) -> Script {
     read_script(rt.alloc(), &mut text.as_bytes()).expect(rt, "a script")
 }
 
-// So many blank counters.
+// `count` blank counters.
 pub(super) fn counters(rt: &(impl AllocGlobal + Abort), count: usize) -> Vec<Counter> {
     let mut counters = Vec::new(rt.alloc());
     for _ in 0..count {
