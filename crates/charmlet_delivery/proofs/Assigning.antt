@@ -1,10 +1,14 @@
 -- How deliveries end, by the steps that they take.
-use Rattle.std.proofs.Common.{◌≡◌, inl, inr, ℕ, ◌+◌, ◌-◌, ◌<◌, ◌==◌, true, false, cond, not, ◌||◌, List, [], ◌∷◌, ◌++◌, refl, sym, ap, subst, ◌∙◌, arith}
+use Rattle.std.proofs.Common.{◌≡◌, inr, ℕ, ◌+◌, ◌-◌, ◌<◌, ◌==◌, true, false, cond, not, ◌||◌, List, [], ◌∷◌, ◌++◌, refl, sym, ap, subst, ◌∙◌, arith}
 use Rattle.std.specs.Prelude.{Option, Some, None, is_some, option_and_then, Result, Ok, Err, OnOk, IfErr}
-use Rattle.std.specs.Ordering.{is_eq, nat_cmp}
+use Rattle.std.specs.Ordering.{eq_by_cmp, is_eq, nat_cmp}
 use Rattle.std.specs.Cmp.{nat_cmp_total}
+use Rattle.std.specs.BTreeMap.{insert_entry, is_at}
+use Rattle.std.specs.List.Sorted.{IsStrictlySortedBy}
+use Rattle.std.specs.Map.{keys_of, lookup, remove_entry}
 use Rattle.std.proofs.lemmas.Cmp.{tied_itself}
-use Rattle.std.proofs.lemmas.Map.Views.{exact_unsigned_eq}
+use Rattle.std.proofs.lemmas.Map.Lookups.{exact_unsigned}
+use Rattle.std.proofs.lemmas.Map.Views.{exact_unsigned_eq, tells_apart}
 use Rattle.charmlet_model.specs.declared.names.MsgId.{MsgId}
 use Rattle.charmlet_model.specs.declared.message.Message.{Message}
 use Rattle.charmlet_model.specs.declared.kind.Kind.{Kind}
@@ -16,35 +20,31 @@ use Rattle.charmlet_model.specs.declared.TheConstants.{CONSTRUCT}
 use Rattle.charmlet_model.specs.Kind.{kind_number, numbered_kind}
 use Rattle.charmlet_model.specs.Edition.{edition_kind}
 use Rattle.charmlet_model.specs.World.{record_of}
-use Rattle.charmlet_model.specs.Core.{Core, present, Blanks, Check, When, MayLackMemory, CoreStep, Assign, Commit, Release, Done, checks, assign_checks, message_checks, lacks_blank, blank_for, blank_of_id, pending_message, assigned_to, first_refusal, may_lack_memory, next_core, next_blanks, with_taken, with_given, is_present, is_processor, place_or_home, is_full, are_counts_full}
+use Rattle.charmlet_model.specs.Core.{Core, present, Blanks, Check, When, MayLackMemory, CoreStep, Assign, Commit, Release, Done, Refuses, checks, assign_checks, message_checks, lacks_blank, blank_for, blank_of_id, pending_message, assigned_to, first_refusal, may_lack_memory, next_core, next_blanks, with_taken, with_given, is_present, is_processor, place_or_home, is_full, are_counts_full}
 use Rattle.charmlet_model.specs.Run.{StoreView, Goes, IsNotDelivered}
 use Rattle.charmlet_delivery.specs.UnderWay.{Ends}
-use Rattle.charmlet_model.proofs.Maps.{lookup-insert_entry}
+use Rattle.charmlet_model.specs.Sound.{IsSound}
+use Rattle.charmlet_model.proofs.Maps.{lookup-insert_entry, rising-insert_entry, same_maps}
+use Rattle.charmlet_model.proofs.Removals.{lookup-removed, rising-removed}
 use Rattle.charmlet_model.proofs.CanLemmas.{all_pass}
 use Rattle.charmlet_history.specs.Kept.{plenty}
 use Rattle.charmlet_history.proofs.Orders.{none_of_both, some_of_first, in_front, none_in_front, memory_after, is_refused, lacks_memory, is_done}
-use Rattle.std.proofs.lemmas.Bool.{ne_eqb}
 
 -- ---- an assignment, up to the blank and from it on
 
 -- a stock has the blank, where one is wanted
 abbrev pub Has : Blanks → Option Edition → Type 0
-Has blanks None = Unit {0}
-Has blanks (Some edition) = 0 < blanks (edition_kind edition)
+Has blanks wanted = first_refusal (lacks_blank blanks wanted) ≡ None
 
 rest_passes : (blanks : Blanks) (wanted : Option Edition) → Has blanks wanted → first_refusal (lacks_blank blanks wanted ++ MayLackMemory ∷ []) ≡ None
-rest_passes blanks None has = refl
-rest_passes blanks (Some edition) has =
-    ap (λ b. first_refusal (When b (refusals.NoBlank (edition_kind edition)) ∷ MayLackMemory ∷ [])) (ne_eqb (blanks (edition_kind edition)) 0 (λ none. omega arith))
+rest_passes blanks wanted has = none_of_both (lacks_blank blanks wanted) (MayLackMemory ∷ []) has
 
 rest_lacks : (blanks : Blanks) (wanted : Option Edition) → Has blanks wanted → may_lack_memory (lacks_blank blanks wanted ++ MayLackMemory ∷ []) ≡ true
-rest_lacks blanks None has = refl
-rest_lacks blanks (Some edition) has =
-    ap (λ b. may_lack_memory (When b (refusals.NoBlank (edition_kind edition)) ∷ MayLackMemory ∷ [])) (ne_eqb (blanks (edition_kind edition)) 0 (λ none. omega arith))
+rest_lacks blanks wanted has = memory_after (lacks_blank blanks wanted) (MayLackMemory ∷ []) has refl
 
 plenty_has : (wanted : Option Edition) → Has plenty wanted
-plenty_has None = tt
-plenty_has (Some edition) = omega arith
+plenty_has None = refl
+plenty_has (Some edition) = refl
 
 module _ (core : Core) (processor : ℕ) (id : MsgId) where
   abbrev front_of : Option Message → List Check
@@ -115,17 +115,14 @@ module _ (core : Core) (processor : ℕ) (id : MsgId) where
         ap may_lack_memory (split blanks message)
         ∙ memory_after (front message) (rest_of blanks message) (front_passes message can) (rest_of_one blanks message can has).1
 
-    lacks_here : (m : Option Message) (edition : Edition) → blank_in m ≡ Some edition → blanks (edition_kind edition) ≡ 0 → first_refusal (rest_of blanks m) ≡ Some (refusals.NoBlank (edition_kind edition))
-    lacks_here None edition wanted none = cc
-    lacks_here (Some m) edition wanted none =
-        ap (λ o. first_refusal (lacks_blank blanks o ++ MayLackMemory ∷ [])) wanted
-        ∙ ap (λ n. first_refusal (When (n == 0) (refusals.NoBlank (edition_kind edition)) ∷ MayLackMemory ∷ [])) none
+    lacks_here : (m : Option Message) (refusal : Refusal) → first_refusal (lacks_blank blanks (blank_in m)) ≡ Some refusal → first_refusal (rest_of blanks m) ≡ Some refusal
+    lacks_here None refusal lacks = lacks
+    lacks_here (Some m) refusal lacks = some_of_first (lacks_blank blanks (blank_for core m)) (MayLackMemory ∷ []) refusal lacks
 
-    pub lacks_blank_for : (edition : Edition) → blank_of_id core (Some id) ≡ Some edition → blanks (edition_kind edition) ≡ 0 →
-        first_refusal (checks core blanks (Assign processor id)) ≡ Some (refusals.NoBlank (edition_kind edition))
-    lacks_blank_for edition wanted none =
+    pub lacks_wanted : (refusal : Refusal) → first_refusal (lacks_blank blanks (blank_of_id core (Some id))) ≡ Some refusal → first_refusal (checks core blanks (Assign processor id)) ≡ Some refusal
+    lacks_wanted refusal lacks =
         ap first_refusal (split blanks message)
-        ∙ none_of_both (front message) (rest_of blanks message) (front_passes message can) ∙ lacks_here message edition wanted none
+        ∙ none_of_both (front message) (rest_of blanks message) (front_passes message can) ∙ lacks_here message refusal lacks
 
 -- ---- a blank that is taken and given back
 
@@ -141,9 +138,8 @@ kind_is kinds.Tape = refl
 pub same_kind : (a b : Kind) → (kind_number a == kind_number b) ≡ true → a ≡ b
 same_kind a b h = let same : Some a ≡ Some b = sym (kind_is a) ∙ ap numbered_kind (exact_unsigned_eq (kind_number a) (kind_number b) h) ∙ kind_is b in cc
 
-pub taken_and_given : (blanks : Blanks) (wanted : Option Edition) → Has blanks wanted → with_given wanted (with_taken wanted blanks) ≡ blanks
-taken_and_given blanks None has = refl
-taken_and_given blanks (Some edition) has = λ i k. at k i
+pub taken_and_given : (blanks : Blanks) (edition : Edition) → 0 < blanks (edition_kind edition) → with_given (Some edition) (with_taken (Some edition) blanks) ≡ blanks
+taken_and_given blanks edition some = λ i k. at k i
   where
     at : (k : Kind) → with_given (Some edition) (with_taken (Some edition) blanks) k ≡ blanks k
     at k = elim (kind_number k == kind_number (edition_kind edition)) as (λ b. (kind_number k == kind_number (edition_kind edition)) ≡ b → cond b (cond b (blanks k - 1) (blanks k) + 1) (cond b (blanks k - 1) (blanks k)) ≡ blanks k) [
@@ -151,7 +147,7 @@ taken_and_given blanks (Some edition) has = λ i k. at k i
       | false ↦ λ _. refl
     ] refl
 
--- ---- how a delivery ends
+-- ---- how an assignment goes
 
 module _ (core : Core) (blanks : Blanks) (processor : ℕ) (id : MsgId) where
   abbrev store : StoreView
@@ -160,16 +156,15 @@ module _ (core : Core) (blanks : Blanks) (processor : ℕ) (id : MsgId) where
   abbrev step : CoreStep
   step = Assign processor id
 
-  pub is_refused_so : (refusal : Refusal) → first_refusal (checks core plenty step) ≡ Some refusal → IsNotDelivered store processor id refusal store
-  is_refused_so refusal h = inl (is_refused core blanks step refl refusal (refused_so core processor id blanks (pending_message core id) refusal h))
+  pub is_refused_so : (refusal : Refusal) → first_refusal (checks core plenty step) ≡ Some refusal → Goes store step (Refuses refusal) store
+  is_refused_so refusal h = is_refused core blanks step refl refusal (refused_so core processor id blanks (pending_message core id) refusal h)
 
   module _ (can : first_refusal (checks core plenty step) ≡ None) where
-    pub has_no_blank : (edition : Edition) → blank_of_id core (Some id) ≡ Some edition → blanks (edition_kind edition) ≡ 0 → IsNotDelivered store processor id (refusals.NoBlank (edition_kind edition)) store
-    has_no_blank edition wanted none =
-        inl (is_refused core blanks step refl (refusals.NoBlank (edition_kind edition)) (lacks_blank_for core processor id blanks can edition wanted none))
+    pub has_no_blank : (refusal : Refusal) → first_refusal (lacks_blank blanks (blank_of_id core (Some id))) ≡ Some refusal → Goes store step (Refuses refusal) store
+    has_no_blank refusal lacks = is_refused core blanks step refl refusal (lacks_wanted core processor id blanks can refusal lacks)
 
-    pub has_no_memory : Has blanks (blank_of_id core (Some id)) → IsNotDelivered store processor id refusals.Memory store
-    has_no_memory has = inl (lacks_memory core blanks step refl (may_lack core processor id blanks can has))
+    pub has_no_memory : Has blanks (blank_of_id core (Some id)) → Goes store step (Refuses refusals.Memory) store
+    has_no_memory has = lacks_memory core blanks step refl (may_lack core processor id blanks can has)
 
     -- the store once the message is assigned
     abbrev pub assigned_store : StoreView
@@ -183,37 +178,46 @@ module _ (core : Core) (blanks : Blanks) (processor : ℕ) (id : MsgId) where
         lookup-insert_entry nat_cmp nat_cmp_total processor processor id core.assigned
         ∙ ap (λ b. cond b (Some id) (assigned_to core processor)) (ap is_eq (tied_itself nat_cmp_total processor))
 
-    -- the blank comes back
-    given_back : Has blanks (blank_of_id core (Some id)) → next_blanks (next_core core step) (next_blanks core blanks step) (Release processor) ≡ blanks
-    given_back has =
-        ap (λ o. with_given (blank_of_id (next_core core step) o) (next_blanks core blanks step)) assigned_here
-        ∙ taken_and_given blanks (blank_of_id core (Some id)) has
+    -- nothing is assigned before
+    pub none_assigned : assigned_to core processor ≡ None
+    none_assigned = none_of (assigned_to core processor) (all_pass (assign_checks core plenty processor id) can).1.1.0
+      where
+        none_of : {A : Type 0} (o : Option A) → is_some o ≡ false → o ≡ None
+        none_of None h = refl
+        none_of (Some x) h = absurd (let never : ⊥ = cc in never)
 
-    pub is_released : Has blanks (blank_of_id core (Some id)) →
-        IsNotDelivered store processor id refusals.Memory (record { core = next_core (next_core core step) (Release processor); blanks = blanks })
-    is_released has = inr (
-      refl,
-      (
-        assigned_store,
-        is_assigned has,
-        subst (λ b. Goes assigned_store (Release processor) Done (record { core = next_core (next_core core step) (Release processor); blanks = b })) (given_back has)
-            (is_done (next_core core step) (next_blanks core blanks step) (Release processor) (ap is_some assigned_here) refl),
-      ),
-    )
+-- what was assigned and released is as before
+pub released_core : (core : Core) → IsSound core → (p : ℕ) (id : MsgId) → assigned_to core p ≡ None → next_core (next_core core (Assign p id)) (Release p) ≡ core
+released_core core sound p id none = λ i. record core { assigned = same i }
+  where
+    put : List (ℕ × MsgId)
+    put = insert_entry nat_cmp core.assigned p id
+
+    rising : IsStrictlySortedBy nat_cmp (keys_of put)
+    rising = rising-insert_entry nat_cmp nat_cmp_total p id core.assigned sound.rising_assigned
+
+    each : (q : ℕ) → lookup (is_at (nat_cmp q)) (remove_entry (is_at (nat_cmp p)) put) ≡ lookup (is_at (nat_cmp q)) core.assigned
+    each q = lookup-removed nat_cmp_total q p put rising ∙ elim (eq_by_cmp nat_cmp q p) as (λ b. eq_by_cmp nat_cmp q p ≡ b → cond b None (lookup (is_at (nat_cmp q)) put) ≡ lookup (is_at (nat_cmp q)) core.assigned) [
+      | true ↦ λ same. sym (ap (assigned_to core) (tells_apart exact_unsigned q p same) ∙ none)
+      | false ↦ λ apart. lookup-insert_entry nat_cmp nat_cmp_total q p id core.assigned ∙ ap (λ b. cond b (Some id) (lookup (is_at (nat_cmp q)) core.assigned)) apart
+    ] refl
+
+    same : remove_entry (is_at (nat_cmp p)) put ≡ core.assigned
+    same = same_maps nat_cmp nat_cmp_total exact_unsigned (remove_entry (is_at (nat_cmp p)) put) core.assigned
+        (rising-removed nat_cmp (is_at (nat_cmp p)) put rising) sound.rising_assigned each
 
 -- a store in which a message can be assigned isn't halted, and goes on so
 pub still_runs : (core : Core) (processor : ℕ) (id : MsgId) → first_refusal (checks core plenty (Assign processor id)) ≡ None → (next : Core) → next ≡ next_core core (Assign processor id) → next.halted ≡ false
 still_runs core processor id can next is = ap (λ (c : Core). c.halted) is ∙ (all_pass (assign_checks core plenty processor id) can).0
 
--- a delivery that is committed or released
-module _ (core : Core) (blanks : Blanks) (processor : ℕ) (some : is_some (assigned_to core processor) ≡ true) (running : core.halted ≡ false) where
-  pub is_committed : Goes (record { core = core; blanks = blanks }) (Commit processor) Done (record { core = next_core core (Commit processor); blanks = blanks })
-  is_committed = is_done core blanks (Commit processor) some (ap (λ b. first_refusal (When b refusals.Halted ∷ MayLackMemory ∷ [])) running)
+-- ---- how a delivery ends
 
-  pub goes_back : Goes (record { core = core; blanks = blanks }) (Release processor) Done (record { core = next_core core (Release processor); blanks = with_given (blank_of_id core (assigned_to core processor)) blanks })
-  goes_back = is_done core blanks (Release processor) some refl
+-- it was committed
+pub is_committed : (core : Core) (blanks : Blanks) (processor : ℕ) → is_some (assigned_to core processor) ≡ true → core.halted ≡ false →
+    Goes (record { core = core; blanks = blanks }) (Commit processor) Done (record { core = next_core core (Commit processor); blanks = blanks })
+is_committed core blanks processor some running = is_done core blanks (Commit processor) some (ap (λ b. first_refusal (When b refusals.Halted ∷ MayLackMemory ∷ [])) running)
 
--- a delivery that was assigned, and then committed or released
+-- or was assigned, and then committed or released
 pub ends_so : (first mid last : StoreView) (processor place : ℕ) (id : MsgId) → place ≡ processor → Goes first (Assign processor id) Done mid → {T : Type 0} (result : Result T Refusal) →
     OnOk result (Goes mid (Commit place) Done last) → IfErr result (λ refusal. (refusal ≡ refusals.Memory) × Goes mid (Release place) Done last) → Ends first processor id result last
 ends_so first mid last processor place id same goes (Ok x) done none = (mid, goes, subst (λ p. Goes mid (Commit p) Done last) same done)

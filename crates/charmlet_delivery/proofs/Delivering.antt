@@ -1,6 +1,6 @@
 -- Deliveries that are under way, and what they make of the world.
 use Rattle.std.proofs.Common.{◌≡◌, ℕ, ◌+◌, ◌==◌, ◌<◌, Bool, true, false, cond, List, refl, sym, ap, subst, ◌∙◌}
-use Rattle.std.specs.Prelude.{Option, Some, None, IfSome, IsSome, is_none, is_some, nat_le, option_and_then, unwrap_or, ◌&&◌, ◌||◌, if◌then◌else◌}
+use Rattle.std.specs.Prelude.{Option, Some, None, IfSome, IsSome, is_some, nat_le, option_and_then, unwrap_or, ◌&&◌, ◌||◌, if◌then◌else◌}
 use Rattle.std.specs.Ordering.{eq_by_cmp}
 use Rattle.std.specs.BTreeMap.{is_at}
 use Rattle.std.specs.Map.{lookup}
@@ -20,38 +20,36 @@ use Rattle.charmlet_model.specs.declared.refusal.Refusal.TheVariants as refusals
 use Rattle.charmlet_model.specs.Reaction.{constructed, edition_of, greatest, react}
 use Rattle.charmlet_model.specs.Packed.{IsState}
 use Rattle.charmlet_model.specs.World.{World, advanced, performed, record_of, reaction_of, edition_of_array, can_deliver}
-use Rattle.charmlet_model.specs.Core.{Core, home, present, pending_message, place_of, place_or_home, assigned_to, next_core, committed, Commit, Release, Done, blank_for, blank_of_id, with_given}
-use Rattle.charmlet_model.specs.Run.{Goes, StoreView}
+use Rattle.charmlet_model.specs.Core.{Core, home, present, pending_message, place_of, place_or_home, assigned_to, next_core, Commit, blank_for, blank_of_id}
 use Rattle.charmlet_model.specs.Sound.{IsAssigned}
 use Rattle.charmlet_model.specs.Shelves.{if_here, if_there, there_in}
 use Rattle.charmlet_model.proofs.Maps.{elem_exact, tied_elem}
 use Rattle.charmlet_model.proofs.Fits.{found}
 use Rattle.charmlet_model.proofs.Histories.{record_at-insert}
 use Rattle.charmlet_model.proofs.SoundLemmas.{sound_fit}
-use Rattle.charmlet_chare.specs.declared.chare.Chare.{Ghosts}
+use Rattle.charmlet_chare.specs.declared.output.Output.{Output}
+use Rattle.charmlet_chare.specs.Output.{output_of}
 use Rattle.charmlet_history.specs.declared.history.History.{History}
-use Rattle.charmlet_history.specs.Kept.{Kept, IsConsistent, assigned_message, core_in}
+use Rattle.charmlet_history.specs.Kept.{Kept, IsConsistent, IsAssignedOutput, assigned_message, core_in}
 use Rattle.charmlet_shelf.specs.Due.{Due, newcomer_due, reaction_in, record_after}
-use Rattle.charmlet_shelf.specs.Shelf.{Assigns, IsDueAt, View, done_by, has_newcomer, is_idle, refusal_at, performed as performed_phase, receiver_edition, settled, with_record, without_output}
+use Rattle.charmlet_shelf.specs.Shelf.{Assigns, IsDueAt, View, done_by, is_idle, refusal_at, performed as performed_phase, with_record}
 use Rattle.charmlet_shelf.proofs.Records.{found_with, rising_with}
 use Rattle.charmlet_shelf.specs.Count.{is_newcomer_of, objects_on}
 use Rattle.charmlet_shelf.specs.declared.phase.Phase.{Phase}
 use Rattle.charmlet_shelf.specs.declared.phase.Phase.TheVariants as phases
-use Rattle.charmlet_stock.specs.Stock.{blanks_in}
-use Rattle.charmlet_delivery.specs.Workplace.{Workplace, IsWithin, ShowsOn, ShowsPart, IsIdleWorkplace}
-use Rattle.charmlet_delivery.specs.Workplace.{store_with}
-use Rattle.charmlet_delivery.specs.UnderWay.{IsBusyAt, IsDelivering, IsUnderWay}
-use Rattle.charmlet_delivery.proofs.Assigning.{goes_back, is_committed}
-use Rattle.charmlet_delivery.proofs.Places.{if_here_same, others_stay, present_next, receiver_shown, same_processors, seen_is, stands_here}
+use Rattle.charmlet_delivery.specs.Workplace.{ShowsOn, ShowsPart}
+use Rattle.charmlet_delivery.specs.UnderWay.{IsUnderWay, blank_in}
+use Rattle.charmlet_delivery.specs.Delivering.{IsDelivering}
+use Rattle.charmlet_delivery.proofs.Places.{if_here_same, others_stay, present_next, receiver_shown, seen_is, stands_here}
 use Rattle.charmlet_model.specs.Own.{advanced_if}
 
 -- ---- the assigned message
 
-some_of : {A : Type 0} (o : Option A) → is_some o ≡ true → (x : A) × (o ≡ Some x)
+pub some_of : {A : Type 0} (o : Option A) → is_some o ≡ true → (x : A) × (o ≡ Some x)
 some_of None h = absurd (let never : ⊥ = cc in never)
 some_of (Some x) h = (x, refl)
 
-and_then_some : {A B : Type 0} (f : A → Option B) (o : Option A) (y : B) → option_and_then f o ≡ Some y → (x : A) × (o ≡ Some x) × (f x ≡ Some y)
+pub and_then_some : {A B : Type 0} (f : A → Option B) (o : Option A) (y : B) → option_and_then f o ≡ Some y → (x : A) × (o ≡ Some x) × (f x ≡ Some y)
 and_then_some f None y h = cc
 and_then_some f (Some x) y h = (x, refl, h)
 
@@ -157,6 +155,10 @@ module _ (k : Kept) (consistent : IsConsistent k) (p : ℕ) where
     abbrev its_message : (id : MsgId) × (assigned_to core p ≡ Some id) × (pending_message core id ≡ Some due.message)
     its_message = its due.message under_way.message
 
+    -- what its receiver sends and replies is what the table says
+    pub assigned_output : (output : Output) (r : Reaction) → reaction_in due ≡ Some r → output ≡ output_of r → IsAssignedOutput core p output
+    assigned_output output r is its_output = (r, ap (option_and_then (reaction_of w)) under_way.message ∙ reaction_is ∙ is, its_output)
+
     after_is : (r : Reaction) → reaction_in due ≡ Some r → present (next_core core (Commit p)) ≡ performed w due.message (Some r)
     after_is r is = present_next core consistent.sound p its_message.0 due.message its_message.1 its_message.2 ∙ ap (performed w due.message) (reaction_is ∙ is)
 
@@ -190,8 +192,8 @@ module _ (k : Kept) (consistent : IsConsistent k) (p : ℕ) where
 
     -- ---- the blank that it took
 
-    abbrev pub blank_taken : Option Edition
-    blank_taken = if is_some due.receiver.state then None else Some due.edition
+    abbrev blank_taken : Option Edition
+    blank_taken = blank_in (phases.Assigned due)
 
     blank_by : (o : Option State) → due.receiver.state ≡ o → is_some (react due.edition due.message.to o due.message.entry due.message.words) ≡ true →
         (if is_some o then None else (if due.message.entry == CONSTRUCT then Some due.edition else None)) ≡ (if is_some o then None else Some due.edition)
@@ -209,89 +211,10 @@ module _ (k : Kept) (consistent : IsConsistent k) (p : ℕ) where
         ∙ ap (λ o. if is_some due.receiver.state then None else (if due.message.entry == CONSTRUCT then o else None)) under_way.edition
         ∙ blank_by due.receiver.state refl under_way.reacts
 
--- ---- a workplace with a delivery under way
+-- ---- what is assigned
 
-has_assigned : (core : Core) (p : ℕ) (due : Due) → IsUnderWay core p due → is_some (assigned_to core p) ≡ true
+pub has_assigned : (core : Core) (p : ℕ) (due : Due) → IsUnderWay core p due → is_some (assigned_to core p) ≡ true
 has_assigned core p due under_way = ap is_some (and_then_some (pending_message core) (assigned_to core p) due.message under_way.message).1
-
-module _ {C : Type 0} {G : Ghosts C} (old : Workplace C G) (due : Due) where
-  abbrev its_core : Core
-  its_core = core_in old.history
-
-  abbrev on : ℕ
-  on = old.shelf.number
-
-  abbrev its_store : StoreView
-  its_store = store_with old.history old.stock
-
-  -- its step is a commit, or a release that gives the blank back
-  pub commits : {phase : Phase} → IsBusyAt old due phase → Goes its_store (Commit on) Done (record { core = next_core its_core (Commit on); blanks = blanks_in old.stock })
-  commits busy = is_committed its_core (blanks_in old.stock) on (has_assigned its_core on due busy.delivering.under_way) busy.running
-
-  pub releases : {phase : Phase} (busy : IsBusyAt old due phase) →
-      Goes its_store (Release on) Done (record { core = next_core its_core (Release on); blanks = with_given (blank_taken old.history busy.history on due busy.delivering.under_way) (blanks_in old.stock) })
-  releases busy =
-      subst (λ o. Goes its_store (Release on) Done (record { core = next_core its_core (Release on); blanks = with_given o (blanks_in old.stock) })) (blank_is old.history busy.history on due busy.delivering.under_way)
-      (goes_back its_core (blanks_in old.stock) on (has_assigned its_core on due busy.delivering.under_way) busy.running)
-
-  -- ---- a delivery that was performed
-
-  module _ (busy : IsBusyAt old due (done_by due (reaction_in due))) where
-    abbrev pub taken : View
-    taken = record old.shelf { phase = without_output old.shelf.phase }
-
-    same_newcomer : (kind : Kind) (phase : Phase) → is_newcomer_of kind (without_output phase) ≡ is_newcomer_of kind phase
-    same_newcomer kind phases.Idle = refl
-    same_newcomer kind (phases.Assigned due) = refl
-    same_newcomer kind (phases.Done done) = refl
-
-    -- the objects are counted as before once the output was taken
-    pub counted_taken : (kind : Kind) → objects_on taken kind ≡ objects_on old.shelf kind
-    counted_taken kind = ap (λ b. there_in old.shelf.records kind + cond b 1 0) (same_newcomer kind old.shelf.phase)
-
-    pub counted_so : (shelf : View) → shelf ≡ taken → (kind : Kind) → objects_on shelf kind ≡ objects_on old.shelf kind
-    counted_so shelf is kind = ap (λ v. objects_on v kind) is ∙ counted_taken kind
-
-    pub settled_is : settled taken ≡ record { number = on; records = with_record old.shelf.records due.message.to (record_after due); phase = phases.Idle }
-    settled_is =
-        let made = some_of (reaction_in due) busy.delivering.under_way.reacts in
-        ap (λ phase. settled (record old.shelf { phase = without_output phase })) (busy.delivering.phase_is ∙ ap (done_by due) made.1)
-
-    -- once it is settled the workplace is idle
-    pub settled_consistent : (new : Workplace C G) → IsConsistent new.history → core_in new.history ≡ next_core its_core (Commit on) → new.shelf ≡ settled taken → IsWithin new.shelf new.stock → IsIdleWorkplace new
-    settled_consistent new consistent committed shelf census =
-        let is = shelf ∙ settled_is in
-        let number : new.shelf.number ≡ on = ap (λ (v : View). v.number) is in
-        record {
-          history = consistent;
-          shelf = record {
-            on = subst (λ (core : Core). new.shelf.number < core.processors) (sym committed)
-                (subst (λ n. n < (next_core its_core (Commit on)).processors) (sym number) (subst (λ n. on < n) (sym (same_processors its_core on)) busy.delivering.part.on));
-            objects = subst (λ (core : Core). ShowsOn new.shelf.number new.shelf.records core.places (present core)) (sym committed)
-                (subst (λ (v : View). ShowsOn v.number v.records (next_core its_core (Commit on)).places (present (next_core its_core (Commit on)))) (sym is)
-                (shows_settled old.history busy.history on due busy.delivering.under_way old.shelf.records busy.delivering.part.objects));
-          };
-          idle = ap (λ (v : View). v.phase) is;
-          census = census;
-        }
-
-  -- ---- an assignment that is taken back
-
-  module _ (busy : IsBusyAt old due (phases.Assigned due)) where
-    -- its newcomer, if it has one
-    pub newcomer_is : (result : Bool) → result ≡ has_newcomer old.shelf.phase → result ≡ is_none due.receiver.state
-    newcomer_is result is = is ∙ ap has_newcomer busy.delivering.phase_is
-
-    pub edition_is : (edition : Edition) → Some edition ≡ receiver_edition old.shelf.phase → edition ≡ due.edition
-    edition_is edition is = let both : Some edition ≡ Some due.edition = is ∙ ap receiver_edition busy.delivering.phase_is in cc
-
-  -- a blank was taken for a newcomer
-  pub takes_blank : {phase : Phase} (busy : IsBusyAt old due phase) → is_none due.receiver.state ≡ true → blank_taken old.history busy.history on due busy.delivering.under_way ≡ Some due.edition
-  takes_blank busy none = by due.receiver.state none
-    where
-      by : (o : Option State) → is_none o ≡ true → (if is_some o then None else Some due.edition) ≡ Some due.edition
-      by None h = refl
-      by (Some s) h = absurd (let never : ⊥ = cc in never)
 
 -- a shelf shows its part of a world that stays, with the places of its elements
 pub same_part : (history next : History) (old shelf : View) (core : Core) → shelf ≡ old → core_in next ≡ core → core.processors ≡ (core_in history).processors → core.places ≡ (core_in history).places →
@@ -349,17 +272,16 @@ module _ (history : History) (consistent : IsConsistent history) (old shelf : Vi
     )
 
   -- with a newcomer
-  module _ {C : Type 0} (state : C → State) (blank : C) (wanted : blank_of_id (core_in history) (assigned_to (core_in history) old.number) ≡ Some (edition_of (state blank)))
-      (sent received : ℕ) (is : shelf ≡ record old { phase = phases.Assigned (newcomer_due m (edition_of (state blank)) sent received) }) where
+  module _ (edition : Edition) (wanted : blank_of_id (core_in history) (assigned_to (core_in history) old.number) ≡ Some edition) (sent received : ℕ) (is : shelf ≡ record old { phase = phases.Assigned (newcomer_due m edition sent received) }) where
     abbrev due_new : Due
-    due_new = newcomer_due m (edition_of (state blank)) sent received
+    due_new = newcomer_due m edition sent received
 
     pub delivering_new : sent ≡ (record_of (present (core_in history)) m.to).sent → received ≡ (record_of (present (core_in history)) m.to).received → (due : Due) × IsDelivering history shelf due (phases.Assigned due)
     delivering_new sends receives = (
       due_new,
       subst (λ (v : View). IsDelivering history v due_new (phases.Assigned due_new)) (sym is) (record {
         phase_is = refl;
-        under_way = under_way_new history consistent old.number m here (edition_of (state blank)) wanted sent received sends receives;
+        under_way = under_way_new history consistent old.number m here edition wanted sent received sends receives;
         part = record { on = shows.on; objects = shows.objects };
       }),
     )

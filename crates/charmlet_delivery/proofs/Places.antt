@@ -1,6 +1,6 @@
 -- Where elements stand before and after a step, and what the shelves show of them.
 use Rattle.std.proofs.Common.{◌≡◌, inl, inr, ℕ, ◌==◌, true, false, cond, List, [], ◌∷◌, refl, sym, ap, subst, ◌∙◌}
-use Rattle.std.specs.Prelude.{Option, Some, None, IfSome, is_some, unwrap_or, Result, Ok, Err}
+use Rattle.std.specs.Prelude.{Option, Some, None, IfSome, is_some, unwrap_or}
 use Rattle.std.specs.Cmp.{nat_eq_equiv}
 use Rattle.std.specs.Ordering.{eq_by_cmp}
 use Rattle.std.specs.BTreeMap.{is_at}
@@ -16,16 +16,13 @@ use Rattle.charmlet_model.specs.declared.state.State.{State}
 use Rattle.charmlet_model.specs.declared.state.Record.{Record}
 use Rattle.charmlet_model.specs.Names.{elem_cmp}
 use Rattle.charmlet_model.specs.World.{World, after, delivered, performed, reaction_of, record_of}
-use Rattle.charmlet_model.specs.Core.{Assign, Blanks, Commit, Core, CoreAnswer, CoreStep, Done, Refuses, Release, Stepped, Steps, assigned_to, committed, first_refusal, checks, home, next_core, pending_message, place_of, placed, placed_after, present, place_or_home, stepped_unless}
-use Rattle.charmlet_model.specs.Run.{Goes, StoreView}
+use Rattle.charmlet_model.specs.Core.{Blanks, Commit, Core, CoreStep, Stepped, Steps, assigned_to, committed, first_refusal, checks, home, next_core, pending_message, place_of, placed, placed_after, present, place_or_home, stepped_unless}
 use Rattle.charmlet_model.specs.Sound.{IsAssigned, IsSound}
 use Rattle.charmlet_model.specs.Shelves.{if_here, if_there}
-use Rattle.charmlet_model.proofs.Deliveries.{message_of, placed-elsewhere, receiver_is}
+use Rattle.charmlet_model.proofs.Deliveries.{placed-elsewhere, receiver_is}
 use Rattle.charmlet_model.proofs.Histories.{record-elsewhere, world-append}
 use Rattle.charmlet_model.proofs.Maps.{elem_exact, elem_total, lookup-insert_entry, tied_elem}
 use Rattle.charmlet_model.proofs.Removals.{lookup-removed}
-use Rattle.charmlet_model.proofs.SoundLemmas.{step_sound}
-use Rattle.charmlet_delivery.specs.UnderWay.{Ends}
 
 -- ---- a record on the shelf of its place
 
@@ -137,7 +134,7 @@ module _ (core : Core) (sound : IsSound core) (p : ℕ) (id : MsgId) (m : Messag
   )
 
   -- and so does what the other processors show
-  commit_elsewhere : (q : ℕ) → (p == q) ≡ false → (x : Elem) → if_here (place_of next x) q (record_of (present next) x) ≡ if_here (place_of core x) q (record_of (present core) x)
+  pub commit_elsewhere : (q : ℕ) → (p == q) ≡ false → (x : Elem) → if_here (place_of next x) q (record_of (present next) x) ≡ if_here (place_of core x) q (record_of (present core) x)
   commit_elsewhere q apart x = elim (eq_by_cmp elem_cmp x m.to) as (λ b. eq_by_cmp elem_cmp x m.to ≡ b → if_here (place_of next x) q (record_of (present next) x) ≡ if_here (place_of core x) q (record_of (present core) x)) [
     | true ↦ λ same.
         let x_is : x ≡ m.to = tells_apart elem_exact x m.to same in
@@ -150,31 +147,7 @@ module _ (core : Core) (sound : IsSound core) (p : ℕ) (id : MsgId) (m : Messag
         λ i. if_here (stays.0 i) q (stays.1 i)
   ] refl
 
--- ---- what a delivery leaves elsewhere
-
--- what the other processors' shelves show of the one core they show of the other
-pub record Stays (p : ℕ) (core next : Core) : Type 0 where
-  pub processors : next.processors ≡ core.processors
-  pub elsewhere : (q : ℕ) → (p == q) ≡ false → (x : Elem) → if_here (place_of next x) q (record_of (present next) x) ≡ if_here (place_of core x) q (record_of (present core) x)
-
-stays_itself : (p : ℕ) (core : Core) → Stays p core core
-stays_itself p core = record { processors = refl; elsewhere = λ q apart x. refl }
-
-stays_on : (p : ℕ) (first mid last : Core) → Stays p first mid → Stays p mid last → Stays p first last
-stays_on p first mid last a b = record { processors = b.processors ∙ a.processors; elsewhere = λ q apart x. b.elsewhere q apart x ∙ a.elsewhere q apart x }
-
-commit_stays : (p : ℕ) (core : Core) → IsSound core → Stays p core (next_core core (Commit p))
-commit_stays p core sound = by (assigned_to core p) refl
-  where
-    by : (o : Option MsgId) → assigned_to core p ≡ o → Stays p core (next_core core (Commit p))
-    by None none = subst (λ o. Stays p core (committed core p o)) (sym none) (stays_itself p core)
-    by (Some id) some =
-        let its : IsAssigned core p id = subst (λ o. IfSome o (IsAssigned core p)) some (sound.assigned p) in
-        let m = message_of (present core) id its.can_be in
-        record {
-          processors = ap (λ o. (committed core p o).processors) some;
-          elsewhere = commit_elsewhere core sound p id m.0 some m.1;
-        }
+-- ---- steps
 
 -- what holds before a step, once it halts, and after it, holds of the core that it leads to
 module _ (P : Core → Type 0) (core : Core) (blanks : Blanks) (step : CoreStep) (before : P core) (halted : P (record core { halted = true })) (done : P (next_core core step)) where
@@ -190,27 +163,6 @@ module _ (P : Core → Type 0) (core : Core) (blanks : Blanks) (step : CoreStep)
       | inr device ↦ subst (λ (n : Stepped). P n.core) (sym device.1) halted
     ]
   ]
-
-module _ (store next : StoreView) (p : ℕ) (id : MsgId) (sound : IsSound store.core) where
-  assign_stays : (answer : CoreAnswer) (mid : StoreView) → Goes store (Assign p id) answer mid → Stays p store.core mid.core
-  assign_stays answer mid goes =
-      stepped_core (Stays p store.core) store.core store.blanks (Assign p id) (stays_itself p store.core) (record { processors = refl; elsewhere = λ q apart x. refl }) (record { processors = refl; elsewhere = λ q apart x. refl })
-      (record { answer = answer; core = mid.core; blanks = mid.blanks }) goes
-
-  mid_sound : (mid : StoreView) → Goes store (Assign p id) Done mid → IsSound mid.core
-  mid_sound mid goes = step_sound store.core store.blanks (Assign p id) (record { answer = Done; core = mid.core; blanks = mid.blanks }) sound tt goes
-
-  -- a delivery leaves the elements of the other processors
-  pub ends_stays : {T : Type 0} (result : Result T Refusal) → Ends store p id result next → Stays p store.core next.core
-  ends_stays (Ok x) (mid, goes, commits) =
-      stays_on p store.core mid.core next.core (assign_stays Done mid goes)
-      (stepped_core (Stays p mid.core) mid.core mid.blanks (Commit p) (stays_itself p mid.core) (record { processors = refl; elsewhere = λ q apart x. refl }) (commit_stays p mid.core (mid_sound mid goes))
-      (record { answer = Done; core = next.core; blanks = next.blanks }) commits)
-  ends_stays (Err refusal) (inl refused) = assign_stays (Refuses refusal) next refused
-  ends_stays (Err refusal) (inr (is, (mid, goes, releases))) =
-      stays_on p store.core mid.core next.core (assign_stays Done mid goes)
-      (stepped_core (Stays p mid.core) mid.core mid.blanks (Release p) (stays_itself p mid.core) (record { processors = refl; elsewhere = λ q apart x. refl }) (record { processors = refl; elsewhere = λ q apart x. refl })
-      (record { answer = Done; core = next.core; blanks = next.blanks }) releases)
 
 -- a commit leaves the number of processors
 pub same_processors : (core : Core) (p : ℕ) → (next_core core (Commit p)).processors ≡ core.processors

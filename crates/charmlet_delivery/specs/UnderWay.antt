@@ -1,22 +1,18 @@
 -- A delivery that is under way.
-use Rattle.std.specs.Prelude.{◌≡◌, ℕ, true, false, is_some, Option, Some, Result, Ok, Err}
+use Rattle.std.specs.Prelude.{◌≡◌, ℕ, true, is_some, Option, Some, None, Result, Ok, Err, if◌then◌else◌}
+use Rattle.charmlet_model.specs.declared.edition.Edition.{Edition}
 use Rattle.charmlet_model.specs.declared.names.MsgId.{MsgId}
+use Rattle.charmlet_model.specs.declared.reaction.Reaction.{Reaction}
 use Rattle.charmlet_model.specs.declared.refusal.Refusal.{Refusal}
 use Rattle.charmlet_model.specs.World.{edition_of_array, record_of}
-use Rattle.charmlet_model.specs.Core.{Core, Assign, Done, present}
-use Rattle.charmlet_model.specs.Run.{StoreView, Goes, IsDelivered, IsNotDelivered}
-use Rattle.charmlet_chare.specs.declared.chare.Chare.{Ghosts}
-use Rattle.charmlet_history.specs.declared.history.History.{History}
-use Rattle.charmlet_history.specs.Kept.{IsConsistent, assigned_message, core_in}
-use Rattle.charmlet_model.specs.declared.state.State.{State}
+use Rattle.charmlet_model.specs.Core.{Core, present}
+use Rattle.charmlet_model.specs.Run.{StoreView, IsDelivered, IsNotDelivered}
 use Rattle.charmlet_chare.specs.declared.output.Output.{Output}
-use Rattle.charmlet_shelf.specs.Lending.{IsCarriedOut}
+use Rattle.charmlet_chare.specs.Output.{output_of}
+use Rattle.charmlet_history.specs.Kept.{assigned_message}
 use Rattle.charmlet_shelf.specs.Due.{Due, reaction_in}
-use Rattle.charmlet_shelf.specs.Shelf.{View}
 use Rattle.charmlet_shelf.specs.declared.phase.Phase.{Phase}
-use Rattle.charmlet_shelf.specs.declared.phase.Phase.TheVariants.{Assigned, Idle}
-use Rattle.charmlet_delivery.specs.Workplace.{store_with}
-use Rattle.charmlet_delivery.specs.Workplace.{Workplace, IsWithin, ShowsPart}
+use Rattle.charmlet_shelf.specs.declared.phase.Phase.TheVariants.{Idle, Assigned, Done}
 
 -- the core has assigned the delivery's message to the processor; its receiver is of this edition,
 -- has this record in the world, and reacts
@@ -26,40 +22,22 @@ pub record IsUnderWay (core : Core) (processor : ℕ) (due : Due) : Type 0 where
   pub receiver : record_of (present core) due.message.to ≡ due.receiver
   pub reacts : is_some (reaction_in due) ≡ true
 
--- the shelf has this delivery in this phase; its objects show the world before it
-pub record IsDelivering (history : History) (shelf : View) (due : Due)
-    (phase : Phase) : Type 0 where
-  pub phase_is : shelf.phase ≡ phase
-  pub under_way : IsUnderWay (core_in history) shelf.number due
-  pub part : ShowsPart history shelf
+-- the delivery that is under way on a shelf, if one is
+abbrev pub due_in : Phase → Option Due
+due_in Idle = None
+due_in (Assigned due) = Some due
+due_in (Done done) = Some done.due
 
--- and the history is consistent, and isn't halted
-pub record IsBusyAt {C : Type 0} {G : Ghosts C} (workplace : Workplace C G) (due : Due)
-    (phase : Phase) : Type 0 where
-  pub history : IsConsistent workplace.history
-  pub running : (core_in workplace.history).halted ≡ false
-  pub delivering : IsDelivering workplace.history workplace.shelf due phase
-  pub census : IsWithin workplace.shelf workplace.stock
+-- the edition of the blank from which the assigned message is to construct its receiver, if it is
+abbrev pub blank_in : Phase → Option Edition
+blank_in (Assigned due) = if is_some due.receiver.state then None else Some due.edition
+blank_in _ = None
 
--- the receiver of the delivery, which was there, has reacted and was counted on the shelf, which
--- before that showed the history's world
-pub record IsEntered {C : Type 0} {G : Ghosts C} (look : C → State) (workplace : Workplace C G) (due : Due)
-    (output : Output) (destroyed : Option C) (after : View) : Type 0 where
-  pub history : IsConsistent workplace.history
-  pub running : (core_in workplace.history).halted ≡ false
-  pub under_way : IsUnderWay (core_in workplace.history) workplace.shelf.number due
-  pub part : ShowsPart workplace.history workplace.shelf
-  pub idle : workplace.shelf.phase ≡ Idle
-  pub there : is_some due.receiver.state ≡ true
-  pub done : IsCarriedOut look workplace.shelf.records due output destroyed after.records
-  pub others : after ≡ record workplace.shelf { records = after.records }
-  pub census : IsWithin workplace.shelf workplace.stock
-
--- the message is assigned to the processor, in the history and on its shelf
-abbrev pub IsAssignedBy : {C : Type 0} {G : Ghosts C} → StoreView → ℕ → MsgId → Workplace C G → Type 0
-IsAssignedBy store processor id workplace =
-    Goes store (Assign processor id) Done (store_with workplace.history workplace.stock)
-    × ((due : Due) × IsBusyAt workplace due (Assigned due))
+-- the receiver has reacted, and this is what it sent and replied
+abbrev pub HasMade : Phase → Output → Type 0
+HasMade (Done done) output = (r : Reaction) × (reaction_in done.due ≡ Some r)
+    × (output ≡ output_of r)
+HasMade _ output = ⊥
 
 -- how a delivery ends
 abbrev pub Ends : {T : Type 0} → StoreView → ℕ → MsgId → Result T Refusal → StoreView → Type 0

@@ -1,5 +1,5 @@
 -- What the delivery on one of many processors works on: its workplace.
-use Rattle.std.specs.Prelude.{◌≡◌, ℕ, ◌+◌, ◌≤◌, ◌<◌, List, Result, Ok, Err}
+use Rattle.std.specs.Prelude.{◌≡◌, ℕ, ◌+◌, ◌≤◌, ◌<◌, IfSome, List, None, Result, Ok, Err}
 use Rattle.std.specs.BTreeMap.{is_at}
 use Rattle.std.specs.List.Sorted.{IsStrictlySortedBy}
 use Rattle.std.specs.Map.{keys_of, lookup}
@@ -9,17 +9,17 @@ use Rattle.charmlet_model.specs.declared.refusal.Refusal.{Refusal}
 use Rattle.charmlet_model.specs.declared.state.Record.{Record}
 use Rattle.charmlet_model.specs.Names.{elem_cmp}
 use Rattle.charmlet_model.specs.World.{World, record_of}
-use Rattle.charmlet_model.specs.Core.{CoreAnswer, Done, Refuses, present}
+use Rattle.charmlet_model.specs.Core.{CoreAnswer, Done, Refuses, assigned_to, present}
 use Rattle.charmlet_model.specs.Run.{StoreView}
 use Rattle.charmlet_model.specs.Shelves.{if_here}
 use Rattle.charmlet_chare.specs.declared.chare.Chare.{Ghosts}
 use Rattle.charmlet_history.specs.declared.history.History.{History}
-use Rattle.charmlet_history.specs.Kept.{IsConsistent, core_in}
+use Rattle.charmlet_history.specs.Kept.{core_in}
 use Rattle.charmlet_shelf.specs.Count.{objects_on}
 use Rattle.charmlet_shelf.specs.Shelf.{View}
-use Rattle.charmlet_shelf.specs.declared.phase.Phase.TheVariants.{Idle}
 use Rattle.charmlet_stock.specs.declared.stock.Stock.{Stock}
 use Rattle.charmlet_stock.specs.Stock.{blanks_in, tally_in, supplied_to}
+use Rattle.charmlet_delivery.specs.UnderWay.{IsUnderWay, due_in}
 
 -- a history, the shelf of one processor, and a stock
 pub record Workplace (C : Type 0) (G : Ghosts C) : Type 0 where
@@ -63,10 +63,16 @@ pub record ShowsPart (history : History) (shelf : View) : Type 0 where
   pub objects : ShowsOn shelf.number shelf.records (core_in history).places
       (present (core_in history))
 
--- The history is consistent, the shelf shows its part of the world and has no delivery under way,
--- and the objects were supplied.
-pub record IsIdleWorkplace {C : Type 0} {G : Ghosts C} (workplace : Workplace C G) : Type 0 where
-  pub history : IsConsistent workplace.history
+-- The shelf shows its part of the history's world, a delivery that is under way there is the one
+-- that is assigned to its processor, and the objects were supplied.
+pub record IsConsistentWorkplace {C : Type 0} {G : Ghosts C}
+    (workplace : Workplace C G) : Type 0 where
   pub shelf : ShowsPart workplace.history workplace.shelf
-  pub idle : workplace.shelf.phase ≡ Idle
+  pub due : IfSome (due_in workplace.shelf.phase)
+      (IsUnderWay (core_in workplace.history) workplace.shelf.number)
   pub census : IsWithin workplace.shelf workplace.stock
+
+-- if no delivery is under way on the shelf, nothing is assigned to its processor
+abbrev pub IsFreeIfIdle : {C : Type 0} {G : Ghosts C} → Workplace C G → Type 0
+IsFreeIfIdle workplace = due_in workplace.shelf.phase ≡ None →
+    assigned_to (core_in workplace.history) workplace.shelf.number ≡ None

@@ -2,5 +2,9 @@
 #![tactic(auto)]
 
 mod delivery;
+mod parts;
+mod shelving;
 
 pub use crate::delivery::deliver_on;
+pub use crate::parts::{assign, commit, finish, release};
+pub use crate::shelving::{assign_newcomer, release_shelf, settle_shelf};

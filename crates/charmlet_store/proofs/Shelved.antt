@@ -1,6 +1,6 @@
 -- The shelves of a store, one by one and all together.
 use Rattle.std.proofs.Common.{Vec, ◌≡◌, ℕ, ◌+◌, ◌<◌, ◌≤◌, ◌==◌, zero, suc, true, false, cond, List, [], ◌∷◌, length, get_or, refl, sym, ap, subst, ◌∙◌, arith}
-use Rattle.std.specs.Prelude.{Some, slice_set}
+use Rattle.std.specs.Prelude.{IfSome, Some, slice_set}
 use Rattle.std.specs.Cmp.{nat_eq_equiv}
 use Rattle.std.specs.BTreeMap.{insert_entry, is_at}
 use Rattle.std.specs.List.{All, AllByRecursion}
@@ -28,6 +28,7 @@ use Rattle.charmlet_history.specs.declared.history.History.{History}
 use Rattle.charmlet_history.specs.Kept.{IsConsistent, core_in}
 use Rattle.charmlet_shelf.specs.Count.{is_newcomer_of, objects_on}
 use Rattle.charmlet_shelf.specs.Shelf.{View}
+use Rattle.charmlet_shelf.specs.declared.phase.Phase.{Phase}
 use Rattle.charmlet_shelf.specs.declared.phase.Phase.TheVariants.{Idle}
 use Rattle.charmlet_stock.specs.declared.stock.Stock.{Stock}
 use Rattle.charmlet_stock.specs.declared.pile.Tally.{Tally}
@@ -35,11 +36,13 @@ use Rattle.charmlet_stock.specs.Pile.{nothing}
 use Rattle.charmlet_stock.specs.Stock.{tally_in, supplied_to}
 use Rattle.charmlet_migrate.specs.Moving.{IsCountedAmong, IsIdle, ShowsPresent, numbers_of, objects_among, records_on}
 use Rattle.charmlet_migrate.proofs.CarriedShelves as carried
-use Rattle.charmlet_delivery.specs.Workplace.{IsWithin, ShowsOn, IsIdleWorkplace, workplace_of, held_in}
+use Rattle.charmlet_delivery.specs.Turns.{Turns}
+use Rattle.charmlet_delivery.specs.UnderWay.{IsUnderWay, due_in}
+use Rattle.charmlet_delivery.specs.Workplace.{IsConsistentWorkplace, IsWithin, ShowsOn, workplace_of, held_in}
 use Rattle.charmlet_store.specs.Store.{AreEmpty, IsNew}
 use Rattle.charmlet_store.specs.Together.{AreNumbered, FitTogether}
 use Rattle.charmlet_store.specs.declared.store.Store.TheInside.{Inside}
-use Rattle.charmlet_delivery.proofs.Places.{Stays, stepped_core}
+use Rattle.charmlet_delivery.proofs.Places.{stepped_core}
 use Rattle.charmlet_migrate.specs.Copying.{empty_shelf}
 
 -- the parts of a store fit together
@@ -104,41 +107,48 @@ module _ {C : Type 0} {G : Ghosts C} (history : History) (shelves : List View) (
       subst (λ (v : View). objects_on v kind ≤ objects_among shelves kind) (sym is) (get_or-le-sum_by (λ (v : View). objects_on v kind) shelves p shelf within) in
       omega arith
 
+-- no delivery is under way there
+idle_at : {C : Type 0} {G : Ghosts C} (store : Inside C G) → IsTogether store → (p : ℕ) (shelf : View) → p < length store.shelves.items → shelf ≡ get_or store.shelves.items p shelf → shelf.phase ≡ Idle
+idle_at store consistent p shelf within is = ap (λ (v : View). v.phase) is ∙ All-get_or IsIdle store.shelves.items p shelf within consistent.idle
+
 -- a shelf of a store that stands
-pub consistent_at : {C : Type 0} {G : Ghosts C} (store : Inside C G) → IsConsistent store.history → IsTogether store → (p : ℕ) (shelf : View) → p < length store.shelves.items → shelf ≡ get_or store.shelves.items p shelf → IsIdleWorkplace (workplace_of store.history shelf store.stock)
-consistent_at store history consistent p shelf within is =
+pub consistent_at : {C : Type 0} {G : Ghosts C} (store : Inside C G) → IsTogether store → (p : ℕ) (shelf : View) → p < length store.shelves.items → shelf ≡ get_or store.shelves.items p shelf → IsConsistentWorkplace (workplace_of store.history shelf store.stock)
+consistent_at store consistent p shelf within is =
     let shelves = store.shelves.items in
+    let core = core_in store.history in
     let number = number_is store.history shelves store.stock consistent.numbers consistent.count consistent.objects p within shelf is in
     record {
-      history = history;
       shelf = record {
         on = let count = consistent.count in omega arith;
         objects = shows_on store.history shelves store.stock consistent.numbers consistent.count consistent.objects p within shelf is;
       };
-      idle = ap (λ (v : View). v.phase) is ∙ All-get_or IsIdle shelves p shelf within consistent.idle;
+      due = subst (λ (phase : Phase). IfSome (due_in phase) (IsUnderWay core shelf.number)) (sym (idle_at store consistent p shelf within is)) tt;
       census = within_supply store.history shelves store.stock consistent.numbers consistent.count consistent.objects p within shelf is consistent.census;
     }
 
 -- what it shows of an element whose place is this processor
-pub seen_at : {C : Type 0} {G : Ghosts C} (store : Inside C G) → IsConsistent store.history → IsTogether store → (p : ℕ) (shelf : View) → p < length store.shelves.items → shelf ≡ get_or store.shelves.items p shelf → (x : Elem) (place : ℕ) → p ≡ place →
+pub seen_at : {C : Type 0} {G : Ghosts C} (store : Inside C G) → IsTogether store → (p : ℕ) (shelf : View) → p < length store.shelves.items → shelf ≡ get_or store.shelves.items p shelf → (x : Elem) (place : ℕ) → p ≡ place →
     place_of (core_in store.history) x ≡ Some place → lookup (is_at (elem_cmp x)) shelf.records ≡ if_here (Some place) place (record_of (world_of store) x)
-seen_at store history consistent p shelf within is x place same on =
+seen_at store consistent p shelf within is x place same on =
     let number = number_is store.history store.shelves.items store.stock consistent.numbers consistent.count consistent.objects p within shelf is in
-    (consistent_at store history consistent p shelf within is).shelf.objects.shown x ∙ (λ i. if_here (on i) ((number ∙ same) i) (record_of (world_of store) x))
+    (consistent_at store consistent p shelf within is).shelf.objects.shown x ∙ (λ i. if_here (on i) ((number ∙ same) i) (record_of (world_of store) x))
 
 -- ---- the store once a delivery has ended on one of its shelves
 
 module _ {C : Type 0} {G : Ghosts C} (old new : Inside C G) (consistent : IsTogether old) (p : ℕ) (within : p < length old.shelves.items) (before shelf : View)
     (is : before ≡ get_or old.shelves.items p before) (written : new.shelves.items ≡ slice_set old.shelves.items p shelf)
-    (now : IsIdleWorkplace (workplace_of new.history shelf new.stock)) (number : shelf.number ≡ before.number) where
+    (now : IsConsistent new.history) (idle : shelf.phase ≡ Idle) (turns : Turns (workplace_of old.history before old.stock) (workplace_of new.history shelf new.stock)) where
   abbrev first : List View
   first = old.shelves.items
 
   abbrev last : List View
   last = slice_set first p shelf
 
+  was_on : before.number ≡ p
+  was_on = number_is old.history first old.stock consistent.numbers consistent.count consistent.objects p within before is
+
   on : shelf.number ≡ p
-  on = number ∙ number_is old.history first old.stock consistent.numbers consistent.count consistent.objects p within before is
+  on = turns.number ∙ was_on
 
   still_numbered : AreNumbered last
   still_numbered q d less =
@@ -146,42 +156,42 @@ module _ {C : Type 0} {G : Ghosts C} (old new : Inside C G) (consistent : IsToge
       (let same = length-set first p shelf in omega arith)
 
   still_idle : All IsIdle last
-  still_idle = All-set IsIdle first p shelf now.idle consistent.idle
+  still_idle = All-set IsIdle first p shelf idle consistent.idle
 
   -- with the world of the new history, the others as before
-  still_shows : Stays p (core_in old.history) (core_in new.history) → ShowsPresent last new.history
-  still_shows stays =
+  still_shows : ShowsPresent last new.history
+  still_shows =
       let records_now : records_on last ≡ slice_set (records_on first) p shelf.records = map-set (λ (v : View). v.records) first p shelf in
       let rows : p < length (records_on first) = let same = length-map first (λ (v : View). v.records) in omega arith in
       let shown = λ (x : Elem).
       each_or_one (records_on first) p shelf.records rows
       (λ q (records : List (Elem × Record)). lookup (is_at (elem_cmp x)) records ≡ if_here (place_of (core_in new.history) x) q (record_of (present (core_in new.history)) x)) []
-      (subst (λ n. lookup (is_at (elem_cmp x)) shelf.records ≡ if_here (place_of (core_in new.history) x) n (record_of (present (core_in new.history)) x)) on (now.shelf.objects.shown x))
-      (λ q apart. consistent.objects.shown q x ∙ sym (stays.elsewhere q apart x)) in
+      (subst (λ n. lookup (is_at (elem_cmp x)) shelf.records ≡ if_here (place_of (core_in new.history) x) n (record_of (present (core_in new.history)) x)) on (turns.consistent.shelf.objects.shown x))
+      (λ q apart. consistent.objects.shown q x ∙ sym ((turns.leaves q (subst (λ n. (n == q) ≡ false) (sym was_on) apart)).seen x)) in
       subst (λ rows. Shows rows (core_in new.history).places (present (core_in new.history))) (sym records_now) (record {
         rising = recursion_from_All (λ (rs : List (Elem × Record)). IsStrictlySortedBy elem_cmp (keys_of rs)) (slice_set (records_on first) p shelf.records)
-            (All-set (λ (rs : List (Elem × Record)). IsStrictlySortedBy elem_cmp (keys_of rs)) (records_on first) p shelf.records now.shelf.objects.rising
+            (All-set (λ (rs : List (Elem × Record)). IsStrictlySortedBy elem_cmp (keys_of rs)) (records_on first) p shelf.records turns.consistent.shelf.objects.rising
             (All-from_recursion (λ (rs : List (Elem × Record)). IsStrictlySortedBy elem_cmp (keys_of rs)) (records_on first) consistent.objects.rising));
-        placed = λ x. (now.history.sound.placed x).there;
+        placed = λ x. (now.sound.placed x).there;
         shown = λ q x. shown x q;
       })
 
-  still_counted : held_in shelf new.stock ≡ held_in before old.stock → supplied_to new.stock ≡ supplied_to old.stock → IsCountedAmong last new.stock
-  still_counted held supplied = λ kind.
-      let here : held_in shelf new.stock kind ≡ held_in before old.stock kind = ap (λ (f : Kind → ℕ). f kind) held in
-      let all : supplied_to new.stock kind ≡ supplied_to old.stock kind = ap (λ (f : Kind → ℕ). f kind) supplied in
+  still_counted : IsCountedAmong last new.stock
+  still_counted = λ kind.
+      let here : held_in shelf new.stock kind ≡ held_in before old.stock kind = ap (λ (f : Kind → ℕ). f kind) turns.held in
+      let all : supplied_to new.stock kind ≡ supplied_to old.stock kind = ap (λ (f : Kind → ℕ). f kind) turns.supplied in
       let sums : objects_among last kind + objects_on (get_or first p before) kind ≡ objects_among first kind + objects_on shelf kind = sum_by-set (λ (v : View). objects_on v kind) first p shelf before within in
       let own : objects_on (get_or first p before) kind ≡ objects_on before kind = ap (λ (v : View). objects_on v kind) (sym is) in
       let counted = consistent.census kind in
       omega arith
 
-  pub delivered_consistent : Stays p (core_in old.history) (core_in new.history) → held_in shelf new.stock ≡ held_in before old.stock → supplied_to new.stock ≡ supplied_to old.stock → IsTogether new
-  delivered_consistent stays held supplied = record {
-    count = ap length written ∙ length-set first p shelf ∙ consistent.count ∙ sym stays.processors;
+  pub delivered_consistent : IsTogether new
+  delivered_consistent = record {
+    count = ap length written ∙ length-set first p shelf ∙ consistent.count ∙ sym turns.processors;
     numbers = subst AreNumbered (sym written) still_numbered;
     idle = subst (All IsIdle) (sym written) still_idle;
-    objects = subst (λ shelves. ShowsPresent shelves new.history) (sym written) (still_shows stays);
-    census = subst (λ shelves. IsCountedAmong shelves new.stock) (sym written) (still_counted held supplied);
+    objects = subst (λ shelves. ShowsPresent shelves new.history) (sym written) still_shows;
+    census = subst (λ shelves. IsCountedAmong shelves new.stock) (sym written) still_counted;
   }
 
 -- ---- the store once an element was moved

@@ -158,14 +158,15 @@ impl<C: Chare> Store<C> {
         ensures supplied { supplied_in self.new ≡ supplied_in self.old }
         ensures keeping { self.new.keeping ≡ self.old.keeping }
     {
-        self.history.facts();
         if self.history.is_halted() {
             return Err(Refusal::Halted);
         }
         let Some(shelf) = self.shelves.get_mut(usize::from(processor)) else {
             return Err(Refusal::BadPes);
         };
-        deliver_on(self.alloc, &mut self.history, shelf, &mut self.stock, id)
+        let delivered = deliver_on(self.alloc, &mut self.history, shelf, &mut self.stock, id);
+        self.history.facts();
+        delivered
     }
 
     /// Moves an element to a processor. Where it is refused, all is as before.

@@ -1,4 +1,4 @@
-use Rattle.std.proofs.Common.{rules, ◌≡◌, sym, ap, subst, ◌∙◌}
+use Rattle.std.proofs.Common.{rules, inl, ◌≡◌, sym, ap, subst, ◌∙◌}
 use Rattle.std.specs.Prelude.{Some, Result, Err}
 use Rattle.charmlet_model.specs.declared.refusal.Refusal.{Refusal}
 use Rattle.charmlet_model.specs.Core.{Assign, first_refusal, checks}
@@ -18,4 +18,4 @@ returns-in_err-wanted-clause-ends g c =
     let refused : first_refusal (checks core plenty (Assign on c.args.id)) ≡ Some refusal =
     ap (λ p. first_refusal (checks core plenty (Assign p c.args.id))) (sym c.number.ensures) ∙ c.in_err-wanted.ensures.err in
     let is : Err refusal ≡ c.from_residual.result = search rules in
-    subst (λ (result : Result (Unit {0}) Refusal). Ends store on c.args.id result store) is (is_refused_so core (blanks_in c.args.stock.now) on c.args.id refusal refused)
+    subst (λ (result : Result (Unit {0}) Refusal). Ends store on c.args.id result store) is (inl (is_refused_so core (blanks_in c.args.stock.now) on c.args.id refusal refused))

@@ -40,7 +40,7 @@ unreachable-requires-in_default-image-2 g c =
     let shelf = c.in-Some-get_mut.shelf.now in
     let less : p < length old.shelves.items = subst (λ n. p < n) old.shelves.ok.0 (c.in-Some-get_mut.ensures.variant.0 refl) in
     let on : place_of (core_in old.history) x ≡ Some place = sym c.where_is.ensures ∙ c.in-Some.is in
-    let seen = seen_at old c.facts.ensures c.self.invariant p shelf less c.in-Some-get_mut.ensures.value x place c.from.ensures on in
+    let seen = seen_at old c.self.invariant p shelf less c.in-Some-get_mut.ensures.value x place c.from.ensures on in
     has_image (record_of (world_of old) x) x place (lookup (is_at (elem_cmp x)) shelf.records) seen (subst (IsImageIf (lookup (is_at (elem_cmp x)) shelf.records) x) c.in_default-image-2.is c.in-Ok.ensures.ok.1)
 
 pub returns-clause-ok : goal.returns-clause-ok
@@ -54,7 +54,7 @@ returns-clause-ok g c =
     let image = c.in-Some-image.image in
     let less : p < length old.shelves.items = subst (λ n. p < n) old.shelves.ok.0 (c.in-Some-get_mut.ensures.variant.0 refl) in
     let on : place_of (core_in old.history) x ≡ Some place = sym c.where_is.ensures ∙ c.in-Some.is in
-    let seen = seen_at old c.facts.ensures c.self.invariant p shelf less c.in-Some-get_mut.ensures.value x place c.from.ensures on in
+    let seen = seen_at old c.self.invariant p shelf less c.in-Some-get_mut.ensures.value x place c.from.ensures on in
     let its = subst (IsImageIf (lookup (is_at (elem_cmp x)) shelf.records) x) c.in-Some-image.is c.in-Ok.ensures.ok.1 in
     let there : is_some r.state ≡ is_some (Some place) = sym (c.facts.ensures.sound.placed x).there ∙ ap is_some on in
     subst (λ (s : StoreShown). StandsWith (place_of (core_in s.history) x) (record_of (world_in s) x).state (Some (record { processor = place; packed = image.packed }))) c.self.view_is
