@@ -1,5 +1,7 @@
 pub mod Unpacked
 pub mod MoveChecks
-pub mod CarriedShelves
+pub mod Shelves
+pub mod Carried
+pub mod Others
 pub mod CanMove
 pub mod MoveCensus

@@ -1,7 +1,8 @@
 -- The census of a stock once a blank was taken for a move.
-use Rattle.std.proofs.Common.{◌≡◌, ◌+◌, ◌-◌, ◌<◌, List, sym, ap, ◌∙◌, arith}
+use Rattle.std.proofs.Common.{◌≡◌, ◌+◌, ◌-◌, ◌<◌, sym, ap, ◌∙◌, arith}
 use Rattle.charmlet_model.specs.declared.kind.Kind.{Kind}
 use Rattle.charmlet_chare.specs.declared.chare.Chare.{Ghosts}
+use Rattle.charmlet_shelf.specs.Count.{objects_on}
 use Rattle.charmlet_shelf.specs.Shelf.{View}
 use Rattle.charmlet_stock.specs.declared.by_kind.ByKind.{ByKind}
 use Rattle.charmlet_stock.specs.declared.pile.Tally.{Tally}
@@ -10,7 +11,7 @@ use Rattle.charmlet_stock.specs.ByKind.{at, with_at}
 use Rattle.charmlet_stock.specs.Pile.{with_one_back, with_one_retired, with_out}
 use Rattle.charmlet_stock.specs.Stock.{blanks_in, census_of, tally_in}
 use Rattle.charmlet_stock.proofs.Room.{at_again, by_kind, changed_again, with_same}
-use Rattle.charmlet_migrate.specs.Moving.{IsCountedAmong, objects_among}
+use Rattle.charmlet_migrate.specs.Moving.{held_in_both}
 
 -- the blank that was taken comes back
 back_again : (t : Tally) → 0 < t.in_stock → with_one_back (with_out t 1) ≡ t
@@ -40,11 +41,18 @@ module _ {C : Type 0} {G : Ghosts C} (first mid last : Stock C G) (kind : Kind) 
       ∙ sym (with_same (census_of first) kind)
 
 module _ {C : Type 0} {G : Ghosts C} (first last : Stock C G) (kind : Kind) (moved : census_of last ≡ with_at (census_of first) kind (moved_tally (tally_in first kind))) where
-  -- a blank of the kind is gone, and an object of the kind is retired, so that the census adds up
-  -- as before
-  pub moved_counts : (shelves next : List View) → ((j : Kind) → objects_among next j ≡ objects_among shelves j) → 0 < blanks_in first kind → IsCountedAmong shelves first → IsCountedAmong next last
-  moved_counts shelves next as_many some counted =
-      by_kind (census_of first) (census_of last) kind (moved_tally (tally_in first kind)) moved
-      (λ j t. t.supplied ≡ objects_among next j + t.in_stock + t.retired)
-      (let before = counted kind in let objects = as_many kind in omega arith)
-      (λ j apart. let before = counted j in let objects = as_many j in omega arith)
+  -- a blank of the kind is gone, and an object of the kind is retired, so that as many are held
+  pub moved_held : (source destination left come : View) → ((j : Kind) → objects_on left j + objects_on come j ≡ objects_on source j + objects_on destination j) → 0 < blanks_in first kind →
+      held_in_both left come last ≡ held_in_both source destination first
+  moved_held source destination left come as_many some = λ i j. each j i
+    where
+      each : (j : Kind) → held_in_both left come last j ≡ held_in_both source destination first j
+      each =
+          by_kind (census_of first) (census_of last) kind (moved_tally (tally_in first kind)) moved
+          (λ j t. objects_on left j + (objects_on come j + t.in_stock + t.retired) ≡ held_in_both source destination first j)
+          (let objects = as_many kind in omega arith)
+          (λ j apart. let objects = as_many j in omega arith)
+
+-- in a stock with the same census as many are held
+pub same_held : {C : Type 0} {G : Ghosts C} (source destination : View) (first last : Stock C G) → census_of last ≡ census_of first → held_in_both source destination last ≡ held_in_both source destination first
+same_held source destination first last same = ap (λ (v : ByKind Tally). λ j. objects_on source j + (objects_on destination j + (at v j).in_stock + (at v j).retired)) same

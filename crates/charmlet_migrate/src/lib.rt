@@ -4,5 +4,5 @@
 mod copying;
 mod moving;
 
-pub use crate::copying::place_copy;
-pub use crate::moving::move_to;
+pub use crate::copying::{become_copy, place_copy};
+pub use crate::moving::move_between;

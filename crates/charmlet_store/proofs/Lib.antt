@@ -1,4 +1,5 @@
 pub mod Shelved
+pub mod Moved
 pub mod Showing
 pub mod Looks
 pub mod Theres

@@ -25,8 +25,7 @@ use Rattle.charmlet_history.specs.Kept.{IsConsistent, core_in}
 use Rattle.charmlet_shelf.specs.Shelf.{View}
 use Rattle.charmlet_migrate.specs.Copying.{empty_shelf, shelf_at}
 use Rattle.charmlet_migrate.specs.Moving.{IsIdle, ShowsPresent}
-use Rattle.charmlet_migrate.proofs.CanMove.{idle_at}
-use Rattle.charmlet_migrate.proofs.CarriedShelves.{stands_here}
+use Rattle.charmlet_migrate.proofs.Shelves.{idle_at, stands_here}
 use Rattle.charmlet_store.specs.Dismantled.{IsOnShelf, standing, without}
 
 abbrev pub Rising : {X : Type 0} → List (Elem × X) → Type 0

@@ -2,13 +2,12 @@
 use Rattle.std.proofs.Common.{Vec, ◌≡◌, ℕ, ◌+◌, ◌<◌, ◌≤◌, ◌==◌, zero, suc, true, false, cond, List, [], ◌∷◌, length, get_or, refl, sym, ap, subst, ◌∙◌, arith}
 use Rattle.std.specs.Prelude.{IfSome, Some, slice_set}
 use Rattle.std.specs.Cmp.{nat_eq_equiv}
-use Rattle.std.specs.BTreeMap.{insert_entry, is_at}
+use Rattle.std.specs.BTreeMap.{is_at}
 use Rattle.std.specs.List.{All, AllByRecursion}
 use Rattle.std.specs.List.Sorted.{IsStrictlySortedBy}
 use Rattle.std.specs.Map.{lookup, keys_of}
 use Rattle.std.specs.Vec.{with_item}
 use Rattle.std.proofs.Math.Nat.{ℕ_set}
-use Rattle.std.proofs.Math.ListN.{get_or-map}
 use Rattle.std.proofs.Math.Path.{path_j}
 use Rattle.std.proofs.lemmas.List.{get_or-set_same, get_or-set_other, length-set, length-map, map-set, get_or_default}
 use Rattle.std.proofs.lemmas.List.Elements.{All-from_recursion, recursion_from_All, All-get_or, All-set}
@@ -20,7 +19,7 @@ use Rattle.charmlet_model.specs.declared.edition.Edition.{Edition}
 use Rattle.charmlet_model.specs.declared.state.Record.{Record}
 use Rattle.charmlet_model.specs.Names.{elem_cmp}
 use Rattle.charmlet_model.specs.World.{World, record_of}
-use Rattle.charmlet_model.specs.Core.{Blanks, Core, Move, Stepped, Steps, place_of, present, place_or_home}
+use Rattle.charmlet_model.specs.Core.{Core, place_of, present}
 use Rattle.charmlet_model.specs.Sound.{new_world, opened}
 use Rattle.charmlet_model.specs.Shelves.{Shows, if_here, shelf_of, there_in}
 use Rattle.charmlet_chare.specs.declared.chare.Chare.{Ghosts}
@@ -34,15 +33,14 @@ use Rattle.charmlet_stock.specs.declared.stock.Stock.{Stock}
 use Rattle.charmlet_stock.specs.declared.pile.Tally.{Tally}
 use Rattle.charmlet_stock.specs.Pile.{nothing}
 use Rattle.charmlet_stock.specs.Stock.{tally_in, supplied_to}
-use Rattle.charmlet_migrate.specs.Moving.{IsCountedAmong, IsIdle, ShowsPresent, numbers_of, objects_among, records_on}
-use Rattle.charmlet_migrate.proofs.CarriedShelves as carried
+use Rattle.charmlet_migrate.specs.Moving.{IsCountedAmong, IsIdle, ShowsPresent, objects_among, records_on}
+use Rattle.charmlet_migrate.proofs.Shelves as all_shelves
 use Rattle.charmlet_delivery.specs.Turns.{Turns}
 use Rattle.charmlet_delivery.specs.UnderWay.{IsUnderWay, due_in}
 use Rattle.charmlet_delivery.specs.Workplace.{IsConsistentWorkplace, IsWithin, ShowsOn, workplace_of, held_in}
 use Rattle.charmlet_store.specs.Store.{AreEmpty, IsNew}
 use Rattle.charmlet_store.specs.Together.{AreNumbered, FitTogether}
 use Rattle.charmlet_store.specs.declared.store.Store.TheInside.{Inside}
-use Rattle.charmlet_delivery.proofs.Places.{stepped_core}
 use Rattle.charmlet_migrate.specs.Copying.{empty_shelf}
 
 -- the parts of a store fit together
@@ -82,7 +80,7 @@ module _ {X : Type 0} (xs : List X) (p : ℕ) (y : X) (within : p < length xs) w
 
 -- its records
 pub records_at : (shelves : List View) (p : ℕ) (shelf : View) → p < length shelves → shelf_of (records_on shelves) p ≡ (get_or shelves p shelf).records
-records_at shelves p shelf within = carried.records_at shelves p ∙ ap (λ (v : View). v.records) (get_or_default shelves p (empty_shelf 0) shelf within)
+records_at shelves p shelf within = all_shelves.records_at shelves p ∙ ap (λ (v : View). v.records) (get_or_default shelves p (empty_shelf 0) shelf within)
 
 module _ {C : Type 0} {G : Ghosts C} (history : History) (shelves : List View) (stock : Stock C G) (numbers : AreNumbered shelves) (count : length shelves ≡ (core_in history).processors) (shows : ShowsPresent shelves history) (p : ℕ) (within : p < length shelves) (shelf : View) (is : shelf ≡ get_or shelves p shelf) where
   pub number_is : shelf.number ≡ p
@@ -193,30 +191,6 @@ module _ {C : Type 0} {G : Ghosts C} (old new : Inside C G) (consistent : IsToge
     objects = subst (λ shelves. ShowsPresent shelves new.history) (sym written) still_shows;
     census = subst (λ shelves. IsCountedAmong shelves new.stock) (sym written) still_counted;
   }
-
--- ---- the store once an element was moved
-
-pub moved_consistent : {C : Type 0} {G : Ghosts C} (old new : Inside C G) → IsTogether old → (shelves : List View) → new.shelves.items ≡ shelves → numbers_of shelves ≡ numbers_of old.shelves.items →
-    (core_in new.history).processors ≡ (core_in old.history).processors → All IsIdle shelves → ShowsPresent shelves new.history → IsCountedAmong shelves new.stock → IsTogether new
-moved_consistent old new consistent shelves is numbers processors idle shows counted =
-    let number = λ (v : View). v.number in
-    let same : length shelves ≡ length old.shelves.items = sym (length-map shelves number) ∙ ap length numbers ∙ length-map old.shelves.items number in
-    record {
-      count = ap length is ∙ same ∙ consistent.count ∙ sym processors;
-      numbers = subst AreNumbered (sym is)
-          (λ p shelf less.
-          sym (get_or-map number shelves p shelf) ∙ ap (λ ns. get_or ns p shelf.number) numbers ∙ get_or-map number old.shelves.items p shelf
-          ∙ consistent.numbers p shelf (omega arith));
-      idle = subst (All IsIdle) (sym is) idle;
-      objects = subst (λ shelves. ShowsPresent shelves new.history) (sym is) shows;
-      census = subst (λ shelves. IsCountedAmong shelves new.stock) (sym is) counted;
-    }
-
--- a move leaves the number of processors
-pub move_processors : (core : Core) (blanks : Blanks) (x : Elem) (processor : ℕ) (last : Stepped) → Steps core blanks (Move x processor) last → last.core.processors ≡ core.processors
-move_processors core blanks x processor last steps =
-    stepped_core (λ (next : Core). next.processors ≡ core.processors) core blanks (Move x processor) refl refl
-    (elim (place_or_home core x == processor) as (λ b. (cond b core (record core { places = insert_entry elem_cmp core.places x processor })).processors ≡ core.processors) [ true ↦ refl | false ↦ refl ]) last steps
 
 -- ---- a new store
 

@@ -4,6 +4,7 @@
 mod census;
 mod dismantling;
 mod look;
+mod moving;
 mod store;
 mod upgrading;
 

@@ -17,10 +17,10 @@ ghost use Rattle.charmlet_stock.specs.Stock.{blanks_in, census_of, keeping_of, p
 ghost use Rattle.charmlet_store.specs.Store.{AreEmpty, IsNew, store_in, supplied_in};
 ghost use Rattle.charmlet_delivery.specs.UnderWay.{Ends};
 
+use crate::moving::move_among;
 use charmlet_chare::Chare;
 use charmlet_delivery::deliver_on;
 use charmlet_history::{History, Request};
-use charmlet_migrate::move_to;
 use charmlet_model::{Elem, Kind, MsgId, Refusal, Told};
 use charmlet_shelf::Shelf;
 use charmlet_stock::Stock;
@@ -176,13 +176,24 @@ impl<C: Chare> Store<C> {
         ensures supplied { supplied_in self.new ≡ supplied_in self.old }
         ensures keeping { self.new.keeping ≡ self.old.keeping }
     {
-        move_to(
-            &mut self.history,
-            self.shelves.as_mut_slice(),
-            &mut self.stock,
-            elem,
-            processor,
-        )
+        self.history.facts();
+        match self.history.where_is(elem) {
+            Some(place) if place != processor && usize::from(processor) < self.shelves.len() => {
+                move_among(
+                    &mut self.history,
+                    self.shelves.as_mut_slice(),
+                    &mut self.stock,
+                    elem,
+                    place,
+                    processor,
+                )
+            }
+            // It is there already, or it can't go there.
+            _ => {
+                self.history.test_move(elem, processor)?;
+                Ok(())
+            }
+        }
     }
 }
 

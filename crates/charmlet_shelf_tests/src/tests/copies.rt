@@ -75,25 +75,24 @@ fn is_uncommitted(rt: &impl Abort, copied: Result<(), (Refusal, Ring)>) {
 #[test]
 fn nothing_is_copied_during_a_delivery(rt: HostRuntime) {
     let ring = unpacked(&rt, Ring::blank(), &RING);
-    let source = busy_shelf_with(&rt, ring);
-    let mut shelves = [Shelf::new(rt.alloc(), 0), source];
-    let copied = place_copy(&mut shelves, 1, 0, ME, Ring::blank());
+    let mut source = busy_shelf_with(&rt, ring);
+    let mut destination = Shelf::new(rt.alloc(), 0);
+    let copied = place_copy(&mut source, &mut destination, ME, Ring::blank());
     is_uncommitted(&rt, copied);
-    releases(&rt, &mut shelves[1]);
-    lifts(&rt, &mut shelves[1], ME);
-    lacks(&rt, &mut shelves[0], ME);
+    releases(&rt, &mut source);
+    lifts(&rt, &mut source, ME);
+    lacks(&rt, &mut destination, ME);
 }
 
 #[test]
 fn nothing_is_copied_to_a_shelf_during_its_delivery(rt: HostRuntime) {
     let assigned = unpacked(&rt, Ring::blank(), &RING);
-    let busy = busy_shelf_with(&rt, assigned);
+    let mut busy = busy_shelf_with(&rt, assigned);
     let ring = unpacked(&rt, Ring::blank(), &RING);
-    let source = other_shelf_with(&rt, ring);
-    let mut shelves = [busy, source];
-    let copied = place_copy(&mut shelves, 1, 0, OTHER, Ring::blank());
+    let mut source = other_shelf_with(&rt, ring);
+    let copied = place_copy(&mut source, &mut busy, OTHER, Ring::blank());
     is_uncommitted(&rt, copied);
-    releases(&rt, &mut shelves[0]);
-    lacks(&rt, &mut shelves[0], OTHER);
-    lifts(&rt, &mut shelves[1], OTHER);
+    releases(&rt, &mut busy);
+    lacks(&rt, &mut busy, OTHER);
+    lifts(&rt, &mut source, OTHER);
 }
