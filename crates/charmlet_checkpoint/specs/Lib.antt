@@ -6,6 +6,7 @@ pub use Rattle.charmlet_model.specs.Packed
 pub use Rattle.charmlet_model.specs.Spelling
 pub use Rattle.charmlet_record.specs.Limits
 pub use Rattle.charmlet_image.specs.Images
+pub use Rattle.charmlet_disk.specs.Calls
 pub use Rattle.charmlet_disk.specs.Disk
 pub use Rattle.charmlet_halves.specs.Answers
 pub use Rattle.charmlet_halves.specs.Halves

@@ -10,6 +10,7 @@ use Rattle.charmlet_model.specs.Sound.{IsSound}
 use Rattle.charmlet_model.specs.Texts.{Text}
 use Rattle.charmlet_chare.specs.declared.chare.Chare as chares
 use Rattle.charmlet_disk.specs.declared.disk.Disk as disks
+use Rattle.charmlet_disk.specs.Calls.{IsUnwritten}
 use Rattle.charmlet_disk.specs.Disk.{IsSettled, LeavesOnly, faults_after}
 use Rattle.charmlet_disk.specs.File.{File, MayLeave, CrashBytes}
 use Rattle.charmlet_locate.specs.Locations.{is_processor_count}
@@ -30,7 +31,7 @@ use Rattle.charmlet_engine.specs.Advances.{Advances}
 use Rattle.charmlet_engine.specs.Engine.{EngineShown, core_of, supplied_of, view_of}
 use Rattle.charmlet_engine.specs.Lives.{ComesBack, Past, Remembers}
 use Rattle.charmlet_engine.specs.Outcomes.{Onward, is_lawful_now, is_lawful_since}
-use Rattle.charmlet_engine.specs.Restarted.{IsFound, IsHandedBack, IsLackOrFull, IsLeftByRestart, IsOpenedOn, IsSameOrNext, IsTakenFrom, IsUnwritten, is_engine_refusal}
+use Rattle.charmlet_engine.specs.Restarted.{IsFound, IsHandedBack, IsLackOrFull, IsLeftByRestart, IsOpenedOn, IsSameOrNext, IsTakenFrom, is_engine_refusal}
 use Rattle.charmlet_cli.specs.declared.restarting.RestartError.{RestartError}
 use Rattle.charmlet_cli.specs.declared.restarting.RestartError.TheVariants as ends
 use Rattle.charmlet_cli.specs.Lines.{AreEnough, in_lines, ledger_in}

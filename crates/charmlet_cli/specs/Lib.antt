@@ -16,6 +16,7 @@ pub use Rattle.charmlet_model.specs.Manifest
 pub use Rattle.charmlet_model.specs.Shelves
 pub use Rattle.charmlet_model.specs.Texts
 pub use Rattle.charmlet_model.specs.World
+pub use Rattle.charmlet_disk.specs.Calls
 pub use Rattle.charmlet_disk.specs.Disk
 pub use Rattle.charmlet_disk.specs.File
 pub use Rattle.charmlet_halves.specs.Answers

@@ -17,6 +17,7 @@ use Rattle.charmlet_locate.specs.Locations.{is_processor_count}
 use Rattle.charmlet_recovery.specs.Outcomes.{IsLawful}
 use Rattle.charmlet_recovery.specs.Restarts.{engine_refusal, wants_image}
 use Rattle.charmlet_disk.specs.declared.disk.Disk as disks
+use Rattle.charmlet_disk.specs.Calls.{IsUnwritten}
 use Rattle.charmlet_disk.specs.Disk.{IsSettled, LeavesOnly, faults_after}
 use Rattle.charmlet_disk.specs.File.{MayLeave, CrashBytes}
 use Rattle.charmlet_recover.specs.declared.finding.Found as findings
@@ -25,7 +26,7 @@ use Rattle.charmlet_recover.specs.Restart.{AnswersBy, bytes_on, is_after_sync}
 use Rattle.charmlet_script.specs.Script.{RestartContents}
 use Rattle.charmlet_engine.specs.Lives.{ComesBack, Past, Remembers}
 use Rattle.charmlet_engine.specs.Outcomes.{Onward, is_lawful_now, is_lawful_since, not_device}
-use Rattle.charmlet_engine.specs.Restarted.{IsFound, IsLackOrFull, IsLeftByRestart, IsOpenedOn, IsTakenFrom, IsUnwritten, is_engine_refusal}
+use Rattle.charmlet_engine.specs.Restarted.{IsFound, IsLackOrFull, IsLeftByRestart, IsOpenedOn, IsTakenFrom, is_engine_refusal}
 use Rattle.charmlet_cli.specs.declared.restarting.FindError.{FindError}
 use Rattle.charmlet_cli.specs.declared.restarting.FindError.TheVariants as finds
 use Rattle.charmlet_cli.specs.declared.restarting.RestartError.{RestartError}

@@ -2,6 +2,7 @@
 pub mod File
 pub mod Crash
 pub mod Disk
+pub mod Calls
 pub mod Torn
 pub mod Fuse
 pub mod Once

@@ -1,8 +1,9 @@
 //! Writes that are sure when the call returns.
 ghost use Rattle.std.specs.Prelude.{◌≡◌, ◌≤◌, length, is_ok, OnOk};
 ghost use Rattle.charmlet_model.specs.Half.{other};
-ghost use Rattle.charmlet_disk.specs.File.{MayLeave, clean, overwritten};
-ghost use Rattle.charmlet_disk.specs.Disk.{IsSettled, LeavesOnly, faults_after};
+ghost use Rattle.charmlet_disk.specs.File.{clean, overwritten};
+ghost use Rattle.charmlet_disk.specs.Calls.{AfterCall, IsUnwritten};
+ghost use Rattle.charmlet_disk.specs.Disk.{IsSettled, LeavesOnly};
 ghost use Rattle.charmlet_disk.specs.Torn.{TearsHalf};
 
 use crate::{DeviceFault, Disk};
@@ -26,9 +27,7 @@ pub fn write_through<D: Disk>(
         D.file disk.new (other half) ≡ D.file disk.old (other half) }
     ensures any_moment { D.honest disk.old → LeavesOnly D.moment D.since disk.old disk.new
         (TearsHalf (D.file disk.old) half offset (length bytes.now)) }
-    ensures honest { (D.honest disk.old → D.honest disk.new)
-        × (D.honest disk.new → D.honest disk.old) }
-    ensures counted { D.faults disk.new ≡ faults_after (is_ok result) (D.faults disk.old) }
+    ensures disk { AfterCall D.Disk disk.old disk.new (is_ok result) }
 {
     disk.write_at(half, offset, bytes)?;
     disk.sync(half)
@@ -39,13 +38,8 @@ pub fn write_through<D: Disk>(
 /// made.
 pub fn sync_both<D: Disk>(disk: &mut D) -> Result<(), DeviceFault>
     ensures settled { D.honest disk.old → OnOk result (IsSettled (D.file disk.new)) }
-    ensures same { D.honest disk.old → (half : _) →
-        (D.file disk.new half).now ≡ (D.file disk.old half).now }
-    ensures any_moment { D.honest disk.old →
-        LeavesOnly D.moment D.since disk.old disk.new (MayLeave (D.file disk.old)) }
-    ensures honest { (D.honest disk.old → D.honest disk.new)
-        × (D.honest disk.new → D.honest disk.old) }
-    ensures counted { D.faults disk.new ≡ faults_after (is_ok result) (D.faults disk.old) }
+    ensures unwritten { D.honest disk.old → IsUnwritten D.Disk disk.old disk.new }
+    ensures disk { AfterCall D.Disk disk.old disk.new (is_ok result) }
 {
     disk.sync(Half::Zero)?;
     disk.sync(Half::One)

@@ -9,6 +9,7 @@ use Rattle.charmlet_model.specs.Sound.{IsSound, opened}
 use Rattle.charmlet_model.specs.World.{World, world}
 use Rattle.charmlet_chare.specs.declared.chare.Chare as chares
 use Rattle.charmlet_disk.specs.declared.disk.Disk as disks
+use Rattle.charmlet_disk.specs.Calls.{IsUnwritten}
 use Rattle.charmlet_disk.specs.Disk.{IsSettled, LeavesOnly}
 use Rattle.charmlet_disk.specs.File.{MayLeave, CrashBytes}
 use Rattle.charmlet_disk.proofs.Moments.{after_that, weaker}
@@ -28,13 +29,13 @@ use Rattle.charmlet_replay.specs.Unused.{IsUnused}
 use Rattle.charmlet_recover.specs.declared.restarting.NotRestarted.{NotRestarted}
 use Rattle.charmlet_recover.specs.declared.restarting.Recovered.{Recovered}
 use Rattle.charmlet_recover.specs.Restart as recovers
-use Rattle.charmlet_recover.specs.Restart.{AnswersBy, IsSameStock, IsShortOfSome, OpensWithin, ReadsSame, bytes_on, is_after_sync, is_lack, is_restart_refusal}
+use Rattle.charmlet_recover.specs.Restart.{AnswersBy, IsSameStock, IsShortOfSome, OpensWithin, bytes_on, is_after_sync, is_lack, is_restart_refusal}
 use Rattle.charmlet_recover.proofs.Answered.{answers_so, has_cause}
 use Rattle.charmlet_recover.proofs.Stocks.{unused_is_same}
 use Rattle.charmlet_engine.specs.Engine.{EngineShown, HasImage, core_of, supplied_of, view_of}
 use Rattle.charmlet_engine.specs.Lives.{ComesBack, Past, Remembers}
 use Rattle.charmlet_engine.specs.Outcomes.{Onward, is_lawful_now}
-use Rattle.charmlet_engine.specs.Restarted.{AnswersAfterCrash, CameBack, CameFromFiles, ComesFrom, IsOn, IsRefused, IsFound, IsFullOfSome, IsLackOrFull, IsLeftByRestart, CameBackOn, IsOpenedOn, IsReadFrom, IsSameOrNext, IsTaken, IsTakenFrom, IsUnwritten, core_or_refusal, disk_after, going_refusal, gone_on, is_engine_refusal}
+use Rattle.charmlet_engine.specs.Restarted.{AnswersAfterCrash, CameBack, CameFromFiles, ComesFrom, IsOn, IsRefused, IsFound, IsFullOfSome, IsLackOrFull, IsLeftByRestart, CameBackOn, IsOpenedOn, IsReadFrom, IsSameOrNext, IsTaken, IsTakenFrom, core_or_refusal, disk_after, going_refusal, gone_on, is_engine_refusal}
 use Rattle.charmlet_engine.proofs.Lives.{comes_back}
 use Rattle.charmlet_engine.proofs.Onward.{old_or_image}
 use Rattle.charmlet_engine.proofs.Renewed.{IsGoingRefusal, going_is, going_refused, gone_opened, opened_is, opened_present}
@@ -60,11 +61,6 @@ restart_answers X Y given outcome refusal so = elim (has_cause X (restart_refusa
 pub restart_is_not_full : (refusal : Refusal) → is_restart_refusal refusal ≡ true → IsFullOfSome refusal
 restart_is_not_full refusals.ImageFull is = absurd cc
 restart_is_not_full _ is = tt
-
-pub synced_alike : (X Y : Type 0) (refusal : Refusal) → is_after_sync {X = X} (Err refusal) ≡ true → is_after_sync {X = Y} (Err refusal) ≡ true
-synced_alike X Y refusals.BadPes is = is
-synced_alike X Y refusals.Device is = is
-synced_alike X Y _ is = is
 
 -- what is refused after the syncs isn't the device
 sure_apart : (refusal : Refusal) → is_after_sync {X = Core} (Err refusal) ≡ true → refusal ≢ refusals.Device
@@ -333,21 +329,19 @@ module _ {D C : Type 0} {G : disks.Ghosts D} (processors : ℕ) (back : Recovere
 
 -- ---- the disk
 
-module _ {D : Type 0} (G : disks.Ghosts D) (disk mid : D) (same : ReadsSame (G.file disk) (G.file mid)) (leaves : LeavesOnly G.moment G.since disk mid (MayLeave (G.file disk))) where
+module _ {D : Type 0} (G : disks.Ghosts D) (disk mid : D) (read : IsUnwritten G disk mid) where
   -- nothing is written where the disk stays
   pub unwritten_at : (last : D) → last ≡ mid → IsUnwritten G disk last
-  unwritten_at last is =
-      let unwritten : IsUnwritten G disk mid = record { same = same; any_moment = leaves } in
-      subst (λ (d : D). IsUnwritten G disk d) (sym is) unwritten
+  unwritten_at last is = subst (λ (d : D). IsUnwritten G disk d) (sym is) read
 
   -- and else an image is, and nothing more
   pub leaves_by : (is_current : Bool) (last : D) (core : Core) → (is_current ≡ true → last ≡ mid) → (is_current ≡ false → LeavesOnly G.moment G.since mid last (HasOldOrSealed core)) →
       ((outcome : CrashBytes) → HasOldOrSealed core outcome → IsSameOrNext (bytes_on (G.file disk)) outcome) → LeavesOnly G.moment G.since disk last (IsLeftByRestart (G.file disk))
   leaves_by true last core still stored same_world =
       subst (λ (d : D). LeavesOnly G.moment G.since disk d (IsLeftByRestart (G.file disk))) (sym (still refl))
-      (weaker G.moment G.since disk mid (MayLeave (G.file disk)) (IsLeftByRestart (G.file disk)) leaves (λ o left. inl left))
+      (weaker G.moment G.since disk mid (MayLeave (G.file disk)) (IsLeftByRestart (G.file disk)) read.any_moment (λ o left. inl left))
   leaves_by false last core still stored same_world =
-      after_that G.moment G.since disk mid last (MayLeave (G.file disk)) (HasOldOrSealed core) (IsLeftByRestart (G.file disk)) leaves (stored refl) (λ o left. inl left) (λ o has. inr (same_world o has))
+      after_that G.moment G.since disk mid last (MayLeave (G.file disk)) (HasOldOrSealed core) (IsLeftByRestart (G.file disk)) read.any_moment (stored refl) (λ o left. inl left) (λ o has. inr (same_world o has))
 
   -- nor is it at a refusal where it does
   pub all_unwritten : {C : Type 0} {H : chares.Ghosts C} (r : Result (EngineShown D) (NotRestarted D C H)) → IfErr r (λ refused. refused.refusal ≢ refusals.Device → refused.disk ≡ mid) →

@@ -18,11 +18,13 @@ pub use Rattle.charmlet_model.specs.World
 pub use Rattle.charmlet_image.specs.Spelled
 pub use Rattle.charmlet_recovery.specs.Outcomes as RecoveryOutcomes
 pub use Rattle.charmlet_recovery.specs.Restarts
+pub use Rattle.charmlet_disk.specs.Calls
 pub use Rattle.charmlet_disk.specs.Disk
 pub use Rattle.charmlet_disk.specs.File
 pub use Rattle.charmlet_halves.specs.Answers
 pub use Rattle.charmlet_halves.specs.Bytes
 pub use Rattle.charmlet_halves.specs.Halves
+pub use Rattle.charmlet_halves.specs.Made
 pub use Rattle.charmlet_stock.specs.ByKind
 pub use Rattle.charmlet_stock.specs.Pile
 pub use Rattle.charmlet_stock.specs.Stock

@@ -12,7 +12,6 @@ use Rattle.charmlet_model.specs.Sound.{new_world}
 use Rattle.charmlet_record.specs.Reading.{Kinds}
 use Rattle.charmlet_recovery.specs.Outcomes.{IsLawful}
 use Rattle.charmlet_recovery.specs.Recovered.{Found, Nothing, recovered}
-use Rattle.charmlet_disk.specs.declared.disk.Disk.{Ghosts}
 use Rattle.charmlet_disk.specs.Disk.{faults_after}
 use Rattle.charmlet_disk.specs.File.{CrashBytes}
 
@@ -33,12 +32,6 @@ is_lawful_since old new = IsLawful new.opening new.before new.history old.durabl
 -- with all that is durable now
 abbrev pub is_lawful_now : Core → CrashBytes → Type 0
 is_lawful_now core = is_lawful_since core core
-
--- What any call leaves of the disk: it is as honest as before, and has counted one more failure
--- exactly where the device failed.
-pub record AfterCall {D : Type 0} (G : Ghosts D) (old new : D) (is_ok : Bool) : Type 0 where
-  pub honest : (G.honest old → G.honest new) × (G.honest new → G.honest old)
-  pub counted : G.faults new ≡ faults_after is_ok (G.faults old)
 
 -- the files recover to nothing, or to the world with these arrays in which nothing has happened, at
 -- no events and generation 1

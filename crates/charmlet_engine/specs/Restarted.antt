@@ -12,6 +12,7 @@ use Rattle.charmlet_model.specs.Run.{StoreView}
 use Rattle.charmlet_model.specs.Sound.{opened}
 use Rattle.charmlet_chare.specs.declared.chare.Chare as chares
 use Rattle.charmlet_disk.specs.declared.disk.Disk as disks
+use Rattle.charmlet_disk.specs.Calls.{IsUnwritten}
 use Rattle.charmlet_disk.specs.Disk.{IsSettled, LeavesOnly}
 use Rattle.charmlet_disk.specs.File.{File, MayLeave, CrashBytes}
 use Rattle.charmlet_image.specs.Images.{Saved, spell_half}
@@ -25,7 +26,7 @@ use Rattle.charmlet_locate.specs.Locations.{is_processor_count}
 use Rattle.charmlet_stock.specs.declared.stock.Stock.{Stock}
 use Rattle.charmlet_stock.specs.Stock.{blanks_in}
 use Rattle.charmlet_recover.specs.declared.restarting.NotRestarted.{NotRestarted}
-use Rattle.charmlet_recover.specs.Restart.{IsSameStock, IsShortOfSome, OpensWithin, ReadsSame, bytes_on, is_after_sync, is_lack, is_restart_refusal}
+use Rattle.charmlet_recover.specs.Restart.{IsSameStock, IsShortOfSome, OpensWithin, bytes_on, is_after_sync, is_lack, is_restart_refusal}
 use Rattle.charmlet_engine.specs.Engine.{EngineShown, HasImage, core_of, supplied_of, view_of}
 use Rattle.charmlet_engine.specs.Outcomes.{is_lawful_now}
 
@@ -89,12 +90,6 @@ pub record IsSameOrNext (first outcome : CrashBytes) : Type 0 where
 -- which these do, at their generation or the next
 abbrev pub IsLeftByRestart : (Half → File) → CrashBytes → Type 0
 IsLeftByRestart files outcome = MayLeave files outcome ⊎ IsSameOrNext (bytes_on files) outcome
-
--- nothing is written to an honest disk: a read of either half gives what it gave, and a crash at
--- any moment leaves what one before might have left
-pub record IsUnwritten {D : Type 0} (G : disks.Ghosts D) (old new : D) : Type 0 where
-  pub same : ReadsSame (G.file old) (G.file new)
-  pub any_moment : LeavesOnly G.moment G.since old new (MayLeave (G.file old))
 
 -- ---- why a restart is refused
 

@@ -2,7 +2,8 @@
 
 ghost use Rattle.std.specs.Prelude.{◌≡◌, ◌≢◌, false, true, IfErr, IfOk};
 ghost use Rattle.charmlet_model.specs.declared.refusal.Refusal.TheVariants as refusals;
-ghost use Rattle.charmlet_disk.specs.Disk.{IsSettled, LeavesOnly, faults_after};
+ghost use Rattle.charmlet_disk.specs.Calls.{AfterCall};
+ghost use Rattle.charmlet_disk.specs.Disk.{IsSettled, LeavesOnly};
 ghost use Rattle.charmlet_disk.specs.File.{MayLeave, CrashBytes};
 ghost use Rattle.charmlet_halves.specs.Answers.{is_no_failure};
 ghost use Rattle.charmlet_halves.specs.Halves.{disk_of};
@@ -61,10 +62,8 @@ pub(crate) fn go_on<D: Disk, C: Chare>(
         refused.disk ≡ disk_of halves) }
     ensures stored { D.honest (disk_of halves) → is_current ≡ false → LeavesOnly D.moment D.since
         (disk_of halves) (disk_after result) (HasOldOrSealed (core_in store.history)) }
-    ensures honest { (D.honest (disk_of halves) → D.honest (disk_after result))
-        × (D.honest (disk_after result) → D.honest (disk_of halves)) }
-    ensures counted { D.faults (disk_after result) ≡ faults_after
-        (is_no_failure (core_or_refusal result)) (D.faults (disk_of halves)) }
+    ensures disk { AfterCall D.Disk (disk_of halves) (disk_after result)
+        (is_no_failure (core_or_refusal result)) }
 {
     if is_current {
         store.drop_retired();
@@ -100,10 +99,8 @@ fn renew<D: Disk, C: Chare>(
         refused.disk ≡ disk_of halves) }
     ensures stored { D.honest (disk_of halves) → LeavesOnly D.moment D.since (disk_of halves)
         (disk_after result) (HasOldOrSealed (core_in store.history)) }
-    ensures honest { (D.honest (disk_of halves) → D.honest (disk_after result))
-        × (D.honest (disk_after result) → D.honest (disk_of halves)) }
-    ensures counted { D.faults (disk_after result) ≡ faults_after
-        (is_no_failure (core_or_refusal result)) (D.faults (disk_of halves)) }
+    ensures disk { AfterCall D.Disk (disk_of halves) (disk_after result)
+        (is_no_failure (core_or_refusal result)) }
 {
     let shelves = store.shelves.as_mut_slice();
     let taken = checkpoint(store.alloc, &mut store.history, &mut halves, shelves);

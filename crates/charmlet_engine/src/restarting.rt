@@ -5,6 +5,7 @@ ghost use Rattle.charmlet_model.specs.declared.event.Event.{Event};
 ghost use Rattle.charmlet_model.specs.Core.{Core};
 ghost use Rattle.charmlet_model.specs.Sound.{IsSound};
 ghost use Rattle.charmlet_model.specs.World.{World};
+ghost use Rattle.charmlet_disk.specs.Calls.{AfterCall};
 ghost use Rattle.charmlet_halves.specs.Answers.{is_no_failure};
 ghost use Rattle.charmlet_locate.specs.Locations.{is_processor_count};
 ghost use Rattle.charmlet_recovery.specs.Outcomes.{IsLawful};
@@ -14,7 +15,7 @@ ghost use Rattle.charmlet_replay.specs.Unused.{IsUnused};
 ghost use Rattle.charmlet_recover.specs.Restart.{AnswersBy, bytes_on};
 ghost use Rattle.charmlet_engine.specs.Engine.{core_of};
 ghost use Rattle.charmlet_engine.specs.Lives.{ComesBack, Past, Remembers};
-ghost use Rattle.charmlet_engine.specs.Outcomes.{AfterCall, Onward, is_lawful_since};
+ghost use Rattle.charmlet_engine.specs.Outcomes.{Onward, is_lawful_since};
 ghost use Rattle.charmlet_engine.specs.Restarted.{AnswersAfterCrash, CameBack, CameFromFiles, IsHandedBack, IsRefused, LeavesTaken, core_or_refusal, disk_after};
 
 use crate::engine::Engine;

@@ -16,5 +16,6 @@ pub use Rattle.charmlet_image.specs.Images
 pub use Rattle.charmlet_image.specs.NewStores
 pub use Rattle.charmlet_image.specs.Spelled
 pub use Rattle.charmlet_image.specs.Views
+pub use Rattle.charmlet_disk.specs.Calls
 pub use Rattle.charmlet_disk.specs.Disk
 pub use Rattle.charmlet_disk.specs.File

@@ -1,9 +1,7 @@
 -- What is given back where halves are opened or made.
 use Rattle.std.specs.Prelude.{◌≡◌, false, None, Result, Ok, Err}
-use Rattle.charmlet_model.specs.declared.half.Half.{Half}
 use Rattle.charmlet_model.specs.declared.refusal.Refusal.{Refusal}
 use Rattle.charmlet_disk.specs.declared.disk.Disk.{Ghosts}
-use Rattle.charmlet_disk.specs.File.{File}
 use Rattle.charmlet_halves.specs.declared.finding.Surveyed.{Surveyed}
 use Rattle.charmlet_halves.specs.declared.opening.Refused.{Refused}
 use Rattle.charmlet_halves.specs.declared.opening.Opened.{Opened}
@@ -26,7 +24,3 @@ pub record OpensAs {D : Type 0} {G : Ghosts D} (opened : Opened D G) : Type 0 wh
   pub log_end : opened.halves.log_end ≡ opened.survey.contents.log_end
   pub prepared : opened.halves.prepared ≡ None
   pub going : opened.halves.halted ≡ false
-
--- both halves have the bytes that they had
-abbrev pub SameBytes : (Half → File) → (Half → File) → Type 0
-SameBytes old new = (half : Half) → new half ≡ old half

@@ -3,7 +3,8 @@
 ghost use Rattle.std.specs.Prelude.{◌≡◌, true, is_ok, OnOk};
 ghost use Rattle.charmlet_model.specs.Half.{other};
 ghost use Rattle.charmlet_disk.specs.File.{overwritten};
-ghost use Rattle.charmlet_disk.specs.Disk.{IsSettled, LeavesOnly, faults_after};
+ghost use Rattle.charmlet_disk.specs.Calls.{AfterCall};
+ghost use Rattle.charmlet_disk.specs.Disk.{IsSettled, LeavesOnly};
 ghost use Rattle.charmlet_halves.specs.Bytes.{EndsClosed, FirstGate, Prepares, before_gate, closed_by};
 ghost use Rattle.charmlet_halves.specs.Steps.{ClosedOrSame};
 
@@ -26,9 +27,7 @@ fn close<D: Disk>(disk: &mut D, half: Half, is_closed: bool) -> Result<(), Devic
         (other half) }
     ensures any_moment { D.honest disk.old → LeavesOnly D.moment D.since disk.old disk.new
         (ClosedOrSame (D.file disk.old) half) }
-    ensures honest { (D.honest disk.old → D.honest disk.new)
-        × (D.honest disk.new → D.honest disk.old) }
-    ensures counted { D.faults disk.new ≡ faults_after (is_ok result) (D.faults disk.old) }
+    ensures disk { AfterCall D.Disk disk.old disk.new (is_ok result) }
 {
     if is_closed {
         return Ok(());
@@ -57,9 +56,7 @@ pub(crate) fn prepare<D: Disk>(
         (other half) }
     ensures any_moment { D.honest disk.old → LeavesOnly D.moment D.since disk.old disk.new
         (ClosedOrSame (D.file disk.old) half) }
-    ensures honest { (D.honest disk.old → D.honest disk.new)
-        × (D.honest disk.new → D.honest disk.old) }
-    ensures counted { D.faults disk.new ≡ faults_after (is_ok result) (D.faults disk.old) }
+    ensures disk { AfterCall D.Disk disk.old disk.new (is_ok result) }
 {
     close(disk, half, is_closed)?;
     write_through(disk, half, 1, bytes)?;

@@ -12,10 +12,12 @@ pub use Rattle.charmlet_image.specs.Images
 pub use Rattle.charmlet_image.specs.NewStores as ImageNewStores
 pub use Rattle.charmlet_image.specs.Spelled
 pub use Rattle.charmlet_recovery.specs.Outcomes
+pub use Rattle.charmlet_disk.specs.Calls
 pub use Rattle.charmlet_disk.specs.Disk
 pub use Rattle.charmlet_disk.specs.File
 pub use Rattle.charmlet_halves.specs.Answers
 pub use Rattle.charmlet_halves.specs.Bytes
 pub use Rattle.charmlet_halves.specs.Halves
+pub use Rattle.charmlet_halves.specs.Made
 pub use Rattle.charmlet_locate.specs.Locations
 pub use Rattle.charmlet_history.specs.Kept

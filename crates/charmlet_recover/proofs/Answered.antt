@@ -1,5 +1,5 @@
 -- What a restart answers is what the files say, and the blanks that are given.
-use Rattle.std.proofs.Common.{◌≡◌, ◌≤◌, ◌⊎◌, inl, inr, ℕ, List, refl, sym, ap, subst, ◌∙◌}
+use Rattle.std.proofs.Common.{◌≡◌, ◌≤◌, ◌⊎◌, ⊎_elim, inl, inr, ℕ, ◌-◌, List, refl, sym, ap, subst, ◌∙◌}
 use Rattle.std.specs.Prelude.{Option, Some, None, option_map, Result, Ok, Err, true}
 use Rattle.charmlet_model.specs.declared.half.Half.{Half}
 use Rattle.charmlet_model.specs.declared.half.Half.TheVariants.{Zero, One}
@@ -8,19 +8,27 @@ use Rattle.charmlet_model.specs.declared.refusal.Refusal.{Refusal}
 use Rattle.charmlet_model.specs.declared.refusal.Refusal.TheVariants as refusals
 use Rattle.charmlet_model.specs.Core.{Blanks}
 use Rattle.charmlet_model.specs.World.{World}
+use Rattle.charmlet_record.specs.Lawful.{IsBytes}
+use Rattle.charmlet_image.specs.declared.half.HalfView.TheVariants as views
+use Rattle.charmlet_image.specs.declared.half.OpenHalf.{OpenHalf}
 use Rattle.charmlet_image.specs.Images.{Saved}
+use Rattle.charmlet_image.specs.Views.{HalfIs, IsView}
 use Rattle.charmlet_image.specs.Halves.{Open, found, Taken, Takes, taken}
 use Rattle.charmlet_recovery.specs.Blanks.{least_short}
+use Rattle.charmlet_record.specs.declared.reader.Fault.{Fault}
+use Rattle.charmlet_record.specs.declared.reader.ReadError.{ReadError}
+use Rattle.charmlet_record.specs.declared.reader.ReadError.TheVariants.{Damaged, Memory}
 use Rattle.charmlet_recovery.specs.Faults.{Place}
 use Rattle.charmlet_recovery.specs.Meanings.{Meaning, Faulty, Whole}
 use Rattle.charmlet_recovery.specs.Recovered as files
-use Rattle.charmlet_recovery.specs.Recovered.{meaning_of, offset_of, recovered, recovered_by, recovered_from}
+use Rattle.charmlet_recovery.specs.Recovered.{meaning_of, recovered, recovered_by, recovered_from}
 use Rattle.charmlet_recovery.specs.Restarts.{fault_refusal, restart_refusal, short_refusal, taken_refusal, wanted_of}
 use Rattle.charmlet_recovery.specs.RestartLaws.{IsEnough, Lacks}
 use Rattle.charmlet_recovery.proofs.Restarting.{least_short_is_found, restarts_are_taken}
 use Rattle.charmlet_recovery.proofs.Stored.{recovered_is_taken}
 use Rattle.charmlet_halves.specs.Found.{Finds}
-use Rattle.charmlet_recover.specs.Restart.{AnswersBy, IsShortOfSome, is_half_refusal}
+use Rattle.charmlet_replay.specs.Replayed.{IsFaultAt, IsOpenIn}
+use Rattle.charmlet_recover.specs.Restart.{AnswersBy, FaultIs, IsShortOfSome, is_half_refusal}
 use Rattle.charmlet_halves.specs.Answers.{is_finding_refusal}
 
 -- ---- causes
@@ -29,48 +37,19 @@ use Rattle.charmlet_halves.specs.Answers.{is_finding_refusal}
 pub answers_so : (X : Type 0) (why : Option Refusal) (refusal : Refusal) → why ≡ Some refusal → AnswersBy {X = X} why (Err refusal)
 answers_so X why refusals.Memory e = tt
 answers_so X why refusals.Device e = tt
-answers_so X why refusals.Halted e = e
-answers_so X why refusals.NoArray e = e
-answers_so X why (refusals.OutOfTurn number) e = e
-answers_so X why refusals.Waiting e = e
-answers_so X why refusals.TooLong e = e
-answers_so X why refusals.NoMessage e = e
-answers_so X why refusals.Absent e = e
-answers_so X why (refusals.Elsewhere processor) e = e
-answers_so X why (refusals.NoBlank kind) e = e
-answers_so X why refusals.LogFull e = e
-answers_so X why refusals.ImageFull e = e
-answers_so X why refusals.HistoryFull e = e
-answers_so X why (refusals.Damaged half offset) e = e
-answers_so X why refusals.NothingHere e = e
-answers_so X why (refusals.BlanksWanted kind count) e = e
-answers_so X why refusals.BadPes e = e
-answers_so X why refusals.Checkpointing e = e
-answers_so X why refusals.ClientsFull e = e
-answers_so X why refusals.PassOut e = e
-answers_so X why refusals.AlreadyHere e = e
-answers_so X why refusals.Uncommitted e = e
-answers_so X why refusals.Strayed e = e
+answers_so X why _ e = e
 
 -- what is lacking, as a refusal
 abbrev pub lack_refusal : Option (Kind × ℕ) → Option Refusal
 lack_refusal = option_map (λ lack. refusals.BlanksWanted lack.0 lack.1)
 
-no_lack : (lack : Option (Kind × ℕ)) → lack_refusal lack ≡ None → lack ≡ None
-no_lack None e = refl
-no_lack (Some lack) e = absurd cc
-
-short_so : (lack : Option (Kind × ℕ)) (refusal : Refusal) (later : Option Refusal) → lack_refusal lack ≡ Some refusal → short_refusal lack later ≡ Some refusal
-short_so None refusal later e = absurd cc
-short_so (Some lack) refusal later e = e
-
--- the blanks that were counted are those that are wanted
-same_lack : (given needed wanted : Blanks) → ((kind : Kind) → needed kind ≡ wanted kind) → least_short given needed ≡ least_short given wanted
-same_lack given needed wanted same = ap (least_short given) (λ i kind. same kind i)
+short_alone : (lack : Option (Kind × ℕ)) → lack_refusal lack ≡ short_refusal lack None
+short_alone None = refl
+short_alone (Some lack) = refl
 
 -- where nothing lacks there are enough blanks of each kind
-pub enough_blanks : (given needed : Blanks) → lack_refusal (least_short given needed) ≡ None → IsEnough given needed
-enough_blanks given needed none = subst (Lacks given needed) (no_lack (least_short given needed) none) (least_short_is_found given needed)
+pub enough_blanks : (given wanted : Blanks) → least_short given wanted ≡ None → IsEnough given wanted
+enough_blanks given wanted none = subst (Lacks given wanted) none (least_short_is_found given wanted)
 
 -- an answer has its cause, or memory is refused or the device fails
 abbrev pub HasCause : Option Refusal → Refusal → Type 0
@@ -79,28 +58,7 @@ HasCause why refusal = (refusal ≡ refusals.Memory) ⊎ ((refusal ≡ refusals.
 pub has_cause : (X : Type 0) (why : Option Refusal) (refusal : Refusal) → AnswersBy {X = X} why (Err refusal) → HasCause why refusal
 has_cause X why refusals.Memory e = inl refl
 has_cause X why refusals.Device e = inr (inl refl)
-has_cause X why refusals.Halted e = inr (inr e)
-has_cause X why refusals.NoArray e = inr (inr e)
-has_cause X why (refusals.OutOfTurn number) e = inr (inr e)
-has_cause X why refusals.Waiting e = inr (inr e)
-has_cause X why refusals.TooLong e = inr (inr e)
-has_cause X why refusals.NoMessage e = inr (inr e)
-has_cause X why refusals.Absent e = inr (inr e)
-has_cause X why (refusals.Elsewhere processor) e = inr (inr e)
-has_cause X why (refusals.NoBlank kind) e = inr (inr e)
-has_cause X why refusals.LogFull e = inr (inr e)
-has_cause X why refusals.ImageFull e = inr (inr e)
-has_cause X why refusals.HistoryFull e = inr (inr e)
-has_cause X why (refusals.Damaged half offset) e = inr (inr e)
-has_cause X why refusals.NothingHere e = inr (inr e)
-has_cause X why (refusals.BlanksWanted kind count) e = inr (inr e)
-has_cause X why refusals.BadPes e = inr (inr e)
-has_cause X why refusals.Checkpointing e = inr (inr e)
-has_cause X why refusals.ClientsFull e = inr (inr e)
-has_cause X why refusals.PassOut e = inr (inr e)
-has_cause X why refusals.AlreadyHere e = inr (inr e)
-has_cause X why refusals.Uncommitted e = inr (inr e)
-has_cause X why refusals.Strayed e = inr (inr e)
+has_cause X why _ e = inr (inr e)
 
 -- ---- answers of halves
 
@@ -112,28 +70,9 @@ refusal_taken given outcome t is = restarts_are_taken given outcome ∙ ap (take
 pub unfound_answers : (X : Type 0) (given : Blanks) (outcome : Half → List ℕ) (refusal : Refusal) → Finds (outcome Zero) (outcome One) (Err refusal) → AnswersBy {X = X} (restart_refusal given outcome) (Err refusal)
 unfound_answers X given outcome refusals.Memory finds = tt
 unfound_answers X given outcome refusals.Device finds = tt
-unfound_answers X given outcome refusals.Halted finds = absurd finds
-unfound_answers X given outcome refusals.NoArray finds = absurd finds
-unfound_answers X given outcome (refusals.OutOfTurn number) finds = absurd finds
-unfound_answers X given outcome refusals.Waiting finds = absurd finds
-unfound_answers X given outcome refusals.TooLong finds = absurd finds
-unfound_answers X given outcome refusals.NoMessage finds = absurd finds
-unfound_answers X given outcome refusals.Absent finds = absurd finds
-unfound_answers X given outcome (refusals.Elsewhere processor) finds = absurd finds
-unfound_answers X given outcome (refusals.NoBlank kind) finds = absurd finds
-unfound_answers X given outcome refusals.LogFull finds = absurd finds
-unfound_answers X given outcome refusals.ImageFull finds = absurd finds
-unfound_answers X given outcome refusals.HistoryFull finds = absurd finds
 unfound_answers X given outcome (refusals.Damaged half offset) finds = refusal_taken given outcome _ finds
 unfound_answers X given outcome refusals.NothingHere finds = refusal_taken given outcome _ finds
-unfound_answers X given outcome (refusals.BlanksWanted kind count) finds = absurd finds
-unfound_answers X given outcome refusals.BadPes finds = absurd finds
-unfound_answers X given outcome refusals.Checkpointing finds = absurd finds
-unfound_answers X given outcome refusals.ClientsFull finds = absurd finds
-unfound_answers X given outcome refusals.PassOut finds = absurd finds
-unfound_answers X given outcome refusals.AlreadyHere finds = absurd finds
-unfound_answers X given outcome refusals.Uncommitted finds = absurd finds
-unfound_answers X given outcome refusals.Strayed finds = absurd finds
+unfound_answers X given outcome _ finds = absurd finds
 
 -- where one is taken, the restart is refused as that half is
 pub taken_answers : {X : Type 0} (given : Blanks) (outcome : Half → List ℕ) (half : Half) (s : Saved) → taken (outcome Zero) (outcome One) ≡ Takes half s → (answer : Result X Refusal) →
@@ -142,26 +81,51 @@ taken_answers {X} given outcome half s is answer so = subst (λ (why : Option Re
 
 -- ---- answers of a half
 
-module _ (given : Blanks) (half : Half) (s : Saved) (needed : Blanks) (counted : (kind : Kind) → needed kind ≡ wanted_of s kind) where
-  -- where blanks lack
-  pub lack_answers : (X : Type 0) (refusal : Refusal) → lack_refusal (least_short given needed) ≡ Some refusal → AnswersBy {X = X} (taken_refusal given (Takes half s)) (Err refusal)
-  lack_answers X refusal lacks =
-      let same : lack_refusal (least_short given (wanted_of s)) ≡ Some refusal = ap lack_refusal (sym (same_lack given needed (wanted_of s) counted)) ∙ lacks in
-      answers_so X (taken_refusal given (Takes half s)) refusal (short_so (least_short given (wanted_of s)) refusal (fault_refusal half s (meaning_of s)) same)
+-- what its bytes say, code's value of it says
+pub open_is : (bytes : List ℕ) (s : Saved) (half : OpenHalf) → HalfIs bytes (views.Open half) → IsBytes bytes → found bytes ≡ Open s → IsOpenIn bytes s half
+open_is bytes s half its bytes_are is =
+    let same : its.0 ≡ s = (let both : Open its.0 ≡ Open s = sym its.1 ∙ is in cc) in
+    record { bytes_are = bytes_are; opened = is; view = subst (λ (t : Saved). IsView bytes t half) same its.2 }
 
-  module _ (none : lack_refusal (least_short given needed) ≡ None) where
+no_short : (lack : Option (Kind × ℕ)) → short_refusal lack None ≡ None → lack ≡ None
+no_short None e = refl
+no_short (Some lack) e = absurd cc
+
+short_first : (lack : Option (Kind × ℕ)) (refusal : Refusal) (later : Option Refusal) → short_refusal lack None ≡ Some refusal → short_refusal lack later ≡ Some refusal
+short_first None refusal later e = absurd cc
+short_first (Some lack) refusal later e = e
+
+-- what was counted is what is wanted, and so is what lacks of it
+pub same_lack : (given needed wanted : Blanks) → ((kind : Kind) → needed kind ≡ wanted kind) → lack_refusal (least_short given needed) ≡ short_refusal (least_short given wanted) None
+same_lack given needed wanted same = short_alone (least_short given needed) ∙ ap (λ (counted : Blanks). short_refusal (least_short given counted) None) (λ i kind. same kind i)
+
+module _ (given : Blanks) (half : Half) (s : Saved) where
+  -- where blanks lack, or memory is refused before they are counted
+  pub lack_answers : (X Y : Type 0) (refusal : Refusal) → AnswersBy {X = X} (short_refusal (least_short given (wanted_of s)) None) (Err refusal) → AnswersBy {X = Y} (taken_refusal given (Takes half s)) (Err refusal)
+  lack_answers X Y refusal so =
+      let why = taken_refusal given (Takes half s) in
+      ⊎_elim (λ memory. subst (λ (r : Refusal). AnswersBy {X = Y} why (Err r)) (sym memory) tt)
+      (⊎_elim (λ device. subst (λ (r : Refusal). AnswersBy {X = Y} why (Err r)) (sym device) tt)
+      (λ lacks. answers_so Y why refusal (short_first (least_short given (wanted_of s)) refusal (fault_refusal half s (meaning_of s)) lacks)))
+      (has_cause X (short_refusal (least_short given (wanted_of s)) None) refusal so)
+
+  module _ (enough : short_refusal (least_short given (wanted_of s)) None ≡ None) where
     -- there are enough for the half
     pub enough_for_half : (kind : Kind) → wanted_of s kind ≤ given kind
-    enough_for_half kind = subst (λ (n : ℕ). n ≤ given kind) (counted kind) (enough_blanks given needed none kind)
+    enough_for_half = enough_blanks given (wanted_of s) (no_short (least_short given (wanted_of s)) enough)
 
     -- it is refused for a fault of a record alone
-    pub by_records : taken_refusal given (Takes half s) ≡ fault_refusal half s (meaning_of s)
-    by_records = ap (λ (lack : Option (Kind × ℕ)). short_refusal lack (fault_refusal half s (meaning_of s))) (sym (same_lack given needed (wanted_of s) counted) ∙ no_lack (least_short given needed) none)
+    by_records : taken_refusal given (Takes half s) ≡ fault_refusal half s (meaning_of s)
+    by_records = ap (λ (lack : Option (Kind × ℕ)). short_refusal lack (fault_refusal half s (meaning_of s))) (no_short (least_short given (wanted_of s)) enough)
 
-    -- where a record has a fault
-    pub fault_answers : (X : Type 0) (place : Place) (offset : ℕ) → meaning_of s ≡ Faulty place → offset ≡ offset_of s place →
-        AnswersBy {X = X} (taken_refusal given (Takes half s)) (Err (refusals.Damaged half offset))
-    fault_answers X place offset means at = by_records ∙ ap (fault_refusal half s) means ∙ ap (λ (n : ℕ). Some (refusals.Damaged half n)) (sym at)
+    -- where a record has one, or memory is refused
+    pub fault_answers : (X : Type 0) (size : ℕ) (why : ReadError) (refusal : Refusal) → FaultIs half size why refusal → ((fault : Fault) → why ≡ Damaged fault → IsFaultAt s (size - fault.left)) →
+        AnswersBy {X = X} (taken_refusal given (Takes half s)) (Err refusal)
+    fault_answers X size Memory refusal is at = subst (λ (r : Refusal). AnswersBy {X = X} (taken_refusal given (Takes half s)) (Err r)) (sym is) tt
+    fault_answers X size (Damaged fault) refusal is at =
+        let there = at fault refl in
+        subst (λ (r : Refusal). AnswersBy {X = X} (taken_refusal given (Takes half s)) (Err r)) (sym is)
+        (by_records ∙ ap (fault_refusal half s) there.1 ∙ ap (λ (n : ℕ). Some (refusals.Damaged half n)) (sym there.2))
 
     -- where none has
     pub done_answers : {X : Type 0} (w : World) (count : ℕ) (back : X) → meaning_of s ≡ Whole w count → AnswersBy {X = X} (taken_refusal given (Takes half s)) (Ok back)
@@ -185,30 +149,8 @@ short_by given half bytes s m (Some lack) kind count is e so =
 
 pub half_is_short : (X : Type 0) (given : Blanks) (half : Half) (bytes : List ℕ) (s : Saved) (refusal : Refusal) → found bytes ≡ Open s → AnswersBy {X = X} (taken_refusal given (Takes half s)) (Err refusal) →
     IsShortOfSome given refusal
-half_is_short X given half bytes s refusals.Memory is so = tt
-half_is_short X given half bytes s refusals.Device is so = tt
-half_is_short X given half bytes s refusals.Halted is so = tt
-half_is_short X given half bytes s refusals.NoArray is so = tt
-half_is_short X given half bytes s (refusals.OutOfTurn number) is so = tt
-half_is_short X given half bytes s refusals.Waiting is so = tt
-half_is_short X given half bytes s refusals.TooLong is so = tt
-half_is_short X given half bytes s refusals.NoMessage is so = tt
-half_is_short X given half bytes s refusals.Absent is so = tt
-half_is_short X given half bytes s (refusals.Elsewhere processor) is so = tt
-half_is_short X given half bytes s (refusals.NoBlank kind) is so = tt
-half_is_short X given half bytes s refusals.LogFull is so = tt
-half_is_short X given half bytes s refusals.ImageFull is so = tt
-half_is_short X given half bytes s refusals.HistoryFull is so = tt
-half_is_short X given half bytes s (refusals.Damaged which offset) is so = tt
-half_is_short X given half bytes s refusals.NothingHere is so = tt
 half_is_short X given half bytes s (refusals.BlanksWanted kind count) is so = short_by given half bytes s (meaning_of s) (least_short given (wanted_of s)) kind count is refl so
-half_is_short X given half bytes s refusals.BadPes is so = tt
-half_is_short X given half bytes s refusals.Checkpointing is so = tt
-half_is_short X given half bytes s refusals.ClientsFull is so = tt
-half_is_short X given half bytes s refusals.PassOut is so = tt
-half_is_short X given half bytes s refusals.AlreadyHere is so = tt
-half_is_short X given half bytes s refusals.Uncommitted is so = tt
-half_is_short X given half bytes s refusals.Strayed is so = tt
+half_is_short X given half bytes s _ is so = tt
 
 -- it is refused for blanks alone
 pub lack_is_of_half : (lack : Option (Kind × ℕ)) (refusal : Refusal) → lack_refusal lack ≡ Some refusal → is_half_refusal refusal ≡ true
@@ -217,27 +159,5 @@ lack_is_of_half (Some lack) refusal e = let same : refusals.BlanksWanted lack.0 
 
 -- where no half was found, none is short
 pub none_is_short : (given : Blanks) (refusal : Refusal) → is_finding_refusal refusal ≡ true → IsShortOfSome given refusal
-none_is_short given refusals.Memory e = tt
-none_is_short given refusals.Device e = tt
-none_is_short given refusals.Halted e = tt
-none_is_short given refusals.NoArray e = tt
-none_is_short given (refusals.OutOfTurn number) e = tt
-none_is_short given refusals.Waiting e = tt
-none_is_short given refusals.TooLong e = tt
-none_is_short given refusals.NoMessage e = tt
-none_is_short given refusals.Absent e = tt
-none_is_short given (refusals.Elsewhere processor) e = tt
-none_is_short given (refusals.NoBlank kind) e = tt
-none_is_short given refusals.LogFull e = tt
-none_is_short given refusals.ImageFull e = tt
-none_is_short given refusals.HistoryFull e = tt
-none_is_short given (refusals.Damaged half offset) e = tt
-none_is_short given refusals.NothingHere e = tt
 none_is_short given (refusals.BlanksWanted kind count) e = absurd cc
-none_is_short given refusals.BadPes e = tt
-none_is_short given refusals.Checkpointing e = tt
-none_is_short given refusals.ClientsFull e = tt
-none_is_short given refusals.PassOut e = tt
-none_is_short given refusals.AlreadyHere e = tt
-none_is_short given refusals.Uncommitted e = tt
-none_is_short given refusals.Strayed e = tt
+none_is_short given _ e = tt

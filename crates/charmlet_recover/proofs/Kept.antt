@@ -16,6 +16,7 @@ use Rattle.charmlet_recovery.specs.Meanings.{Whole}
 use Rattle.charmlet_recovery.specs.Recovered.{meaning_of}
 use Rattle.charmlet_recovery.specs.Stores.{IsSuperseded, Stores}
 use Rattle.charmlet_disk.specs.declared.disk.Disk.{Ghosts}
+use Rattle.charmlet_disk.specs.Calls.{ReadsSame}
 use Rattle.charmlet_disk.specs.File.{File}
 use Rattle.charmlet_halves.specs.declared.halves.Halves.{Halves}
 use Rattle.charmlet_halves.specs.declared.opening.Opened.{Opened}
@@ -26,7 +27,7 @@ use Rattle.charmlet_halves.specs.Opened.{OpensAs}
 use Rattle.charmlet_halves.specs.Halves.{disk_of, is_halted, taken_half, text_of}
 use Rattle.charmlet_journal.specs.Rest.{GoesOn, IsKept, Rests}
 use Rattle.charmlet_journal.proofs.Resting.{rest_stores}
-use Rattle.charmlet_recover.specs.Restart.{ReadsSame, bytes_on}
+use Rattle.charmlet_recover.specs.Restart.{bytes_on}
 
 -- ---- the other half is superseded
 

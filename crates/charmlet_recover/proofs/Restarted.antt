@@ -9,16 +9,19 @@ use Rattle.charmlet_model.specs.Core.{Blanks, Core}
 use Rattle.charmlet_model.specs.Sound.{opened as opened_core}
 use Rattle.charmlet_chare.specs.declared.chare.Chare as chares
 use Rattle.charmlet_disk.specs.declared.disk.Disk as disks
+use Rattle.charmlet_disk.specs.Calls.{ReadsSame}
 use Rattle.charmlet_disk.specs.File.{File}
 use Rattle.charmlet_image.specs.Halves.{Open, Takes, found, taken}
 use Rattle.charmlet_image.specs.Images.{Saved, spell_half}
 use Rattle.charmlet_recovery.specs.Recovered as files
 use Rattle.charmlet_recovery.specs.Recovered.{recovered}
 use Rattle.charmlet_recovery.specs.Restarts.{taken_refusal}
+use Rattle.charmlet_stock.specs.declared.stock.Stock.{Stock}
+use Rattle.charmlet_stock.specs.ByKind.{for_all}
 use Rattle.charmlet_stock.specs.Stock.{blanks_in}
 use Rattle.charmlet_halves.specs.declared.halves.Halves.{Halves}
 use Rattle.charmlet_halves.specs.declared.opening.Opened.{Opened}
-use Rattle.charmlet_halves.specs.Answers.{is_finding_refusal, is_no_failure}
+use Rattle.charmlet_halves.specs.Answers.{is_finding_refusal}
 use Rattle.charmlet_halves.specs.Found.{Finds, Says}
 use Rattle.charmlet_halves.specs.Opened.{OpensAs}
 use Rattle.charmlet_halves.specs.Halves.{disk_of, taken_half, text_of}
@@ -26,79 +29,31 @@ use Rattle.charmlet_journal.specs.Rest.{GoesOn, IsCurrent, IsKept}
 use Rattle.charmlet_recover.specs.declared.restarting.NotRestarted.{NotRestarted}
 use Rattle.charmlet_recover.specs.declared.restarting.Recovered.{Recovered}
 use Rattle.charmlet_replay.specs.Replayed.{IsReplayed}
-use Rattle.charmlet_recover.specs.Restart.{AnswersBy, IsOpenedOn, IsReadFrom, IsShortOfSome, IsTakenFrom, OpensWith, ReadsSame, bytes_on, core_of, is_half_refusal, is_restart_refusal, restarted_or_refused, replayed_in}
+use Rattle.charmlet_recover.specs.Restart.{AnswersBy, CameBack, CameFromFiles, IsOpenedOn, IsReadFrom, IsRefused, IsSameStock, IsTakenFrom, OpensWith, bytes_on, core_of, is_half_refusal, is_restart_refusal, restarted_or_refused, replayed_in}
 use Rattle.charmlet_recover.proofs.Answered.{half_is_short, taken_is_recovered}
 use Rattle.charmlet_recover.proofs.Kept.{opened_goes_on, opened_keeps, survey_found}
 use Rattle.charmlet_recover.proofs.Left.{left_unwanted}
-use Rattle.charmlet_store.specs.Store.{blanks_of}
+use Rattle.charmlet_store.specs.Store.{blanks_of, supplied_in}
 
--- ---- what is true where two facts are
-
+-- what is true where another fact is
 pub then_ok : {A E : Type 0} (P Q : A → Type 0) (r : Result A E) → ((x : A) → P x → Q x) → IfOk r P → IfOk r Q
 then_ok P Q (Ok x) so is = so x is
 then_ok P Q (Err e) so is = tt
-
-pub both_ok : {A E : Type 0} (P Q R : A → Type 0) (r : Result A E) → ((x : A) → P x → Q x → R x) → IfOk r P → IfOk r Q → IfOk r R
-both_ok P Q R (Ok x) so one two = so x one two
-both_ok P Q R (Err e) so one two = tt
-
-pub then_err : {A E : Type 0} (P Q : E → Type 0) (r : Result A E) → ((e : E) → P e → Q e) → IfErr r P → IfErr r Q
-then_err P Q (Ok x) so is = tt
-then_err P Q (Err e) so is = so e is
 
 -- ---- refusals
 
 pub half_is_restart : (refusal : Refusal) → is_half_refusal refusal ≡ true → is_restart_refusal refusal ≡ true
 half_is_restart refusals.Memory e = refl
-half_is_restart refusals.Device e = absurd cc
-half_is_restart refusals.Halted e = absurd cc
-half_is_restart refusals.NoArray e = absurd cc
-half_is_restart (refusals.OutOfTurn number) e = absurd cc
-half_is_restart refusals.Waiting e = absurd cc
-half_is_restart refusals.TooLong e = absurd cc
-half_is_restart refusals.NoMessage e = absurd cc
-half_is_restart refusals.Absent e = absurd cc
-half_is_restart (refusals.Elsewhere processor) e = absurd cc
-half_is_restart (refusals.NoBlank kind) e = absurd cc
-half_is_restart refusals.LogFull e = absurd cc
-half_is_restart refusals.ImageFull e = absurd cc
-half_is_restart refusals.HistoryFull e = absurd cc
 half_is_restart (refusals.Damaged half offset) e = refl
-half_is_restart refusals.NothingHere e = absurd cc
 half_is_restart (refusals.BlanksWanted kind count) e = refl
-half_is_restart refusals.BadPes e = absurd cc
-half_is_restart refusals.Checkpointing e = absurd cc
-half_is_restart refusals.ClientsFull e = absurd cc
-half_is_restart refusals.PassOut e = absurd cc
-half_is_restart refusals.AlreadyHere e = absurd cc
-half_is_restart refusals.Uncommitted e = absurd cc
-half_is_restart refusals.Strayed e = absurd cc
+half_is_restart _ e = absurd cc
 
 pub finding_is_restart : (refusal : Refusal) → is_finding_refusal refusal ≡ true → is_restart_refusal refusal ≡ true
 finding_is_restart refusals.Memory e = refl
 finding_is_restart refusals.Device e = refl
-finding_is_restart refusals.Halted e = absurd cc
-finding_is_restart refusals.NoArray e = absurd cc
-finding_is_restart (refusals.OutOfTurn number) e = absurd cc
-finding_is_restart refusals.Waiting e = absurd cc
-finding_is_restart refusals.TooLong e = absurd cc
-finding_is_restart refusals.NoMessage e = absurd cc
-finding_is_restart refusals.Absent e = absurd cc
-finding_is_restart (refusals.Elsewhere processor) e = absurd cc
-finding_is_restart (refusals.NoBlank kind) e = absurd cc
-finding_is_restart refusals.LogFull e = absurd cc
-finding_is_restart refusals.ImageFull e = absurd cc
-finding_is_restart refusals.HistoryFull e = absurd cc
 finding_is_restart (refusals.Damaged half offset) e = refl
 finding_is_restart refusals.NothingHere e = refl
-finding_is_restart (refusals.BlanksWanted kind count) e = absurd cc
-finding_is_restart refusals.BadPes e = absurd cc
-finding_is_restart refusals.Checkpointing e = absurd cc
-finding_is_restart refusals.ClientsFull e = absurd cc
-finding_is_restart refusals.PassOut e = absurd cc
-finding_is_restart refusals.AlreadyHere e = absurd cc
-finding_is_restart refusals.Uncommitted e = absurd cc
-finding_is_restart refusals.Strayed e = absurd cc
+finding_is_restart _ e = absurd cc
 
 -- neither is for the number of processors
 pub half_is_not_bad : (refusal : Refusal) → is_half_refusal refusal ≡ true → refusal ≡ refusals.BadPes → ⊥
@@ -107,51 +62,13 @@ half_is_not_bad refusal is bad = let no_half : is_half_refusal refusals.BadPes �
 pub finding_is_not_bad : (refusal : Refusal) → is_finding_refusal refusal ≡ true → refusal ≡ refusals.BadPes → ⊥
 finding_is_not_bad refusal is bad = let no_finding : is_finding_refusal refusals.BadPes ≡ true = ap is_finding_refusal (sym bad) ∙ is in absurd cc
 
--- and that of a half is no failure
-half_no_failure : (X : Type 0) (refusal : Refusal) → is_half_refusal refusal ≡ true → is_no_failure {X = X} (Err refusal) ≡ true
-half_no_failure X refusals.Memory e = refl
-half_no_failure X refusals.Device e = absurd cc
-half_no_failure X refusals.Halted e = absurd cc
-half_no_failure X refusals.NoArray e = absurd cc
-half_no_failure X (refusals.OutOfTurn number) e = absurd cc
-half_no_failure X refusals.Waiting e = absurd cc
-half_no_failure X refusals.TooLong e = absurd cc
-half_no_failure X refusals.NoMessage e = absurd cc
-half_no_failure X refusals.Absent e = absurd cc
-half_no_failure X (refusals.Elsewhere processor) e = absurd cc
-half_no_failure X (refusals.NoBlank kind) e = absurd cc
-half_no_failure X refusals.LogFull e = absurd cc
-half_no_failure X refusals.ImageFull e = absurd cc
-half_no_failure X refusals.HistoryFull e = absurd cc
-half_no_failure X (refusals.Damaged half offset) e = refl
-half_no_failure X refusals.NothingHere e = absurd cc
-half_no_failure X (refusals.BlanksWanted kind count) e = refl
-half_no_failure X refusals.BadPes e = absurd cc
-half_no_failure X refusals.Checkpointing e = absurd cc
-half_no_failure X refusals.ClientsFull e = absurd cc
-half_no_failure X refusals.PassOut e = absurd cc
-half_no_failure X refusals.AlreadyHere e = absurd cc
-half_no_failure X refusals.Uncommitted e = absurd cc
-half_no_failure X refusals.Strayed e = absurd cc
-
 -- ---- a store that came back
 
 module _ {D C : Type 0} {G : disks.Ghosts D} {H : chares.Ghosts C} where
-  -- a half that is refused is no failure of the device
-  pub came_no_failure : (result : Result (Recovered D C G) (NotRestarted D C H)) → IfErr result (λ refused. is_half_refusal refused.refusal ≡ true) → is_no_failure (restarted_or_refused result) ≡ true
-  came_no_failure (Ok back) is = refl
-  came_no_failure (Err refused) is = half_no_failure (Recovered D C G) refused.refusal is
-
   -- a fact of what came back is one of the answer
   pub as_answer : (P : Recovered D C G → Type 0) (result : Result (Recovered D C G) (NotRestarted D C H)) → IfOk result P → IfOk (restarted_or_refused result) P
   as_answer P (Ok back) is = is
   as_answer P (Err refused) is = tt
-
-  -- where blanks lack, some half needs more
-  pub came_short : (given : Blanks) (half : Half) (bytes : List ℕ) (s : Saved) → found bytes ≡ Open s → (result : Result (Recovered D C G) (NotRestarted D C H)) →
-      AnswersBy (taken_refusal given (Takes half s)) (restarted_or_refused result) → IfErr result (λ refused. IsShortOfSome given refused.refusal)
-  came_short given half bytes s is (Ok back) so = tt
-  came_short given half bytes s is (Err refused) so = half_is_short (Recovered D C G) given half bytes s refused.refusal is so
 
 module _ {D C : Type 0} {G : disks.Ghosts D} where
   module _ (opened : Opened D G) (s : Saved) (says : Says opened.survey.bytes.items opened.survey.contents s) (opens_as : OpensAs opened) (processors : ℕ) (given : Blanks)
@@ -202,3 +119,46 @@ module _ {D C : Type 0} {G : disks.Ghosts D} where
       came_current text current =
           subst (λ (h : Halves D G). IsCurrent h) (sym same)
           (record { saved = s; text = text; good = says.good; newest = sym is.current ∙ current })
+
+-- ---- the promises of a restart
+
+abbrev Answer : {D C : Type 0} → disks.Ghosts D → chares.Ghosts C → Type 0
+Answer {D} {C} G H = Result (Recovered D C G) (NotRestarted D C H)
+
+module _ {D C : Type 0} {G : disks.Ghosts D} {H : chares.Ghosts C} where
+  module _ (opened : Opened D G) (s : Saved) (says : Says opened.survey.bytes.items opened.survey.contents s) (opens_as : OpensAs opened) (processors : ℕ) (given : Blanks) where
+    abbrev HasHalves : Answer G H → Type 0
+    HasHalves r = IfOk r (λ back. back.halves ≡ opened.halves)
+
+    abbrev HasReplayed : Answer G H → Type 0
+    HasReplayed r = IfOk r (λ back. IsReplayed processors given s (replayed_in back))
+
+    pub all_came_back : (supplied : Blanks) (r : Answer G H) → HasHalves r → HasReplayed r → IfOk r (λ back. supplied_in back.store ≡ supplied) → IfOk r (λ back. back.store.keeping ≡ for_all true) → IfOk r (CameBack processors given supplied)
+    all_came_back supplied (Ok back) same is are keeping = record {
+      opens = came_opens opened s says opens_as processors given back same is;
+      read = came_read opened s says opens_as processors given back same is;
+      supplied_are = are;
+      keeping = keeping;
+      goes_on = came_goes_on opened s says opens_as processors given back same is;
+    }
+    all_came_back supplied (Err refused) same is are keeping = tt
+
+    pub all_from_files : (old : Half → File) → Finds (old Zero).now (old One).now (Ok opened.survey) → ReadsSame old (G.file (disk_of opened.halves)) → text_of opened.halves ≡ spell_half s → G.honest (disk_of opened.halves) →
+        (r : Answer G H) → HasHalves r → HasReplayed r → IfOk r (CameFromFiles given (bytes_on old))
+    all_from_files old finds reads text honest (Ok back) same is = record {
+      found = came_found opened s says opens_as processors given back same is old finds;
+      taken_from = came_taken opened s says opens_as processors given back same is old finds;
+      keeps = came_keeps opened s says opens_as processors given back same is old finds reads text honest;
+      current = came_current opened s says opens_as processors given back same is old finds text;
+    }
+    all_from_files old finds reads text honest (Err refused) same is = tt
+
+  pub all_refused : (processors : ℕ) (blanks : Stock C H) (half : Half) (bytes : List ℕ) (s : Saved) → found bytes ≡ Open s → (r : Answer G H) → AnswersBy (taken_refusal (blanks_in blanks) (Takes half s)) (restarted_or_refused r) →
+      IfErr r (λ refused. is_half_refusal refused.refusal ≡ true) → IfErr r (λ refused. IsSameStock blanks refused.blanks) → IfErr r (IsRefused processors blanks)
+  all_refused processors blanks half bytes s is (Ok back) so of_half same = tt
+  all_refused processors blanks half bytes s is (Err refused) so of_half same = record {
+    bad = λ bad. absurd (half_is_not_bad refused.refusal of_half bad);
+    known = half_is_restart refused.refusal of_half;
+    short = half_is_short (Recovered D C G) (blanks_in blanks) half bytes s refused.refusal is so;
+    back = same;
+  }

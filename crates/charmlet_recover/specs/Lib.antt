@@ -19,6 +19,7 @@ pub use Rattle.charmlet_recovery.specs.Faults
 pub use Rattle.charmlet_recovery.specs.Outcomes
 pub use Rattle.charmlet_recovery.specs.Recovered
 pub use Rattle.charmlet_recovery.specs.Restarts
+pub use Rattle.charmlet_disk.specs.Calls
 pub use Rattle.charmlet_disk.specs.Disk
 pub use Rattle.charmlet_disk.specs.File
 pub use Rattle.charmlet_halves.specs.Answers

@@ -11,24 +11,28 @@ use Rattle.charmlet_model.specs.Core.{Blanks, Core}
 use Rattle.charmlet_model.specs.Sound.{opened}
 use Rattle.charmlet_chare.specs.declared.chare.Chare as chares
 use Rattle.charmlet_disk.specs.declared.disk.Disk as disks
+use Rattle.charmlet_disk.specs.Calls.{IsUnwritten}
+use Rattle.charmlet_disk.specs.Disk.{IsSettled}
 use Rattle.charmlet_disk.specs.File.{File, CrashBytes}
 use Rattle.charmlet_image.specs.Images.{Saved, spell_half}
 use Rattle.charmlet_image.specs.Halves.{Open, Takes, found, taken}
 use Rattle.charmlet_recovery.specs.Blanks.{least_short}
 use Rattle.charmlet_recovery.specs.Meanings.{Whole}
-use Rattle.charmlet_recovery.specs.Recovered.{is_current, meaning_of}
+use Rattle.charmlet_recovery.specs.Recovered.{Found, is_current, meaning_of, recovered}
 use Rattle.charmlet_recovery.specs.Restarts.{wanted_of}
 use Rattle.charmlet_halves.specs.Halves.{disk_of, taken_half}
 use Rattle.charmlet_history.specs.Kept.{core_in}
+use Rattle.charmlet_locate.specs.Locations.{is_processor_count}
+use Rattle.charmlet_journal.specs.Rest.{GoesOn, IsCurrent, IsKept}
+use Rattle.charmlet_stock.specs.ByKind.{for_all}
 use Rattle.charmlet_stock.specs.declared.stock.Stock.{Stock}
 use Rattle.charmlet_stock.specs.Stock.{blanks_in, census_of, keeping_of}
 use Rattle.charmlet_record.specs.declared.reader.ReadError.{ReadError}
 use Rattle.charmlet_record.specs.declared.reader.ReadError.TheVariants.{Damaged, Memory}
 use Rattle.charmlet_replay.specs.declared.replaying.Replayed.{Replayed}
-use Rattle.charmlet_recover.specs.declared.reopening.NotReopened.{NotReopened}
 use Rattle.charmlet_recover.specs.declared.restarting.Recovered.{Recovered}
 use Rattle.charmlet_recover.specs.declared.restarting.NotRestarted.{NotRestarted}
-use Rattle.charmlet_store.specs.Store.{blanks_of}
+use Rattle.charmlet_store.specs.Store.{blanks_of, supplied_in}
 
 -- ---- what is handed in, and back
 
@@ -44,9 +48,11 @@ pub record IsSameStock {C : Type 0} {G : chares.Ghosts C} (old new : Stock C G) 
 abbrev pub bytes_on : (Half → File) → CrashBytes
 bytes_on files half = (files half).now
 
--- a read of either half gives what it gave
-abbrev pub ReadsSame : (Half → File) → (Half → File) → Type 0
-ReadsSame old new = (half : Half) → (new half).now ≡ (old half).now
+-- On an honest disk nothing was written; and where both halves were synced, they are settled.
+pub record LeavesSynced {D : Type 0} (G : disks.Ghosts D) (old new : D) (is_synced : Bool)
+    : Type 0 where
+  pub settled : is_synced ≡ true → IsSettled (G.file new)
+  pub unwritten : IsUnwritten G old new
 
 -- ---- why a restart is refused
 
@@ -83,11 +89,16 @@ AnswersBy why (Err refusals.Memory) = Unit {0}
 AnswersBy why (Err refusals.Device) = Unit {0}
 AnswersBy why (Err refusal) = why ≡ Some refusal
 
--- both halves were synced before this was answered
+-- both halves were synced before this was refused
+abbrev pub is_refused_after_sync : Refusal → Bool
+is_refused_after_sync refusals.BadPes = false
+is_refused_after_sync refusals.Device = false
+is_refused_after_sync _ = true
+
+-- or answered
 abbrev pub is_after_sync : {X : Type 0} → Result X Refusal → Bool
-is_after_sync (Err refusals.BadPes) = false
-is_after_sync (Err refusals.Device) = false
-is_after_sync _ = true
+is_after_sync (Ok x) = true
+is_after_sync (Err refusal) = is_refused_after_sync refusal
 
 -- ---- what comes back
 
@@ -173,14 +184,40 @@ IsShortOfSome given _ = Unit {0}
 
 -- ---- one half
 
--- that the store of a half came back, or why not
-abbrev pub reopened_or_refused : {C : Type 0} {G : chares.Ghosts C} →
-    Result (Replayed C) (NotReopened C G) → Result (Replayed C) Refusal
-reopened_or_refused (Ok replayed) = Ok replayed
-reopened_or_refused (Err refused) = Err refused.refusal
-
 -- a fault of a half of so many bytes, by how many are left from its record on, is damage at its
 -- offset
 abbrev pub FaultIs : Half → ℕ → ReadError → Refusal → Type 0
 FaultIs half size Memory refusal = refusal ≡ refusals.Memory
 FaultIs half size (Damaged fault) refusal = refusal ≡ refusals.Damaged half (size - fault.left)
+
+-- ---- the promises of a restart
+
+module _ {D C : Type 0} {G : disks.Ghosts D} where
+  -- The store came back on so many processors, from the bytes of some half, with the objects that
+  -- were handed in; its stock keeps what is retired, and the halves go on where it does.
+  pub record CameBack (processors : ℕ) (given supplied : Blanks) (back : Recovered D C G)
+      : Type 0 where
+    pub opens : IsOpenedOn processors back
+    pub read : IsReadFrom given back
+    pub supplied_are : supplied_in back.store ≡ supplied
+    pub keeping : back.store.keeping ≡ for_all true
+    pub goes_on : GoesOn (core_of back) back.halves
+
+  -- On an honest disk it is what the files recover to, from the half that is taken. Each crash
+  -- keeps it; and where that half is current, events may be appended to it.
+  pub record CameFromFiles (given : Blanks) (outcome : CrashBytes) (back : Recovered D C G)
+      : Type 0 where
+    pub found : recovered outcome
+        ≡ Found (core_of back).opening (core_of back).before (core_of back).generation
+    pub taken_from : IsTakenFrom given outcome back
+    pub keeps : IsKept (core_of back) back.halves
+    pub current : back.is_current ≡ true → IsCurrent back.halves
+
+-- No refusal is one that isn't due: BadPes comes only where there aren't so many processors, and
+-- BlanksWanted where some half needs more; and the objects come back as blanks.
+pub record IsRefused {D C : Type 0} {H : chares.Ghosts C} (processors : ℕ) (blanks : Stock C H)
+    (refused : NotRestarted D C H) : Type 0 where
+  pub bad : refused.refusal ≡ refusals.BadPes → is_processor_count processors ≡ false
+  pub known : is_restart_refusal refused.refusal ≡ true
+  pub short : IsShortOfSome (blanks_in blanks) refused.refusal
+  pub back : IsSameStock blanks refused.blanks

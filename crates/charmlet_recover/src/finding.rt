@@ -2,8 +2,7 @@
 
 ghost use Rattle.std.specs.Prelude.{◌≡◌, true, IfErr, IfOk};
 ghost use Rattle.charmlet_model.specs.declared.half.Half.TheVariants as halves;
-ghost use Rattle.charmlet_disk.specs.Disk.{LeavesOnly, SameFiles, faults_after};
-ghost use Rattle.charmlet_disk.specs.File.{MayLeave};
+ghost use Rattle.charmlet_disk.specs.Calls.{AfterCall, IsOnlyRead};
 ghost use Rattle.charmlet_image.specs.Images.{Saved};
 ghost use Rattle.charmlet_halves.specs.Answers.{is_finding_refusal, is_no_failure};
 ghost use Rattle.charmlet_halves.specs.Found as surveys;
@@ -45,12 +44,8 @@ pub fn manifest<D: Disk>(alloc: Global, disk: &mut D) -> Result<Found, Refusal>
     ensures err { IfErr result (λ refusal. is_finding_refusal refusal ≡ true) }
     ensures found { D.honest disk.old → IsFoundIn (D.file disk.old halves.Zero).now
         (D.file disk.old halves.One).now result }
-    ensures same { D.honest disk.old → SameFiles (D.file disk.old) (D.file disk.new) }
-    ensures any_moment { D.honest disk.old →
-        LeavesOnly D.moment D.since disk.old disk.new (MayLeave (D.file disk.old)) }
-    ensures honest { (D.honest disk.old → D.honest disk.new)
-        × (D.honest disk.new → D.honest disk.old) }
-    ensures counted { D.faults disk.new ≡ faults_after (is_no_failure result) (D.faults disk.old) }
+    ensures only_read { D.honest disk.old → IsOnlyRead D.Disk disk.old disk.new }
+    ensures disk { AfterCall D.Disk disk.old disk.new (is_no_failure result) }
 {
     match survey(alloc, disk) {
         Ok(survey) => match found_in(alloc, &survey) {

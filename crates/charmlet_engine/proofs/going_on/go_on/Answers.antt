@@ -41,8 +41,7 @@ returns-then-is_current g c =
       kept = tt;
       refused = tt;
       stored = λ honest none. (let no : true ≡ false = sym current ∙ none in absurd cc);
-      honest = ((λ h. h), (λ h. h));
-      counted = refl;
+      disk = record { honest = ((λ h. h), (λ h. h)); counted = refl };
     }
 
 pub returns-clause-core : goal.returns-clause-core

@@ -43,7 +43,7 @@ returns-in-Ok-clause-settled g c = λ honest.
     let opens = subst (λ (s : StoreShown). IsOpenedOn (core_in s.history).processors (core_in s.history)) (sym c.store.view_is) c.requires.opens in
     let done = c.checkpoint-taken.ensures in
     let going = (done.agrees (ap (λ (k : Core). k.halted) c.in-Ok.ensures.sealed ∙ ap (λ (k : Core). k.halted) opens)).going in
-    (c.checkpoint-taken.new.halves.ready (done.honest.0 honest) going).settled
+    (c.checkpoint-taken.new.halves.ready (done.disk.honest.0 honest) going).settled
 
 pub returns-in-Ok-clause-answer : goal.returns-in-Ok-clause-answer
 returns-in-Ok-clause-answer g c =

@@ -28,8 +28,8 @@ invariant_of-self g c =
     record {
       dropping = tied.dropping;
       agrees = done.agrees;
-      keeps = λ honest. done.kept (done.honest.1 honest);
-      current = taken_current {G = g.D.Disk} old halves tied taken.new.history taken.new.halves taken.result done.current done.refused done.device done.agrees done.honest.1;
+      keeps = λ honest. done.kept (done.disk.honest.1 honest);
+      current = taken_current {G = g.D.Disk} old halves tied taken.new.history taken.new.halves taken.result done.current done.refused done.device done.agrees done.disk.honest.1;
     }
 
 pub returns-in-Ok-clause-does : goal.returns-in-Ok-clause-does
@@ -48,7 +48,7 @@ returns-in-Ok-clause-advances g c =
     let sound = subst (λ (e : EngineShown g.row.D.Denot). IsSound (core_of e)) (sym view_is) c.facts.ensures.sound in
     let done = c.checkpoint-taken.ensures in
     advances_written g.D.Disk (stores.shown_by its.history its.stock) (stores.shown_by c.checkpoint-taken.new.history its.stock) halves c.checkpoint-taken.new.halves
-    (onward_checkpoint (core_in its.history) (λ _. 0) _ sound.durable (done.steps (λ _. 0))) done.any_moment done.honest c.args.self.now view_is
+    (onward_checkpoint (core_in its.history) (λ _. 0) _ sound.durable (done.steps (λ _. 0))) done.any_moment done.disk.honest c.args.self.now view_is
 
 pub returns-in-Ok-clause-stored : goal.returns-in-Ok-clause-stored
 returns-in-Ok-clause-stored g c =
@@ -75,7 +75,7 @@ returns-in-Err-clause-advances g c =
     let sound = subst (λ (e : EngineShown g.row.D.Denot). IsSound (core_of e)) (sym view_is) c.facts.ensures.sound in
     let done = c.checkpoint-taken.ensures in
     advances_written g.D.Disk (stores.shown_by its.history its.stock) (stores.shown_by c.checkpoint-taken.new.history its.stock) halves c.checkpoint-taken.new.halves
-    (onward_checkpoint (core_in its.history) (λ _. 0) _ sound.durable (done.steps (λ _. 0))) done.any_moment done.honest c.args.self.now view_is
+    (onward_checkpoint (core_in its.history) (λ _. 0) _ sound.durable (done.steps (λ _. 0))) done.any_moment done.disk.honest c.args.self.now view_is
 
 pub returns-in-Err-clause-stored : goal.returns-in-Err-clause-stored
 returns-in-Err-clause-stored g c =

@@ -28,8 +28,8 @@ invariant_of-self g c =
     record {
       dropping = tied.dropping;
       agrees = done.agrees;
-      keeps = λ honest. done.kept (done.honest.1 honest);
-      current = λ honest. done.current (done.honest.1 honest);
+      keeps = λ honest. done.kept (done.disk.honest.1 honest);
+      current = λ honest. done.current (done.disk.honest.1 honest);
     }
 
 pub returns-in-Ok-clause-does : goal.returns-in-Ok-clause-does
@@ -48,7 +48,7 @@ returns-in-Ok-clause-advances g c =
     let sound = subst (λ (e : EngineShown g.row.D.Denot). IsSound (core_of e)) (sym view_is) c.facts.ensures.sound in
     let done = c.flush.ensures in
     advances_written g.D.Disk (stores.shown_by its.history its.stock) (stores.shown_by c.flush.new.history its.stock) halves c.flush.new.halves
-    (onward_flush (core_in its.history) (λ _. 0) _ sound.durable (done.steps (λ _. 0))) done.any_moment done.honest c.args.self.now view_is
+    (onward_flush (core_in its.history) (λ _. 0) _ sound.durable (done.steps (λ _. 0))) done.any_moment done.disk.honest c.args.self.now view_is
 
 pub returns-in-Err-clause-does : goal.returns-in-Err-clause-does
 returns-in-Err-clause-does g c =
@@ -66,4 +66,4 @@ returns-in-Err-clause-advances g c =
     let sound = subst (λ (e : EngineShown g.row.D.Denot). IsSound (core_of e)) (sym view_is) c.facts.ensures.sound in
     let done = c.flush.ensures in
     advances_written g.D.Disk (stores.shown_by its.history its.stock) (stores.shown_by c.flush.new.history its.stock) halves c.flush.new.halves
-    (onward_flush (core_in its.history) (λ _. 0) _ sound.durable (done.steps (λ _. 0))) done.any_moment done.honest c.args.self.now view_is
+    (onward_flush (core_in its.history) (λ _. 0) _ sound.durable (done.steps (λ _. 0))) done.any_moment done.disk.honest c.args.self.now view_is
