@@ -3,14 +3,14 @@
 ghost use Rattle.charmlet_replay.specs.Unused.{IsUnused};
 
 use crate::failed::Failed;
-use crate::objects::{Object, Tally, blanks};
-use crate::probe_disk::{ProbeDisk, Switches};
 use crate::saying::say;
 use charmlet_cli::RestartedLine;
 use charmlet_disk::CrashChoice;
 use charmlet_engine::{Closed, Engine};
 use charmlet_halves::Refused;
 use charmlet_model::{Kind, Refusal};
+use charmlet_probe_disk::{ProbeDisk, Switches};
+use charmlet_probe_objects::{Object, Tally, blanks};
 use charmlet_recover::{NotRestarted, manifest, stock_of};
 use charmlet_requests::{ClientPass, Handler, Handlers, Passes};
 use charmlet_script::{HandlerLine, read_script};

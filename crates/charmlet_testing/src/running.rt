@@ -2,10 +2,10 @@
 
 use crate::bench::Bench;
 use crate::failed::Failed;
-use crate::objects::blanks;
 use crate::saying::say;
 use charmlet_cli::{census_line, pending_line, state_line};
 use charmlet_model::{Answer, Kind, Step, Told};
+use charmlet_probe_objects::blanks;
 use charmlet_requests::Request;
 use charmlet_script::{Drained, Line, Supplied, read_restart_script};
 

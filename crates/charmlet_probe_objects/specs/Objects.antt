@@ -6,8 +6,8 @@ use Rattle.charmlet_kinds.specs.Ring as rings
 use Rattle.charmlet_kinds.specs.Sum as sums
 use Rattle.charmlet_kinds.specs.Tape as tapes
 use Rattle.charmlet_kinds.specs.Tree as trees
-use Rattle.charmlet_testing.specs.declared.objects.AnyObject.{AnyObject}
-use Rattle.charmlet_testing.specs.declared.objects.AnyObject.TheVariants.{Counter, Ring, Account, Sum, Tree, Tape}
+use Rattle.charmlet_probe_objects.specs.declared.objects.AnyObject.{AnyObject}
+use Rattle.charmlet_probe_objects.specs.declared.objects.AnyObject.TheVariants.{Counter, Ring, Account, Sum, Tree, Tape}
 
 -- that of the object which it is
 abbrev pub state_of : AnyObject → State

@@ -34,7 +34,7 @@ macro_rules! by_kind {
 }
 
 impl Chare for AnyObject {
-    ghost use Rattle.charmlet_testing.specs.Objects.{state_of};
+    ghost use Rattle.charmlet_probe_objects.specs.Objects.{state_of};
 
     ghost state = { state_of };
 
@@ -138,7 +138,7 @@ impl Drop for Object {
 }
 
 impl Chare for Object {
-    ghost use Rattle.charmlet_testing.specs.Objects.{state_of};
+    ghost use Rattle.charmlet_probe_objects.specs.Objects.{state_of};
 
     ghost state = { λ watched. state_of watched.object };
 

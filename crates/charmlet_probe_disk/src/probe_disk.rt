@@ -151,12 +151,9 @@ impl ProbeDisk {
     pub fn cut(&mut self, alloc: Global, half: Half, length: u64) -> Result<(), DeviceFault> {
         let kept = bytes_of(alloc, &mut self.disk, half)?;
         let other = bytes_of(alloc, &mut self.disk, half.other())?;
-        let mut disk = MemDisk::new(alloc);
         let length = kept.len().min(length as usize);
-        write(&mut disk, half, 0, &kept[..length])?;
-        write(&mut disk, half.other(), 0, &other)?;
-        disk.sync(half)?;
-        disk.sync(half.other())?;
+        let mut disk = MemDisk::new(alloc);
+        fill(&mut disk, half, &kept[..length], &other)?;
         self.disk = disk;
         Ok(())
     }
@@ -200,6 +197,15 @@ fn write(disk: &mut MemDisk, half: Half, offset: u64, bytes: &[u8]) -> Result<()
         return Err(DeviceFault);
     }
     disk.write_at(half, offset, bytes)
+}
+
+/// Writes these bytes to a half of a new disk in memory, and those to the other one, and makes
+/// them sure.
+fn fill(disk: &mut MemDisk, half: Half, bytes: &[u8], others: &[u8]) -> Result<(), DeviceFault> {
+    write(disk, half, 0, bytes)?;
+    write(disk, half.other(), 0, others)?;
+    disk.sync(half)?;
+    disk.sync(half.other())
 }
 
 impl Disk for ProbeDisk {
