@@ -14,7 +14,8 @@ use Rattle.charmlet_model.specs.Core.{Core}
 use Rattle.charmlet_model.specs.Sound.{new_world}
 use Rattle.charmlet_model.specs.World.{World}
 use Rattle.charmlet_disk.specs.declared.disk.Disk as disks
-use Rattle.charmlet_disk.specs.Disk.{LeavesOnly, SameFiles, faults_after}
+use Rattle.charmlet_disk.specs.Calls.{IsOnlyRead}
+use Rattle.charmlet_disk.specs.Disk.{LeavesOnly, faults_after}
 use Rattle.charmlet_disk.specs.File.{MayLeave, CrashBytes}
 use Rattle.charmlet_disk.proofs.Moments.{after_that}
 use Rattle.charmlet_journal.specs.NewStores.{new_core}
@@ -110,7 +111,7 @@ module _ {D : Type 0} (G : disks.Ghosts D) (first last : D) (script : Contents) 
   pub handed_back : (refusal : Refusal) → G.faults last ≡ faults_after (is_no_failure {X = D} (Err refusal)) (G.faults first) →
       (G.honest first → refusal ≡ refusals.AlreadyHere → IsOpen (G.file first Zero).now ⊎ IsOpen (G.file first One).now) →
       (G.honest first → refusal ≡ refusals.Memory → IsClosed (G.file first Zero).now × IsClosed (G.file first One).now) →
-      (G.honest first → refusal ≢ refusals.Device → SameFiles (G.file first) (G.file last) × LeavesOnly G.moment G.since first last (MayLeave (G.file first))) →
+      (G.honest first → refusal ≢ refusals.Device → IsOnlyRead G first last) →
       (G.honest first → IsOpen (G.file first Zero).now ⊎ IsOpen (G.file first One).now → LeavesOnly G.moment G.since first last (MayLeave (G.file first))) →
       (G.honest first → IsClosed (G.file first Zero).now → IsClosed (G.file first One).now → LeavesOnly G.moment G.since first last (IsNothingOrNew manifest)) →
       IsHandedBack G first last script refusal

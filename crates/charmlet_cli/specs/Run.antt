@@ -11,7 +11,8 @@ use Rattle.charmlet_locate.specs.Locations.{is_processor_count}
 use Rattle.charmlet_recovery.specs.Outcomes.{IsLawful}
 use Rattle.charmlet_recovery.specs.Recovered.{Nothing, recovered}
 use Rattle.charmlet_disk.specs.declared.disk.Disk as disks
-use Rattle.charmlet_disk.specs.Disk.{LeavesOnly, SameFiles, faults_after}
+use Rattle.charmlet_disk.specs.Calls.{IsOnlyRead}
+use Rattle.charmlet_disk.specs.Disk.{LeavesOnly, faults_after}
 use Rattle.charmlet_disk.specs.File.{MayLeave, CrashBytes}
 use Rattle.charmlet_image.specs.Spelled.{IsClosed}
 use Rattle.charmlet_halves.specs.Bytes.{IsOpen}
@@ -97,8 +98,7 @@ module _ {D : Type 0} (G : disks.Ghosts D) where
         ⊎ IsOpen (G.file first One).now
     pub lacked : refusal ≡ Memory → IsClosed (G.file first Zero).now
         × IsClosed (G.file first One).now
-    pub unwritten : refusal ≢ Device → SameFiles (G.file first) (G.file end)
-        × LeavesOnly G.moment G.since first end (MayLeave (G.file first))
+    pub unwritten : refusal ≢ Device → IsOnlyRead G first end
     pub open_kept : IsOpen (G.file first Zero).now ⊎ IsOpen (G.file first One).now →
         LeavesOnly G.moment G.since first end (MayLeave (G.file first))
     pub any_moment : IsClosed (G.file first Zero).now → IsClosed (G.file first One).now →
