@@ -5,7 +5,7 @@ ghost use Rattle.charmlet_model.specs.declared.kind.Kind as kinds;
 ghost use Rattle.charmlet_model.specs.Core.{place_of};
 ghost use Rattle.charmlet_model.specs.Shelves.{count_of};
 ghost use Rattle.charmlet_model.specs.World.{record_of};
-ghost use Rattle.charmlet_history.specs.Kept.{next_in};
+ghost use Rattle.charmlet_history.specs.Kept.{is_quiet, next_in};
 ghost use Rattle.charmlet_checkpoint.specs.Showing.{IsImageOf, IsRefusal, IsWithinLimits};
 ghost use Rattle.charmlet_stock.specs.ByKind.{with_at};
 ghost use Rattle.charmlet_stock.specs.Pile.{with_out};
@@ -16,6 +16,7 @@ ghost use Rattle.charmlet_engine.specs.Advances.{Advances};
 ghost use Rattle.charmlet_engine.specs.Engine.{core_of, supplied_of, view_of, world_of};
 
 use crate::engine::Engine;
+use charmlet_births::Ticks;
 use charmlet_chare::Chare;
 use charmlet_checkpoint::image_of;
 use charmlet_disk::Disk;
@@ -23,6 +24,7 @@ use charmlet_model::{Elem, Event, Kind, MsgId, Refusal};
 use charmlet_stock::Stock;
 use charmlet_store::{Census, Look};
 use std::alloc::AllocError;
+use std::sync::ledger::Ledger;
 
 impl<D: Disk, C: Chare> Engine<D, C> {
     /// Takes blank objects into the stock. Where memory is refused it hands all of them back, and
@@ -77,6 +79,21 @@ impl<D: Disk, C: Chare> Engine<D, C> {
         ensures { result ≡ next_in (core_of self.now) }
     {
         self.store.next()
+    }
+
+    /// The same. It is at most one look at a pending message for each processor.
+    pub fn next_in<L: Ledger>(&self, ticks: &mut Ticks<L>) -> Option<(u16, MsgId)>
+        ensures next { result ≡ next_in (core_of self.now) }
+        ensures ticks { ticks.new ≤ ticks.old + (core_of self.now).processors }
+    {
+        self.store.next_in(ticks)
+    }
+
+    /// Whether no pending message can be delivered. It takes no memory.
+    pub fn quiet(&self) -> bool
+        ensures { result ≡ is_quiet (core_of self.now) }
+    {
+        self.store.quiet()
     }
 
     /// How many messages are pending.

@@ -1,21 +1,18 @@
 -- The receivers of what is assigned have entries, after each change.
-use Rattle.std.proofs.Common.{◌≡◌, ℕ, ◌≤◌, Bool, false, true, cond, if◌then◌else◌, List, [], ◌∷◌, ◌++◌, length, refl, sym, ap, subst, ◌∙◌, arith}
-use Rattle.std.specs.Prelude.{Option, Some, None, IfSome, unwrap_or}
-use Rattle.std.specs.Ordering.{is_eq, eq_by_cmp, nat_cmp}
+use Rattle.std.proofs.Common.{◌≡◌, ℕ, ◌≤◌, Bool, false, true, cond, List, [], ◌∷◌, ◌++◌, length, refl, sym, ap, subst, ◌∙◌, arith}
+use Rattle.std.specs.Prelude.{Option, Some, None, IfSome}
+use Rattle.std.specs.Ordering.{eq_by_cmp, nat_cmp}
 use Rattle.std.specs.Cmp.{nat_cmp_total}
 use Rattle.std.specs.BTreeMap.{is_at}
 use Rattle.std.specs.Map.{lookup, remove_entry}
-use Rattle.std.proofs.lemmas.Cmp.{tied_itself}
-use Rattle.std.proofs.lemmas.Map.Views.{tells_apart}
 use Rattle.charmlet_model.specs.declared.names.MsgId.{MsgId}
 use Rattle.charmlet_model.specs.declared.message.Message.{Message}
-use Rattle.charmlet_model.specs.Names.{elem_cmp, same_id}
+use Rattle.charmlet_model.specs.Names.{same_id}
 use Rattle.charmlet_model.specs.World.{message_among, without}
-use Rattle.charmlet_model.specs.Core.{Core, pending_message, place_or_home}
+use Rattle.charmlet_model.specs.Core.{Core, pending_message}
 use Rattle.charmlet_model.specs.Sound.{IsAssigned}
-use Rattle.charmlet_model.proofs.Maps.{elem_exact, tied_elem}
 use Rattle.charmlet_model.proofs.Deliveries.{apart_ids, apart_receivers, message-append, message-without}
-use Rattle.charmlet_model.proofs.Fits.{IfSome-map, found-id, same_id-is}
+use Rattle.charmlet_model.proofs.Fits.{IfSome-map, found-id}
 use Rattle.charmlet_model.proofs.Removals.{lookup-removed}
 use Rattle.charmlet_chare.specs.declared.output.Output.{Output}
 use Rattle.charmlet_record.specs.Backlog.{Batched, HasRoomFor}

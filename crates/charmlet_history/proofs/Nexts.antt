@@ -1,6 +1,6 @@
 -- The oldest message that can be delivered.
 use Rattle.std.proofs.Common.{◌≡◌, ℕ, ◌+◌, ◌==◌, ◌&&◌, ◌||◌, true, false, cond, List, [], ◌∷◌, refl, sym, ap, ◌∙◌}
-use Rattle.std.specs.Prelude.{Option, Some, nat_le, option_and_then, option_map}
+use Rattle.std.specs.Prelude.{Option, Some, is_none, nat_le, option_and_then, option_map}
 use Rattle.std.specs.Cmp.{nat_eq_equiv}
 use Rattle.std.specs.Cmp.Derive.{both_true}
 use Rattle.std.specs.List.{AllByRecursion}
@@ -17,8 +17,8 @@ use Rattle.charmlet_model.specs.Fit.{AreDistinct, AreApart}
 use Rattle.charmlet_model.specs.Core.{present, place_or_home}
 use Rattle.charmlet_model.proofs.Fits.{same_id-is}
 use Rattle.charmlet_model.proofs.SoundLemmas.{sound_fit}
-use Rattle.charmlet_world.specs.Seen.{is_deliverable, next_due}
-use Rattle.charmlet_history.specs.Kept.{Kept, IsConsistent, core_in, due_on, processor_for, next_in, place_or_home_in, seen_of}
+use Rattle.charmlet_world.specs.Seen.{is_deliverable, next_due, oldest, oldest_on}
+use Rattle.charmlet_history.specs.Kept.{Kept, IsConsistent, core_in, due_on, is_quiet, oldest_due_on, oldest_on_in, processor_for, next_in, place_or_home_in, seen_of}
 use Rattle.charmlet_history.proofs.Assigning.{place_or_home_is, there_is}
 
 -- ---- ids
@@ -73,6 +73,26 @@ module _ (k : Kept) (consistent : IsConsistent k) where
 
   pub next_is : next_due (seen_of k) k.pending ≡ next_in (core_in k)
   next_is = ap (next_due (seen_of k)) consistent.pending ∙ same_next w.pending (all_named w.pending (sound_fit (core_in k) consistent.sound).distinct)
+
+  same_on : (p : ℕ) (ms : List Message) → AllByRecursion (λ m. message_among m.id w.pending ≡ Some m) ms → oldest_on (seen_of k) p ms ≡ oldest_due_on (core_in k) p ms
+  same_on p [] named = refl
+  same_on p (m ∷ ms) named =
+      let core = core_in k in
+      let can_be = deliverable_is m ∙ ap (can_deliver w) (sym named.0) in
+      (λ i. cond ((sym (place_or_home_is k consistent m.to) i == p) && can_be i) (Some m.id) (oldest_on (seen_of k) p ms))
+      ∙ ap (cond ((place_or_home core m.to == p) && can w (Deliver m.id)) (Some m.id)) (same_on p ms named.1)
+
+  pub oldest_on_is : (p : ℕ) → oldest_on (seen_of k) p k.pending ≡ oldest_on_in (core_in k) p
+  oldest_on_is p = ap (oldest_on (seen_of k) p) consistent.pending ∙ same_on p w.pending (all_named w.pending (sound_fit (core_in k) consistent.sound).distinct)
+
+  same_oldest : (ms : List Message) → AllByRecursion (λ m. message_among m.id w.pending ≡ Some m) ms → oldest (seen_of k) ms ≡ oldest_deliverable w ms
+  same_oldest [] named = refl
+  same_oldest (m ∷ ms) named =
+      ap (λ b. cond b (Some m.id) (oldest (seen_of k) ms)) (deliverable_is m ∙ ap (can_deliver w) (sym named.0))
+      ∙ ap (cond (can w (Deliver m.id)) (Some m.id)) (same_oldest ms named.1)
+
+  pub quiet_is : is_none (oldest (seen_of k) k.pending) ≡ is_quiet (core_in k)
+  quiet_is = ap is_none (ap (oldest (seen_of k)) consistent.pending ∙ same_oldest w.pending (all_named w.pending (sound_fit (core_in k) consistent.sound).distinct))
 
   -- the processor of any pending message
   pub due_is : (id : MsgId) (m : Message) → message_among id k.pending ≡ Some m → Some (place_or_home_in k m.to) ≡ processor_for (core_in k) id

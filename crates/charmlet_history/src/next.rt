@@ -1,12 +1,14 @@
 //! The pending messages, and which of them is delivered next.
 
-ghost use Rattle.std.specs.Prelude.{◌≡◌, length};
+ghost use Rattle.std.specs.Prelude.{◌≡◌, ◌+◌, ◌≤◌, length};
 ghost use Rattle.charmlet_model.specs.Core.{present};
-ghost use Rattle.charmlet_history.specs.Kept.{core_in, next_in, processor_for};
+ghost use Rattle.charmlet_history.specs.Kept.{core_in, is_quiet, next_in, oldest_on_in, processor_for};
 
 use crate::history::History;
+use charmlet_births::Ticks;
 use charmlet_model::MsgId;
 use charmlet_world::Messages;
+use std::sync::ledger::Ledger;
 
 impl History {
     /// How many messages are pending.
@@ -33,8 +35,33 @@ impl History {
         self.present.next()
     }
 
-    /// The processor that is to deliver a pending message: the place of its receiver, or its home
-    /// if it isn't there. `None` if no such message is pending.
+    /// What `next` says, and the looks that it takes: at most one for each processor.
+    pub fn next_in<L: Ledger>(&self, ticks: &mut Ticks<L>) -> Option<(u16, MsgId)>
+        ensures next { result ≡ next_in (core_in self.now) }
+        ensures ticks { ticks.new ≤ ticks.old + (core_in self.now).processors }
+    {
+        self.present.next_in(ticks)
+    }
+
+    /// The oldest pending message on the processor that can be delivered, if there is one: a
+    /// message is where its receiver stands, or on the home of one that isn't there. It is at most
+    /// one look.
+    pub fn oldest_on<L: Ledger>(&self, processor: u16, ticks: &mut Ticks<L>) -> Option<MsgId>
+        ensures oldest { result ≡ oldest_on_in (core_in self.now) processor }
+        ensures ticks { ticks.new ≤ ticks.old + 1 }
+    {
+        self.present.oldest_on(processor, ticks)
+    }
+
+    /// Whether no pending message can be delivered. It takes no memory.
+    pub fn quiet(&self) -> bool
+        ensures { result ≡ is_quiet (core_in self.now) }
+    {
+        self.present.quiet()
+    }
+
+    /// The processor that is to deliver a pending message: the place of its receiver, or the home
+    /// of one that isn't there. None where no such message is pending.
     pub fn due_on(&self, id: MsgId) -> Option<u16>
         ensures { result ≡ processor_for (core_in self.now) id }
     {

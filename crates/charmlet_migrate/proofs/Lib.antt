@@ -4,4 +4,5 @@ pub mod Shelves
 pub mod Carried
 pub mod Others
 pub mod CanMove
+pub mod Leaving
 pub mod MoveCensus

@@ -9,7 +9,7 @@ ghost use Rattle.charmlet_model.specs.Run.{Goes};
 ghost use Rattle.charmlet_model.specs.Shelves.{count_of};
 ghost use Rattle.charmlet_model.specs.Sound.{new_world, opened};
 ghost use Rattle.charmlet_locate.specs.Locations.{is_processor_count};
-ghost use Rattle.charmlet_history.specs.Kept.{core_in, next_in, told_or_refused};
+ghost use Rattle.charmlet_history.specs.Kept.{core_in, is_quiet, next_in, told_or_refused};
 ghost use Rattle.charmlet_delivery.specs.Workplace.{done_or_refused};
 ghost use Rattle.charmlet_stock.specs.ByKind.{for_all, with_at};
 ghost use Rattle.charmlet_stock.specs.Pile.{with_out};
@@ -18,6 +18,7 @@ ghost use Rattle.charmlet_store.specs.Store.{AreEmpty, IsNew, store_in, supplied
 ghost use Rattle.charmlet_delivery.specs.UnderWay.{Ends};
 
 use crate::moving::move_among;
+use charmlet_births::Ticks;
 use charmlet_chare::Chare;
 use charmlet_delivery::deliver_on;
 use charmlet_history::{History, Request};
@@ -26,6 +27,7 @@ use charmlet_shelf::Shelf;
 use charmlet_stock::Stock;
 use std::alloc::{AllocError, Global};
 use std::marker::Model;
+use std::sync::ledger::Ledger;
 
 /// A history, a shelf for each processor with the objects that it made, and a stock of blank ones.
 /// It knows no disk: whoever writes the history to one shows that its parts still fit together. A
@@ -130,6 +132,21 @@ impl<C: Chare> Store<C> {
         ensures { result ≡ next_in (core_in self.now.history) }
     {
         self.history.next()
+    }
+
+    /// The same. It is at most one look for each processor.
+    pub fn next_in<L: Ledger>(&self, ticks: &mut Ticks<L>) -> Option<(u16, MsgId)>
+        ensures next { result ≡ next_in (core_in self.now.history) }
+        ensures ticks { ticks.new ≤ ticks.old + (core_in self.now.history).processors }
+    {
+        self.history.next_in(ticks)
+    }
+
+    /// Whether no pending message can be delivered. It takes no memory.
+    pub fn quiet(&self) -> bool
+        ensures { result ≡ is_quiet (core_in self.now.history) }
+    {
+        self.history.quiet()
     }
 
     /// A client asks for a delivery, and is told what is durable of it. A repeat of a request of

@@ -4,9 +4,16 @@ pub mod Indices
 pub mod Made
 pub mod Places
 pub mod Suiting
+pub mod Receiving
 pub mod Risen
 pub mod Rows
 pub mod RowsLemmas
 pub mod Sends
 pub mod ShownLemmas
 pub mod Showing
+pub mod Letters
+pub mod Enveloped
+pub mod EnvelopesKept
+pub mod Climbing
+pub mod Ties
+pub mod Tying

@@ -1,5 +1,5 @@
 -- The rows in rising order of their elements.
-use Rattle.std.proofs.Common.{◌≡◌, ℕ, true, false, cond, [], ◌∷◌, ◌++◌, refl, sym, ap, ◌∙◌, if◌then◌else◌, slice_get}
+use Rattle.std.proofs.Common.{◌≡◌, ℕ, true, false, cond, List, [], ◌∷◌, ◌++◌, refl, sym, ap, ◌∙◌, if◌then◌else◌, slice_get}
 use Rattle.std.specs.Prelude.{Option, Some, None, unwrap_or, is_some}
 use Rattle.std.proofs.Common.{drop, suc}
 use Rattle.std.specs.BTreeMap.{insert_entry, is_at}
@@ -40,7 +40,7 @@ risen-changed x e w es i distinct at =
     same_risen es (set_value_at es i w) x w
     (λ q. changed x q e w es i distinct at ∙ (λ j. cond (same_other_way x q j) (Some w) (lookup (same_elem q) es)))
 
-lookup-append : (q : Elem) (es : Rows) (x : Elem) (w : Element) → lookup (same_elem x) es ≡ None → lookup (same_elem q) (es ++ (x, w) ∷ []) ≡ cond (same_elem q x) (Some w) (lookup (same_elem q) es)
+pub lookup-append : {V : Type 0} (q : Elem) (es : List (Elem × V)) (x : Elem) (w : V) → lookup (same_elem x) es ≡ None → lookup (same_elem q) (es ++ (x, w) ∷ []) ≡ cond (same_elem q x) (Some w) (lookup (same_elem q) es)
 lookup-append q [] x w none = refl
 lookup-append q (e ∷ es) x w none =
     elim (same_elem x e.0) as (λ b. same_elem x e.0 ≡ b → (if b then Some e.1 else lookup (same_elem x) es) ≡ None

@@ -24,18 +24,18 @@ same_other_way a b = by (same_elem a b) refl (same_elem b a) refl
     by false h false k = h ∙ sym k
 
 -- a new row is the last
-pub last_row : (es : Rows) (e : Elem × Element) → slice_get (es ++ e ∷ []) (length es) ≡ Some e
+pub last_row : {V : Type 0} (es : List (Elem × V)) (e : Elem × V) → slice_get (es ++ e ∷ []) (length es) ≡ Some e
 last_row [] e = refl
 last_row (f ∷ es) e = last_row es e
 
 -- the first row that passes
-at_first : (x : Elem) (es : Rows) → position_or_len (same_elem x) (keys_of es) < length (keys_of es) → slice_get es (position_or_len (same_elem x) (keys_of es)) ≡ Some (x, element_in es x)
-at_first x [] h = absurd (omega arith)
-at_first x (e ∷ es) h =
+at_first : {V : Type 0} (d : V) (x : Elem) (es : List (Elem × V)) → position_or_len (same_elem x) (keys_of es) < length (keys_of es) → slice_get es (position_or_len (same_elem x) (keys_of es)) ≡ Some (x, unwrap_or (lookup (same_elem x) es) d)
+at_first d x [] h = absurd (omega arith)
+at_first d x (e ∷ es) h =
     let p = position_or_len (same_elem x) (keys_of es) in
-    elim (same_elem x e.0) as (λ b. same_elem x e.0 ≡ b → cond (not b) (1 + p) 0 < length (keys_of (e ∷ es)) → slice_get (e ∷ es) (cond (not b) (1 + p) 0) ≡ Some (x, unwrap_or (if b then Some e.1 else lookup (same_elem x) es) no_element)) [
+    elim (same_elem x e.0) as (λ b. same_elem x e.0 ≡ b → cond (not b) (1 + p) 0 < length (keys_of (e ∷ es)) → slice_get (e ∷ es) (cond (not b) (1 + p) 0) ≡ Some (x, unwrap_or (if b then Some e.1 else lookup (same_elem x) es) d)) [
       | true ↦ λ same _. let key = same_from_test x e.0 same in λ j. Some (sym key j, e.1)
-      | false ↦ λ _ less. let step : suc p ≡ 1 + p = omega arith in subst (λ k. slice_get (e ∷ es) k ≡ Some (x, element_in es x)) step (at_first x es (omega arith))
+      | false ↦ λ _ less. let step : suc p ≡ 1 + p = omega arith in subst (λ k. slice_get (e ∷ es) k ≡ Some (x, unwrap_or (lookup (same_elem x) es) d)) step (at_first d x es (omega arith))
     ] refl h
 
 first_place : (p n i : ℕ) → cond (nat_lt p n) (Some p) None ≡ Some i → (p ≡ i) × (p < n)
@@ -46,13 +46,16 @@ first_place p n i is =
     ] refl is
 
 -- where an element is found, it and its row are
-pub at_position : (x : Elem) (es : Rows) (i : ℕ) → position (same_elem x) (keys_of es) ≡ Some i → slice_get es i ≡ Some (x, element_in es x)
-at_position x es i is =
+pub position_there : {V : Type 0} (d : V) (x : Elem) (es : List (Elem × V)) (i : ℕ) → position (same_elem x) (keys_of es) ≡ Some i → slice_get es i ≡ Some (x, unwrap_or (lookup (same_elem x) es) d)
+position_there d x es i is =
     let first = first_place (position_or_len (same_elem x) (keys_of es)) (length (keys_of es)) i is in
-    subst (λ k. slice_get es k ≡ Some (x, element_in es x)) first.0 (at_first x es first.1)
+    subst (λ k. slice_get es k ≡ Some (x, unwrap_or (lookup (same_elem x) es) d)) first.0 (at_first d x es first.1)
+
+pub at_position : (x : Elem) (es : Rows) (i : ℕ) → position (same_elem x) (keys_of es) ≡ Some i → slice_get es i ≡ Some (x, element_in es x)
+at_position x es i is = position_there no_element x es i is
 
 -- an element that has no row gets one at the end
-pub none_found : (o : Option Element) → false ≡ is_some o → o ≡ None
+pub none_found : {V : Type 0} (o : Option V) → false ≡ is_some o → o ≡ None
 none_found None h = refl
 none_found (Some e) h = absurd (let no : ⊥ = cc in no)
 
@@ -63,18 +66,22 @@ pub new_row : (x : Elem) (es : Rows) → lookup (same_elem x) es ≡ None → sl
 new_row x es none = rw none (last_row es (x, no_element))
 
 -- the element of a row is not one that no row has
-pub apart_at : (x z : Elem) (es : Rows) (i : ℕ) (e : Element) → AllByRecursion (λ k. same_elem z k ≡ false) (keys_of es) → slice_get es i ≡ Some (x, e) → same_elem z x ≡ false
+pub apart_at : {V : Type 0} (x z : Elem) (es : List (Elem × V)) (i : ℕ) (e : V) → AllByRecursion (λ k. same_elem z k ≡ false) (keys_of es) → slice_get es i ≡ Some (x, e) → same_elem z x ≡ false
 apart_at x z [] i e h at = absurd (let no : ⊥ = cc in no)
 apart_at x z (f ∷ es) Prim.Native.Nat.zero e h at = let key : f.0 ≡ x = λ j. (unwrap_or (at j) f).0 in subst (λ k. same_elem z k ≡ false) key h.0
 apart_at x z (f ∷ es) (suc i) e h at = apart_at x z es i e h.1 at
 
 -- and so is it where a table finds it
+pub is_found_by : {V : Type 0} (d : V) (x : Elem) (es : List (Elem × V)) (r : Option ℕ) → r ≡ position (same_elem x) (keys_of es) → IfSome r (λ i. slice_get es i ≡ Some (x, unwrap_or (lookup (same_elem x) es) d))
+is_found_by d x es None is = search rules
+is_found_by d x es (Some i) is = position_there d x es i (sym is)
+
 pub is_found : (x : Elem) (es : Rows) (r : Option ℕ) → r ≡ position (same_elem x) (keys_of es) → IfSome r (λ i. slice_get es i ≡ Some (x, element_in es x))
 is_found x es None is = search rules
 is_found x es (Some i) is = at_position x es i (sym is)
 
 -- a change by index is a change of that element, and of no other
-pub changed : (x y : Elem) (e w : Element) (es : Rows) (i : ℕ) → IsDistinct same_elem (keys_of es) → slice_get es i ≡ Some (x, e)
+pub changed : {V : Type 0} (x y : Elem) (e w : V) (es : List (Elem × V)) (i : ℕ) → IsDistinct same_elem (keys_of es) → slice_get es i ≡ Some (x, e)
     → lookup (same_elem y) (set_value_at es i w) ≡ (if same_elem x y then Some w else lookup (same_elem y) es)
 unfolding IsDistinct
 changed x y e w [] i h at = absurd (let no : ⊥ = cc in no)

@@ -1,11 +1,13 @@
 -- The definitions that contracts cite.
 pub mod Changed
 pub mod Client
+pub mod Envelopes
 pub mod Ids
 pub mod Laws
 pub mod Made
 pub mod Seen
 pub mod Standing
+pub mod Tied
 pub mod Waiting
 pub use Rattle.charmlet_model.specs.Core
 pub use Rattle.charmlet_model.specs.Fit

@@ -2,15 +2,20 @@
 //! clients.
 #![tactic(auto)]
 
+mod calls;
 mod client;
 mod clients;
+mod dispatch;
 mod element;
 mod elements;
+mod envelope;
+mod envelopes;
 pub mod laws;
 mod letter;
 mod messages;
 mod pending;
 mod present;
+mod receivers;
 mod sending;
 
 pub use crate::client::Client;
@@ -18,5 +23,5 @@ pub use crate::element::Element;
 pub use crate::elements::{Elements, Slot};
 pub use crate::letter::Letter;
 pub use crate::messages::Messages;
-pub use crate::pending::Pending;
+pub use crate::pending::{Pending, Taken};
 pub use crate::present::PresentWorld;

@@ -1,6 +1,6 @@
 //! The present world.
 
-ghost use Rattle.std.specs.Prelude.{◌≡◌, ℕ, ◌+◌, ◌<◌, ◌≤◌, [], ◌∷◌, List, length, true, is_some, option_map, option_copied, slice_get, Some, None, IfOk, IfSome, OnOk, OnErr, IsSome, IsOk, unwrap_or, if◌then◌else◌};
+ghost use Rattle.std.specs.Prelude.{◌≡◌, ℕ, ◌+◌, ◌<◌, ◌≤◌, [], ◌∷◌, List, length, true, is_none, is_some, option_map, option_copied, slice_get, Some, None, IfOk, IfSome, OnOk, OnErr, IsSome, IsOk, unwrap_or};
 ghost use Rattle.std.specs.BTreeMap.{is_at};
 ghost use Rattle.std.specs.Map.{keys_of, lookup, values_of};
 ghost use Rattle.std.specs.Ordering.{nat_cmp};
@@ -13,31 +13,29 @@ ghost use Rattle.charmlet_model.specs.Names.{elem_cmp};
 ghost use Rattle.charmlet_model.specs.World.{World as AWorld, after, message_among};
 ghost use Rattle.charmlet_model.specs.declared.event.Event.TheVariants.{Accept, Deliver};
 ghost use Rattle.charmlet_model.specs.declared.names.Elem.{Elem as AnElem};
-ghost use Rattle.charmlet_model.specs.declared.names.MsgId.{MsgId as AnId};
 ghost use Rattle.charmlet_model.specs.declared.names.Origin.TheVariants as origins;
 ghost use Rattle.charmlet_locate.specs.Locations.{is_processor_count};
 ghost use Rattle.charmlet_world.specs.declared.element.Element.{Element as AnElement};
-ghost use Rattle.charmlet_world.specs.Changed.{IsOutputOf, Suits, accepted, delivered_in, flushed_row, place_after, relocated, with_entry};
-ghost use Rattle.charmlet_world.specs.Seen.{IsSlot, Shows, client_at, element_at, is_deliverable, next_due, oldest, place_or_home_in, seen, takes};
+ghost use Rattle.charmlet_world.specs.Changed.{IsOutputOf, Suits, accepted, delivered_in, flushed_row, relocated, with_entry};
+ghost use Rattle.charmlet_world.specs.Seen.{IsSlot, Shows, client_at, element_at, next_due, oldest, oldest_on, place_or_home_in, seen};
 ghost use Rattle.charmlet_world.specs.Standing.{places_of, risen};
 ghost use Rattle.charmlet_world.specs.Waiting.{message_of};
 
 use crate::client::Client;
 use crate::clients::{flush_row, keep_reply, note_request};
+use crate::dispatch::{Delivered, Dispatch, place_in};
 use crate::element::Element;
-use crate::elements::{Elements, Slot};
+use crate::elements::Slot;
 use crate::letter::Letter;
 use crate::messages::Messages;
-use crate::pending::Pending;
 use crate::sending::push_sends;
+use charmlet_births::Ticks;
 use charmlet_chare::Output;
-use charmlet_locate::home;
-use charmlet_model::{
-    CONSTRUCT, ClientRow, Elem, MAX_SENDS, Manifest, Message, MsgId, Origin, Told, Words,
-};
+use charmlet_model::{ClientRow, Elem, MAX_SENDS, Manifest, Message, MsgId, Origin, Told, Words};
 use std::alloc::{AllocError, Global};
 use std::collections::BTreeMap;
 use std::marker::Model;
+use std::sync::ledger::Ledger;
 
 /// The present world without its objects: the place and the counts of each element, the pending
 /// messages in order of birth, and the clients' rows in the present and in the durable world. A
@@ -45,10 +43,7 @@ use std::marker::Model;
 #[derive(Drop)]
 pub struct PresentWorld {
     manifest: Manifest,
-    /// How many processors there are, 1 to 64. They count from 0.
-    processors: u16,
-    elements: Elements,
-    pending: Pending,
+    dispatch: Dispatch,
     clients: BTreeMap<u32, Client>,
     /// How many deliveries have room for all that they may send.
     promised: usize,
@@ -61,14 +56,14 @@ impl Model for PresentWorld {
 
     ghost view = { λ w. record {
       manifest = w.manifest;
-      processors = w.processors;
-      rows = w.elements.entries;
-      pending = w.pending.messages;
+      processors = w.dispatch.processors;
+      rows = w.dispatch.rows;
+      pending = w.dispatch.pending;
       clients = w.clients.entries;
       promised = w.promised;
     } };
 
-    ghost invariant = { λ w. HasRoom w.processors w.promised w.pending.room };
+    ghost invariant = { λ w. HasRoom w.dispatch.processors w.promised w.dispatch.room };
 }
 
 impl PresentWorld {
@@ -88,9 +83,7 @@ impl PresentWorld {
     {
         PresentWorld {
             manifest,
-            processors,
-            elements: Elements::new(alloc),
-            pending: Pending::new(alloc),
+            dispatch: Dispatch::new(alloc, processors),
             clients: BTreeMap::new(alloc),
             promised: 0,
         }
@@ -108,6 +101,8 @@ impl PresentWorld {
     ) -> Result<Self, AllocError>
         requires processors { is_processor_count processors ≡ true }
         requires distinct { AreDistinct pending.items }
+        requires places { (x : AnElem) →
+            IfSome (element_at elements.entries x).place (λ p. p < processors) }
         ensures seen { IfOk result (λ world. seen world
             ≡ record {
               manifest = manifest;
@@ -120,9 +115,7 @@ impl PresentWorld {
     {
         Ok(PresentWorld {
             manifest,
-            processors,
-            elements: Elements::of_tree(alloc, elements)?,
-            pending: Pending::of(alloc, pending)?,
+            dispatch: Dispatch::of(alloc, processors, elements, pending)?,
             clients,
             promised: 0,
         })
@@ -146,14 +139,14 @@ impl PresentWorld {
     pub fn pending_count(&self) -> usize
         ensures { result ≡ length self.now.pending }
     {
-        self.pending.len()
+        self.dispatch.pending().len()
     }
 
     /// The pending messages, in order of birth. It takes no memory.
     pub fn messages(&self) -> Messages<'_>
         ensures { result ≡ self.now.pending }
     {
-        self.pending.iter()
+        self.dispatch.pending().iter()
     }
 
     /// What is kept of the pending message of this id.
@@ -161,14 +154,14 @@ impl PresentWorld {
         ensures { option_map (λ letter. message_of id letter.now) result
             ≡ message_among id self.now.pending }
     {
-        self.pending.find(id)
+        self.dispatch.pending().find(id)
     }
 
     /// What is kept of an element.
     pub fn element(&self, elem: Elem) -> Element
         ensures { result ≡ element_at (seen self.now).elements elem }
     {
-        self.elements.element(elem)
+        self.dispatch.elements().element(elem)
     }
 
     /// What is kept in this slot.
@@ -176,7 +169,7 @@ impl PresentWorld {
         requires { slot < length self.now.rows }
         ensures { slice_get (values_of self.now.rows) slot ≡ Some result }
     {
-        self.elements.at(slot)
+        self.dispatch.elements().at(slot)
     }
 
     /// How many processors there are, 1 to 64.
@@ -184,21 +177,21 @@ impl PresentWorld {
         ensures count { result ≡ self.now.processors }
         ensures few { is_processor_count result ≡ true }
     {
-        self.processors
+        self.dispatch.processors()
     }
 
     /// The processor of an element, given what is kept of it, or the home of one that isn't there.
     pub fn place_of(&self, elem: Elem, element: &Element) -> u16
         ensures { result ≡ unwrap_or element.now.place (home elem self.now.processors) }
     {
-        place_in(self.processors, elem, element.place)
+        place_in(self.dispatch.processors(), elem, element.place)
     }
 
     /// The processor of an element, or the home of one that isn't there.
     pub fn place_or_home(&self, elem: Elem) -> u16
         ensures { result ≡ place_or_home_in (seen self.now) elem }
     {
-        place_in(self.processors, elem, self.element(elem).place)
+        place_in(self.dispatch.processors(), elem, self.element(elem).place)
     }
 
     /// A copy of what is kept of each element, in rising order. It sorts, and fails only when out
@@ -206,7 +199,7 @@ impl PresentWorld {
     pub fn rising(&self, alloc: Global) -> Result<BTreeMap<Elem, Element>, AllocError>
         ensures { IfOk result (λ tree. tree.entries ≡ (seen self.now).elements) }
     {
-        self.elements.rising(alloc)
+        self.dispatch.elements().rising(alloc)
     }
 
     /// The processor of each element that is there, in rising order of the elements. It fails only
@@ -215,7 +208,7 @@ impl PresentWorld {
         ensures places { IfOk result (λ tree. tree.entries ≡ places_of (seen self.now).elements) }
         ensures nothing { places_of (seen self.now).elements ≡ [] → IsOk result }
     {
-        self.elements.places(alloc)
+        self.dispatch.elements().places(alloc)
     }
 
     /// What is kept of a client, if it made a request.
@@ -251,33 +244,44 @@ impl PresentWorld {
     pub fn oldest(&self) -> Option<MsgId>
         ensures { result ≡ oldest (seen self.now) self.now.pending }
     {
-        for (id, letter) in self.pending.iter() {
-            if self.is_deliverable(letter) {
-                return Some(id);
-            }
-        }
-        None
+        let Some((_processor, id)) = self.dispatch.next() else {
+            return None;
+        };
+        Some(id)
     }
 
-    /// The oldest pending message that can be delivered, and before it the processor of its
-    /// receiver, or the home of one that isn't there.
+    /// The oldest pending message on the processor that can be delivered by the counts that are
+    /// kept. It is at most one look.
+    pub fn oldest_on<L: Ledger>(&self, processor: u16, ticks: &mut Ticks<L>) -> Option<MsgId>
+        ensures oldest { result ≡ oldest_on (seen self.now) processor self.now.pending }
+        ensures ticks { ticks.new ≤ ticks.old + 1 }
+    {
+        self.dispatch.oldest_on(processor, ticks)
+    }
+
+    /// The oldest pending message that can be delivered by the counts that are kept, and before it
+    /// the processor of its receiver, or the home of one that isn't there. It is at most one look
+    /// for each processor.
+    pub fn next_in<L: Ledger>(&self, ticks: &mut Ticks<L>) -> Option<(u16, MsgId)>
+        ensures next { result ≡ next_due (seen self.now) self.now.pending }
+        ensures ticks { ticks.new ≤ ticks.old + self.now.processors }
+    {
+        self.dispatch.next_in(ticks)
+    }
+
+    /// The oldest pending message that can be delivered by the counts that are kept, and before it
+    /// the processor of its receiver, or the home of one that isn't there. It takes no memory.
     pub fn next(&self) -> Option<(u16, MsgId)>
         ensures { result ≡ next_due (seen self.now) self.now.pending }
     {
-        for (id, letter) in self.pending.iter() {
-            let element = self.element(letter.to);
-            if is_taken_by(&element, letter) {
-                return Some((place_in(self.processors, letter.to, element.place), id));
-            }
-        }
-        None
+        self.dispatch.next()
     }
 
-    /// Whether the receiver is there or is constructed, and its counts have room.
-    fn is_deliverable(&self, letter: &Letter) -> bool
-        ensures { (id : AnId) → result ≡ is_deliverable (seen self.now) (message_of id letter.now) }
+    /// Whether no pending message can be delivered by the counts that are kept. It takes no memory.
+    pub fn quiet(&self) -> bool
+        ensures { result ≡ is_none (oldest (seen self.now) self.now.pending) }
     {
-        is_taken_by(&self.element(letter.to), letter)
+        self.dispatch.quiet()
     }
 
     /// Accepts a client's request, whose id no pending message may have. The room for deliveries
@@ -300,17 +304,17 @@ impl PresentWorld {
         ensures promised { self.new.promised ≡ self.old.promised }
         ensures err { OnErr result (self.new ≡ self.old) }
     {
-        self.pending.reserve(1 + MAX_SENDS * self.promised)?;
+        self.dispatch.reserve(1 + MAX_SENDS * self.promised)?;
         note_request(&mut self.clients, client, number)?;
         let origin = Origin::Client(client);
         let id = MsgId { origin, number };
-        self.pending.push(Message {
+        self.dispatch.push(Message {
             id,
             to,
             entry,
             words,
         });
-        self.expect_oldest();
+        self.dispatch.expect_oldest();
         Ok(())
     }
 
@@ -326,7 +330,7 @@ impl PresentWorld {
             IsOk result }
         ensures err { OnErr result (self.new ≡ self.old) }
     {
-        self.elements.slot_for(elem)
+        self.dispatch.slot_for(elem)
     }
 
     /// Makes all the room for the delivery of a pending message, so that its commit takes no
@@ -350,11 +354,12 @@ impl PresentWorld {
         ensures world { (w : AWorld) → Shows (seen self.old) w → Shows (seen self.new) w }
         ensures err { OnErr result (self.new ≡ self.old) }
     {
-        self.pending.reserve(MAX_SENDS * (self.promised + 1))?;
-        let Some(letter) = self.pending.find(id) else {
+        self.dispatch.reserve(MAX_SENDS * (self.promised + 1))?;
+        let Some(letter) = self.dispatch.pending().find(id) else {
             unreachable!()
         };
-        let slot = self.elements.slot_for(letter.to)?;
+        let to = letter.to;
+        let slot = self.dispatch.slot_for(to)?;
         self.promised += 1;
         Ok(slot)
     }
@@ -383,49 +388,33 @@ impl PresentWorld {
         ensures slots { keys_of self.new.rows ≡ keys_of self.old.rows }
         ensures promised { self.new.promised + 1 ≡ self.old.promised }
     {
-        let Some(message) = self.pending.take(id) else {
-            unreachable!()
-        };
         let Output {
             sends,
             reply,
             is_destroyed,
         } = output;
         let sends = sends.into_vec();
-        let element = self.elements.at(slot);
-        let place = place_after(self.processors, message.to, &element, is_destroyed);
-        let mut advanced = element;
-        advanced.advance(place, sends.len() as u64);
-        self.elements.set(slot, advanced);
-        push_sends(&mut self.pending, message.to, element.sent, sends);
+        let count = sends.len() as u64;
+        let Delivered { message, sent } = self.dispatch.deliver(slot, id, count, is_destroyed);
+        push_sends(&mut self.dispatch, message.to, sent, sends);
         keep_reply(&mut self.clients, message.id, reply);
         self.promised -= 1;
-        self.expect_oldest();
+        self.dispatch.expect_oldest();
     }
 
-    /// Looks up the receiver of the oldest message, which is usually delivered next.
-    fn expect_oldest(&mut self)
-        ensures { self.new ≡ self.old }
-    {
-        if let Some(letter) = self.pending.at_start() {
-            self.elements.expect(letter.to);
-        }
-    }
-
-    /// Moves an element that is there to the processor. It takes no memory.
-    pub fn relocate(&mut self, elem: Elem, processor: u16)
-        requires { is_some (element_at (seen self.old).elements elem).place ≡ true }
-        ensures seen { seen self.new ≡ relocated (seen self.old) elem processor }
+    /// An element that is there stands on the processor from now on. It takes no memory where no
+    /// message to it is pending. Where memory is refused, nothing changes.
+    pub fn relocate(&mut self, elem: Elem, processor: u16) -> Result<(), AllocError>
+        requires there { is_some (element_at (seen self.old).elements elem).place ≡ true }
+        requires processor { processor < self.old.processors }
+        ensures seen { OnOk result (seen self.new ≡ relocated (seen self.old) elem processor) }
         ensures world { (w : AWorld) → Shows (seen self.old) w → Shows (seen self.new) w }
         ensures slots { keys_of self.new.rows ≡ keys_of self.old.rows }
         ensures promised { self.new.promised ≡ self.old.promised }
+        ensures err { OnErr result (self.new ≡ self.old) }
     {
-        let Some(slot) = self.elements.slot_of(elem) else {
-            unreachable!()
-        };
-        let mut element = self.elements.at(slot);
-        element.place = Some(processor);
-        self.elements.set(slot, element);
+        self.dispatch.relocate(elem, processor)?;
+        Ok(())
     }
 
     /// Makes a client's row durable. It takes no memory.
@@ -434,38 +423,4 @@ impl PresentWorld {
     {
         flush_row(&mut self.clients, client);
     }
-}
-
-/// Whether the element is there or is constructed by the message, and its counts have room.
-fn is_taken_by(element: &Element, letter: &Letter) -> bool
-    ensures { result ≡ takes element.now letter.now.entry }
-{
-    (element.place.is_some() || letter.entry == CONSTRUCT) && element.has_room()
-}
-
-/// The place of an element, or the home of one that has none.
-fn place_in(processors: u16, elem: Elem, place: Option<u16>) -> u16
-    requires { is_processor_count processors ≡ true }
-    ensures { result ≡ unwrap_or place (home elem processors) }
-{
-    if let Some(place) = place {
-        return place;
-    }
-    let Ok(home) = home(elem, processors) else {
-        unreachable!()
-    };
-    home
-}
-
-/// Where an element stands after a delivery, given what was kept of it before: nowhere, if the
-/// delivery destroyed it.
-fn place_after(processors: u16, elem: Elem, element: &Element, is_destroyed: bool) -> Option<u16>
-    requires { is_processor_count processors ≡ true }
-    ensures { result ≡ (if is_destroyed then None
-        else Some (unwrap_or element.now.place (home elem processors))) }
-{
-    if is_destroyed {
-        return None;
-    }
-    Some(place_in(processors, elem, element.place))
 }

@@ -135,10 +135,10 @@ fn assigned(history: &History, processor: u16) -> Option<MsgId> {
 // The element moves to the processor, if it can.
 fn relocate(history: &mut History, elem: Elem, processor: u16) -> Option<Refusal> {
     match history.test_move(elem, processor) {
-        Ok(_) => {
-            history.relocate(elem, processor);
-            None
-        }
+        Ok(_) => match history.relocate(elem, processor) {
+            Ok(()) => None,
+            Err(_) => Some(Refusal::Memory),
+        },
         Err(refusal) => Some(refusal),
     }
 }

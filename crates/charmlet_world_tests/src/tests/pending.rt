@@ -1,6 +1,7 @@
 // The pending messages against a plain list, on long random sequences of births and takes.
 
-ghost use Rattle.std.specs.Prelude.{◌≡◌, None};
+ghost use Rattle.std.specs.Prelude.{◌≡◌, ◌<◌, None};
+ghost use Rattle.charmlet_model.specs.Reaction.{greatest};
 ghost use Rattle.charmlet_model.specs.World.{message_among};
 
 use charmlet_model::{Elem, Message, MsgId, Origin, Words};
@@ -56,7 +57,17 @@ fn lacks(rt: &impl Abort, pending: &Pending, id: MsgId)
     assert!(rt; pending.find(id).is_none(), "{id} is there");
 }
 
-// Adds a message at both ends of both lists. When out of memory, nothing has changed.
+// The next birth.
+fn next_birth(rt: &impl Abort, pending: &Pending) -> u64
+    ensures next { result ≡ pending.now.next }
+    ensures few { result < greatest }
+{
+    let born = pending.next();
+    assert!(rt; born < u64::MAX, "no births are left");
+    born
+}
+
+// Adds a message at both ends of both lists. Where memory is refused, nothing has changed.
 fn birth(
     rt: &(impl AllocGlobal + Abort),
     lists: &mut Lists,
@@ -66,7 +77,8 @@ fn birth(
     lists.pending.reserve(1)?;
     let message = message(rt.alloc(), number)?;
     lacks(rt, &lists.pending, message.id);
-    lists.pending.push(message);
+    let born = next_birth(rt, &lists.pending);
+    lists.pending.push(message, born);
     lists.plain.push(number)?;
     Ok(())
 }
@@ -89,8 +101,8 @@ fn is_message(rt: &impl Abort, message: &Message, number: u64) {
 fn take_message(rt: &impl Abort, pending: &mut Pending, number: u64) {
     let id = id_of(number);
     assert!(rt; pending.find(id).is_some(), "{number} isn't found");
-    let message = pending.take(id).expect(rt, "it is taken");
-    is_message(rt, &message, number);
+    let taken = pending.take(id).expect(rt, "it is taken");
+    is_message(rt, &taken.message, number);
     lacks(rt, pending, id);
     assert!(rt; pending.take(id).is_none(), "{number} is taken twice");
 }
@@ -264,7 +276,8 @@ fn sixteen_messages_come_within_the_room_that_was_made(rt: HostRuntime) {
     for number in 0..16 {
         let message = message(rt.alloc(), number).expect(&rt, "memory");
         assert!(rt; pending.find(message.id).is_none());
-        pending.push(message);
+        let born = next_birth(&rt, &pending);
+        pending.push(message, born);
     }
     assert_eq!(rt; pending.len(), 16);
 }

@@ -1,8 +1,9 @@
 // The present world against the plain one, event by event, on random histories.
 
-ghost use Rattle.std.specs.Prelude.{◌≡◌, OnOk, true};
+ghost use Rattle.std.specs.Prelude.{◌≡◌, ◌<◌, OnOk, true};
 ghost use Rattle.charmlet_world_tests.specs.Pair.{IsPair};
 
+use charmlet_births::Ticks;
 use charmlet_chare::Output;
 use charmlet_model::{
     CONSTRUCT, Elem, Event, Manifest, Message, MsgId, Reaction, Told, Window, Words,
@@ -12,7 +13,9 @@ use charmlet_world::{Letter, PresentWorld};
 use rand_core::utils::NextWord;
 use rand_pcg::Pcg32;
 use std::alloc::{AllocError, AllocGlobal, Global};
+use std::marker::Brand;
 use std::process::Abort;
+use std::sync::ledger::{Blank, Ledger};
 
 const PROCESSORS: u16 = 4;
 
@@ -129,6 +132,42 @@ fn oldest(plain: &PlainWorld) -> Option<MsgId> {
     None
 }
 
+// The oldest message on a processor that can be delivered.
+fn oldest_there(world: &PresentWorld, plain: &PlainWorld, processor: u16) -> Option<MsgId> {
+    for message in plain.pending() {
+        let place = world.place_or_home(message.to);
+        if place == processor && plain.can_receive(message) {
+            return Some(message.id);
+        }
+    }
+    None
+}
+
+// The same, as the present world says it, with a count of its own.
+fn oldest_on<L: Ledger>(world: &PresentWorld, processor: u16, blank: Blank) -> Option<MsgId>
+    requires name { blank.name ≡ L.name }
+    requires parts { blank.parts ≡ L.parts }
+    requires some { 0 < blank.parts }
+{
+    let mut ticks = Ticks::<L>::new(blank);
+    world.oldest_on(processor, &mut ticks)
+}
+
+// What is found by the index is what a search through the messages finds.
+fn found_are_same(rt: &impl Abort, world: &PresentWorld, plain: &PlainWorld) {
+    let first = oldest(plain);
+    assert_eq!(rt; world.oldest(), first);
+    assert_eq!(rt; world.quiet(), first.is_none());
+    if let Some((processor, id)) = world.next() {
+        assert_eq!(rt; Some(id), first);
+        assert_eq!(rt; Some(id), oldest_there(world, plain, processor));
+    }
+    for processor in 0..PROCESSORS + 1 {
+        let here = oldest_on::<Brand>(world, processor, Blank::new(1));
+        assert_eq!(rt; here, oldest_there(world, plain, processor));
+    }
+}
+
 fn messages_are_same(rt: &impl Abort, world: &PresentWorld, plain: &PlainWorld) {
     assert_eq!(rt; world.pending_count(), plain.pending().len());
     let mut messages = plain.pending().iter();
@@ -137,7 +176,7 @@ fn messages_are_same(rt: &impl Abort, world: &PresentWorld, plain: &PlainWorld) 
         is_message(rt, id, letter, message);
     }
     assert!(rt; messages.next().is_none());
-    assert_eq!(rt; world.oldest(), oldest(plain));
+    found_are_same(rt, world, plain);
 }
 
 fn element_is_same(rt: &impl Abort, world: &PresentWorld, plain: &PlainWorld, elem: Elem) {
@@ -251,6 +290,24 @@ fn some_message(rng: &mut Pcg32, world: &PresentWorld, plain: &PlainWorld) -> Op
     Some(pending[place].id)
 }
 
+// An element that is there goes to another processor, or stays.
+fn some_move(
+    rng: &mut Pcg32,
+    world: &mut PresentWorld,
+    plain: &PlainWorld,
+) -> Result<bool, AllocError>
+    requires { IsPair world.old plain.now }
+    ensures { OnOk result (IsPair world.new plain.now) }
+{
+    let elem = some_elem(rng);
+    let processor = (rng.next_word() % 4) as u16;
+    if world.element(elem).place.is_none() || processor >= world.processors() {
+        return Ok(false);
+    }
+    world.relocate(elem, processor)?;
+    Ok(true)
+}
+
 // One event in both worlds, if it can happen.
 fn some_event(
     alloc: Global,
@@ -263,6 +320,9 @@ fn some_event(
 {
     if rng.next_word() % 5 < 2 {
         return some_request(alloc, rng, world, plain);
+    }
+    if rng.next_word() % 5 == 0 {
+        return some_move(rng, world, plain);
     }
     match some_message(rng, world, plain) {
         Some(id) => deliver(world, plain, id),

@@ -3,6 +3,7 @@ use Rattle.charmlet_model.specs.declared.refusal.Refusal.{Refusal}
 use Rattle.charmlet_model.specs.Core.{Core}
 use Rattle.charmlet_model.specs.Run.{StoreView}
 use Rattle.charmlet_history.specs.Kept.{core_in}
+use Rattle.charmlet_journal.specs.Rest.{Agrees, IsKept}
 use Rattle.charmlet_store.specs.Store.{StoreShown, blanks_of, supplied_in}
 use Rattle.charmlet_store.specs.Together as stores
 use Rattle.charmlet_replay.proofs.OpenHalves.{supplied_back, unused_back}
@@ -26,6 +27,19 @@ invariant_of-store-in-Err g c =
     let its = c.store.inside in
     imaged_fit its.history its.shelves.items its.stock c.store.invariant c.checkpoint-taken.new.history c.checkpoint-taken.new.shelves _ (c.checkpoint-taken.ensures.same ∙ c.as_mut_slice-shelves.ensures.value)
     (ap (λ v. v.items) (same_items its.shelves c.checkpoint-taken.new.shelves (c.checkpoint-taken.ensures.same ∙ c.as_mut_slice-shelves.ensures.value))) c.checkpoint-taken.ensures.shown
+
+pub invariant_of-result : goal.invariant_of-result
+invariant_of-result g c =
+    let done = c.in-Ok.ensures in
+    let halves = c.checkpoint-taken.new.halves in
+    let dropped = c.drop_retired.ensures in
+    let core : core_in c.drop_retired.new.self.history ≡ core_in c.checkpoint-taken.new.history = ap (λ (v : StoreView). v.core) dropped.same in
+    record {
+      dropping = dropped.dropping;
+      agrees = subst (λ (k : Core). Agrees {G = g.D.Disk} k halves) (sym core) done.agrees;
+      keeps = λ honest. subst (λ (k : Core). IsKept {G = g.D.Disk} k halves) (sym core) (done.kept (done.disk.honest.1 honest));
+      current = λ honest _. done.current (done.disk.honest.1 honest);
+    }
 
 pub returns-in-Ok-clause-blanks : goal.returns-in-Ok-clause-blanks
 returns-in-Ok-clause-blanks g c = ap (λ (v : StoreView). v.blanks) c.drop_retired.ensures.same ∙ ap blanks_of c.store.view_is

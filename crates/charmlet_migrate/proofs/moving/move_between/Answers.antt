@@ -10,6 +10,7 @@ use Rattle.charmlet_model.specs.Names.{elem_cmp}
 use Rattle.charmlet_model.specs.Reaction.{kind_of}
 use Rattle.charmlet_model.specs.Core.{Blanks, Core, Done, Move, Refuses, checks, first_refusal, next_core}
 use Rattle.charmlet_model.specs.Run.{Goes, StoreView}
+use Rattle.charmlet_history.specs.declared.history.History.{History}
 use Rattle.charmlet_history.specs.Kept.{blank_of_move, core_in, plenty}
 use Rattle.charmlet_shelf.specs.Shelf.{View}
 use Rattle.charmlet_stock.specs.Stock.{blanks_in, census_of, tally_in}
@@ -70,14 +71,17 @@ returns-in_default-take_as-clause-goes g c =
     (sym (same_blanks c.args.stock.now c.take_as.new.self none.1))
     (lacks_blank_for core x q on.can old edition (is_elsewhere core x p q on) (array_is core x p q on edition (wanted g (goal.at.returns-in_default-take_as-clause-goes g c).In-Some)) none.0))
 
-pub place_copy-requires-clause-here : goal.place_copy-requires-clause-here
-place_copy-requires-clause-here g c κs within =
+pub carry-requires-clause-here : goal.carry-requires-clause-here
+carry-requires-clause-here g c κs within =
     let core = core_in c.args.history.now in
     let p = c.args.source.now.number in
     let q = c.args.destination.now.number in
-    let on = going g (goal.at.place_copy-requires-clause-here g c).In_ok-edition in
-    let h = here_as core c.args.elem p q on c.in-Some.edition (wanted g (goal.at.place_copy-requires-clause-here g c).In-Some) c.args.source.now.records c.requires.source.part.objects in
+    let on = going g (goal.at.carry-requires-clause-here g c).In_ok-edition in
+    let h = here_as core c.args.elem p q on c.in-Some.edition (wanted g (goal.at.carry-requires-clause-here g c).In-Some) c.args.source.now.records c.requires.source.part.objects in
     (h.0, h.1, h.2, h.3, h.4, h.5 ∙ sym c.in-Some-take_as.ensures.edition)
+
+pub carry-requires-clause-can : goal.carry-requires-clause-can
+carry-requires-clause-can g c κs within = (going g (goal.at.carry-requires-clause-can g c).In_ok-edition).can
 
 pub returns-in-Err-clause-goes : goal.returns-in-Err-clause-goes
 returns-in-Err-clause-goes g c =
@@ -93,16 +97,17 @@ returns-in-Err-clause-goes g c =
     let memory : c.in-Err.refusal ≡ refusals.Memory = c.in-Err.ensures.err.0 ∙ lacks_memory_then c.args.source.now c.args.destination.now idle.0 idle.1 in
     let same : census_of c.give_back.new.self ≡ census_of c.args.stock.now =
     given_then c.args.stock.now c.take_as.new.self c.give_back.new.self (edition_kind edition) taken.0 (kind_of (g.C.Chare.state c.in-Err.blank)) (ap edition_kind (c.in-Err.ensures.err.1 ∙ c.in-Some-take_as.ensures.edition)) taken.1 c.give_back.ensures.census in
-    subst (λ (r : Refusal). Goes (record { core = core; blanks = old }) (Move x q) (Refuses r) (record { core = core; blanks = blanks_in c.give_back.new.self })) (sym memory)
+    subst (λ (h : History). Goes (record { core = core; blanks = old }) (Move x q) (Refuses c.in-Err.refusal) (record { core = core_in h; blanks = blanks_in c.give_back.new.self })) (sym c.in-Err.ensures.same.1)
+    (subst (λ (r : Refusal). Goes (record { core = core; blanks = old }) (Move x q) (Refuses r) (record { core = core; blanks = blanks_in c.give_back.new.self })) (sym memory)
     (subst (λ (b : Blanks). Goes (record { core = core; blanks = old }) (Move x q) (Refuses refusals.Memory) (record { core = core; blanks = b })) (sym (same_blanks c.args.stock.now c.give_back.new.self same))
-    (lacks_memory_for core x q on.can old edition (is_elsewhere core x p q on) (array_is core x p q on edition (wanted g (goal.at.returns-in-Err-clause-goes g c).In-Some)) taken.1))
+    (lacks_memory_for core x q on.can old edition (is_elsewhere core x p q on) (array_is core x p q on edition (wanted g (goal.at.returns-in-Err-clause-goes g c).In-Some)) taken.1)))
 
 -- the old object is of the blank's kind
 its : (g : Over) (c : In-Ok g) → CanGo (core_in c.args.history.now) c.args.elem c.args.source.now.number c.args.destination.now.number →
     blank_of_move (core_in c.args.history.now) c.args.elem c.args.destination.now.number ≡ Some c.in-Some.edition → kind_of (g.C.Chare.state c.in-Ok.old.object) ≡ edition_kind c.in-Some.edition
 its g c on wanted =
     let old = c.in-Ok.old in
-    let here = ap (λ (v : View). lookup (is_at (elem_cmp c.args.elem)) v.records) (sym c.in_default-place_copy.ensures.source) ∙ c.in-Ok.ensures.ok.1 in
+    let here = ap (λ (v : View). lookup (is_at (elem_cmp c.args.elem)) v.records) (sym c.in_default-carry.ensures.source) ∙ c.in-Ok.ensures.ok.1 in
     ap edition_kind (kind_then (core_in c.args.history.now) c.args.elem c.args.source.now.number c.args.destination.now.number on c.in-Some.edition wanted c.args.source.now.records c.requires.source.part.objects
     (g.C.Chare.state old.object) old.sent old.received here)
 
@@ -112,8 +117,8 @@ retire-requires-after_bounds g c κs within =
     subst (λ k. IsOut (tally_in c.take_as.new.self k)) (sym (its g at.In-Ok (going g at.In_ok-edition) (wanted g at.In-Some))) (c.in-Some-take_as.ensures.out refl)
 
 -- the place changes
-moved : (g : Over) (c : In-Ok g) → core_in c.relocate.new.self ≡ next_core (core_in c.args.history.now) (Move c.args.elem c.args.destination.now.number)
-moved g c = c.relocate.ensures.moved ∙ ap (λ n. next_core (core_in c.args.history.now) (Move c.args.elem n)) c.number-processor.ensures
+moved : (g : Over) (c : In-Ok g) → core_in c.carry.new.history ≡ next_core (core_in c.args.history.now) (Move c.args.elem c.args.destination.now.number)
+moved g c = c.in_default-carry.ensures.place
 
 pub returns-clause-goes : goal.returns-clause-goes
 returns-clause-goes g c =
@@ -134,23 +139,23 @@ returns-clause-goes g c =
 pub returns-clause-source : goal.returns-clause-source
 returns-clause-source g c =
     let at = goal.at.returns-clause-source g c in
-    let copy = c.in_default-place_copy.ensures in
+    let copy = c.in_default-carry.ensures in
     let source = c.args.source.now in
     let last : c.lift.new.self ≡ without source c.args.elem = c.in-Ok.ensures.ok.2 ∙ ap (λ (v : View). without v c.args.elem) copy.source in
-    subst (IsShelfOf c.relocate.new.self) (sym last)
-    (source_stays c.args.history.now c.relocate.new.self c.args.elem source c.args.destination.now (going g at.In_ok-edition) (moved g at.In-Ok) c.requires.source c.requires.destination copy.ok.0 copy.ok.1)
+    subst (IsShelfOf c.carry.new.history) (sym last)
+    (source_stays c.args.history.now c.carry.new.history c.args.elem source c.args.destination.now (going g at.In_ok-edition) (moved g at.In-Ok) c.requires.source c.requires.destination copy.copy.0 copy.copy.1)
 
 pub returns-clause-destination : goal.returns-clause-destination
 returns-clause-destination g c =
     let at = goal.at.returns-clause-destination g c in
-    let copy = c.in_default-place_copy.ensures.ok in
-    subst (IsShelfOf c.relocate.new.self) (sym copy.2)
-    (destination_stays c.args.history.now c.relocate.new.self c.args.elem c.args.source.now c.args.destination.now (going g at.In_ok-edition) (moved g at.In-Ok) c.requires.source c.requires.destination copy.0 copy.1)
+    let copy = c.in_default-carry.ensures.copy in
+    subst (IsShelfOf c.carry.new.history) (sym copy.2)
+    (destination_stays c.args.history.now c.carry.new.history c.args.elem c.args.source.now c.args.destination.now (going g at.In_ok-edition) (moved g at.In-Ok) c.requires.source c.requires.destination copy.0 copy.1)
 
 pub returns-clause-held : goal.returns-clause-held
 returns-clause-held g c =
     let at = goal.at.returns-clause-held g c in
-    let copy = c.in_default-place_copy.ensures in
+    let copy = c.in_default-carry.ensures in
     let x = c.args.elem in
     let source = c.args.source.now in
     let destination = c.args.destination.now in
@@ -161,9 +166,9 @@ returns-clause-held g c =
     let last : c.lift.new.self ≡ without source x = c.in-Ok.ensures.ok.2 ∙ ap (λ (v : View). without v x) copy.source in
     let retired : census_of c.retire.new.self ≡ with_at (census_of stock) kind (moved_tally (tally_in stock kind)) =
     retired_then stock c.take_as.new.self c.retire.new.self kind taken.0 (kind_of (g.C.Chare.state c.in-Ok.old.object)) (its g at.In-Ok on (wanted g at.In-Some)) c.retire.ensures.census in
-    (λ i. held_in_both (last i) (copy.ok.2 i) c.retire.new.self)
-    ∙ moved_held stock c.retire.new.self kind retired source destination (without source x) (with_copy destination x copy.ok.0)
-    (as_many_stay c.args.history.now c.relocate.new.self x source destination on (moved g at.In-Ok) c.requires.source c.requires.destination copy.ok.0 copy.ok.1) taken.1
+    (λ i. held_in_both (last i) (copy.copy.2 i) c.retire.new.self)
+    ∙ moved_held stock c.retire.new.self kind retired source destination (without source x) (with_copy destination x copy.copy.0)
+    (as_many_stay c.args.history.now c.carry.new.history x source destination on (moved g at.In-Ok) c.requires.source c.requires.destination copy.copy.0 copy.copy.1) taken.1
 
 pub returns-clause-supplied : goal.returns-clause-supplied
 returns-clause-supplied g c =

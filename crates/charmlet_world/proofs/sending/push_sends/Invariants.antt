@@ -6,8 +6,10 @@ use Rattle.charmlet_world.proofs.sending.push_sends.Given as goal
 -- what is left will be numbered on, and has room
 abbrev pub invariant-loop-send : goal.invariant-loop-send
 invariant-loop-send l = record {
-  pushed : l.pending.messages ++ numbered l.from l.number l.send-iterator.rest.items ≡ l.fn.pending.messages ++ numbered l.from l.sent l.fn.sends.items;
+  pushed : l.dispatch.pending ++ numbered l.from l.number l.send-iterator.rest.items ≡ l.fn.dispatch.pending ++ numbered l.from l.sent l.fn.sends.items;
+  processors : l.dispatch.processors ≡ l.fn.dispatch.processors;
+  rows : l.dispatch.rows ≡ l.fn.dispatch.rows;
   counts : l.number + length l.send-iterator.rest.items ≤ greatest;
-  room : length l.send-iterator.rest.items ≤ l.pending.room;
-  left : l.fn.pending.room + length l.send-iterator.rest.items ≤ l.pending.room + length l.fn.sends.items;
+  room : length l.send-iterator.rest.items ≤ l.dispatch.room;
+  left : l.fn.dispatch.room + length l.send-iterator.rest.items ≤ l.dispatch.room + length l.fn.sends.items;
 }

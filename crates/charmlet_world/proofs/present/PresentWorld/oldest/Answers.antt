@@ -1,20 +1,19 @@
-use Rattle.std.proofs.Common.{◌∙◌, sym, ap, if◌then◌else◌}
-use Rattle.std.specs.Prelude.{Some}
-use Rattle.charmlet_world.specs.Seen.{oldest, seen}
+use Rattle.std.proofs.Common.{ℕ, sym, ap, ◌∙◌}
+use Rattle.std.specs.Prelude.{option_map}
+use Rattle.charmlet_model.specs.declared.names.MsgId.{MsgId}
+use Rattle.charmlet_world.specs.Seen.{Held, next_due, seen}
+use Rattle.charmlet_world.specs.Standing.{risen}
+use Rattle.charmlet_world.proofs.Tying.{oldest_is}
 use Rattle.charmlet_world.proofs.present.PresentWorld.oldest.Goals as goal
 
-pub returns-then-is_deliverable : goal.returns-then-is_deliverable
-returns-then-is_deliverable c =
+pub returns-in_default : goal.returns-in_default
+returns-in_default c =
     let k = seen c.args.self.now in
-    ap (λ b. if b then Some c.in-Some.id else oldest k c.next.new.self) (c.if-is_deliverable.ensures c.in-Some.id)
-    ∙ ap (oldest k) (sym c.in-Some.ensures.steps) ∙ c.loop-id.invariant.same
+    let due = c.next.ensures k (sym (ap (λ (h : Held). h.processors) c.self.view_is)) (sym (ap (λ (h : Held). risen h.rows) c.self.view_is)) ∙ ap (λ (h : Held). next_due k h.pending) c.self.view_is in
+    ap (option_map (λ (e : ℕ × MsgId). e.1)) (sym c.in_default.is ∙ due) ∙ oldest_is k c.args.self.now.pending
 
-pub loop-id-preserved : goal.loop-id-preserved
-loop-id-preserved c =
+pub returns : goal.returns
+returns c =
     let k = seen c.args.self.now in
-    record {
-      can_next = tt;
-      is_finite = tt;
-      same = ap (λ b. if b then Some c.in-Some.id else oldest k c.next.new.self) (c.if-is_deliverable.ensures c.in-Some.id)
-          ∙ ap (oldest k) (sym c.in-Some.ensures.steps) ∙ c.loop-id.invariant.same;
-    }
+    let due = c.next.ensures k (sym (ap (λ (h : Held). h.processors) c.self.view_is)) (sym (ap (λ (h : Held). risen h.rows) c.self.view_is)) ∙ ap (λ (h : Held). next_due k h.pending) c.self.view_is in
+    ap (option_map (λ (e : ℕ × MsgId). e.1)) (sym c.in-Some.is ∙ due) ∙ oldest_is k c.args.self.now.pending

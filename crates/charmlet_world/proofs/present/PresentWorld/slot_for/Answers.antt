@@ -1,13 +1,8 @@
-use Rattle.std.proofs.Common.{sym, ap, ◌∙◌, slice_get}
-use Rattle.std.specs.Prelude.{Result, Ok, Err, IfOk, OnErr, OnOk, Some, is_some}
-use Rattle.std.specs.BTreeMap.{insert_entry, is_at}
-use Rattle.std.specs.Map.{lookup}
-use Rattle.charmlet_model.specs.Names.{elem_cmp}
+use Rattle.std.proofs.Common.{ap, ◌∙◌}
+use Rattle.std.specs.Prelude.{Result, Ok, Err, OnOk}
 use Rattle.charmlet_world.specs.Changed.{with_entry}
 use Rattle.charmlet_world.specs.Seen.{Held, seen}
 use Rattle.charmlet_world.specs.Standing.{risen}
-use Rattle.charmlet_world.proofs.Risen.{found_risen}
-use Rattle.charmlet_world.proofs.Showing.{element_risen, row_unseen, slot_stays}
 use Rattle.charmlet_world.proofs.present.PresentWorld.slot_for.Goals as goal
 
 -- what follows where it is done, follows of what holds where it is done
@@ -15,40 +10,9 @@ when_ok : {T E : Type 0} {P Q : Type 0} (result : Result T E) → OnOk result P 
 when_ok (Ok x) p f = f p
 when_ok (Err e) p f = tt
 
-if_ok : {T E : Type 0} {P Q : T → Type 0} {R : Type 0} (result : Result T E) → IfOk result P → OnOk result R → ((x : T) → P x → R → Q x) → IfOk result Q
-if_ok (Ok x) p r f = f x p r
-if_ok (Err e) p r f = tt
-
--- what follows either way
-each_way : {T E : Type 0} {P Q R : Type 0} (result : Result T E) → OnOk result P → OnErr result Q → (P → R) → (Q → R) → R
-each_way (Ok x) p q done failed = done p
-each_way (Err e) p q done failed = failed q
-
-pub returns-clause-slot : goal.returns-clause-slot
-returns-clause-slot c =
-    let rows = c.self.inside.elements.entries in
-    let x = c.args.elem in
-    if_ok c.slot_for.result c.slot_for.ensures.found c.slot_for.ensures.risen
-    (λ slot at more. at ∙ ap (λ e. Some (x, e)) (sym (row_unseen rows c.slot_for.new.self.entries x more x)))
-
 pub returns-clause-seen : goal.returns-clause-seen
 returns-clause-seen c =
     let own = c.self.inside in
-    let rows = own.elements.entries in
-    let x = c.args.elem in
     when_ok c.slot_for.result c.slot_for.ensures.risen (λ more.
-    (λ i. record { manifest = own.manifest; processors = own.processors; elements = (more ∙ ap (insert_entry elem_cmp (risen rows) x) (sym (element_risen x rows))) i; pending = own.pending.messages; clients = own.clients.entries })
-    ∙ ap (λ (h : Held). record (seen h) { elements = with_entry (risen h.rows) x }) c.self.view_is)
-
-pub returns-clause-slots : goal.returns-clause-slots
-returns-clause-slots c = λ i x e at.
-    let rows = c.self.inside.elements.entries in
-    let here = ap (λ (h : Held). slice_get h.rows i) c.self.view_is ∙ at in
-    each_way c.slot_for.result c.slot_for.ensures.entries c.slot_for.ensures.err
-    (λ more. ap (λ es. slice_get es i) more ∙ slot_stays rows c.args.elem i (x, e) here)
-    (λ same. ap (λ es. slice_get es i) same ∙ here)
-
-pub returns-clause-there : goal.returns-clause-there
-returns-clause-there c = λ there.
-    let rows = c.self.inside.elements.entries in
-    c.slot_for.ensures.there (ap is_some (sym (found_risen c.args.elem rows)) ∙ ap (λ (h : Held). is_some (lookup (is_at (elem_cmp c.args.elem)) (risen h.rows))) c.self.view_is ∙ there)
+    (λ i. record { manifest = own.manifest; processors = c.slot_for.ensures.processors i; elements = more i; pending = c.slot_for.ensures.pending i; clients = own.clients.entries })
+    ∙ ap (λ (h : Held). record (seen h) { elements = with_entry (risen h.rows) c.args.elem }) c.self.view_is)

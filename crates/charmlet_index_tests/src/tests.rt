@@ -1,0 +1,2 @@
+mod births;
+mod index;

@@ -1,0 +1,149 @@
+use Rattle.std.proofs.Common.{◌≡◌, ◌<◌, sym, ap, subst, ◌∙◌, arith, length, if◌then◌else◌}
+use Rattle.std.specs.Prelude.{Some, None, unwrap_or}
+use Rattle.std.specs.BTreeMap.{insert_entry}
+use Rattle.charmlet_model.specs.Core.{home}
+use Rattle.charmlet_model.specs.Names.{elem_cmp}
+use Rattle.charmlet_index.specs.declared.place.Stand.{Stand}
+use Rattle.charmlet_index.specs.Index.{HaveRoom}
+use Rattle.charmlet_world.specs.declared.element.Element.{Element}
+use Rattle.charmlet_world.specs.Changed.{counted}
+use Rattle.charmlet_world.specs.Seen.{element_at}
+use Rattle.charmlet_world.specs.Standing.{element_in, risen}
+use Rattle.charmlet_world.specs.Tied.{Dispatched, Takes, calls_down, stand_by, stand_of}
+use Rattle.charmlet_world.proofs.Showing.{element_is, element_risen, slot_inside}
+use Rattle.charmlet_world.proofs.Ties.{stands_else, stands_here}
+use Rattle.charmlet_world.proofs.Tying.{delivered_rooms, delivered_within, home_within, smaller_second, tied_called, tied_otherwise}
+use Rattle.charmlet_world.proofs.dispatch.Dispatch.advance.Goals as goal
+
+pub at-element-requires : goal.at-element-requires
+at-element-requires c =
+    let takes = subst (λ (d : Dispatched). Takes d.rows c.args.slot c.args.sends c.args.elem) (sym c.self.view_is) c.requires.takes in
+    slot_inside c.self.inside.elements.entries c.args.slot _ takes.receiver
+
+pub advance-requires-clause-sent : goal.advance-requires-clause-sent
+advance-requires-clause-sent c =
+    let rows = c.self.inside.elements.entries in
+    let takes = subst (λ (d : Dispatched). Takes d.rows c.args.slot c.args.sends c.args.elem) (sym c.self.view_is) c.requires.takes in
+    let sent : c.at-element.result.sent ≡ (element_in rows c.args.elem).sent = ap (λ (e : Element). e.sent) (element_is rows c.args.slot c.args.elem c.at-element.result takes.receiver c.at-element.ensures) in
+    omega (arith, sent, takes.sent)
+
+pub advance-requires-clause-received : goal.advance-requires-clause-received
+advance-requires-clause-received c =
+    let rows = c.self.inside.elements.entries in
+    let takes = subst (λ (d : Dispatched). Takes d.rows c.args.slot c.args.sends c.args.elem) (sym c.self.view_is) c.requires.takes in
+    let received : c.at-element.result.received ≡ (element_in rows c.args.elem).received = ap (λ (e : Element). e.received) (element_is rows c.args.slot c.args.elem c.at-element.result takes.receiver c.at-element.ensures) in
+    omega (arith, received, takes.received)
+
+pub restand-requires-clause-old_on : goal.restand-requires-clause-old_on
+restand-requires-clause-old_on c =
+    let own = c.self.inside in
+    let p = own.processors in
+    let rows = own.elements.entries in
+    let x = c.args.elem in
+    let takes = subst (λ (d : Dispatched). Takes d.rows c.args.slot c.args.sends x) (sym c.self.view_is) c.requires.takes in
+    let room = subst (λ (d : Dispatched). 0 < d.room) (sym c.self.view_is) c.requires.room in
+    let head = smaller_second own.pending.room own.index.headroom in
+    let len = c.self.invariant.opened (omega (arith, room, head)) in
+    let old : c.stand_of-old.result ≡ stand_by p rows x = c.stand_of-old.ensures ∙ ap (stand_of p x) (element_is rows c.args.slot x c.at-element.result takes.receiver c.at-element.ensures ∙ sym (element_risen x rows)) in
+    subst (λ n. c.stand_of-old.result.on < n) (sym len) (subst (λ (s : Stand). s.on < p) (sym old) (c.self.invariant.within x))
+
+pub restand-requires-clause-new_on : goal.restand-requires-clause-new_on
+restand-requires-clause-new_on c =
+    let own = c.self.inside in
+    let p = own.processors in
+    let rows = own.elements.entries in
+    let x = c.args.elem in
+    let takes = subst (λ (d : Dispatched). Takes d.rows c.args.slot c.args.sends x) (sym c.self.view_is) c.requires.takes in
+    let room = subst (λ (d : Dispatched). 0 < d.room) (sym c.self.view_is) c.requires.room in
+    let head = smaller_second own.pending.room own.index.headroom in
+    let len = c.self.invariant.opened (omega (arith, room, head)) in
+    let is = element_is rows c.args.slot x c.at-element.result takes.receiver c.at-element.ensures ∙ sym (element_risen x rows) in
+    let was : (stand_of p x c.at-element.result).on < p = subst (λ (e : Element). (stand_of p x e).on < p) (sym is) (c.self.invariant.within x) in
+    let place = ap (λ (e : Element). e.place) c.advance.ensures ∙ c.place_after-place.ensures in
+    subst (λ n. c.stand_of-new.result.on < n) (sym len) (subst (λ (s : Stand). s.on < p) (sym c.stand_of-new.ensures)
+    (delivered_within p c.self.invariant.some_processors x c.at-element.result c.advance.new.self c.args.is_destroyed was place))
+
+pub restand-requires-clause-old_home : goal.restand-requires-clause-old_home
+restand-requires-clause-old_home c =
+    let own = c.self.inside in
+    let p = own.processors in
+    let room = subst (λ (d : Dispatched). 0 < d.room) (sym c.self.view_is) c.requires.room in
+    let head = smaller_second own.pending.room own.index.headroom in
+    let len = c.self.invariant.opened (omega (arith, room, head)) in
+    subst (λ n. c.stand_of-old.result.home < n) (sym len) (subst (λ (s : Stand). s.home < p) (sym c.stand_of-old.ensures) (home_within p c.self.invariant.some_processors c.args.elem))
+
+pub restand-requires-clause-new_home : goal.restand-requires-clause-new_home
+restand-requires-clause-new_home c =
+    let own = c.self.inside in
+    let p = own.processors in
+    let room = subst (λ (d : Dispatched). 0 < d.room) (sym c.self.view_is) c.requires.room in
+    let head = smaller_second own.pending.room own.index.headroom in
+    let len = c.self.invariant.opened (omega (arith, room, head)) in
+    subst (λ n. c.stand_of-new.result.home < n) (sym len) (subst (λ (s : Stand). s.home < p) (sym c.stand_of-new.ensures) (home_within p c.self.invariant.some_processors c.args.elem))
+
+pub restand-requires-clause-called : goal.restand-requires-clause-called
+restand-requires-clause-called c =
+    let own = c.self.inside in
+    let p = own.processors in
+    let rows = own.elements.entries in
+    let x = c.args.elem in
+    let takes = subst (λ (d : Dispatched). Takes d.rows c.args.slot c.args.sends x) (sym c.self.view_is) c.requires.takes in
+    let old : c.stand_of-old.result ≡ stand_by p rows x = c.stand_of-old.ensures ∙ ap (stand_of p x) (element_is rows c.args.slot x c.at-element.result takes.receiver c.at-element.ensures ∙ sym (element_risen x rows)) in
+    tied_called p rows own.pending own.index x c.stand_of-old.result c.self.invariant (sym old)
+
+pub restand-requires-clause-room : goal.restand-requires-clause-room
+restand-requires-clause-room c =
+    let own = c.self.inside in
+    let p = own.processors in
+    let x = c.args.elem in
+    let n = length (calls_down x own.pending.births own.pending.messages) in
+    let place = ap (λ (e : Element). e.place) c.advance.ensures ∙ c.place_after-place.ensures in
+    subst (λ (s : Stand). HaveRoom own.index.headroom s c.stand_of-new.result n own.index.lists) (sym c.stand_of-old.ensures)
+    (subst (λ (s : Stand). HaveRoom own.index.headroom (stand_of p x c.at-element.result) s n own.index.lists) (sym c.stand_of-new.ensures)
+    (delivered_rooms own.index.headroom p x c.at-element.result c.advance.new.self c.args.is_destroyed n own.index.lists place))
+
+pub set-requires : goal.set-requires
+set-requires c =
+    let takes = subst (λ (d : Dispatched). Takes d.rows c.args.slot c.args.sends c.args.elem) (sym c.self.view_is) c.requires.takes in
+    slot_inside c.self.inside.elements.entries c.args.slot _ takes.receiver
+
+pub invariant_of-self : goal.invariant_of-self
+invariant_of-self c =
+    let own = c.self.inside in
+    let p = own.processors in
+    let rows = own.elements.entries in
+    let x = c.args.elem in
+    let h = c.self.invariant in
+    let fs = c.set.new.self.entries in
+    let e = c.advance.new.self in
+    let takes = subst (λ (d : Dispatched). Takes d.rows c.args.slot c.args.sends x) (sym c.self.view_is) c.requires.takes in
+    let is = element_is rows c.args.slot x c.at-element.result takes.receiver c.at-element.ensures ∙ sym (element_risen x rows) in
+    let was : (stand_of p x c.at-element.result).on < p = subst (λ (f : Element). (stand_of p x f).on < p) (sym is) (h.within x) in
+    let place = ap (λ (f : Element). f.place) c.advance.ensures ∙ c.place_after-place.ensures in
+    let put : risen fs ≡ insert_entry elem_cmp (risen rows) x e = c.set.ensures.risen x (element_in rows x) takes.receiver in
+    let old : stand_by p rows x ≡ c.stand_of-old.result = sym (c.stand_of-old.ensures ∙ ap (stand_of p x) is) in
+    let new : stand_by p fs x ≡ c.stand_of-new.result = stands_here p rows fs x e put ∙ sym c.stand_of-new.ensures in
+    tied_otherwise p rows fs own.pending own.index c.restand.new.index x e h put
+    (delivered_within p h.some_processors x c.at-element.result e c.args.is_destroyed was place)
+    (c.restand.ensures.index h.place (stand_by p rows) (stand_by p fs) h.are h.index h.climbs old new (stands_else p rows fs x e put))
+    c.restand.ensures.len c.restand.ensures.next c.restand.ensures.headroom
+
+pub returns-clause-sent : goal.returns-clause-sent
+returns-clause-sent c =
+    let rows = c.self.inside.elements.entries in
+    let x = c.args.elem in
+    let takes = subst (λ (d : Dispatched). Takes d.rows c.args.slot c.args.sends x) (sym c.self.view_is) c.requires.takes in
+    ap (λ (e : Element). e.sent) (element_is rows c.args.slot x c.at-element.result takes.receiver c.at-element.ensures ∙ sym (element_risen x rows))
+    ∙ ap (λ (d : Dispatched). (element_at (risen d.rows) x).sent) c.self.view_is
+
+pub returns-clause-risen : goal.returns-clause-risen
+returns-clause-risen c =
+    let own = c.self.inside in
+    let rows = own.elements.entries in
+    let x = c.args.elem in
+    let takes = subst (λ (d : Dispatched). Takes d.rows c.args.slot c.args.sends x) (sym c.self.view_is) c.requires.takes in
+    let is : c.at-element.result ≡ element_at (risen rows) x = element_is rows c.args.slot x c.at-element.result takes.receiver c.at-element.ensures ∙ sym (element_risen x rows) in
+    c.set.ensures.risen x (element_in rows x) takes.receiver
+    ∙ ap (insert_entry elem_cmp (risen rows) x) (c.advance.ensures ∙ ap (λ o. counted c.at-element.result o c.args.sends) c.place_after-place.ensures
+    ∙ ap (λ (e : Element). counted e (if c.args.is_destroyed then None else Some (unwrap_or e.place (home x own.processors))) c.args.sends) is)
+    ∙ ap (λ (d : Dispatched). insert_entry elem_cmp (risen d.rows) x (counted (element_at (risen d.rows) x) (if c.args.is_destroyed then None else Some (unwrap_or (element_at (risen d.rows) x).place (home x d.processors))) c.args.sends)) c.self.view_is

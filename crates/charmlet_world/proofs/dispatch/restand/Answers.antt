@@ -1,0 +1,19 @@
+use Rattle.std.proofs.Common.{refl, sym, ap, subst, length}
+use Rattle.charmlet_index.specs.Index.{HaveRoom}
+use Rattle.charmlet_world.proofs.Tying.{called_apart, called_held, indexed_moved, indexed_same}
+use Rattle.charmlet_world.proofs.dispatch.restand.Goals as goal
+
+pub returns-then-is_same_stand-clause-index : goal.returns-then-is_same_stand-clause-index
+returns-then-is_same_stand-clause-index c = indexed_same c.args.to c.args.old c.args.new c.args.pending.now.births c.args.pending.now.messages c.args.index.now.lists (c.if-is_same_stand.ensures refl)
+
+pub restand-requires-clause-apart : goal.restand-requires-clause-apart
+restand-requires-clause-apart c = called_apart c.args.to c.args.old c.args.new c.args.pending.now.births c.args.pending.now.messages c.args.index.now.lists c.calls-calls.result c.calls-calls.ensures c.requires.called
+
+pub restand-requires-clause-held : goal.restand-requires-clause-held
+restand-requires-clause-held c = called_held c.args.to c.args.old c.args.new c.args.pending.now.births c.args.pending.now.messages c.args.index.now.lists c.calls-calls.result c.calls-calls.ensures c.requires.called
+
+pub restand-requires-clause-room : goal.restand-requires-clause-room
+restand-requires-clause-room c = subst (λ n. HaveRoom c.args.index.now.headroom c.args.old c.args.new n c.args.index.now.lists) (sym (ap length c.calls-calls.ensures)) c.requires.room
+
+pub returns-clause-index : goal.returns-clause-index
+returns-clause-index c = indexed_moved c.args.to c.args.old c.args.new c.args.pending.now.births c.args.pending.now.messages c.args.index.now.lists c.calls-calls.result c.calls-calls.ensures c.restand.new.self.lists c.restand.ensures.index

@@ -1,9 +1,0 @@
-use Rattle.std.proofs.Common.{◌≡◌, ◌≤◌, ◌++◌, length}
-use Rattle.charmlet_world.proofs.pending.Pending.of.Given as goal
-
--- what is left goes after the messages so far, and has room
-abbrev pub invariant-loop-message : goal.invariant-loop-message
-invariant-loop-message l = record {
-  so_far : l.pending.messages ++ l.message-iterator.rest.items ≡ l.fn.messages.items;
-  room : length l.message-iterator.rest.items ≤ l.pending.room;
-}

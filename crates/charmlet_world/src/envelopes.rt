@@ -1,0 +1,64 @@
+//! Where the message of a birth stands in a table of envelopes.
+
+ghost use Rattle.std.specs.Prelude.{◌≡◌, ◌<◌, ◌≤◌, false, length, slice_get, Some, None, IfSome};
+ghost use Rattle.charmlet_births.specs.Births.{Climbs};
+ghost use Rattle.charmlet_index.specs.Index.{holds};
+ghost use Rattle.charmlet_world.specs.Waiting.{borns};
+
+use crate::envelope::Envelope;
+use charmlet_model::MsgId;
+use indexmap::IndexMap;
+
+/// The envelope of this birth. It is looked for first where it stands if none of the younger ones
+/// has left a gap, and then where it stands if none of the older ones has.
+pub(crate) fn envelope_of(envelopes: &IndexMap<MsgId, Envelope>, number: u64) -> Option<usize>
+    requires { Climbs (borns envelopes.now.entries) }
+    ensures found { IfSome result (λ i. slice_get (borns envelopes.now.entries) i ≡ Some number) }
+    ensures nowhere { result ≡ None → holds number (borns envelopes.now.entries) ≡ false }
+{
+    let len = envelopes.len();
+    if len == 0 {
+        return None;
+    }
+    let first = born_at(envelopes, 0);
+    let last = born_at(envelopes, len - 1);
+    let younger = last.saturating_sub(number);
+    let guess = (len - 1).saturating_sub(younger as usize);
+    let mut second = number.saturating_sub(first) as usize;
+    let mut low = 0;
+    let mut high = len;
+    let mut middle = within(0, len, guess);
+    while low < high {
+        let here = born_at(envelopes, middle);
+        if here == number {
+            return Some(middle);
+        }
+        if here < number {
+            low = middle + 1;
+        } else {
+            high = middle;
+        }
+        middle = within(low, high, second);
+        second = len;
+    }
+    None
+}
+
+/// The birth of the envelope at this place.
+fn born_at(envelopes: &IndexMap<MsgId, Envelope>, place: usize) -> u64
+    requires { place < length envelopes.now.entries }
+    ensures { slice_get (borns envelopes.now.entries) place ≡ Some result }
+{
+    envelopes[place].born
+}
+
+/// The guess, if it is between the two, else what is in the middle.
+fn within(low: usize, high: usize, guess: usize) -> usize
+    ensures from { low < high → low ≤ result }
+    ensures to { low < high → result < high }
+{
+    if low <= guess && guess < high {
+        return guess;
+    }
+    low + high.saturating_sub(low) / 2
+}
