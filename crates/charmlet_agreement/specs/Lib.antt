@@ -1,0 +1,3 @@
+-- The definitions that contracts cite.
+pub mod Agreement
+pub mod Naming

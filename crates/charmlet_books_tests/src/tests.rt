@@ -1,0 +1,3 @@
+mod passes;
+mod seats;
+mod values;

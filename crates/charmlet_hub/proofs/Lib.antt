@@ -1,0 +1,4 @@
+pub mod Books
+pub mod Shelves
+pub mod Calls
+pub mod Beginnings

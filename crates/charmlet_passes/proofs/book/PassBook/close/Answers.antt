@@ -1,0 +1,12 @@
+use Rattle.std.proofs.Common.{sym, subst}
+use Rattle.charmlet_passes.specs.Passes.{AreAll, AreCurrent, IsCurrent, LentPasses}
+use Rattle.charmlet_passes.proofs.Taken.{all-out}
+use Rattle.charmlet_passes.proofs.book.PassBook.close.Goals as goal
+
+pub returns-clause-current : goal.returns-clause-current
+returns-clause-current g c = λ core are.
+    let each = (subst (λ p. AreCurrent p core) (sym c.self.view_is) are).each in
+    all-out (λ held. IsCurrent held core) c.self.inside.book c.args.passes.items each c.take_all.ensures.only
+
+pub returns-clause-all : goal.returns-clause-all
+returns-clause-all g c = subst (λ (p : LentPasses). AreAll p.held c.args.passes.items) c.self.view_is c.take_all.ensures

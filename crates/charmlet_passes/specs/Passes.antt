@@ -1,0 +1,121 @@
+-- What passes hold, and what their book has of them.
+use Rattle.std.specs.Prelude.{◌≡◌, ℕ, ◌+◌, ◌-◌, ◌≤◌, ◌==◌, nat_lt, true, List, [], ◌∷◌, ◌++◌, length, drop, if◌then◌else◌, Option, Some, None, slice_get, slice_set, Contains, Result, IfOk, IfErr, OnErr}
+use Rattle.std.specs.List.{AllByRecursion}
+use Rattle.charmlet_model.specs.declared.event.Event.{Event}
+use Rattle.charmlet_model.specs.declared.event.Event.TheVariants.{Accept, Deliver}
+use Rattle.charmlet_model.specs.declared.refusal.Refusal.{Refusal}
+use Rattle.charmlet_model.specs.declared.refusal.Refusal.TheVariants as refusals
+use Rattle.charmlet_model.specs.declared.told.Told.{Told}
+use Rattle.charmlet_model.specs.declared.told.Told.TheVariants.{Accepted}
+use Rattle.charmlet_model.specs.Core.{Core}
+use Rattle.charmlet_model.specs.Reaction.{capped}
+use Rattle.charmlet_history.specs.declared.request.Request.{Request}
+use Rattle.charmlet_requests.specs.Knowing.{IsNoLess}
+use Rattle.charmlet_requests.specs.Pass.{Pass, known, lent, with_told, is_out, IsTold, IsUpToDate}
+
+-- A pass was lent after so many events, those before the opening world among them. It holds what
+-- its client was told, and its client's accepts since then, in order.
+pub record HeldPass : Type 0 where
+  pub pass : Pass
+  pub since : ℕ
+  pub accepts : List Event
+
+-- a pass that is lent after so many events to a client whose last number is this one
+abbrev pub lent_since : ℕ → ℕ → ℕ → HeldPass
+lent_since client last since = record { pass = lent client last; since = since; accepts = [] }
+
+-- what the pass with this share holds
+abbrev pub held_by : Option HeldPass → HeldPass
+held_by None = lent_since 0 0 0
+held_by (Some held) = held
+
+-- the client's accepts among these events
+abbrev pub accepts_in : ℕ → List Event → List Event
+accepts_in client [] = []
+accepts_in client (Deliver id ∷ events) = accepts_in client events
+accepts_in client (Accept asking number to entry words ∷ events) =
+    if asking == client then Accept asking number to entry words ∷ accepts_in client events
+    else accepts_in client events
+
+-- All that the pass's client was told is true of the durable events, the pass's last number is its
+-- client's, and its accepts are exactly its client's since it was lent.
+pub record IsCurrent (held : HeldPass) (core : Core) : Type 0 where
+  pub told : IsTold held.pass core
+  pub up_to_date : IsUpToDate held.pass core
+  pub since : core.before ≤ held.since
+  pub within : held.since ≤ core.before + length core.history
+  pub accepts : held.accepts
+      ≡ accepts_in held.pass.client (drop (held.since - core.before) core.history)
+
+-- The book has the clients whose passes are out, and what each pass holds, by its place among those
+-- that were lent: nothing any more once it was taken in.
+pub record LentPasses : Type 0 where
+  pub out : List ℕ
+  pub held : List (Option HeldPass)
+
+-- what the passes hold that are out
+abbrev pub passes_out : List (Option HeldPass) → List HeldPass
+passes_out [] = []
+passes_out (None ∷ held) = passes_out held
+passes_out (Some h ∷ held) = h ∷ passes_out held
+
+-- each pass that is out is current, and no client has two
+pub record AreCurrent (passes : LentPasses) (core : Core) : Type 0 where
+  pub each : (place : ℕ) (h : HeldPass) → slice_get passes.held place ≡ Some (Some h) →
+      IsCurrent h core
+  pub out : (place : ℕ) (h : HeldPass) → slice_get passes.held place ≡ Some (Some h) →
+      is_out h.pass.client passes.out ≡ true
+  pub apart : (i j : ℕ) (g h : HeldPass) → slice_get passes.held i ≡ Some (Some g) →
+      slice_get passes.held j ≡ Some (Some h) → g.pass.client ≡ h.pass.client → i ≡ j
+
+-- One of the passes that are out held the one before and holds the other after, and so has the book
+-- in its place. Of all other passes the book has what it had.
+pub record IsKept (old new : LentPasses) (before after : HeldPass) : Type 0 where
+  pub place : ℕ
+  pub had : slice_get old.held place ≡ Some (Some before)
+  pub has : new.held ≡ slice_set old.held place (Some after)
+  pub out : new.out ≡ old.out
+
+-- these are the passes that are out, all of them
+pub record AreAll (held : List (Option HeldPass)) (passes : List HeldPass) : Type 0 where
+  pub each : (place : ℕ) (h : HeldPass) → slice_get held place ≡ Some (Some h) → Contains passes h
+  pub only : AllByRecursion (λ h. (place : ℕ) × (slice_get held place ≡ Some (Some h))) passes
+
+-- the event by which a client's request is accepted
+abbrev pub accept_of : ℕ → Request → Event
+accept_of client request =
+    Accept client request.number request.to request.entry request.words.now
+
+-- the pass's accepts once a request of its client was answered: one more, unless it was a repeat,
+-- whose number isn't above the pass's last one
+abbrev pub accepts_after : HeldPass → Request → List Event
+accepts_after held request = if nat_lt held.pass.last request.number
+    then held.accepts ++ accept_of held.pass.client request ∷ [] else held.accepts
+
+-- what the pass holds once a request of its client was answered, with what the client was told by
+-- now
+abbrev pub with_request : HeldPass → Pass → Request → HeldPass
+with_request held pass request = record {
+  pass = pass;
+  since = held.since;
+  accepts = accepts_after held request;
+}
+
+-- The answer to a request or a question with this number by a pass. What is told is no less than
+-- what the pass knew about it, and no other words, and then the pass knows no less than that. It
+-- knows no less about any request than before. A refusal leaves it as it was, and if it says which
+-- number is wanted, that is the one after the pass's last.
+pub record IsAnswered (old new : HeldPass) (number : ℕ)
+    (result : Result Told Refusal) : Type 0 where
+  pub no_less : IfOk result (λ told.
+      IsNoLess (known old.pass number) told × IsNoLess told (known new.pass number))
+  pub kept : (other : ℕ) → IsNoLess (known old.pass other) (known new.pass other)
+  pub since : new.since ≡ old.since
+  pub err : OnErr result (new ≡ old)
+  pub wanted : IfErr result (λ refusal. (wanted : ℕ) → refusal ≡ refusals.OutOfTurn wanted →
+      wanted ≡ capped old.pass.last 1)
+
+-- a flush tells the pass's client that the last of its accepts is accepted, if there is one
+abbrev pub with_flush : HeldPass → HeldPass
+with_flush held = if nat_lt held.pass.lent_at held.pass.last
+    then record held { pass = with_told held.pass held.pass.last Accepted } else held
