@@ -93,19 +93,33 @@ fn is_blown(left: &AtomicU64) -> bool {
 }
 
 /// A disk in memory that fails and forgets as its switches say. So it isn't honest.
-#[derive(Drop)]
 pub struct ProbeDisk {
     disk: MemDisk,
     switches: Arc<Switches>,
     faults: u64,
 }
 
+// Written by hand, so that dropping the disk in memory is proved here, and not in each crate that
+// drops a disk of probes.
+impl Drop for ProbeDisk {
+    fn drop(self) {
+        let ProbeDisk {
+            disk,
+            switches,
+            faults: _,
+        } = self;
+        drop(disk);
+        drop(switches);
+    }
+}
+
 impl ProbeDisk {
     /// A new disk that doesn't misbehave.
     pub fn new(alloc: Global) -> Result<ProbeDisk, AllocError> {
+        let switches = Arc::new(alloc, Switches::new())?;
         Ok(ProbeDisk {
             disk: MemDisk::new(alloc),
-            switches: Arc::new(alloc, Switches::new())?,
+            switches,
             faults: 0,
         })
     }
@@ -152,9 +166,7 @@ impl ProbeDisk {
         let kept = bytes_of(alloc, &mut self.disk, half)?;
         let other = bytes_of(alloc, &mut self.disk, half.other())?;
         let length = kept.len().min(length as usize);
-        let mut disk = MemDisk::new(alloc);
-        fill(&mut disk, half, &kept[..length], &other)?;
-        self.disk = disk;
+        self.disk = filled(alloc, half, &kept[..length], &other)?;
         Ok(())
     }
 
@@ -197,6 +209,13 @@ fn write(disk: &mut MemDisk, half: Half, offset: u64, bytes: &[u8]) -> Result<()
         return Err(DeviceFault);
     }
     disk.write_at(half, offset, bytes)
+}
+
+/// A new disk in memory with these bytes in a half, and those in the other one.
+fn filled(alloc: Global, half: Half, bytes: &[u8], others: &[u8]) -> Result<MemDisk, DeviceFault> {
+    let mut disk = MemDisk::new(alloc);
+    fill(&mut disk, half, bytes, others)?;
+    Ok(disk)
 }
 
 /// Writes these bytes to a half of a new disk in memory, and those to the other one, and makes

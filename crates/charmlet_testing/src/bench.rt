@@ -1,42 +1,32 @@
 //! What the lines of a probe work on: a disk, a store on it, and its clients.
 
-ghost use Rattle.charmlet_replay.specs.Unused.{IsUnused};
-
 use crate::failed::Failed;
-use crate::saying::say;
-use charmlet_cli::RestartedLine;
 use charmlet_disk::CrashChoice;
-use charmlet_engine::{Closed, Engine};
-use charmlet_halves::Refused;
-use charmlet_model::{Kind, Refusal};
+use charmlet_model::Kind;
 use charmlet_probe_disk::{ProbeDisk, Switches};
-use charmlet_probe_objects::{Object, Tally, blanks};
-use charmlet_recover::{NotRestarted, manifest, stock_of};
-use charmlet_requests::{ClientPass, Handler, Handlers, Passes};
-use charmlet_script::{HandlerLine, read_script};
-use charmlet_stock::Stock;
+use charmlet_probe_objects::Tally;
+use charmlet_probe_store::{Blanks, ProbeStore};
+use charmlet_requests::{ClientPass, Handlers, Passes};
 use std::alloc::{AllocError, Global};
 use std::collections::BTreeMap;
-use std::io::Write;
 use std::marker::Model;
 use std::sync::Arc;
 
 /// A disk, the store that has it, and what clients and restarts bring.
-#[derive(Drop)]
 pub struct Bench {
     pub(crate) alloc: Global,
     /// The lines of the header for the next store.
-    header: String,
+    pub(crate) header: String,
     pub(crate) handlers: Handlers,
     /// The disk, where it is free.
-    disk: Option<ProbeDisk>,
-    pub(crate) engine: Option<Engine<ProbeDisk, Object>>,
+    pub(crate) disk: Option<ProbeDisk>,
+    pub(crate) store: Option<ProbeStore>,
     pub(crate) switches: Arc<Switches>,
     pub(crate) tally: Arc<Tally>,
     /// How many blanks of which kinds are laid by for the next restart.
-    laid: Vec<(Kind, u64)>,
+    pub(crate) laid: Vec<(Kind, u64)>,
     /// The blanks that came back of a restart that was refused.
-    back: Option<Stock<Object>>,
+    pub(crate) back: Option<Blanks>,
     pub(crate) passes: Passes,
     pub(crate) held: BTreeMap<u32, ClientPass>,
     /// Whether a line that is refused memory is tried once more.
@@ -44,38 +34,58 @@ pub struct Bench {
 }
 
 impl Model for Bench {
-    ghost use Rattle.std.specs.Prelude.{Bool, IfSome};
-    ghost use Rattle.charmlet_replay.specs.Unused.{IsUnused};
+    ghost use Rattle.std.specs.Prelude.{Bool};
 
     ghost Value = { Bool };
 
     ghost view = { λ bench. bench.again };
-
-    ghost invariant = { λ bench. IfSome bench.back IsUnused };
 }
 
-/// How many blanks a stock has, of all kinds.
-fn blanks_in(stock: &Stock<Object>) -> u64 {
-    let census = stock.census();
-    let mut count = 0u64;
-    for kind in &Kind::ALL {
-        count = count.saturating_add(census.get(*kind).in_stock);
+// Written by hand, so that dropping all that is on a bench is proved here, and not in each crate
+// that drops one.
+impl Drop for Bench {
+    fn drop(self) {
+        let Bench {
+            alloc: _,
+            header,
+            handlers,
+            disk,
+            store,
+            switches,
+            tally,
+            laid,
+            back,
+            passes,
+            held,
+            again: _,
+        } = self;
+        drop(header);
+        drop(handlers);
+        drop(disk);
+        drop(store);
+        drop(switches);
+        drop(tally);
+        drop(laid);
+        drop(back);
+        drop(passes);
+        drop(held);
     }
-    count
 }
 
 impl Bench {
     /// A new disk, and no store.
     pub fn new(alloc: Global) -> Result<Bench, AllocError> {
+        let tally = Arc::new(alloc, Tally::new())?;
         let disk = ProbeDisk::new(alloc)?;
+        let switches = disk.switches()?;
         Ok(Bench {
             alloc,
             header: String::new(alloc),
             handlers: Handlers::new(alloc),
-            switches: disk.switches()?,
             disk: Some(disk),
-            engine: None,
-            tally: Arc::new(alloc, Tally::new())?,
+            store: None,
+            switches,
+            tally,
             laid: Vec::new(alloc),
             back: None,
             passes: Passes::new(alloc),
@@ -123,17 +133,23 @@ impl Bench {
     /// A new disk takes the place of what is there.
     pub fn renew(&mut self) -> Result<(), Failed> {
         let disk = ProbeDisk::new(self.alloc)?;
+        let switches = disk.switches()?;
         self.leave();
-        self.switches = disk.switches()?;
         self.disk = Some(disk);
+        self.switches = switches;
         Ok(())
     }
 
     /// The store is dropped, if there is one, and its disk is free.
     pub fn leave(&mut self) {
-        if let Some(engine) = self.engine.take() {
-            self.disk = Some(engine.into_disk());
+        if let Some(store) = self.store.take() {
+            self.disk = Some(store.into_disk());
         }
+        self.end_passes();
+    }
+
+    /// No client has a pass any more.
+    pub(crate) fn end_passes(&mut self) {
         self.held = BTreeMap::new(self.alloc);
         self.passes = Passes::new(self.alloc);
     }
@@ -141,148 +157,8 @@ impl Bench {
     /// The disk crashes, and a store with it.
     pub fn crash(&mut self, choice: CrashChoice) {
         self.leave();
-        self.disk = self.disk.take().map(|disk| disk.crash(choice));
-    }
-
-    /// Makes a store by the header.
-    pub fn create(&mut self, out: &mut Vec<u8>) -> Result<(), Failed> {
-        let script = read_script(self.alloc, &mut self.header.as_bytes())?;
-        let mut handlers = Handlers::new(self.alloc);
-        for HandlerLine { name, array, entry } in script.handlers() {
-            let handler = Handler {
-                array: *array,
-                entry: *entry,
-            };
-            handlers.register(name.as_str(), handler)?;
-        }
-        let manifest = script.manifest(self.alloc)?;
-        let disk = self.disk.take().ok_or(Failed::Lacks("disk"))?;
-        match Engine::create(self.alloc, disk, manifest, script.processors()) {
-            Ok(engine) => {
-                self.engine = Some(engine);
-                self.handlers = handlers;
-                self.header = String::new(self.alloc);
-                say(self.alloc, out, &"created")
-            }
-            Err(Refused { refusal, disk }) => {
-                self.disk = Some(disk);
-                if refusal != Refusal::Memory {
-                    self.header = String::new(self.alloc);
-                }
-                Err(Failed::Refused(refusal))
-            }
-        }
-    }
-
-    /// The store comes back on so many processors: with the blanks that came back and those that
-    /// were laid by, or with those that are wanted where there are none.
-    pub fn restart(&mut self, processors: u16, out: &mut Vec<u8>) -> Result<(), Failed> {
-        let alloc = self.alloc;
-        self.disk()?;
-        let mut wanted: Vec<(Kind, u64)> = Vec::new(alloc);
-        if self.laid.is_empty() {
-            if let Some(stock) = self.back.take() {
-                return self.come_back(stock, processors, out);
-            }
-            self.want(&mut wanted)?;
-        }
-        for (kind, count) in &self.laid {
-            wanted.push((*kind, *count))?;
-        }
-        let mut brought = blanks(alloc, &self.tally, &wanted)?;
-        if let Some(stock) = &self.back {
-            brought.reserve(blanks_in(stock) as usize)?;
-        }
-        if let Some(mut stock) = self.back.take() {
-            for kind in &Kind::ALL {
-                for _ in 0..stock.census().get(*kind).in_stock {
-                    if let Some(object) = stock.take(*kind) {
-                        brought.push(object)?;
-                    }
-                }
-            }
-        }
-        match stock_of(alloc, brought) {
-            Ok(stock) => self.come_back(stock, processors, out),
-            Err(_) => Err(Failed::MEMORY),
-        }
-    }
-
-    /// How many blanks of each kind a restart from the free disk wants, none where no store is
-    /// found.
-    fn want(&mut self, wanted: &mut Vec<(Kind, u64)>) -> Result<(), Failed> {
-        match manifest(self.alloc, self.disk()?.inner()) {
-            Ok(found) => {
-                for kind in &Kind::ALL {
-                    wanted.push((*kind, found.wanted.of(*kind)))?;
-                }
-                Ok(())
-            }
-            Err(Refusal::Memory) => Err(Failed::MEMORY),
-            Err(_) => Ok(()),
-        }
-    }
-
-    /// The store comes back with these blanks.
-    fn come_back(
-        &mut self,
-        blanks: Stock<Object>,
-        processors: u16,
-        out: &mut Vec<u8>,
-    ) -> Result<(), Failed>
-        requires { IsUnused blanks }
-    {
-        let disk = self.disk.take().ok_or(Failed::Lacks("disk"))?;
-        self.laid = Vec::new(self.alloc);
-        match Engine::restart(self.alloc, disk, blanks, processors) {
-            Ok(engine) => {
-                let line = RestartedLine {
-                    generation: engine.generation(),
-                    events: engine.durable(),
-                    processors,
-                };
-                self.engine = Some(engine);
-                say(self.alloc, out, &line)
-            }
-            Err(
-                NotRestarted {
-                    refusal,
-                    disk,
-                    blanks,
-                },
-            ) => {
-                let count = blanks_in(&blanks);
-                self.disk = Some(disk);
-                self.back = Some(blanks);
-                Err(Failed::NotRestarted(refusal, count))
-            }
-        }
-    }
-
-    /// The store comes apart, and its disk is free.
-    pub fn close(&mut self, out: &mut Vec<u8>) -> Result<(), Failed> {
-        let engine = self.engine.take().ok_or(Failed::Lacks("store"))?;
-        match engine.close() {
-            Ok(Closed { disk, parts }) => {
-                self.disk = Some(disk);
-                self.leave();
-                for (elem, resident) in &parts.residents {
-                    let sent = resident.sent;
-                    let received = resident.received;
-                    writeln!(out, "closed {elem} sent {sent} received {received}")?;
-                }
-                for kind in &Kind::ALL {
-                    let count = parts.stock.census().get(*kind).in_stock;
-                    if count > 0 {
-                        writeln!(out, "stock {kind} {count}")?;
-                    }
-                }
-                Ok(())
-            }
-            Err(engine) => {
-                self.engine = Some(engine);
-                Err(Failed::MEMORY)
-            }
+        if let Some(disk) = self.disk.take() {
+            self.disk = Some(disk.crash(choice));
         }
     }
 }

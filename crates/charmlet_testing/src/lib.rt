@@ -5,6 +5,7 @@
 mod bench;
 mod clients;
 mod failed;
+mod lives;
 mod running;
 mod saying;
 mod shows;

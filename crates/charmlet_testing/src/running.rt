@@ -6,6 +6,7 @@ use crate::saying::say;
 use charmlet_cli::{census_line, pending_line, state_line};
 use charmlet_model::{Answer, Kind, Step, Told};
 use charmlet_probe_objects::blanks;
+use charmlet_probe_store::ProbeStore;
 use charmlet_requests::Request;
 use charmlet_script::{Drained, Line, Supplied, read_restart_script};
 
@@ -44,7 +45,7 @@ impl Bench {
 
     /// A line that shows something of the store.
     fn show(&mut self, line: &Line, out: &mut Vec<u8>) -> Result<(), Failed> {
-        let Some(engine) = &mut self.engine else {
+        let Some(ProbeStore { engine }) = &mut self.store else {
             return Err(Failed::Lacks("store"));
         };
         match line {
@@ -56,7 +57,7 @@ impl Bench {
 
     /// So many blanks come to the store.
     fn supply(&mut self, kind: Kind, count: u32, out: &mut Vec<u8>) -> Result<(), Failed> {
-        let Some(engine) = &mut self.engine else {
+        let Some(ProbeStore { engine }) = &mut self.store else {
             return Err(Failed::Lacks("store"));
         };
         let brought = blanks(self.alloc, &self.tally, &[(kind, u64::from(count))])?;
@@ -75,16 +76,18 @@ impl Bench {
         index: u64,
         words: &[u64],
     ) -> Result<Told, Failed> {
-        let Some(engine) = &mut self.engine else {
+        let Some(ProbeStore { engine }) = &mut self.store else {
             return Err(Failed::Lacks("store"));
         };
-        let pass = self.held.get_mut(&client).ok_or(Failed::Lacks("pass"))?;
+        let Some(pass) = self.held.get_mut(&client) else {
+            return Err(Failed::Lacks("pass"));
+        };
         Ok(engine.call(pass, &self.handlers, number, name, index, words)?)
     }
 
     /// Asks or requests by the client's pass, where it has one and the step is the client's.
     fn by_pass(&mut self, step: &Step) -> Result<Option<Told>, Failed> {
-        let Some(engine) = &mut self.engine else {
+        let Some(ProbeStore { engine }) = &mut self.store else {
             return Err(Failed::Lacks("store"));
         };
         match step {
@@ -116,7 +119,7 @@ impl Bench {
 
     /// Takes a step, by nobody's pass.
     fn take(&mut self, step: &Step) -> Result<Answer, Failed> {
-        let Some(engine) = &mut self.engine else {
+        let Some(ProbeStore { engine }) = &mut self.store else {
             return Err(Failed::Lacks("store"));
         };
         match engine.step(step) {
@@ -135,7 +138,7 @@ impl Bench {
 
     /// Delivers the oldest message that can be delivered. Whether there was one.
     fn deliver_next(&mut self) -> Result<bool, Failed> {
-        let Some(engine) = &self.engine else {
+        let Some(ProbeStore { engine }) = &self.store else {
             return Err(Failed::Lacks("store"));
         };
         let Some((processor, id)) = engine.next() else {
@@ -169,8 +172,8 @@ impl Bench {
 
     fn drain(&mut self, most: u32, out: &mut Vec<u8>) -> Result<(), Failed> {
         let (delivered, result) = self.deliver(most);
-        let left = match &self.engine {
-            Some(engine) => engine.pending_count() as u64,
+        let left = match &self.store {
+            Some(store) => store.engine.pending_count() as u64,
             None => 0,
         };
         say(self.alloc, out, &Drained { delivered, left })?;

@@ -5,15 +5,16 @@ use crate::failed::Failed;
 use crate::saying::say_bytes;
 use charmlet_cli::{ShowError, show_store};
 use charmlet_disk::Call;
-use charmlet_halves::survey;
+use charmlet_halves::{Surveyed, survey};
 use charmlet_model::Half;
 use charmlet_plain_recovery::{Recovered, recover};
+use charmlet_probe_store::ProbeStore;
 use std::io::Write;
 
 impl Bench {
     /// What the store counts.
     pub fn look(&self, out: &mut Vec<u8>) -> Result<(), Failed> {
-        let Some(engine) = &self.engine else {
+        let Some(ProbeStore { engine }) = &self.store else {
             return Err(Failed::Lacks("store"));
         };
         let (generation, durable) = (engine.generation(), engine.durable());
@@ -25,7 +26,7 @@ impl Bench {
 
     /// Which message comes next, and where.
     pub fn next(&self, out: &mut Vec<u8>) -> Result<(), Failed> {
-        let Some(engine) = &self.engine else {
+        let Some(ProbeStore { engine }) = &self.store else {
             return Err(Failed::Lacks("store"));
         };
         match engine.next() {
@@ -36,13 +37,11 @@ impl Bench {
 
     /// The bytes of an image of the store.
     pub fn image(&mut self, out: &mut Vec<u8>) -> Result<(), Failed> {
-        let Some(engine) = &mut self.engine else {
+        let Some(ProbeStore { engine }) = &mut self.store else {
             return Err(Failed::Lacks("store"));
         };
         let bytes = engine.image()?;
-        let length = bytes.len();
-        writeln!(out, "image length {length}")?;
-        say_bytes(out, &bytes)
+        say_image(&bytes, out)
     }
 
     /// Writes bytes to a half of the free disk.
@@ -60,9 +59,7 @@ impl Bench {
     pub fn half(&mut self, half: Half, offset: usize, out: &mut Vec<u8>) -> Result<(), Failed> {
         let alloc = self.alloc;
         let bytes = self.disk()?.bytes(alloc, half)?;
-        let length = bytes.len();
-        writeln!(out, "half {half} length {length}")?;
-        say_bytes(out, &bytes[offset.min(length)..])
+        say_half(half, &bytes, offset, out)
     }
 
     /// The calls that changed the free disk, in order.
@@ -97,11 +94,7 @@ impl Bench {
     pub fn survey(&mut self, out: &mut Vec<u8>) -> Result<(), Failed> {
         let alloc = self.alloc;
         let found = survey(alloc, self.disk()?)?;
-        let (half, log) = (found.half, found.contents.logged);
-        let header = found.contents.header;
-        let (generation, base, image) = (header.generation, header.events, header.size);
-        write!(out, "half {half} generation {generation} ")?;
-        Ok(writeln!(out, "base {base} image {image} log {log}")?)
+        say_found(&found, out)
     }
 
     /// What the halves of the free disk recover to, by the plain program.
@@ -110,21 +103,50 @@ impl Bench {
         let disk = self.disk()?;
         let zero = disk.bytes(alloc, Half::Zero)?;
         let one = disk.bytes(alloc, Half::One)?;
-        match recover(alloc, &zero, &one)? {
-            Recovered::Nothing => writeln!(out, "nothing")?,
-            Recovered::Damaged { half, offset } => writeln!(out, "damaged {half} {offset}")?,
-            Recovered::Found {
-                world,
-                events,
-                generation,
-            } => {
-                let pending = world.pending().len();
-                writeln!(
-                    out,
-                    "events {events} generation {generation} pending {pending}"
-                )?;
-            }
-        }
-        Ok(())
+        let recovered = recover(alloc, &zero, &one)?;
+        say_recovered(&recovered, out)
     }
+}
+
+/// Prints the bytes of an image.
+fn say_image(bytes: &[u8], out: &mut Vec<u8>) -> Result<(), Failed> {
+    let length = bytes.len();
+    writeln!(out, "image length {length}")?;
+    say_bytes(out, bytes)
+}
+
+/// Prints the bytes of a half, from an offset on.
+fn say_half(half: Half, bytes: &[u8], offset: usize, out: &mut Vec<u8>) -> Result<(), Failed> {
+    let length = bytes.len();
+    writeln!(out, "half {half} length {length}")?;
+    say_bytes(out, &bytes[offset.min(length)..])
+}
+
+/// Prints what the half that is taken has.
+fn say_found(found: &Surveyed, out: &mut Vec<u8>) -> Result<(), Failed> {
+    let (half, log) = (found.half, found.contents.logged);
+    let header = found.contents.header;
+    let (generation, base, image) = (header.generation, header.events, header.size);
+    write!(out, "half {half} generation {generation} ")?;
+    Ok(writeln!(out, "base {base} image {image} log {log}")?)
+}
+
+/// Prints what two halves recover to.
+fn say_recovered(recovered: &Recovered, out: &mut Vec<u8>) -> Result<(), Failed> {
+    match recovered {
+        Recovered::Nothing => writeln!(out, "nothing")?,
+        Recovered::Damaged { half, offset } => writeln!(out, "damaged {half} {offset}")?,
+        Recovered::Found {
+            world,
+            events,
+            generation,
+        } => {
+            let pending = world.pending().len();
+            writeln!(
+                out,
+                "events {events} generation {generation} pending {pending}"
+            )?;
+        }
+    }
+    Ok(())
 }

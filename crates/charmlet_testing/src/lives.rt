@@ -1,0 +1,190 @@
+//! Stores that begin, come back and come apart.
+
+use crate::bench::Bench;
+use crate::failed::Failed;
+use crate::saying::say;
+use charmlet_cli::RestartedLine;
+use charmlet_halves::Refused;
+use charmlet_model::{Kind, Refusal};
+use charmlet_probe_objects::{Object, blanks};
+use charmlet_probe_store::{Blanks, NotBack, Parts, ProbeStore, wanted_objects};
+use charmlet_requests::{Handler, Handlers};
+use charmlet_script::{HandlerLine, Script, read_script};
+use std::alloc::Global;
+use std::io::Write;
+
+/// The handlers of a script, by their names.
+fn handlers_of(alloc: Global, script: &Script) -> Result<Handlers, Refusal> {
+    let mut handlers = Handlers::new(alloc);
+    register(&mut handlers, script.handlers())?;
+    Ok(handlers)
+}
+
+/// Registers handlers by their names.
+fn register(handlers: &mut Handlers, lines: &[HandlerLine]) -> Result<(), Refusal> {
+    for HandlerLine { name, array, entry } in lines {
+        let handler = Handler {
+            array: *array,
+            entry: *entry,
+        };
+        handlers.register(name.as_str(), handler)?;
+    }
+    Ok(())
+}
+
+impl Bench {
+    /// Makes a store by the header.
+    pub fn create(&mut self, out: &mut Vec<u8>) -> Result<(), Failed> {
+        let script = read_script(self.alloc, &mut self.header.as_bytes())?;
+        self.create_by(&script)?;
+        say(self.alloc, out, &"created")
+    }
+
+    /// Makes a store by a script. Its handlers are those of the bench from then on.
+    fn create_by(&mut self, script: &Script) -> Result<(), Failed> {
+        let handlers = handlers_of(self.alloc, script)?;
+        self.begin(script)?;
+        self.handlers = handlers;
+        Ok(())
+    }
+
+    /// Makes a store with the arrays of a script. A new header begins, but where memory or a disk
+    /// is lacking.
+    fn begin(&mut self, script: &Script) -> Result<(), Failed> {
+        let manifest = script.manifest(self.alloc)?;
+        let Some(disk) = self.disk.take() else {
+            return Err(Failed::Lacks("disk"));
+        };
+        match ProbeStore::create(self.alloc, disk, manifest, script.processors()) {
+            Ok(store) => {
+                self.store = Some(store);
+                self.header.clear();
+                Ok(())
+            }
+            Err(Refused { refusal, disk }) => {
+                self.disk = Some(disk);
+                if refusal != Refusal::Memory {
+                    self.header.clear();
+                }
+                Err(Failed::Refused(refusal))
+            }
+        }
+    }
+
+    /// The store comes back on so many processors: with the blanks that came back and those that
+    /// were laid by, or with those that are wanted where there are none.
+    pub fn restart(&mut self, processors: u16, out: &mut Vec<u8>) -> Result<(), Failed> {
+        self.disk()?;
+        let blanks = self.bring()?;
+        self.come_back(blanks, processors)?;
+        self.say_restarted(processors, out)
+    }
+
+    /// The blanks for a restart.
+    fn bring(&mut self) -> Result<Blanks, Failed> {
+        if self.laid.is_empty() {
+            if let Some(blanks) = self.back.take() {
+                return Ok(blanks);
+            }
+        }
+        let mut objects = self.make_objects()?;
+        self.add_back(&mut objects)?;
+        Ok(Blanks::of(self.alloc, objects)?)
+    }
+
+    /// New objects for the blanks that were laid by, or for those that a restart from the free disk
+    /// wants where there are none.
+    fn make_objects(&mut self) -> Result<Vec<Object>, Failed> {
+        if !self.laid.is_empty() {
+            return Ok(blanks(self.alloc, &self.tally, &self.laid)?);
+        }
+        let Some(disk) = &mut self.disk else {
+            return Err(Failed::Lacks("disk"));
+        };
+        Ok(wanted_objects(self.alloc, &self.tally, disk)?)
+    }
+
+    /// Appends the blanks that came back, if there are any. Where they find no room they stay.
+    fn add_back(&mut self, objects: &mut Vec<Object>) -> Result<(), Failed> {
+        if let Some(blanks) = &self.back {
+            objects.reserve(blanks.count() as usize)?;
+        }
+        match self.back.take() {
+            Some(blanks) => Ok(blanks.append_to(objects)?),
+            None => Ok(()),
+        }
+    }
+
+    /// The store comes back with these blanks.
+    fn come_back(&mut self, blanks: Blanks, processors: u16) -> Result<(), Failed> {
+        let Some(disk) = self.disk.take() else {
+            return Err(Failed::Lacks("disk"));
+        };
+        self.laid.clear();
+        match ProbeStore::restart(self.alloc, disk, blanks, processors) {
+            Ok(store) => {
+                self.store = Some(store);
+                Ok(())
+            }
+            Err(
+                NotBack {
+                    refusal,
+                    disk,
+                    blanks,
+                },
+            ) => {
+                let count = blanks.count();
+                self.disk = Some(disk);
+                self.back = Some(blanks);
+                Err(Failed::NotRestarted(refusal, count))
+            }
+        }
+    }
+
+    /// Prints that the store came back.
+    fn say_restarted(&self, processors: u16, out: &mut Vec<u8>) -> Result<(), Failed> {
+        let Some(ProbeStore { engine }) = &self.store else {
+            return Err(Failed::Lacks("store"));
+        };
+        let line = RestartedLine {
+            generation: engine.generation(),
+            events: engine.durable(),
+            processors,
+        };
+        say(self.alloc, out, &line)
+    }
+
+    /// The store comes apart, and its disk is free.
+    pub fn close(&mut self, out: &mut Vec<u8>) -> Result<(), Failed> {
+        let Some(store) = self.store.take() else {
+            return Err(Failed::Lacks("store"));
+        };
+        match store.close() {
+            Ok((disk, parts)) => {
+                self.disk = Some(disk);
+                self.end_passes();
+                say_parts(&parts, out)
+            }
+            Err(store) => {
+                self.store = Some(store);
+                Err(Failed::MEMORY)
+            }
+        }
+    }
+}
+
+/// Prints what a store was made of.
+fn say_parts(parts: &Parts, out: &mut Vec<u8>) -> Result<(), Failed> {
+    for (elem, resident) in parts.residents() {
+        let sent = resident.sent;
+        let received = resident.received;
+        writeln!(out, "closed {elem} sent {sent} received {received}")?;
+    }
+    for kind in &Kind::ALL {
+        let count = parts.left(*kind);
+        if count > 0 {
+            writeln!(out, "stock {kind} {count}")?;
+        }
+    }
+    Ok(())
+}
