@@ -37,7 +37,7 @@ impl<D: Disk, C: Chare> Engine<D, C> {
         ensures nothing { (core_of self).places ≡ [] → IsOk result }
         ensures err { IfErr result (λ engine. engine ≡ self) }
     {
-        let Engine { store, halves } = self;
+        let (store, halves) = self.into_parts();
         match store.dismantle() {
             Ok(parts) => Ok(Closed {
                 disk: halves.into_disk(),
@@ -52,6 +52,7 @@ impl<D: Disk, C: Chare> Engine<D, C> {
     pub fn into_disk(self) -> D
         ensures { result ≡ self.disk }
     {
-        self.halves.into_disk()
+        let (_store, halves) = self.into_parts();
+        halves.into_disk()
     }
 }

@@ -7,6 +7,7 @@ ghost use Rattle.charmlet_stock.specs.ByKind.{for_all};
 ghost use Rattle.charmlet_engine.specs.Advances.{Advances};
 ghost use Rattle.charmlet_engine.specs.Engine.{core_of};
 ghost use Rattle.charmlet_engine.specs.Outcomes.{is_lawful_now};
+ghost use Rattle.charmlet_engine.specs.Together.{AreTied, shown_by};
 
 use charmlet_chare::Chare;
 use charmlet_disk::Disk;
@@ -20,7 +21,6 @@ use std::marker::Model;
 ///
 /// Where the device fails the engine is halted: each later step is refused as `Halted`, and no call
 /// of the disk is made any more. What was durable stays so.
-#[derive(Drop)]
 pub struct Engine<D: Disk, C: Chare> {
     pub(crate) store: Store<C>,
     pub(crate) halves: Halves<D>,
@@ -37,7 +37,26 @@ impl<D: Disk, C: Chare> Model for Engine<D, C> {
     ghost invariant = { λ e. AreTied e.store e.halves };
 }
 
+// Written by hand, so that dropping all that an engine has is proved here, and not in each crate
+// that drops one.
+impl<D: Disk, C: Chare> Drop for Engine<D, C> {
+    fn drop(self) {
+        let Engine { store, halves } = self;
+        drop(store);
+        drop(halves);
+    }
+}
+
 impl<D: Disk, C: Chare> Engine<D, C> {
+    /// What the engine is made of.
+    pub(crate) fn into_parts(self) -> (Store<C>, Halves<D>)
+        ensures shown { shown_by result.0 result.1 ≡ self }
+        ensures tied { AreTied result.0 result.1 }
+    {
+        let Engine { store, halves } = self;
+        (store, halves)
+    }
+
     /// States what always holds of an engine: its history was made by events, each in its turn; its
     /// stock drops what is retired; on an honest disk a crash now leaves the world after some of
     /// the history, with all durable events among it; and where nothing is done, it goes on as it

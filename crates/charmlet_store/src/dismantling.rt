@@ -15,7 +15,6 @@ ghost use Rattle.charmlet_store.specs.Dismantled.{IsCountedIn, IsOnShelf, standi
 ghost use Rattle.charmlet_stock.specs.Stock.{census_of, keeping_of};
 ghost use Rattle.charmlet_store.specs.Store.{world_in};
 
-use crate::store::Store;
 use charmlet_chare::Chare;
 use charmlet_history::History;
 use charmlet_model::{Elem, Resident};
@@ -31,41 +30,9 @@ pub struct Dismantled<C: Chare> {
     pub stock: Stock<C>,
 }
 
-impl<C: Chare> Store<C> {
-    /// Takes the store apart, also a halted one. Each object that was supplied is then among the
-    /// residents, in the stock, or retired. It fails only when out of memory, which the lists of
-    /// the places and of the residents take, and so not where no element is there; then the store
-    /// comes back as it was.
-    pub fn dismantle(self) -> Result<Dismantled<C>, Store<C>>
-        ensures shows { IfOk result (λ parts.
-            ShowsAll (records_of C.state parts.residents.items) (world_in self)) }
-        ensures stock { IfOk result (λ parts. (census_of parts.stock ≡ self.census)
-            × (keeping_of parts.stock ≡ self.keeping)) }
-        ensures counted { IfOk result (IsCountedIn C.state) }
-        ensures nothing { (core_in self.history).places ≡ [] → IsOk result }
-        ensures err { IfErr result (λ back. back ≡ self) }
-    {
-        self.history.facts();
-        let Ok(places) = self.history.places() else {
-            return Err(self);
-        };
-        let Ok(mut residents) = Vec::with_capacity(self.alloc, places.len()) else {
-            return Err(self);
-        };
-        let Store {
-            history,
-            mut shelves,
-            stock,
-            ..
-        } = self;
-        lift_all(&mut residents, &history, &places, shelves.as_mut_slice());
-        Ok(Dismantled { residents, stock })
-    }
-}
-
 /// Takes each element that is there from its shelf into the list, in rising order: these are the
 /// places of the history. The list has room for them.
-fn lift_all<C: Chare>(
+pub(crate) fn lift_all<C: Chare>(
     residents: &mut Vec<(Elem, Resident<C>)>,
     history: &History,
     places: &BTreeMap<Elem, u16>,

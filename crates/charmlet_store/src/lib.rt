@@ -11,4 +11,4 @@ mod upgrading;
 pub use crate::census::Census;
 pub use crate::dismantling::Dismantled;
 pub use crate::look::{Look, Standing};
-pub use crate::store::{Store, empty_shelves};
+pub use crate::store::{Store, StoreParts, empty_shelves};

@@ -1,12 +1,12 @@
 //! A store in memory, on 1 to 64 processors.
 
-ghost use Rattle.std.specs.Prelude.{◌≡◌, ◌+◌, ◌≤◌, ℕ, true, false, if◌then◌else◌, IfErr, IfOk, OnErr, OnOk};
+ghost use Rattle.std.specs.Prelude.{◌≡◌, ◌+◌, ◌≤◌, [], ℕ, IsOk, true, false, if◌then◌else◌, IfErr, IfOk, OnErr, OnOk};
 ghost use Rattle.charmlet_model.specs.declared.kind.Kind as kinds;
 ghost use Rattle.charmlet_model.specs.declared.refusal.Refusal.TheVariants as refusals;
 ghost use Rattle.charmlet_model.specs.Fit.{IsFit};
 ghost use Rattle.charmlet_model.specs.Core as core;
 ghost use Rattle.charmlet_model.specs.Run.{Goes};
-ghost use Rattle.charmlet_model.specs.Shelves.{count_of};
+ghost use Rattle.charmlet_model.specs.Shelves.{ShowsAll, count_of, records_of};
 ghost use Rattle.charmlet_model.specs.Sound.{new_world, opened};
 ghost use Rattle.charmlet_locate.specs.Locations.{is_processor_count};
 ghost use Rattle.charmlet_history.specs.Kept.{core_in, is_quiet, next_in, told_or_refused};
@@ -14,9 +14,12 @@ ghost use Rattle.charmlet_delivery.specs.Workplace.{done_or_refused};
 ghost use Rattle.charmlet_stock.specs.ByKind.{for_all, with_at};
 ghost use Rattle.charmlet_stock.specs.Pile.{with_out};
 ghost use Rattle.charmlet_stock.specs.Stock.{blanks_in, census_of, keeping_of, part_of, tally_in};
-ghost use Rattle.charmlet_store.specs.Store.{AreEmpty, IsNew, store_in, supplied_in};
+ghost use Rattle.charmlet_store.specs.Dismantled.{IsCountedIn};
+ghost use Rattle.charmlet_store.specs.Together.{FitTogether, shown_by};
+ghost use Rattle.charmlet_store.specs.Store.{AreEmpty, IsNew, store_in, supplied_in, world_in};
 ghost use Rattle.charmlet_delivery.specs.UnderWay.{Ends};
 
+use crate::dismantling::{Dismantled, lift_all};
 use crate::moving::move_among;
 use charmlet_births::Ticks;
 use charmlet_chare::Chare;
@@ -33,7 +36,6 @@ use std::sync::ledger::Ledger;
 /// It knows no disk: whoever writes the history to one shows that its parts still fit together. A
 /// contract sees what the history keeps, the census of the objects, and which retired ones are
 /// kept.
-#[derive(Drop)]
 pub struct Store<C: Chare> {
     pub alloc: Global,
     pub history: History,
@@ -53,6 +55,31 @@ impl<C: Chare> Model for Store<C> {
     ghost invariant = { λ s. FitTogether s.history s.shelves.items s.stock };
 }
 
+/// What a store is made of.
+#[derive(Drop)]
+pub struct StoreParts<C: Chare> {
+    pub history: History,
+    /// The shelf of each processor. They count from 0.
+    pub shelves: Vec<Shelf<C>>,
+    pub stock: Stock<C>,
+}
+
+// Written by hand, so that dropping all that a store has is proved here, and not in each crate that
+// drops one.
+impl<C: Chare> Drop for Store<C> {
+    fn drop(self) {
+        let Store {
+            alloc: _,
+            history,
+            shelves,
+            stock,
+        } = self;
+        drop(history);
+        drop(shelves);
+        drop(stock);
+    }
+}
+
 impl<C: Chare> Store<C> {
     /// A store of a history in which nothing has happened, over shelves on which nothing stands,
     /// one for each processor. Its stock is empty. It takes no memory.
@@ -69,6 +96,24 @@ impl<C: Chare> Store<C> {
             history,
             shelves,
             stock: Stock::new(alloc),
+        }
+    }
+
+    /// What the store is made of.
+    pub fn into_parts(self) -> StoreParts<C>
+        ensures shown { shown_by result.history result.stock ≡ self }
+        ensures fit { FitTogether result.history result.shelves.items result.stock }
+    {
+        let Store {
+            alloc: _,
+            history,
+            shelves,
+            stock,
+        } = self;
+        StoreParts {
+            history,
+            shelves,
+            stock,
         }
     }
 
@@ -211,6 +256,36 @@ impl<C: Chare> Store<C> {
                 Ok(())
             }
         }
+    }
+
+    /// Takes the store apart, also a halted one. Each object that was supplied is then among the
+    /// residents, in the stock, or retired. It fails only when out of memory, which the lists of
+    /// the places and of the residents take, and so not where no element is there; then the store
+    /// comes back as it was.
+    pub fn dismantle(self) -> Result<Dismantled<C>, Store<C>>
+        ensures shows { IfOk result (λ parts.
+            ShowsAll (records_of C.state parts.residents.items) (world_in self)) }
+        ensures stock { IfOk result (λ parts. (census_of parts.stock ≡ self.census)
+            × (keeping_of parts.stock ≡ self.keeping)) }
+        ensures counted { IfOk result (IsCountedIn C.state) }
+        ensures nothing { (core_in self.history).places ≡ [] → IsOk result }
+        ensures err { IfErr result (λ back. back ≡ self) }
+    {
+        self.history.facts();
+        let Ok(places) = self.history.places() else {
+            return Err(self);
+        };
+        let Ok(mut residents) = Vec::with_capacity(self.alloc, places.len()) else {
+            return Err(self);
+        };
+        let Store {
+            alloc: _,
+            history,
+            mut shelves,
+            stock,
+        } = self;
+        lift_all(&mut residents, &history, &places, shelves.as_mut_slice());
+        Ok(Dismantled { residents, stock })
     }
 }
 

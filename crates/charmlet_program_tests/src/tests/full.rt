@@ -5,7 +5,7 @@ use charmlet_checkpoint::image_of;
 use charmlet_history::{History, Request};
 use charmlet_kinds::Counter;
 use charmlet_model::{CONSTRUCT, Elem, Kind, MAX_HALF, Manifest, Refusal};
-use charmlet_store::{Store, empty_shelves};
+use charmlet_store::{Store, StoreParts, empty_shelves};
 use std::alloc::{AllocGlobal, Global};
 use std::process::Abort;
 
@@ -33,11 +33,11 @@ fn first_request() -> Request<'static> {
 
 // The history of the store after an image was taken of it: its log then begins after that.
 fn sealed(rt: &(impl AllocGlobal + Abort), store: Store<Counter>) -> History {
-    let Store {
+    let StoreParts {
         mut history,
         mut shelves,
         ..
-    } = store;
+    } = store.into_parts();
     assert!(rt; !history.is_halted());
     let image = image_of(rt.alloc(), &history, shelves.as_mut_slice());
     let bytes = image.expect(rt, "an image");
