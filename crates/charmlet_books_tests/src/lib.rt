@@ -1,5 +1,5 @@
-//! Tests of books and their shares, in a crate of their own, since a crate with tests is proved
-//! twice.
+//! Tests of what workers in threads stand on: books and their shares, seats, passes and tickets. They
+//! have a crate of their own, since a crate with tests is proved twice.
 #![tactic(auto)]
 
 #[cfg(test)]

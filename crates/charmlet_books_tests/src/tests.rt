@@ -1,3 +1,4 @@
 mod passes;
 mod seats;
+mod tickets;
 mod values;

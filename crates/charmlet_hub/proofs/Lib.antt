@@ -1,4 +1,3 @@
-pub mod Books
-pub mod Shelves
-pub mod Calls
-pub mod Beginnings
+pub mod Steps
+pub mod Hubs
+pub mod Endings

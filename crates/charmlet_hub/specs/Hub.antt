@@ -1,50 +1,65 @@
--- What is seen of a hub.
-use Rattle.std.specs.Prelude.{◌≡◌, ℕ, ◌+◌}
-use Rattle.charmlet_model.specs.declared.kind.Kind.{Kind}
-use Rattle.charmlet_model.specs.Core.{Core}
+-- What is seen of a hub, and what always holds of it.
+use Rattle.std.specs.Prelude.{ℕ, ◌≤◌, List, [], ◌∷◌, length, if◌then◌else◌}
+use Rattle.charmlet_model.specs.declared.event.Event.{Event}
+use Rattle.charmlet_model.specs.declared.event.Event.TheVariants.{Accept, Deliver}
+use Rattle.charmlet_model.specs.declared.names.MsgId.{MsgId}
+use Rattle.charmlet_model.specs.declared.refusal.Refusal.{Refusal}
+use Rattle.charmlet_model.specs.declared.refusal.Refusal.TheVariants as refusals
+use Rattle.charmlet_model.specs.Core.{Core, is_processor}
 use Rattle.charmlet_model.specs.Run.{StoreView}
-use Rattle.charmlet_model.specs.World.{World}
-use Rattle.charmlet_disk.specs.File.{CrashBytes}
-use Rattle.charmlet_recovery.specs.Outcomes.{IsLawful}
-use Rattle.charmlet_shelf.specs.Count.{objects_on}
-use Rattle.charmlet_shelf.specs.Shelf.{View}
 use Rattle.charmlet_stock.specs.declared.by_kind.ByKind.{ByKind}
 use Rattle.charmlet_stock.specs.declared.pile.Tally.{Tally}
-use Rattle.charmlet_stock.specs.ByKind.{at}
+use Rattle.charmlet_passes.specs.Passes.{AreCurrent, LentPasses}
+use Rattle.charmlet_seats.specs.Seats.{HaveAll, Seats, lending_refusal}
+use Rattle.charmlet_sequencer.specs.Sequencer.{SequencerShown, store_of}
 
--- the core, the census of its stock, and the disk that it owns
+-- the ids of the messages that these events deliver, in order
+abbrev pub deliveries_in : List Event → List MsgId
+deliveries_in [] = []
+deliveries_in (Accept client number to entry words ∷ events) = deliveries_in events
+deliveries_in (Deliver id ∷ events) = id ∷ deliveries_in events
+
+-- the core, the census of its stock, the disk, and the books of seats and of passes
 pub record HubShown (D : Type 0) : Type 0 where
   pub core : Core
   pub census : ByKind Tally
   pub disk : D
-
--- the core is that of a store that opened with this world, after so many events, on so many
--- processors
-pub record IsOf (opening : World) (before processors : ℕ) (core : Core) : Type 0 where
-  pub opening_is : core.opening ≡ opening
-  pub before_is : core.before ≡ before
-  pub processors_are : core.processors ≡ processors
-
--- the files recover to the world after some of the core's history, with all that is durable among
--- it
-abbrev pub is_lawful : Core → CrashBytes → Type 0
-is_lawful core = IsLawful core.opening core.before core.history core.durable
+  pub seats : Seats
+  pub passes : LentPasses
 
 module _ {D : Type 0} where
+  -- a sequencer with these books
+  abbrev pub shown_by : SequencerShown D → Seats → LentPasses → HubShown D
+  shown_by sequencer seats passes = record {
+    core = sequencer.core;
+    census = sequencer.census;
+    disk = sequencer.disk;
+    seats = seats;
+    passes = passes;
+  }
+
+  -- the hub without its books
+  abbrev pub sequencer_in : HubShown D → SequencerShown D
+  sequencer_in hub = record { core = hub.core; census = hub.census; disk = hub.disk }
+
   -- the hub as a core and the blanks of its stock
-  abbrev pub store_of : HubShown D → StoreView
-  store_of hub = record { core = hub.core; blanks = λ kind. (at hub.census kind).in_stock }
+  abbrev pub store_in : HubShown D → StoreView
+  store_in hub = store_of (sequencer_in hub)
 
-  -- how many objects of each kind were supplied
-  abbrev pub supplied_of : HubShown D → Kind → ℕ
-  supplied_of hub kind = (at hub.census kind).supplied
+  -- the hub without the room in its own list
+  abbrev pub roomless : HubShown D → HubShown D
+  roomless hub = record hub {
+    seats = record hub.seats { own = record hub.seats.own { room = 0 } };
+  }
 
-  -- how many objects of each kind are on the shelf, in the stock, or retired
-  abbrev pub held_with : View → HubShown D → Kind → ℕ
-  held_with shelf hub kind = objects_on shelf kind + (at hub.census kind).in_stock
-      + (at hub.census kind).retired
+  -- The seats' lists and the hub's own are woven into the deliveries of the history, all passes are
+  -- current, and the hub's own list has room for each assigned delivery.
+  pub record IsHub (hub : HubShown D) : Type 0 where
+    pub seats : HaveAll hub.seats (deliveries_in hub.core.history)
+    pub passes : AreCurrent hub.passes hub.core
+    pub room : length hub.core.assigned ≤ hub.seats.own.room
 
-  -- a call on the hub and a shelf loses no object, and makes none
-  pub record KeepsObjects (old new : HubShown D) (shelf next : View) : Type 0 where
-    pub held : held_with next new ≡ held_with shelf old
-    pub supplied : supplied_of new ≡ supplied_of old
+  -- why a processor's seat isn't lent
+  abbrev pub seat_refusal : HubShown D → ℕ → Refusal
+  seat_refusal hub processor = if is_processor hub.core processor
+      then lending_refusal processor hub.seats.out else refusals.BadPes

@@ -1,9 +1,6 @@
 -- The definitions that contracts cite.
-pub mod Part
-pub mod Shelf
-pub mod Book
 pub mod Hub
-pub mod Together
+pub mod Settling
 pub use Rattle.charmlet_agreement.specs.Naming
 pub use Rattle.charmlet_model.specs.Core
 pub use Rattle.charmlet_model.specs.Run
@@ -11,19 +8,18 @@ pub use Rattle.charmlet_model.specs.Shelves
 pub use Rattle.charmlet_model.specs.Sound
 pub use Rattle.charmlet_model.specs.Told
 pub use Rattle.charmlet_model.specs.World
-pub use Rattle.charmlet_recovery.specs.Outcomes
 pub use Rattle.charmlet_disk.specs.Calls
 pub use Rattle.charmlet_disk.specs.Disk
 pub use Rattle.charmlet_disk.specs.File
 pub use Rattle.charmlet_halves.specs.Answers
 pub use Rattle.charmlet_halves.specs.Halves
-pub use Rattle.charmlet_shelf.specs.Count
-pub use Rattle.charmlet_shelf.specs.Due
-pub use Rattle.charmlet_shelf.specs.Shelf as OneShelf
-pub use Rattle.charmlet_stock.specs.ByKind
-pub use Rattle.charmlet_stock.specs.Stock
 pub use Rattle.charmlet_history.specs.Kept
-pub use Rattle.charmlet_journal.specs.NewStores
-pub use Rattle.charmlet_journal.specs.Rest
-pub use Rattle.charmlet_delivery.specs.UnderWay
+pub use Rattle.charmlet_requests.specs.Pass
+pub use Rattle.charmlet_passes.specs.Passes
+pub use Rattle.charmlet_seats.specs.Seats
+pub use Rattle.charmlet_seats.specs.Woven
+pub use Rattle.charmlet_shelf.specs.Shelf as OneShelf
 pub use Rattle.charmlet_delivery.specs.Workplace
+pub use Rattle.charmlet_sequencer.specs.Sequencer
+pub use Rattle.charmlet_store.specs.Store
+pub use Rattle.charmlet_sequencer.specs.Shelf

@@ -1,18 +1,17 @@
-//! What lies under the locks of a runtime with threads: a hub, and a shelf for each processor.
+//! What lies under the lock that orders all steps of a runtime with threads.
 //!
-//! A shelf and the hub lie under different locks, and yet it is known, without comparing, that they
-//! agree: the hub has a book of what stands on each shelf and of the delivery that is assigned
-//! there, and each shelf has its share of the book. Each call is one step of the core.
+//! A hub is a sequencer, with a book of the seats of workers and one of the passes of clients. So
+//! it is known without comparing, whatever the others do: the ids that the seats hold, and those of
+//! the commits without a seat, are all deliveries of the history; what each client was told is true
+//! of the durable events; and its pass has exactly its accepts.
 #![tactic(auto)]
 
+mod asking;
+mod closing;
+mod delivering;
 mod hub;
 mod names;
-mod opening;
-mod part;
-mod shelf;
 
+pub use crate::closing::{Closed, NotClosed};
 pub use crate::hub::Hub;
-pub use crate::names::HubName;
-pub use crate::opening::{Opened, open_new};
-pub use crate::part::SeenPart;
-pub use crate::shelf::LockedShelf;
+pub use crate::names::{PassesOf, SeatsOf};

@@ -1,44 +1,28 @@
-//! What types under different locks have to agree on.
+//! Names of the books of one runtime.
 
 use charmlet_agreement::BookName;
-use std::marker::Brand;
+use charmlet_seats::SeatBookName;
+use charmlet_sequencer::RuntimeName;
+use std::marker::PhantomData;
 
-/// Names the hub of one runtime: its books, of shelves, of seats and of passes, and the store with
-/// which it opened. The call that opens it picks them, and all types that lie under its locks are
-/// generic in the name. As a book's name it is that of the book of shelves.
-pub trait HubName: BookName {
-    ghost use Rattle.std.specs.Prelude.{ℕ};
-    ghost use Rattle.atomic_table.specs.Seated.{TableId};
-    ghost use Rattle.charmlet_model.specs.World.{World};
-
-    /// The table of the book of seats.
-    ghost seats: { TableId };
-
-    /// The table of the book of passes.
-    ghost passes: { TableId };
-
-    /// The world with which the store opened.
-    ghost opening: { World };
-
-    /// How many events came before it.
-    ghost before: { ℕ };
-
-    /// How many processors there are.
-    ghost processors: { ℕ };
+/// Names the book of a runtime's seats.
+pub struct SeatsOf<B> {
+    runtime: PhantomData<B>,
 }
 
-impl HubName for Brand {
-    ghost use Rattle.std.specs.Prelude.{[]};
-    ghost use Rattle.charmlet_agreement.specs.Agreement.{no_table};
-    ghost use Rattle.charmlet_model.specs.Sound.{new_world};
+impl<B: RuntimeName> BookName for SeatsOf<B> {
+    ghost table = { B.seats };
+}
 
-    ghost seats = { no_table };
+impl<B: RuntimeName> SeatBookName for SeatsOf<B> {
+    ghost processors = { B.processors };
+}
 
-    ghost passes = { no_table };
+/// Names the book of a runtime's passes.
+pub struct PassesOf<B> {
+    runtime: PhantomData<B>,
+}
 
-    ghost opening = { new_world [] };
-
-    ghost before = { 0 };
-
-    ghost processors = { 0 };
+impl<B: RuntimeName> BookName for PassesOf<B> {
+    ghost table = { B.passes };
 }

@@ -131,6 +131,7 @@ impl<B: SeatBookName> SeatBook<B> {
     pub fn reserve_own(&mut self, count: usize) -> Result<(), AllocError>
         ensures own { self.new.own.items ≡ self.old.own.items }
         ensures out { self.new.out ≡ self.old.out }
+        ensures lists { self.new.lists ≡ self.old.lists }
         ensures all { (deliveries : List names.MsgId) → HaveAll self.old deliveries →
             HaveAll self.new deliveries }
         ensures room { OnOk result (count ≤ self.new.own.room) }
@@ -147,6 +148,7 @@ impl<B: SeatBookName> SeatBook<B> {
         ensures own { self.new.own.items ≡ self.old.own.items ++ id ∷ [] }
         ensures room { self.new.own.room + 1 ≡ self.old.own.room }
         ensures out { self.new.out ≡ self.old.out }
+        ensures lists { self.new.lists ≡ self.old.lists }
         ensures all { (deliveries : List names.MsgId) → HaveAll self.old deliveries →
             HaveAll self.new (deliveries ++ id ∷ []) }
     {

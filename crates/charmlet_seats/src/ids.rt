@@ -42,6 +42,13 @@ impl DeliveryIds {
         self.ids.as_slice()
     }
 
+    /// For how many more there is room.
+    pub fn room(&self) -> usize
+        ensures { result ≡ self.now.room }
+    {
+        self.ids.capacity() - self.ids.len()
+    }
+
     /// Makes room for `count` more, and never gives up room. It takes no memory if there is room.
     pub(crate) fn reserve(&mut self, count: usize) -> Result<(), AllocError>
         ensures items { self.new.items ≡ self.old.items }

@@ -83,6 +83,13 @@ impl<B: SeatBookName> Seat<B> {
         self.ids.as_slice()
     }
 
+    /// For how many more commits there is room.
+    pub fn room(&self) -> usize
+        ensures { result ≡ self.now.room }
+    {
+        self.ids.room()
+    }
+
     /// Makes room for `count` more commits, and never gives up room. It fails only when out of
     /// memory, and takes none if there is room. What it holds stays.
     pub fn reserve(&mut self, count: usize) -> Result<(), AllocError>

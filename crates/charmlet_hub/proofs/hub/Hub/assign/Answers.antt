@@ -1,52 +1,31 @@
-use Rattle.std.proofs.Common.{◌≡◌, subst, rules}
-use Rattle.std.specs.Prelude.{OnErr}
+use Rattle.std.proofs.Common.{◌≤◌, sym, subst, ◌∙◌, arith}
 use Rattle.charmlet_model.specs.Core.{Assign}
 use Rattle.charmlet_model.specs.Run.{Goes}
-use Rattle.charmlet_shelf.specs.Shelf.{View}
-use Rattle.charmlet_delivery.specs.Workplace.{done_or_refused, store_with}
-use Rattle.charmlet_hub.specs.Hub.{HubShown, KeepsObjects, store_of}
-use Rattle.charmlet_hub.specs.Together.{shown_by}
-use Rattle.charmlet_hub.proofs.Calls.{at_work, both_same, hub_again, keeps_objects, refused_same}
+use Rattle.charmlet_stock.proofs.Results.{when_ok}
+use Rattle.charmlet_delivery.specs.Workplace.{done_or_refused}
+use Rattle.charmlet_sequencer.specs.Sequencer.{KeepsObjects, store_of}
+use Rattle.charmlet_hub.specs.Hub.{HubShown, sequencer_in, store_in}
+use Rattle.charmlet_hub.proofs.Hubs.{hub_assigned}
 use Rattle.charmlet_hub.proofs.hub.Hub.assign.Goals as goal
 
-pub assign-assigned-requires-after_bounds : goal.assign-assigned-requires-after_bounds
-assign-assigned-requires-after_bounds g c κs within =
+pub invariant_of-self-2 : goal.invariant_of-self-2
+invariant_of-self-2 g c =
     let h = c.self.inside in
-    let s = c.locked.inside in
-    at_work g.B.HubName.opening g.B.HubName.before g.B.HubName.processors h.history h.stock h.parts h.halves c.self.invariant s.shelf s.share c.locked.invariant.0 c.agree.ensures.agrees
-
-pub invariant_of-self : goal.invariant_of-self
-invariant_of-self g c =
-    let h = c.self.inside in
-    let s = c.locked.inside in
-    let done = c.assign-assigned in
-    hub_again g.B.HubName.opening g.B.HubName.before g.B.HubName.processors h.history h.stock h.parts h.halves c.self.invariant s.shelf s.share c.locked.invariant.0 c.agree.ensures.agrees
-    done.new.history done.new.shelf done.new.stock done.ensures.turns (Assign s.shelf.number c.args.id) (done_or_refused done.result) tt done.ensures.goes
-    c.facts.ensures.sound c.facts-2.ensures.sound c.write.new.parts (search rules)
+    let new = c.assign.new.self in
+    let more = c.reserve_own.new.self in
+    let made : c.from-most.result ≤ more.own.room = when_ok (c.from-most.result ≤ more.own.room) c.reserve_own.result (sym c.is_err.ensures.value ∙ c.if-is_err.false) c.reserve_own.ensures.room in
+    let most = c.from-most.ensures in
+    let named = c.self.invariant.1 in
+    let processors = c.facts.ensures.of.processors_are in (
+      hub_assigned h.sequencer new h.seats h.passes c.self.invariant.0 more (store_of h.sequencer).blanks (store_of new).blanks c.args.locked.now.number c.args.id (done_or_refused c.assign.result)
+          c.facts.ensures.sound c.assign.ensures.goes c.reserve_own.ensures.all (omega arith),
+      named,
+    )
 
 pub returns-clause-goes : goal.returns-clause-goes
 returns-clause-goes g c =
-    let s = c.locked.inside in
-    let done = c.assign-assigned in
-    let after = store_with done.new.history done.new.stock in
-    subst (λ (x : HubShown _ × View). Goes (store_of x.0) (Assign x.1.number c.args.id) (done_or_refused done.result) after) (λ i. (c.self.view_is i, c.locked.view_is i)) done.ensures.goes
+    subst (λ (v : HubShown _). Goes (store_in v) (Assign c.args.locked.now.number c.args.id) (done_or_refused c.assign.result) (store_of c.assign.new.self)) c.self.view_is c.assign.ensures.goes
 
 pub returns-clause-objects : goal.returns-clause-objects
 returns-clause-objects g c =
-    let h = c.self.inside in
-    let s = c.locked.inside in
-    let done = c.assign-assigned in
-    subst (λ (x : HubShown _ × View). KeepsObjects x.0 (shown_by done.new.history done.new.stock h.halves) x.1 done.new.shelf) (λ i. (c.self.view_is i, c.locked.view_is i))
-    (keeps_objects g.B.HubName.opening g.B.HubName.before g.B.HubName.processors h.history h.stock h.parts h.halves c.self.invariant s.shelf s.share c.locked.invariant.0 c.agree.ensures.agrees
-    done.new.history done.new.shelf done.new.stock done.ensures.turns)
-
-pub returns-clause-err : goal.returns-clause-err
-returns-clause-err g c =
-    let h = c.self.inside in
-    let s = c.locked.inside in
-    let done = c.assign-assigned in
-    subst (λ (x : HubShown _ × View). OnErr done.result ((shown_by done.new.history done.new.stock h.halves ≡ x.0) × (done.new.shelf ≡ x.1))) (λ i. (c.self.view_is i, c.locked.view_is i))
-    (both_same (shown_by done.new.history done.new.stock h.halves ≡ shown_by h.history h.stock h.halves) (done.new.shelf ≡ s.shelf) done.result
-    (refused_same g.B.HubName.opening g.B.HubName.before g.B.HubName.processors h.history h.stock h.parts h.halves c.self.invariant s.shelf s.share c.locked.invariant.0 c.agree.ensures.agrees
-    done.new.history done.new.shelf done.new.stock done.ensures.turns (Assign s.shelf.number c.args.id) done.result tt done.ensures.goes done.ensures.err)
-    done.ensures.err)
+    subst (λ (v : HubShown _). KeepsObjects (sequencer_in v) c.assign.new.self c.args.locked.now c.assign.new.locked) c.self.view_is c.assign.ensures.objects

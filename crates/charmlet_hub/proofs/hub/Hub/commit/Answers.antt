@@ -1,52 +1,45 @@
-use Rattle.std.proofs.Common.{◌≡◌, subst, rules}
-use Rattle.charmlet_model.specs.Core.{Commit, Done}
+use Rattle.std.proofs.Common.{◌≡◌, ◌+◌, ◌≤◌, Some, ap, subst, arith}
+use Rattle.charmlet_model.specs.Core.{Commit, Done, assigned_to}
 use Rattle.charmlet_model.specs.Run.{Goes}
-use Rattle.charmlet_history.specs.Delivered.{commit_answer}
+use Rattle.charmlet_seats.specs.Seats.{IdList}
 use Rattle.charmlet_shelf.specs.Shelf.{View}
-use Rattle.charmlet_delivery.specs.Workplace.{store_with}
-use Rattle.charmlet_hub.specs.Hub.{HubShown, KeepsObjects, store_of}
-use Rattle.charmlet_hub.specs.Together.{shown_by}
-use Rattle.charmlet_hub.proofs.Calls.{at_work, hub_again, keeps_objects}
+use Rattle.charmlet_sequencer.specs.Sequencer.{KeepsObjects, SequencerShown, store_of}
+use Rattle.charmlet_sequencer.specs.Shelf.{delivery_in}
+use Rattle.charmlet_hub.specs.Hub.{HubShown, sequencer_in, store_in}
+use Rattle.charmlet_hub.proofs.Hubs.{hub_delivered}
+use Rattle.charmlet_hub.proofs.Steps.{committed_delivers, delivery_assigned, made_before}
 use Rattle.charmlet_hub.proofs.hub.Hub.commit.Goals as goal
-
-pub commit-committed-requires-clause-consistent : goal.commit-committed-requires-clause-consistent
-commit-committed-requires-clause-consistent g c κs within =
-    let h = c.self.inside in
-    let s = c.locked.inside in
-    at_work g.B.HubName.opening g.B.HubName.before g.B.HubName.processors h.history h.stock h.parts h.halves c.self.invariant s.shelf s.share c.locked.invariant.0 c.agree.ensures.agrees
-
-pub invariant_of-self : goal.invariant_of-self
-invariant_of-self g c =
-    let h = c.self.inside in
-    let s = c.locked.inside in
-    let done = c.commit-committed in
-    hub_again g.B.HubName.opening g.B.HubName.before g.B.HubName.processors h.history h.stock h.parts h.halves c.self.invariant s.shelf s.share c.locked.invariant.0 c.agree.ensures.agrees
-    done.new.history done.new.shelf done.new.stock done.ensures.turns (Commit s.shelf.number) (commit_answer done.result) tt done.ensures.goes
-    c.facts.ensures.sound c.facts-2.ensures.sound c.write.new.parts (search rules)
 
 pub invariant_of-self-2 : goal.invariant_of-self-2
 invariant_of-self-2 g c =
     let h = c.self.inside in
-    let s = c.locked.inside in
-    let done = c.commit-committed in
-    hub_again g.B.HubName.opening g.B.HubName.before g.B.HubName.processors h.history h.stock h.parts h.halves c.self.invariant s.shelf s.share c.locked.invariant.0 c.agree.ensures.agrees
-    done.new.history done.new.shelf done.new.stock done.ensures.turns (Commit s.shelf.number) (commit_answer done.result) tt done.ensures.goes
-    c.facts.ensures.sound c.facts-2.ensures.sound c.write.new.parts (search rules)
+    let new = c.commit.new.self in
+    let more = c.commit-2.new.self in
+    let made : delivery_in c.args.locked.now.phase ≡ Some c.in-Some.id = made_before c.args.locked.now c.agree.new.locked c.delivery.result c.in-Some.id c.agree.ensures.locked c.delivery.ensures c.in-Some.is in
+    let has = delivery_assigned h.sequencer.core c.args.locked.now.number c.args.locked.now.phase c.in-Some.id c.agree.ensures.due made in
+    let goes : Goes (store_of h.sequencer) (Commit c.args.locked.now.number) Done (store_of new) =
+    subst (λ (x : SequencerShown _ × View). Goes (store_of x.0) (Commit x.1.number) Done (store_of new)) (λ i. (c.agree.ensures.sequencer i, c.agree.ensures.locked i)) c.in_default-commit.ensures.goes in
+    let room : h.seats.own.room ≤ more.own.room + 1 = let same = ap (λ (l : IdList). l.room) c.commit-2.ensures.own in omega arith in (
+      hub_delivered h.sequencer new h.seats h.passes c.self.invariant.0 more (store_of h.sequencer).blanks (store_of new).blanks (Commit c.args.locked.now.number) c.in-Some.id c.facts.ensures.sound tt tt goes
+          (committed_delivers h.sequencer.core new.core (store_of h.sequencer).blanks (store_of new).blanks c.args.locked.now.number c.in-Some.id has goes) c.commit-2.ensures.all room,
+      c.self.invariant.1,
+    )
 
 pub returns-clause-goes : goal.returns-clause-goes
 returns-clause-goes g c =
+    let new = c.commit.new.self in
+    subst (λ (v : HubShown _). Goes (store_in v) (Commit c.args.locked.now.number) Done (store_of new)) c.self.view_is
+    (subst (λ (x : SequencerShown _ × View). Goes (store_of x.0) (Commit x.1.number) Done (store_of new)) (λ i. (c.agree.ensures.sequencer i, c.agree.ensures.locked i)) c.in_default-commit.ensures.goes)
+
+pub returns-clause-id : goal.returns-clause-id
+returns-clause-id g c =
     let h = c.self.inside in
-    let s = c.locked.inside in
-    let done = c.commit-committed in
-    let after = store_with done.new.history done.new.stock in
-    subst (λ (x : HubShown _ × View). Goes (store_of x.0) (Commit x.1.number) Done after) (λ i. (c.self.view_is i, c.locked.view_is i))
-    (subst (λ r. Goes (store_with h.history h.stock) (Commit s.shelf.number) (commit_answer r) after) c.in_default-committed.is done.ensures.goes)
+    let made : delivery_in c.args.locked.now.phase ≡ Some c.in-Some.id = made_before c.args.locked.now c.agree.new.locked c.delivery.result c.in-Some.id c.agree.ensures.locked c.delivery.ensures c.in-Some.is in
+    let has = delivery_assigned h.sequencer.core c.args.locked.now.number c.args.locked.now.phase c.in-Some.id c.agree.ensures.due made in
+    (made, subst (λ (v : HubShown _). assigned_to v.core c.args.locked.now.number ≡ Some c.in-Some.id) c.self.view_is has)
 
 pub returns-clause-objects : goal.returns-clause-objects
 returns-clause-objects g c =
-    let h = c.self.inside in
-    let s = c.locked.inside in
-    let done = c.commit-committed in
-    subst (λ (x : HubShown _ × View). KeepsObjects x.0 (shown_by done.new.history done.new.stock h.halves) x.1 done.new.shelf) (λ i. (c.self.view_is i, c.locked.view_is i))
-    (keeps_objects g.B.HubName.opening g.B.HubName.before g.B.HubName.processors h.history h.stock h.parts h.halves c.self.invariant s.shelf s.share c.locked.invariant.0 c.agree.ensures.agrees
-    done.new.history done.new.shelf done.new.stock done.ensures.turns)
+    let new = c.commit.new.self in
+    subst (λ (v : HubShown _). KeepsObjects (sequencer_in v) new c.args.locked.now c.commit.new.locked) c.self.view_is
+    (subst (λ (x : SequencerShown _ × View). KeepsObjects x.0 new x.1 c.commit.new.locked) (λ i. (c.agree.ensures.sequencer i, c.agree.ensures.locked i)) c.commit.ensures.objects)

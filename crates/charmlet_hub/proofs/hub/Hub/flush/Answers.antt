@@ -1,68 +1,32 @@
-use Rattle.std.proofs.Common.{◌≡◌, ◌≢◌, ap, subst}
-use Rattle.std.specs.Prelude.{IfErr, length}
-use Rattle.charmlet_model.specs.declared.refusal.Refusal.TheVariants as refusals
-use Rattle.charmlet_model.specs.Core.{Flush}
+use Rattle.std.proofs.Common.{sym, subst}
+use Rattle.charmlet_model.specs.Core.{Counts, Flush}
 use Rattle.charmlet_model.specs.Run.{Goes}
-use Rattle.charmlet_disk.specs.Disk.{LeavesOnly}
-use Rattle.charmlet_disk.proofs.Moments.{weaker}
-use Rattle.charmlet_halves.specs.Halves.{disk_of}
-use Rattle.charmlet_history.specs.Kept.{core_in, counts_or_refused, plenty}
-use Rattle.charmlet_journal.specs.Rest.{keeps_durable}
-use Rattle.charmlet_recovery.proofs.Outcomes.{kept_is_lawful}
-use Rattle.charmlet_stock.specs.Stock.{blanks_in}
-use Rattle.charmlet_delivery.specs.Workplace.{store_with}
-use Rattle.charmlet_delivery.proofs.Leaving.{flush_leaves}
-use Rattle.charmlet_hub.specs.Hub.{HubShown, is_lawful, store_of}
-use Rattle.charmlet_hub.specs.Together.{shown_by}
-use Rattle.charmlet_hub.proofs.Calls.{flushed_same, other_book, other_of}
+use Rattle.charmlet_history.specs.Kept.{counts_or_refused}
+use Rattle.charmlet_passes.specs.Passes.{AreCurrent}
+use Rattle.charmlet_passes.proofs.OtherSteps.{steps_keep}
+use Rattle.charmlet_sequencer.specs.Sequencer.{store_of}
+use Rattle.charmlet_hub.specs.Hub.{HubShown, store_in}
+use Rattle.charmlet_hub.proofs.Hubs.{hub_stepped}
 use Rattle.charmlet_hub.proofs.hub.Hub.flush.Goals as goal
 
 pub invariant_of-self : goal.invariant_of-self
 invariant_of-self g c =
     let h = c.self.inside in
-    let done = c.flush-flushed in
-    let next = done.new.history in
-    let answer = counts_or_refused done.result in
-    let each = flush_leaves (core_in h.history) in
-    let book = c.self.invariant.1.book in
-    let of = c.self.invariant.0 in
-    let sound = c.facts-2.ensures.sound in
-    let back = done.ensures.disk.honest.1 in (
-      other_of h.history next h.stock h.parts book sound g.B.HubName.opening g.B.HubName.before g.B.HubName.processors of answer Flush each (done.ensures.steps plenty),
-      record {
-        book = other_book h.history next h.stock h.parts book sound g.B.HubName.opening g.B.HubName.before g.B.HubName.processors of answer Flush each (done.ensures.steps plenty);
-        dropping = c.self.invariant.1.dropping;
-        agrees = done.ensures.agrees;
-        keeps = λ honest. done.ensures.kept (back honest);
-        current = λ honest going. done.ensures.current (back honest) going;
-      },
+    let new = c.flush.new.self in (
+      hub_stepped h.sequencer new h.seats h.passes c.self.invariant.0 (store_of h.sequencer).blanks (store_of new).blanks Flush
+          (counts_or_refused c.flush.result) c.facts.ensures.sound tt tt tt c.flush.ensures.goes,
+      c.self.invariant.1,
     )
+
+pub tell-requires-clause-current : goal.tell-requires-clause-current
+tell-requires-clause-current g c =
+    let h = c.self.inside in
+    let new = c.flush.new.self in
+    subst (AreCurrent h.passes) (sym c.history.ensures)
+    (steps_keep h.passes h.sequencer.core (store_of h.sequencer).blanks Flush
+    (record { answer = counts_or_refused c.flush.result; core = new.core; blanks = (store_of new).blanks })
+    c.facts.ensures.sound tt tt c.flush.ensures.goes c.self.invariant.0.passes)
 
 pub returns-clause-goes : goal.returns-clause-goes
 returns-clause-goes g c =
-    let h = c.self.inside in
-    let after = store_with c.flush-flushed.new.history h.stock in
-    subst (λ (v : HubShown _). Goes (store_of v) Flush (counts_or_refused c.flush-flushed.result) after) c.self.view_is (c.flush-flushed.ensures.steps (blanks_in h.stock))
-
-pub returns-clause-any_moment : goal.returns-clause-any_moment
-returns-clause-any_moment g c =
-    let h = c.self.inside in
-    let core = core_in h.history in
-    let new = disk_of c.flush-flushed.new.halves in
-    subst (λ (v : HubShown _). g.D.Disk.honest v.disk → LeavesOnly g.D.Disk.moment g.D.Disk.since v.disk new (is_lawful v.core)) c.self.view_is
-    (λ honest. weaker g.D.Disk.moment g.D.Disk.since (disk_of h.halves) new (keeps_durable core) (is_lawful core) (c.flush-flushed.ensures.any_moment honest)
-    (λ o kept. kept_is_lawful core.opening core.before core.history core.durable o kept))
-
-pub returns-clause-err : goal.returns-clause-err
-returns-clause-err g c =
-    let h = c.self.inside in
-    let done = c.flush-flushed in
-    subst (λ (v : HubShown _). IfErr done.result (λ refusal. refusal ≢ refusals.Device → shown_by done.new.history h.stock done.new.halves ≡ v)) c.self.view_is
-    (flushed_same h.history done.new.history h.stock h.halves done.new.halves done.result (done.ensures.steps plenty) done.ensures.refused)
-
-pub returns-clause-idle : goal.returns-clause-idle
-returns-clause-idle g c =
-    let h = c.self.inside in
-    let done = c.flush-flushed in
-    subst (λ (v : HubShown _). v.core.durable ≡ length v.core.history → disk_of done.new.halves ≡ v.disk) c.self.view_is
-    (λ all. ap disk_of (done.ensures.idle all))
+    subst (λ (v : HubShown _). Goes (store_in v) Flush (Counts c.in-Ok.count) (store_of c.flush.new.self)) c.self.view_is c.in-Ok.ensures.goes

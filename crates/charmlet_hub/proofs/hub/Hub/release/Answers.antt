@@ -1,40 +1,23 @@
-use Rattle.std.proofs.Common.{◌≡◌, subst, rules}
+use Rattle.std.proofs.Common.{subst}
 use Rattle.charmlet_model.specs.Core.{Done, Release}
 use Rattle.charmlet_model.specs.Run.{Goes}
-use Rattle.charmlet_shelf.specs.Shelf.{View}
-use Rattle.charmlet_delivery.specs.Workplace.{store_with}
-use Rattle.charmlet_hub.specs.Hub.{HubShown, KeepsObjects, store_of}
-use Rattle.charmlet_hub.specs.Together.{shown_by}
-use Rattle.charmlet_hub.proofs.Calls.{at_work, hub_again, keeps_objects}
+use Rattle.charmlet_sequencer.specs.Sequencer.{KeepsObjects, store_of}
+use Rattle.charmlet_hub.specs.Hub.{HubShown, sequencer_in, store_in}
+use Rattle.charmlet_hub.proofs.Hubs.{hub_stepped}
 use Rattle.charmlet_hub.proofs.hub.Hub.release.Goals as goal
-
-pub release-requires-clause-consistent : goal.release-requires-clause-consistent
-release-requires-clause-consistent g c κs within =
-    let h = c.self.inside in
-    let s = c.locked.inside in
-    at_work g.B.HubName.opening g.B.HubName.before g.B.HubName.processors h.history h.stock h.parts h.halves c.self.invariant s.shelf s.share c.locked.invariant.0 c.agree.ensures.agrees
 
 pub invariant_of-self : goal.invariant_of-self
 invariant_of-self g c =
     let h = c.self.inside in
-    let s = c.locked.inside in
-    let done = c.release in
-    hub_again g.B.HubName.opening g.B.HubName.before g.B.HubName.processors h.history h.stock h.parts h.halves c.self.invariant s.shelf s.share c.locked.invariant.0 c.agree.ensures.agrees
-    done.new.history done.new.shelf done.new.stock done.ensures.turns (Release s.shelf.number) Done tt done.ensures.goes
-    c.facts.ensures.sound c.facts-2.ensures.sound c.write.new.parts (search rules)
+    let new = c.release.new.self in (
+      hub_stepped h.sequencer new h.seats h.passes c.self.invariant.0 (store_of h.sequencer).blanks (store_of new).blanks (Release c.args.locked.now.number) Done c.facts.ensures.sound tt tt tt c.release.ensures.goes,
+      c.self.invariant.1,
+    )
 
 pub returns-clause-goes : goal.returns-clause-goes
 returns-clause-goes g c =
-    let s = c.locked.inside in
-    let done = c.release in
-    let after = store_with done.new.history done.new.stock in
-    subst (λ (x : HubShown _ × View). Goes (store_of x.0) (Release x.1.number) Done after) (λ i. (c.self.view_is i, c.locked.view_is i)) done.ensures.goes
+    subst (λ (v : HubShown _). Goes (store_in v) (Release c.args.locked.now.number) Done (store_of c.release.new.self)) c.self.view_is c.release.ensures.goes
 
 pub returns-clause-objects : goal.returns-clause-objects
 returns-clause-objects g c =
-    let h = c.self.inside in
-    let s = c.locked.inside in
-    let done = c.release in
-    subst (λ (x : HubShown _ × View). KeepsObjects x.0 (shown_by done.new.history done.new.stock h.halves) x.1 done.new.shelf) (λ i. (c.self.view_is i, c.locked.view_is i))
-    (keeps_objects g.B.HubName.opening g.B.HubName.before g.B.HubName.processors h.history h.stock h.parts h.halves c.self.invariant s.shelf s.share c.locked.invariant.0 c.agree.ensures.agrees
-    done.new.history done.new.shelf done.new.stock done.ensures.turns)
+    subst (λ (v : HubShown _). KeepsObjects (sequencer_in v) c.release.new.self c.args.locked.now c.release.new.locked) c.self.view_is c.release.ensures.objects

@@ -1,14 +1,27 @@
 use Rattle.std.proofs.Common.{◌≡◌, refl, subst}
-use Rattle.std.specs.Prelude.{IfOk, take}
-use Rattle.charmlet_model.specs.Core.{Status}
+use Rattle.std.specs.Prelude.{IfOk, OnErr, take}
+use Rattle.charmlet_model.specs.Core.{Core, Status, Steps}
 use Rattle.charmlet_model.specs.Told.{Holds}
-use Rattle.charmlet_history.specs.Kept.{core_in, plenty}
-use Rattle.charmlet_hub.specs.Hub.{HubShown}
-use Rattle.charmlet_hub.proofs.Calls.{told_holds}
+use Rattle.charmlet_history.specs.Kept.{plenty, told_or_refused}
+use Rattle.charmlet_sequencer.proofs.Calls.{told_holds}
+use Rattle.charmlet_hub.specs.Hub.{HubShown, shown_by}
+use Rattle.charmlet_hub.proofs.Hubs.{refused_question}
 use Rattle.charmlet_hub.proofs.hub.Hub.status.Goals as goal
 
-pub returns-clause-told : goal.returns-clause-told
-returns-clause-told g c =
+pub returns-clause-err : goal.returns-clause-err
+returns-clause-err g c =
     let h = c.self.inside in
-    subst (λ (v : HubShown _). IfOk c.status.result (λ told. Holds v.core.opening (take v.core.durable v.core.history) c.args.client c.args.number told)) c.self.view_is
-    (told_holds (core_in h.history) (core_in h.history) plenty (Status c.args.client c.args.number) c.args.client c.args.number c.status.result (refl, refl) (c.status.ensures plenty))
+    let done = c.status in
+    subst (λ (v : HubShown _). OnErr done.result (shown_by h.sequencer h.seats done.new.self ≡ v)) c.self.view_is
+    (refused_question h.sequencer h.seats h.passes done.new.self c.args.pass.now done.new.pass done.result done.ensures.answered.err done.ensures.kept)
+
+pub returns-clause-holds : goal.returns-clause-holds
+returns-clause-holds g c =
+    let h = c.self.inside in
+    let core = h.sequencer.core in
+    let client = c.args.pass.now.pass.client in
+    let number = c.args.number in
+    let steps : Steps core plenty (Status client number) (record { answer = told_or_refused c.status.result; core = core; blanks = plenty }) =
+    subst (λ (k : Core). Steps k plenty (Status client number) (record { answer = told_or_refused c.status.result; core = k; blanks = plenty })) c.history.ensures (c.status.ensures.steps plenty) in
+    subst (λ (v : HubShown _). IfOk c.status.result (λ told. Holds v.core.opening (take v.core.durable v.core.history) client number told)) c.self.view_is
+    (told_holds core core plenty (Status client number) client number c.status.result (refl, refl) steps)

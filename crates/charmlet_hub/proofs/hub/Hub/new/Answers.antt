@@ -1,0 +1,15 @@
+use Rattle.std.proofs.Common.{length, List, sym, ap, subst, arith}
+use Rattle.charmlet_model.specs.declared.event.Event.{Event}
+use Rattle.charmlet_seats.specs.Seats.{HaveAll}
+use Rattle.charmlet_hub.specs.Hub.{deliveries_in}
+use Rattle.charmlet_hub.proofs.hub.Hub.new.Goals as goal
+
+pub invariant_of-result : goal.invariant_of-result
+invariant_of-result g c = (
+  record {
+    seats = subst (λ (events : List Event). HaveAll c.new.result (deliveries_in events)) (sym c.requires.history) c.new.ensures.all;
+    passes = c.new-2.ensures.current c.args.sequencer.core;
+    room = let none = ap length c.requires.assigned in omega arith;
+  },
+  c.requires.processors,
+)

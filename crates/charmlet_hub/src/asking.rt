@@ -1,0 +1,113 @@
+//! What clients ask of a hub, and the flush that makes it durable.
+
+ghost use Rattle.std.specs.Prelude.{◌≡◌, ◌≢◌, IfErr, IfOk, OnErr, OnOk, length, map, take};
+ghost use Rattle.charmlet_model.specs.declared.refusal.Refusal.TheVariants as refusals;
+ghost use Rattle.charmlet_model.specs.Core as core;
+ghost use Rattle.charmlet_model.specs.Run.{Goes};
+ghost use Rattle.charmlet_model.specs.Told.{Holds};
+ghost use Rattle.charmlet_disk.specs.Calls.{AfterCall};
+ghost use Rattle.charmlet_disk.specs.Disk.{LeavesOnly};
+ghost use Rattle.charmlet_halves.specs.Answers.{is_no_failure};
+ghost use Rattle.charmlet_history.specs.Kept.{counts_or_refused, told_or_refused};
+ghost use Rattle.charmlet_requests.specs.Pass.{with_accept, with_told};
+ghost use Rattle.charmlet_passes.specs.Passes.{IsAnswered, IsKept, accepts_after, with_flush};
+ghost use Rattle.charmlet_sequencer.specs.Sequencer.{is_lawful};
+ghost use Rattle.charmlet_hub.specs.Hub.{store_in};
+
+use crate::hub::Hub;
+use crate::names::PassesOf;
+use charmlet_chare::Chare;
+use charmlet_disk::Disk;
+use charmlet_history::Request;
+use charmlet_model::{Refusal, Told};
+use charmlet_passes::ClientPass;
+use charmlet_sequencer::RuntimeName;
+
+impl<D: Disk, C: Chare, B: RuntimeName> Hub<D, C, B> {
+    /// Accepts a request of the pass's client, unless it repeats one in the client's window, and
+    /// tells the client what is durable of it. The refusals are those of
+    /// [`charmlet_history::History::request`], in their order. If it isn't refused, the pass
+    /// records that it was accepted, and what was told about it. What is told is no less than the
+    /// pass knew, and no other words. A refusal changes nothing.
+    pub fn request(
+        &mut self,
+        pass: &mut ClientPass<PassesOf<B>>,
+        request: &Request<'_>,
+    ) -> Result<Told, Refusal>
+        ensures goes { Goes (store_in self.old) (core.Request pass.old.pass.client
+            request.now.number request.now.to request.now.entry request.now.words.now)
+            (told_or_refused result) (store_in self.new) }
+        ensures holds { IfOk result (λ told. Holds self.old.core.opening
+            (take self.old.core.durable self.old.core.history) pass.old.pass.client
+            request.now.number told) }
+        ensures answered { IsAnswered pass.old pass.new request.now.number result }
+        ensures told { IfOk result (λ told. pass.new.pass
+            ≡ with_accept (with_told pass.old.pass request.now.number told) request.now.number) }
+        ensures accepts { OnOk result (pass.new.accepts ≡ accepts_after pass.old request.now) }
+        ensures kept { IsKept self.old.passes self.new.passes pass.old pass.new }
+        ensures rest { self.new
+            ≡ record self.old { core = self.new.core; passes = self.new.passes } }
+        ensures err { OnErr result (self.new ≡ self.old) }
+    {
+        self.sequencer.facts();
+        self.sequencer.request_by(&mut self.passes, pass, request)
+    }
+
+    /// Tells the pass's client what is durable of its request. `Halted`; otherwise `Memory`, but
+    /// only if the answer has words. The pass records the answer. What is told is no less than the
+    /// pass knew, and no other words. A refusal changes nothing.
+    pub fn status(
+        &mut self,
+        pass: &mut ClientPass<PassesOf<B>>,
+        number: u64,
+    ) -> Result<Told, Refusal>
+        ensures goes { Goes (store_in self.old) (core.Status pass.old.pass.client number)
+            (told_or_refused result) (store_in self.new) }
+        ensures holds { IfOk result (λ told. Holds self.old.core.opening
+            (take self.old.core.durable self.old.core.history) pass.old.pass.client number told) }
+        ensures answered { IsAnswered pass.old pass.new number result }
+        ensures told { IfOk result (λ told. pass.new.pass ≡ with_told pass.old.pass number told) }
+        ensures accepts { pass.new.accepts ≡ pass.old.accepts }
+        ensures kept { IsKept self.old.passes self.new.passes pass.old pass.new }
+        ensures rest { self.new ≡ record self.old { passes = self.new.passes } }
+        ensures err { OnErr result (self.new ≡ self.old) }
+    {
+        self.passes.status(self.sequencer.history(), pass, number)
+    }
+
+    /// Makes all events durable, and answers how many there are, those before the opening world
+    /// among them. Then it tells each client whose pass is handed in that the last of its accepts
+    /// is accepted. It takes no memory; where no events are to be written it makes no call of the
+    /// disk.
+    ///
+    /// `Halted`; `LogFull` if the file would have more than 2^31 bytes, the closed gate after its
+    /// log among them: then nothing changes. `Device` halts the store. When refused, no client is
+    /// told anything. On an honest disk a crash at any moment of the call leaves the world after
+    /// some of the history, with all events among it that were durable before.
+    pub fn flush(&mut self, passes: &mut [ClientPass<PassesOf<B>>]) -> Result<u64, Refusal>
+        ensures goes { Goes (store_in self.old) core.Flush (counts_or_refused result)
+            (store_in self.new) }
+        ensures told { OnOk result (passes.new ≡ map with_flush passes.old) }
+        ensures untold { OnErr result ((passes.new ≡ passes.old)
+            × (self.new.passes ≡ self.old.passes)) }
+        ensures any_moment { D.honest self.old.disk → LeavesOnly D.moment D.since self.old.disk
+            self.new.disk (is_lawful self.old.core) }
+        ensures disk { AfterCall D.Disk self.old.disk self.new.disk (is_no_failure result) }
+        ensures idle { self.old.core.durable ≡ length self.old.core.history →
+            self.new.disk ≡ self.old.disk }
+        ensures out { self.new.passes.out ≡ self.old.passes.out }
+        ensures census { self.new.census ≡ self.old.census }
+        ensures seats { self.new.seats ≡ self.old.seats }
+        ensures memory { IfErr result (λ refusal. refusal ≢ refusals.Memory) }
+        ensures err { IfErr result (λ refusal. refusal ≢ refusals.Device →
+            self.new ≡ self.old) }
+    {
+        self.sequencer.facts();
+        let count = match self.sequencer.flush() {
+            Ok(count) => count,
+            Err(refusal) => return Err(refusal),
+        };
+        self.passes.tell(self.sequencer.history(), passes);
+        Ok(count)
+    }
+}

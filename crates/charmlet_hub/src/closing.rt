@@ -1,0 +1,142 @@
+//! The end of a hub and its shelves.
+
+ghost use Rattle.std.specs.Prelude.{◌≡◌, ◌∷◌, false, true, IfErr, IfOk, OnOk, map, vec_len};
+ghost use Rattle.std.specs.List.{AllByRecursion};
+ghost use Rattle.charmlet_model.specs.declared.refusal.Refusal.TheVariants as refusals;
+ghost use Rattle.charmlet_disk.specs.File.{CrashBytes, MayLeave};
+ghost use Rattle.charmlet_halves.specs.Halves.{disk_of};
+ghost use Rattle.charmlet_history.specs.Kept.{core_in};
+ghost use Rattle.charmlet_passes.specs.Passes.{AreAll, HeldPass, IsCurrent};
+ghost use Rattle.charmlet_seats.specs.Seats.{HeldSeat};
+ghost use Rattle.charmlet_seats.specs.Woven.{IsWoven};
+ghost use Rattle.charmlet_sequencer.specs.Sequencer.{IsOf, is_lawful};
+ghost use Rattle.charmlet_hub.specs.Hub.{HubShown, deliveries_in};
+ghost use Rattle.charmlet_hub.specs.Settling.{SettleAll, are_all_in, closing_refusal, ended};
+
+use crate::hub::Hub;
+use crate::names::{PassesOf, SeatsOf};
+use charmlet_chare::Chare;
+use charmlet_disk::Disk;
+use charmlet_halves::Halves;
+use charmlet_model::Refusal;
+use charmlet_passes::ClientPass;
+use charmlet_seats::{DeliveryIds, Seat};
+use charmlet_sequencer::{LockedShelf, RuntimeName};
+use charmlet_store::Store;
+
+/// What a closed hub was made of: a store, in which no delivery is under way, and the halves of its
+/// disk; and the ids of the deliveries that were committed without a seat.
+#[derive(Drop)]
+pub struct Closed<D: Disk, C: Chare> {
+    pub store: Store<C>,
+    pub halves: Halves<D>,
+    pub own: DeliveryIds,
+}
+
+/// A hub that wasn't closed, why not, and all that was handed in.
+#[derive(Drop)]
+pub struct NotClosed<D: Disk, C: Chare, B: RuntimeName> {
+    pub refusal: Refusal,
+    pub hub: Hub<D, C, B>,
+    pub shelves: Vec<LockedShelf<C, B>>,
+    pub seats: Vec<Seat<SeatsOf<B>>>,
+    pub passes: Vec<ClientPass<PassesOf<B>>>,
+}
+
+impl<D: Disk, C: Chare, B: RuntimeName> Hub<D, C, B> {
+    /// Takes all apart, also when halted, and makes no call of the disk. All shelves are handed in,
+    /// in any order. What is under way on each of them ends first, as [`settle`](Self::settle) ends
+    /// it. The objects show the world after the history. The ids that the seats hold and those of
+    /// the commits without a seat are all deliveries of the history: each stands in one of these
+    /// lists, in the history's order. Each pass has exactly its client's accepts since it was lent,
+    /// and all that its client was told is true of the durable events.
+    ///
+    /// `PassOut` if a seat or a pass that is out isn't handed in: then all comes back as it was.
+    /// Otherwise `Memory`: then all comes back too, with no delivery under way.
+    pub fn close(
+        self,
+        shelves: Vec<LockedShelf<C, B>>,
+        seats: Vec<Seat<SeatsOf<B>>>,
+        passes: Vec<ClientPass<PassesOf<B>>>,
+    ) -> Result<Closed<D, C>, NotClosed<D, C, B>>
+        requires { vec_len shelves ≡ B.processors }
+        ensures of { IfOk result (λ closed. IsOf B.opening B.before B.processors
+            (core_in closed.store.history)) }
+        ensures settles { IfOk result (λ closed. (last : HubShown D)
+            × SettleAll self shelves.items last
+            × (core_in closed.store.history ≡ last.core)
+            × (closed.store.census ≡ last.census)
+            × (disk_of closed.halves ≡ last.disk)
+            × (closed.own ≡ last.seats.own)) }
+        ensures disk { IfOk result (λ closed. disk_of closed.halves ≡ self.disk) }
+        ensures lawful { D.honest self.disk → IfOk result (λ closed. (outcome : CrashBytes) →
+            MayLeave (D.file (disk_of closed.halves)) outcome →
+            is_lawful (core_in closed.store.history) outcome) }
+        ensures woven { IfOk result (λ closed. IsWoven
+            (closed.own.items ∷ map (λ (seat : HeldSeat). seat.ids) seats.items)
+            (deliveries_in (core_in closed.store.history).history)) }
+        ensures current { IfOk result (λ closed. AllByRecursion
+            (λ (held : HeldPass). IsCurrent held (core_in closed.store.history)) passes.items) }
+        ensures all { OnOk result (AreAll self.passes.held passes.items) }
+        ensures all_in { OnOk result (are_all_in self (vec_len seats) (vec_len passes) ≡ true) }
+        ensures err { IfErr result (λ back. back.refusal
+            ≡ closing_refusal self (vec_len seats) (vec_len passes)) }
+        ensures back { IfErr result (λ back. (back.seats ≡ seats) × (back.passes ≡ passes)) }
+        ensures out { are_all_in self (vec_len seats) (vec_len passes) ≡ false →
+            IfErr result (λ back. (back.hub ≡ self) × (back.shelves ≡ shelves)) }
+        ensures settled { are_all_in self (vec_len seats) (vec_len passes) ≡ true →
+            IfErr result (λ back. SettleAll self shelves.items back.hub
+            × (back.shelves.items ≡ map ended shelves.items)) }
+    {
+        if seats.len() != self.seats.seat_count() || passes.len() != self.passes.pass_count() {
+            return Err(NotClosed {
+                refusal: Refusal::PassOut,
+                hub: self,
+                shelves,
+                seats,
+                passes,
+            });
+        }
+        let mut hub = self;
+        let mut shelves = shelves;
+        for i in 0..shelves.len() {
+            hub.settle(&mut shelves[i]);
+        }
+        hub.facts();
+        let Hub {
+            sequencer,
+            seats: seat_book,
+            passes: pass_book,
+            processors,
+        } = hub;
+        let apart = match sequencer.take_apart(shelves) {
+            Ok(apart) => apart,
+            Err(back) => {
+                let hub = Hub {
+                    sequencer: back.sequencer,
+                    seats: seat_book,
+                    passes: pass_book,
+                    processors,
+                };
+                return Err(NotClosed {
+                    refusal: Refusal::Memory,
+                    hub,
+                    shelves: back.shelves,
+                    seats,
+                    passes,
+                });
+            }
+        };
+        let Ok(own) = seat_book.close(seats) else {
+            unreachable!()
+        };
+        let Ok(()) = pass_book.close(passes) else {
+            unreachable!()
+        };
+        Ok(Closed {
+            store: apart.store,
+            halves: apart.halves,
+            own,
+        })
+    }
+}

@@ -1,0 +1,224 @@
+//! Deliveries by a hub and a shelf that is lent to it.
+
+ghost use Rattle.std.specs.Prelude.{◌≡◌, ◌+◌, ◌<◌, ◌++◌, ◌∷◌, [], Some, false, true, IfErr, IfOk, IsOk, OnErr, OnOk};
+ghost use Rattle.charmlet_model.specs.declared.refusal.Refusal.TheVariants as refusals;
+ghost use Rattle.charmlet_model.specs.Core as core;
+ghost use Rattle.charmlet_model.specs.Core.{Done, Refuses, assigned_to};
+ghost use Rattle.charmlet_model.specs.Run.{Goes};
+ghost use Rattle.charmlet_shelf.specs.Shelf.{is_assigned, settled};
+ghost use Rattle.charmlet_shelf.specs.declared.phase.Phase.TheVariants as phases;
+ghost use Rattle.charmlet_delivery.specs.Workplace.{done_or_refused};
+ghost use Rattle.charmlet_sequencer.specs.Sequencer.{KeepsObjects};
+ghost use Rattle.charmlet_sequencer.specs.Shelf.{delivery_in, is_done};
+ghost use Rattle.charmlet_hub.specs.Hub.{roomless, sequencer_in, store_in};
+ghost use Rattle.charmlet_hub.specs.Settling.{Settles, ended};
+
+use crate::hub::Hub;
+use crate::names::SeatsOf;
+use charmlet_chare::Chare;
+use charmlet_disk::Disk;
+use charmlet_model::{MsgId, Refusal};
+use charmlet_seats::Seat;
+use charmlet_sequencer::{LockedShelf, RuntimeName};
+
+impl<D: Disk, C: Chare, B: RuntimeName> Hub<D, C, B> {
+    /// Assigns a pending message to the shelf's processor. One that constructs its receiver takes a
+    /// blank from the stock. It makes room for the delivery, in the hub's own list too, whatever is
+    /// delivered elsewhere before it.
+    ///
+    /// The refusal is the first that applies of `Halted`, `BadPes`, `Uncommitted`, `NoMessage`,
+    /// `Absent`, `Elsewhere`, `HistoryFull`, `NoBlank` and `Memory`. Then all is as before, beside
+    /// the room in the hub's own list.
+    pub fn assign(&mut self, locked: &mut LockedShelf<C, B>, id: MsgId) -> Result<(), Refusal>
+        ensures goes { Goes (store_in self.old) (core.Assign locked.old.number id)
+            (done_or_refused result) (store_in self.new) }
+        ensures ok { OnOk result (is_assigned locked.new.phase ≡ true) }
+        ensures shelf { locked.new ≡ record locked.old { phase = locked.new.phase } }
+        ensures objects { KeepsObjects (sequencer_in self.old) (sequencer_in self.new)
+            locked.old locked.new }
+        ensures rest { roomless self.new ≡ record (roomless self.old) {
+          core = self.new.core;
+          census = self.new.census;
+        } }
+        ensures err { OnErr result ((roomless self.new ≡ roomless self.old)
+            × (locked.new ≡ locked.old)) }
+    {
+        self.sequencer.facts();
+        let most = usize::from(self.processors);
+        if self.seats.reserve_own(most).is_err() {
+            return Err(self.assign_refusal(locked.number(), id));
+        }
+        self.sequencer.assign(locked, id)
+    }
+
+    /// Why a message can't be assigned to the processor where memory is refused.
+    fn assign_refusal(&self, processor: u16, id: MsgId) -> Refusal
+        ensures { Goes (store_in self.now) (core.Assign processor id) (Refuses result)
+            (store_in self.now) }
+    {
+        let wanted = match self.sequencer.history().test_delivery(processor, id) {
+            Ok(wanted) => wanted,
+            Err(refusal) => return refusal,
+        };
+        let Some(edition) = wanted else {
+            return Refusal::Memory;
+        };
+        let kind = edition.kind();
+        if self.sequencer.census().get(kind).in_stock == 0 {
+            return Refusal::NoBlank(kind);
+        }
+        Refusal::Memory
+    }
+
+    /// Adds the delivery that the receiver on the shelf has made to the history, and its id to
+    /// those that the seat holds, which has to have room for it. It answers the id. An object that
+    /// is destroyed by the delivery is retired. It takes no memory. The only refusal is `Halted`:
+    /// then all is as before, and the delivery can still be [finished](Self::finish).
+    pub fn commit(
+        &mut self,
+        locked: &mut LockedShelf<C, B>,
+        seat: &mut Seat<SeatsOf<B>>,
+    ) -> Result<MsgId, Refusal>
+        requires done { is_done locked.old.phase ≡ true }
+        requires room { 0 < seat.old.room }
+        ensures goes { Goes (store_in self.old) (core.Commit locked.old.number)
+            (done_or_refused result) (store_in self.new) }
+        ensures id { IfOk result (λ id. (delivery_in locked.old.phase ≡ Some id)
+            × (assigned_to self.old.core locked.old.number ≡ Some id)) }
+        ensures seat { IfOk result (λ id. seat.new ≡ record seat.old {
+          ids = seat.old.ids ++ id ∷ [];
+          room = seat.new.room;
+        }) }
+        ensures room { OnOk result (seat.new.room + 1 ≡ seat.old.room) }
+        ensures shelf { OnOk result (locked.new ≡ settled locked.old) }
+        ensures objects { KeepsObjects (sequencer_in self.old) (sequencer_in self.new)
+            locked.old locked.new }
+        ensures own { self.new.seats.own ≡ self.old.seats.own }
+        ensures out { self.new.seats.out ≡ self.old.seats.out }
+        ensures rest { self.new ≡ record self.old {
+          core = self.new.core;
+          census = self.new.census;
+          seats = self.new.seats;
+        } }
+        ensures err { IfErr result (λ refusal. refusal ≡ refusals.Halted) }
+        ensures same { OnErr result ((self.new ≡ self.old) × (locked.new ≡ locked.old)
+            × (seat.new ≡ seat.old)) }
+        ensures runs { self.old.core.halted ≡ false → IsOk result }
+    {
+        self.sequencer.facts();
+        self.sequencer.agree(locked);
+        let Some(id) = locked.delivery() else {
+            unreachable!()
+        };
+        if let Err(refusal) = self.sequencer.commit(locked) {
+            return Err(refusal);
+        }
+        self.seats.commit(seat, id);
+        Ok(id)
+    }
+
+    /// Adds the delivery as [`commit`](Self::commit) does, without a seat: its id goes to the hub's
+    /// own list. So whoever takes the lock of a shelf on which a delivery was made can commit it.
+    /// It takes no memory. The only refusal is `Halted`: then all is as before.
+    pub fn commit_own(&mut self, locked: &mut LockedShelf<C, B>) -> Result<MsgId, Refusal>
+        requires { is_done locked.old.phase ≡ true }
+        ensures goes { Goes (store_in self.old) (core.Commit locked.old.number)
+            (done_or_refused result) (store_in self.new) }
+        ensures id { IfOk result (λ id. (delivery_in locked.old.phase ≡ Some id)
+            × (assigned_to self.old.core locked.old.number ≡ Some id)) }
+        ensures own { IfOk result (λ id. self.new.seats.own.items
+            ≡ self.old.seats.own.items ++ id ∷ []) }
+        ensures shelf { OnOk result (locked.new ≡ settled locked.old) }
+        ensures objects { KeepsObjects (sequencer_in self.old) (sequencer_in self.new)
+            locked.old locked.new }
+        ensures seats { self.new.seats
+            ≡ record self.old.seats { own = self.new.seats.own } }
+        ensures rest { self.new ≡ record self.old {
+          core = self.new.core;
+          census = self.new.census;
+          seats = self.new.seats;
+        } }
+        ensures err { IfErr result (λ refusal. refusal ≡ refusals.Halted) }
+        ensures same { OnErr result ((self.new ≡ self.old) × (locked.new ≡ locked.old)) }
+        ensures runs { self.old.core.halted ≡ false → IsOk result }
+    {
+        self.sequencer.facts();
+        self.sequencer.agree(locked);
+        let Some(id) = locked.delivery() else {
+            unreachable!()
+        };
+        if let Err(refusal) = self.sequencer.commit(locked) {
+            return Err(refusal);
+        }
+        self.seats.commit_own(id);
+        Ok(id)
+    }
+
+    /// Adds the delivery as [`commit_own`](Self::commit_own) does, also where the store is halted:
+    /// so an object that has reacted already can be counted, and the store be taken apart. It takes
+    /// no memory.
+    pub fn finish(&mut self, locked: &mut LockedShelf<C, B>) -> MsgId
+        requires { is_done locked.old.phase ≡ true }
+        ensures goes { Goes (store_in self.old) (core.Finish locked.old.number) Done
+            (store_in self.new) }
+        ensures id { (delivery_in locked.old.phase ≡ Some result)
+            × (assigned_to self.old.core locked.old.number ≡ Some result) }
+        ensures own { self.new.seats.own.items ≡ self.old.seats.own.items ++ result ∷ [] }
+        ensures shelf { locked.new ≡ settled locked.old }
+        ensures objects { KeepsObjects (sequencer_in self.old) (sequencer_in self.new)
+            locked.old locked.new }
+        ensures seats { self.new.seats
+            ≡ record self.old.seats { own = self.new.seats.own } }
+        ensures rest { self.new ≡ record self.old {
+          core = self.new.core;
+          census = self.new.census;
+          seats = self.new.seats;
+        } }
+    {
+        self.sequencer.facts();
+        self.sequencer.agree(locked);
+        let Some(id) = locked.delivery() else {
+            unreachable!()
+        };
+        self.sequencer.finish(locked);
+        self.seats.commit_own(id);
+        id
+    }
+
+    /// Takes the assignment back: the message is pending again, and the blank of a construction is
+    /// back in the stock. It takes no memory.
+    pub fn release(&mut self, locked: &mut LockedShelf<C, B>)
+        requires { is_assigned locked.old.phase ≡ true }
+        ensures goes { Goes (store_in self.old) (core.Release locked.old.number) Done
+            (store_in self.new) }
+        ensures shelf { locked.new ≡ record locked.old { phase = phases.Idle } }
+        ensures objects { KeepsObjects (sequencer_in self.old) (sequencer_in self.new)
+            locked.old locked.new }
+        ensures rest { self.new
+            ≡ record self.old { core = self.new.core; census = self.new.census } }
+    {
+        self.sequencer.facts();
+        self.sequencer.release(locked);
+    }
+
+    /// Ends what is under way on the shelf, also when halted: a delivery that was made is
+    /// [finished](Self::finish), and one that is only assigned is [released](Self::release). It
+    /// takes no memory.
+    pub fn settle(&mut self, locked: &mut LockedShelf<C, B>)
+        ensures settles { Settles self.old locked.old self.new }
+        ensures shelf { locked.new ≡ ended locked.old }
+        ensures objects { KeepsObjects (sequencer_in self.old) (sequencer_in self.new)
+            locked.old locked.new }
+        ensures rest { self.new ≡ record self.old {
+          core = self.new.core;
+          census = self.new.census;
+          seats = self.new.seats;
+        } }
+    {
+        if locked.is_done() {
+            self.finish(locked);
+        } else if locked.is_assigned() {
+            self.release(locked);
+        }
+    }
+}

@@ -1,0 +1,9 @@
+pub mod Books
+pub mod Shelves
+pub mod Calls
+pub mod Moves
+pub mod Relocations
+pub mod Endings
+pub mod Agreeing
+pub mod Beginnings
+pub mod Reopened

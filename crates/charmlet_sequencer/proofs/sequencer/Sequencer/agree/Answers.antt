@@ -1,0 +1,14 @@
+use Rattle.std.proofs.Common.{subst}
+use Rattle.charmlet_shelf.specs.Shelf.{View}
+use Rattle.charmlet_delivery.specs.UnderWay.{due_in}
+use Rattle.charmlet_sequencer.specs.Book.{IsDueOn}
+use Rattle.charmlet_sequencer.specs.Sequencer.{SequencerShown}
+use Rattle.charmlet_sequencer.proofs.Agreeing.{due_there}
+use Rattle.charmlet_sequencer.proofs.sequencer.Sequencer.agree.Goals as goal
+
+pub returns-clause-due : goal.returns-clause-due
+returns-clause-due g c =
+    let h = c.self.inside in
+    let s = c.locked.inside in
+    subst (λ (x : SequencerShown _ × View). IsDueOn x.0.core x.1.number (due_in x.1.phase)) (λ i. (c.self.view_is i, c.locked.view_is i))
+    (due_there h.history h.stock h.parts c.self.invariant.1.book s.shelf s.share c.locked.invariant.0 c.agree.ensures.agrees)

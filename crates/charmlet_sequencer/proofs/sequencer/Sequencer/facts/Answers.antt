@@ -1,0 +1,13 @@
+use Rattle.std.proofs.Common.{subst}
+use Rattle.charmlet_disk.specs.File.{CrashBytes, MayLeave}
+use Rattle.charmlet_recovery.proofs.Outcomes.{kept_is_lawful}
+use Rattle.charmlet_history.specs.Kept.{core_in}
+use Rattle.charmlet_sequencer.specs.Sequencer.{SequencerShown, is_lawful}
+use Rattle.charmlet_sequencer.proofs.sequencer.Sequencer.facts.Goals as goal
+
+pub returns-clause-lawful : goal.returns-clause-lawful
+returns-clause-lawful g c =
+    let h = c.self.inside in
+    let core = core_in h.history in
+    subst (λ (v : SequencerShown _). g.D.Disk.honest v.disk → (outcome : CrashBytes) → MayLeave (g.D.Disk.file v.disk) outcome → is_lawful v.core outcome) c.self.view_is
+    (λ honest outcome left. kept_is_lawful core.opening core.before core.history core.durable outcome ((c.self.invariant.1.keeps honest).now outcome left))

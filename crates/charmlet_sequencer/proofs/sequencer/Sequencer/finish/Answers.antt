@@ -1,0 +1,40 @@
+use Rattle.std.proofs.Common.{subst, rules}
+use Rattle.charmlet_model.specs.Core.{Done, Finish}
+use Rattle.charmlet_model.specs.Run.{Goes}
+use Rattle.charmlet_shelf.specs.Shelf.{View}
+use Rattle.charmlet_delivery.specs.Workplace.{store_with}
+use Rattle.charmlet_sequencer.specs.Sequencer.{SequencerShown, KeepsObjects, store_of}
+use Rattle.charmlet_sequencer.specs.Together.{shown_by}
+use Rattle.charmlet_sequencer.proofs.Calls.{at_work, sequencer_again, keeps_objects}
+use Rattle.charmlet_sequencer.proofs.sequencer.Sequencer.finish.Goals as goal
+
+pub finish-requires-clause-consistent : goal.finish-requires-clause-consistent
+finish-requires-clause-consistent g c κs within =
+    let h = c.self.inside in
+    let s = c.locked.inside in
+    at_work g.B.RuntimeName.opening g.B.RuntimeName.before g.B.RuntimeName.processors h.history h.stock h.parts h.halves c.self.invariant s.shelf s.share c.locked.invariant.0 c.agree.ensures.agrees
+
+pub invariant_of-self : goal.invariant_of-self
+invariant_of-self g c =
+    let h = c.self.inside in
+    let s = c.locked.inside in
+    let done = c.finish in
+    sequencer_again g.B.RuntimeName.opening g.B.RuntimeName.before g.B.RuntimeName.processors h.history h.stock h.parts h.halves c.self.invariant s.shelf s.share c.locked.invariant.0 c.agree.ensures.agrees
+    done.new.history done.new.shelf done.new.stock done.ensures.turns (Finish s.shelf.number) Done tt done.ensures.goes
+    c.facts.ensures.sound c.facts-2.ensures.sound c.write.new.parts (search rules)
+
+pub returns-clause-goes : goal.returns-clause-goes
+returns-clause-goes g c =
+    let s = c.locked.inside in
+    let done = c.finish in
+    let after = store_with done.new.history done.new.stock in
+    subst (λ (x : SequencerShown _ × View). Goes (store_of x.0) (Finish x.1.number) Done after) (λ i. (c.self.view_is i, c.locked.view_is i)) done.ensures.goes
+
+pub returns-clause-objects : goal.returns-clause-objects
+returns-clause-objects g c =
+    let h = c.self.inside in
+    let s = c.locked.inside in
+    let done = c.finish in
+    subst (λ (x : SequencerShown _ × View). KeepsObjects x.0 (shown_by done.new.history done.new.stock h.halves) x.1 done.new.shelf) (λ i. (c.self.view_is i, c.locked.view_is i))
+    (keeps_objects g.B.RuntimeName.opening g.B.RuntimeName.before g.B.RuntimeName.processors h.history h.stock h.parts h.halves c.self.invariant s.shelf s.share c.locked.invariant.0 c.agree.ensures.agrees
+    done.new.history done.new.shelf done.new.stock done.ensures.turns)

@@ -1,0 +1,36 @@
+-- The definitions that contracts cite.
+pub mod Part
+pub mod Shelf
+pub mod Book
+pub mod Sequencer
+pub mod Relocating
+pub mod Together
+pub mod Opened
+pub use Rattle.charmlet_agreement.specs.Naming
+pub use Rattle.charmlet_model.specs.Core
+pub use Rattle.charmlet_model.specs.Run
+pub use Rattle.charmlet_model.specs.Shelves
+pub use Rattle.charmlet_model.specs.Sound
+pub use Rattle.charmlet_model.specs.Told
+pub use Rattle.charmlet_model.specs.World
+pub use Rattle.charmlet_recovery.specs.Outcomes
+pub use Rattle.charmlet_disk.specs.Calls
+pub use Rattle.charmlet_disk.specs.Disk
+pub use Rattle.charmlet_disk.specs.File
+pub use Rattle.charmlet_halves.specs.Answers
+pub use Rattle.charmlet_halves.specs.Halves
+pub use Rattle.charmlet_shelf.specs.Count
+pub use Rattle.charmlet_shelf.specs.Due
+pub use Rattle.charmlet_shelf.specs.Shelf as OneShelf
+pub use Rattle.charmlet_stock.specs.ByKind
+pub use Rattle.charmlet_stock.specs.Stock
+pub use Rattle.charmlet_history.specs.Kept
+pub use Rattle.charmlet_journal.specs.NewStores
+pub use Rattle.charmlet_journal.specs.Rest
+pub use Rattle.charmlet_migrate.specs.Copying
+pub use Rattle.charmlet_migrate.specs.Moving
+pub use Rattle.charmlet_store.specs.Store
+pub use Rattle.charmlet_delivery.specs.UnderWay
+pub use Rattle.charmlet_delivery.specs.Workplace
+pub use Rattle.charmlet_requests.specs.Pass
+pub use Rattle.charmlet_passes.specs.Passes

@@ -1,0 +1,102 @@
+//! The end of a sequencer and its shelves.
+
+ghost use Rattle.std.specs.Prelude.{◌≡◌, false, IfErr, IfOk, None, Some, length, slice_get, slice_set, vec_len};
+ghost use Rattle.std.specs.List.{All};
+ghost use Rattle.charmlet_disk.specs.File.{CrashBytes, MayLeave};
+ghost use Rattle.charmlet_halves.specs.Halves.{disk_of};
+ghost use Rattle.charmlet_history.specs.Kept.{core_in};
+ghost use Rattle.charmlet_migrate.specs.Moving.{IsIdle};
+ghost use Rattle.charmlet_stock.specs.ByKind.{for_all};
+ghost use Rattle.charmlet_sequencer.specs.Part.{part_on};
+ghost use Rattle.charmlet_sequencer.specs.Sequencer.{is_lawful};
+
+use crate::names::RuntimeName;
+use crate::part::SeenPart;
+use crate::sequencer::Sequencer;
+use crate::shelf::LockedShelf;
+use charmlet_agreement::{Book, BookName};
+use charmlet_chare::Chare;
+use charmlet_disk::Disk;
+use charmlet_halves::Halves;
+use charmlet_shelf::Shelf;
+use charmlet_store::{Store, empty_shelves};
+
+/// What a sequencer and its shelves were made of: a store, and the halves of its disk.
+#[derive(Drop)]
+pub struct Closed<D: Disk, C: Chare> {
+    pub store: Store<C>,
+    pub halves: Halves<D>,
+}
+
+/// A sequencer and its shelves that weren't taken apart, for want of memory. They are as before.
+#[derive(Drop)]
+pub struct NotClosed<D: Disk, C: Chare, B: RuntimeName> {
+    pub sequencer: Sequencer<D, C, B>,
+    pub shelves: Vec<LockedShelf<C, B>>,
+}
+
+impl<D: Disk, C: Chare, B: RuntimeName> Sequencer<D, C, B> {
+    /// Takes all apart where no delivery is under way, also when halted. It makes no call of the
+    /// disk. The shelves are handed in all at once, in any order; the store has each in the place of
+    /// its processor. It fails only when out of memory, which the list of these places takes, and
+    /// then the sequencer and its shelves come back as they were.
+    pub fn take_apart(
+        self,
+        shelves: Vec<LockedShelf<C, B>>,
+    ) -> Result<Closed<D, C>, NotClosed<D, C, B>>
+        requires count { vec_len shelves ≡ B.processors }
+        requires idle { All IsIdle shelves.items }
+        ensures core { IfOk result (λ closed. core_in closed.store.history ≡ self.core) }
+        ensures census { IfOk result (λ closed. closed.store.census ≡ self.census) }
+        ensures keeping { IfOk result (λ closed. closed.store.keeping ≡ for_all false) }
+        ensures disk { IfOk result (λ closed. disk_of closed.halves ≡ self.disk) }
+        ensures lawful { D.honest self.disk → IfOk result (λ closed. (outcome : CrashBytes) →
+            MayLeave (D.file (disk_of closed.halves)) outcome →
+            is_lawful (core_in closed.store.history) outcome) }
+        ensures err { IfErr result (λ back. (back.sequencer ≡ self)
+            × (back.shelves ≡ shelves)) }
+    {
+        self.history.facts();
+        let Ok(mut slots) = empty_shelves(self.alloc, shelves.len() as u16) else {
+            return Err(NotClosed {
+                sequencer: self,
+                shelves,
+            });
+        };
+        let Sequencer {
+            alloc,
+            history,
+            halves,
+            stock,
+            mut parts,
+        } = self;
+        let mut shelves = shelves;
+        while let Some(locked) = shelves.pop() {
+            take_in(&mut parts, &mut slots, locked);
+        }
+        let store = Store {
+            alloc,
+            history,
+            shelves: slots,
+            stock,
+        };
+        Ok(Closed { store, halves })
+    }
+}
+
+/// Takes back the share of a shelf, and puts the shelf into the place of its processor.
+fn take_in<C: Chare, B: BookName>(
+    parts: &mut Book<SeenPart, B>,
+    slots: &mut Vec<Shelf<C>>,
+    locked: LockedShelf<C, B>,
+)
+    requires count { vec_len slots.old ≡ length parts.old }
+    ensures agrees { slice_get parts.old locked.number ≡ Some (Some (part_on locked)) }
+    ensures parts { parts.new ≡ slice_set parts.old locked.number None }
+    ensures slots { slots.new.items ≡ slice_set slots.old.items locked.number locked }
+{
+    let LockedShelf { shelf, share, .. } = locked;
+    let place = usize::from(shelf.number());
+    parts.take_back(share);
+    slots[place] = shelf;
+}

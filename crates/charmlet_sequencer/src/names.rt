@@ -1,0 +1,44 @@
+//! What types under different locks have to agree on.
+
+use charmlet_agreement::BookName;
+use std::marker::Brand;
+
+/// Names one runtime: its books, of shelves, of seats and of passes, and the store with which it
+/// opened. The call that opens it picks them, and all types that lie under its locks are generic in
+/// the name. As a book's name it is that of the book of shelves.
+pub trait RuntimeName: BookName {
+    ghost use Rattle.std.specs.Prelude.{ℕ};
+    ghost use Rattle.atomic_table.specs.Seated.{TableId};
+    ghost use Rattle.charmlet_model.specs.World.{World};
+
+    /// The table of the book of seats.
+    ghost seats: { TableId };
+
+    /// The table of the book of passes.
+    ghost passes: { TableId };
+
+    /// The world with which the store opened.
+    ghost opening: { World };
+
+    /// How many events came before it.
+    ghost before: { ℕ };
+
+    /// How many processors there are.
+    ghost processors: { ℕ };
+}
+
+impl RuntimeName for Brand {
+    ghost use Rattle.std.specs.Prelude.{[]};
+    ghost use Rattle.charmlet_agreement.specs.Agreement.{no_table};
+    ghost use Rattle.charmlet_model.specs.Sound.{new_world};
+
+    ghost seats = { no_table };
+
+    ghost passes = { no_table };
+
+    ghost opening = { new_world [] };
+
+    ghost before = { 0 };
+
+    ghost processors = { 0 };
+}

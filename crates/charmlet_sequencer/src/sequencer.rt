@@ -1,0 +1,287 @@
+//! The sequencer: what orders the steps of all processors.
+
+ghost use Rattle.std.specs.Prelude.{◌≡◌, ◌≢◌, ◌+◌, ◌≤◌, false, true, IfErr, IfOk, IsOk, OnErr, OnOk, length, take};
+ghost use Rattle.charmlet_model.specs.declared.kind.Kind as kinds;
+ghost use Rattle.charmlet_model.specs.declared.refusal.Refusal.TheVariants as refusals;
+ghost use Rattle.charmlet_model.specs.Core as core;
+ghost use Rattle.charmlet_model.specs.Core.{Done};
+ghost use Rattle.charmlet_model.specs.Run.{Goes};
+ghost use Rattle.charmlet_model.specs.Shelves.{count_of};
+ghost use Rattle.charmlet_model.specs.Sound.{IsSound};
+ghost use Rattle.charmlet_model.specs.Told.{Holds};
+ghost use Rattle.charmlet_disk.specs.Calls.{AfterCall};
+ghost use Rattle.charmlet_disk.specs.Disk.{LeavesOnly};
+ghost use Rattle.charmlet_disk.specs.File.{CrashBytes, MayLeave};
+ghost use Rattle.charmlet_halves.specs.Answers.{is_no_failure};
+ghost use Rattle.charmlet_history.specs.Kept.{core_in, counts_or_refused, oldest_on_in, told_or_refused};
+ghost use Rattle.charmlet_shelf.specs.Shelf.{is_assigned, settled};
+ghost use Rattle.charmlet_shelf.specs.declared.phase.Phase.TheVariants as phases;
+ghost use Rattle.charmlet_delivery.specs.Workplace.{done_or_refused};
+ghost use Rattle.charmlet_sequencer.specs.Sequencer.{IsOf, KeepsObjects, is_lawful, store_of, supplied_of};
+ghost use Rattle.charmlet_sequencer.specs.Shelf.{is_done};
+
+use crate::names::RuntimeName;
+use crate::part::{SeenPart, write};
+use crate::shelf::LockedShelf;
+use charmlet_agreement::Book;
+use charmlet_births::Ticks;
+use charmlet_chare::Chare;
+use charmlet_delivery::{assign, commit, finish, release};
+use charmlet_disk::Disk;
+use charmlet_halves::Halves;
+use charmlet_history::{History, Request};
+use charmlet_journal::flush;
+use charmlet_model::{MsgId, Refusal, Told};
+use charmlet_stock::{ByKind, Stock, Tally};
+use std::alloc::Global;
+use std::marker::Model;
+use std::sync::ledger::Ledger;
+
+/// What orders all steps: a history, the halves of a disk, the stock, and the book of what stands on
+/// each shelf. A contract sees the core, the census and the disk.
+///
+/// Each call is one step of the core, or leaves it as it is. The history is legal. Of each kind,
+/// what was supplied is on the shelves, in the stock, or retired. A shelf that is lent to a call
+/// shows the world after the history, and the delivery that is under way there is the one that is
+/// assigned to its processor. On an honest disk a crash leaves the world after some of the history,
+/// with all durable events among it.
+#[derive(Drop)]
+pub struct Sequencer<D: Disk, C: Chare, B: RuntimeName> {
+    pub(crate) alloc: Global,
+    pub(crate) history: History,
+    pub(crate) halves: Halves<D>,
+    pub(crate) stock: Stock<C>,
+    /// What stands on the shelf of each processor, and what is assigned there.
+    pub(crate) parts: Book<SeenPart, B>,
+}
+
+impl<D: Disk, C: Chare, B: RuntimeName> Model for Sequencer<D, C, B> {
+    ghost use Rattle.charmlet_history.specs.Kept.{core_in};
+    ghost use Rattle.charmlet_sequencer.specs.Sequencer.{SequencerShown, IsOf};
+    ghost use Rattle.charmlet_sequencer.specs.Together.{AreTied, shown_by};
+
+    ghost Value = { SequencerShown D };
+
+    ghost view = { λ h. shown_by h.history h.stock h.halves };
+
+    ghost invariant = { λ h. IsOf B.opening B.before B.processors (core_in h.history)
+        × AreTied h.history h.stock h.parts h.halves };
+}
+
+impl<D: Disk, C: Chare, B: RuntimeName> Sequencer<D, C, B> {
+    /// States what always holds of a sequencer: its store is the one that it is named for; the history
+    /// was made by events, each in its turn; and on an honest disk a crash now leaves the world
+    /// after some of it, with all durable events among it.
+    pub fn facts(&self)
+        ensures of { IsOf B.opening B.before B.processors self.now.core }
+        ensures sound { IsSound self.now.core }
+        ensures lawful { D.honest self.now.disk → (outcome : CrashBytes) →
+            MayLeave (D.file self.now.disk) outcome → is_lawful self.now.core outcome }
+    {
+        self.history.facts();
+        let _ = &self.halves;
+    }
+
+    /// The history, for looking at it.
+    pub fn history(&self) -> &History
+        ensures { core_in result.now ≡ self.now.core }
+    {
+        &self.history
+    }
+
+    /// How many objects of each kind were supplied, are in the stock, and were retired.
+    pub fn census(&self) -> ByKind<Tally>
+        ensures { result ≡ self.now.census }
+    {
+        self.stock.census()
+    }
+
+    /// The oldest pending message on the processor that can be delivered, if there is one: a
+    /// message is where its receiver stands, or on the home of one that isn't there. It is at most
+    /// one look.
+    pub fn oldest_on<L: Ledger>(&self, processor: u16, ticks: &mut Ticks<L>) -> Option<MsgId>
+        ensures oldest { result ≡ oldest_on_in self.now.core processor }
+        ensures ticks { ticks.new ≤ ticks.old + 1 }
+    {
+        self.history.oldest_on(processor, ticks)
+    }
+
+    /// Takes blank objects into the stock. Where memory is refused it hands all of them back, and
+    /// nothing has changed.
+    pub fn supply(&mut self, blanks: Vec<C>) -> Result<(), Vec<C>>
+        ensures core { self.new.core ≡ self.old.core }
+        ensures blanks { OnOk result ((kind : kinds.Kind) → (store_of self.new).blanks kind
+            ≡ (store_of self.old).blanks kind + count_of C.state blanks.items kind) }
+        ensures supplied { OnOk result ((kind : kinds.Kind) → supplied_of self.new kind
+            ≡ supplied_of self.old kind + count_of C.state blanks.items kind) }
+        ensures disk { self.new.disk ≡ self.old.disk }
+        ensures err { IfErr result (λ back. (back.items ≡ blanks.items)
+            × (self.new ≡ self.old)) }
+    {
+        self.history.facts();
+        self.stock.supply(blanks)
+    }
+
+    /// Accepts a client's request, unless it repeats one in the client's window, and tells the
+    /// client what is durable of it. The refusals are those of [`History::request`], in their
+    /// order, and change nothing.
+    pub fn request(&mut self, client: u32, request: &Request<'_>) -> Result<Told, Refusal>
+        ensures goes { Goes (store_of self.old) (core.Request client request.now.number
+            request.now.to request.now.entry request.now.words.now) (told_or_refused result)
+            (store_of self.new) }
+        ensures told { IfOk result (λ told. Holds self.old.core.opening
+            (take self.old.core.durable self.old.core.history) client request.now.number told) }
+        ensures census { self.new.census ≡ self.old.census }
+        ensures disk { self.new.disk ≡ self.old.disk }
+        ensures err { OnErr result (self.new ≡ self.old) }
+    {
+        self.history.facts();
+        let told = self.history.request(client, request);
+        self.history.facts();
+        told
+    }
+
+    /// Tells a client what is durable of its request. `Halted`; otherwise `Memory`, but only if the
+    /// answer has words.
+    pub fn status(&self, client: u32, number: u64) -> Result<Told, Refusal>
+        ensures goes { Goes (store_of self.now) (core.Status client number)
+            (told_or_refused result) (store_of self.now) }
+        ensures told { IfOk result (λ told. Holds self.now.core.opening
+            (take self.now.core.durable self.now.core.history) client number told) }
+    {
+        self.history.status(client, number)
+    }
+
+    /// Assigns a pending message to the shelf's processor. One that constructs its receiver takes a
+    /// blank from the stock. It makes room for the delivery, whatever is delivered elsewhere before
+    /// it.
+    ///
+    /// The refusal is the first that applies of `Halted`, `BadPes`, `Uncommitted`, `NoMessage`,
+    /// `Absent`, `Elsewhere`, `HistoryFull`, `NoBlank` and `Memory`. Then all is as before.
+    pub fn assign(&mut self, locked: &mut LockedShelf<C, B>, id: MsgId) -> Result<(), Refusal>
+        ensures goes { Goes (store_of self.old) (core.Assign locked.old.number id)
+            (done_or_refused result) (store_of self.new) }
+        ensures ok { OnOk result (is_assigned locked.new.phase ≡ true) }
+        ensures shelf { locked.new ≡ record locked.old { phase = locked.new.phase } }
+        ensures objects { KeepsObjects self.old self.new locked.old locked.new }
+        ensures disk { self.new.disk ≡ self.old.disk }
+        ensures err { OnErr result ((self.new ≡ self.old) × (locked.new ≡ locked.old)) }
+    {
+        self.history.facts();
+        self.parts.agree(&mut locked.share);
+        let assigned = assign(
+            self.alloc,
+            &mut self.history,
+            &mut locked.shelf,
+            &mut self.stock,
+            id,
+        );
+        self.history.facts();
+        write(&mut self.parts, &mut locked.share, &locked.shelf);
+        assigned
+    }
+
+    /// Adds the delivery that the receiver on the shelf has made to the history. An object that it
+    /// destroyed is retired. It takes no memory. The only refusal is `Halted`: then all is as
+    /// before, and the delivery can still be [finished](Self::finish).
+    pub fn commit(&mut self, locked: &mut LockedShelf<C, B>) -> Result<(), Refusal>
+        requires { is_done locked.old.phase ≡ true }
+        ensures goes { Goes (store_of self.old) (core.Commit locked.old.number)
+            (done_or_refused result) (store_of self.new) }
+        ensures ok { OnOk result (locked.new ≡ settled locked.old) }
+        ensures objects { KeepsObjects self.old self.new locked.old locked.new }
+        ensures disk { self.new.disk ≡ self.old.disk }
+        ensures err { IfErr result (λ refusal. refusal ≡ refusals.Halted) }
+        ensures same { OnErr result ((self.new ≡ self.old) × (locked.new ≡ locked.old)) }
+        ensures runs { self.old.core.halted ≡ false → IsOk result }
+    {
+        self.history.facts();
+        self.parts.agree(&mut locked.share);
+        let Some(output) = locked.output.take() else {
+            unreachable!()
+        };
+        let committed = commit(
+            &mut self.history,
+            &mut locked.shelf,
+            &mut self.stock,
+            output,
+        );
+        self.history.facts();
+        write(&mut self.parts, &mut locked.share, &locked.shelf);
+        if let Err(refused) = committed {
+            locked.output = Some(refused.output);
+            return Err(refused.refusal);
+        }
+        Ok(())
+    }
+
+    /// Adds the delivery as [`commit`](Self::commit) does, also where the store is halted: so an
+    /// object that has reacted already can be counted, and the store be taken apart. It takes no
+    /// memory.
+    pub fn finish(&mut self, locked: &mut LockedShelf<C, B>)
+        requires { is_done locked.old.phase ≡ true }
+        ensures goes { Goes (store_of self.old) (core.Finish locked.old.number) Done
+            (store_of self.new) }
+        ensures shelf { locked.new ≡ settled locked.old }
+        ensures objects { KeepsObjects self.old self.new locked.old locked.new }
+        ensures disk { self.new.disk ≡ self.old.disk }
+    {
+        self.history.facts();
+        self.parts.agree(&mut locked.share);
+        let Some(output) = locked.output.take() else {
+            unreachable!()
+        };
+        finish(
+            &mut self.history,
+            &mut locked.shelf,
+            &mut self.stock,
+            output,
+        );
+        self.history.facts();
+        write(&mut self.parts, &mut locked.share, &locked.shelf);
+    }
+
+    /// Takes the assignment back: the message is pending again, and the blank of a construction is
+    /// back in the stock. It takes no memory.
+    pub fn release(&mut self, locked: &mut LockedShelf<C, B>)
+        requires { is_assigned locked.old.phase ≡ true }
+        ensures goes { Goes (store_of self.old) (core.Release locked.old.number) Done
+            (store_of self.new) }
+        ensures shelf { locked.new ≡ record locked.old { phase = phases.Idle } }
+        ensures objects { KeepsObjects self.old self.new locked.old locked.new }
+        ensures disk { self.new.disk ≡ self.old.disk }
+    {
+        self.history.facts();
+        self.parts.agree(&mut locked.share);
+        release(&mut self.history, &mut locked.shelf, &mut self.stock);
+        self.history.facts();
+        write(&mut self.parts, &mut locked.share, &locked.shelf);
+    }
+
+    /// Makes all events durable, and answers how many there are, those before the opening world
+    /// among them. It takes no memory; where no events are to be written it makes no call of the
+    /// disk.
+    ///
+    /// `Halted`; `LogFull` if the file would have more than 2^31 bytes, the closed gate after its
+    /// log among them: then nothing changes. `Device` halts the store. On an honest disk a crash at
+    /// any moment of the call leaves the world after some of the history, with all events among it
+    /// that were durable before.
+    pub fn flush(&mut self) -> Result<u64, Refusal>
+        ensures goes { Goes (store_of self.old) core.Flush (counts_or_refused result)
+            (store_of self.new) }
+        ensures any_moment { D.honest self.old.disk → LeavesOnly D.moment D.since self.old.disk
+            self.new.disk (is_lawful self.old.core) }
+        ensures disk { AfterCall D.Disk self.old.disk self.new.disk (is_no_failure result) }
+        ensures idle { self.old.core.durable ≡ length self.old.core.history →
+            self.new.disk ≡ self.old.disk }
+        ensures census { self.new.census ≡ self.old.census }
+        ensures memory { IfErr result (λ refusal. refusal ≢ refusals.Memory) }
+        ensures err { IfErr result (λ refusal. refusal ≢ refusals.Device →
+            self.new ≡ self.old) }
+    {
+        self.history.facts();
+        let flushed = flush(&mut self.history, &mut self.halves);
+        self.history.facts();
+        flushed
+    }
+}

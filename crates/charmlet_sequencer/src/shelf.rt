@@ -1,0 +1,95 @@
+//! A shelf under its lock.
+
+use crate::part::SeenPart;
+use charmlet_agreement::{BookName, Share};
+use charmlet_chare::{Chare, Output};
+use charmlet_model::MsgId;
+use charmlet_shelf::Shelf;
+use std::alloc::AllocError;
+use std::marker::Model;
+
+/// A shelf, and its share of the sequencer's book, which has the records of its elements before the
+/// delivery that is under way there, and that delivery. A contract sees the shelf. Its objects show
+/// these records; once the receiver has reacted, its object is ahead by exactly that delivery.
+#[derive(Drop)]
+pub struct LockedShelf<C: Chare, B: BookName> {
+    pub(crate) shelf: Shelf<C>,
+    /// What the receiver sent and replied, once it has reacted.
+    pub(crate) output: Option<Output>,
+    pub(crate) share: Share<SeenPart, B>,
+}
+
+impl<C: Chare, B: BookName> Model for LockedShelf<C, B> {
+    ghost use Rattle.std.specs.Prelude.{◌≡◌, Some};
+    ghost use Rattle.charmlet_shelf.specs.Shelf.{View};
+    ghost use Rattle.charmlet_sequencer.specs.Part.{part_on};
+    ghost use Rattle.charmlet_sequencer.specs.Shelf.{HasOutput};
+
+    ghost Value = { View };
+
+    ghost view = { λ s. s.shelf };
+
+    ghost invariant = { λ s. (s.share ≡ (s.shelf.number, Some (part_on s.shelf)))
+        × HasOutput s.shelf.phase s.output };
+}
+
+impl<C: Chare, B: BookName> LockedShelf<C, B> {
+    ghost use Rattle.std.specs.Prelude.{◌≡◌, true, OnErr, OnOk};
+    ghost use Rattle.charmlet_shelf.specs.Shelf.{is_assigned, is_idle};
+    ghost use Rattle.charmlet_sequencer.specs.Shelf.{delivery_in, entered, is_done};
+
+    /// The number of its processor.
+    pub fn number(&self) -> u16
+        ensures { result ≡ self.now.number }
+    {
+        self.shelf.number()
+    }
+
+    /// Whether no delivery is under way.
+    pub fn is_idle(&self) -> bool
+        ensures { result ≡ is_idle self.now.phase }
+    {
+        self.shelf.is_idle()
+    }
+
+    /// Whether a message is assigned, and its receiver hasn't reacted yet.
+    #[tactic(auto, using(crate::proofs::Shelves::done_unassigned, crate::proofs::Shelves::assigned_else))]
+    pub fn is_assigned(&self) -> bool
+        ensures { result ≡ is_assigned self.now.phase }
+    {
+        if self.is_done() {
+            return false;
+        }
+        !self.is_idle()
+    }
+
+    /// Whether the receiver has reacted, and the delivery isn't committed yet.
+    pub fn is_done(&self) -> bool
+        ensures { result ≡ is_done self.now.phase }
+    {
+        self.shelf.outcome().is_some()
+    }
+
+    /// The id of the delivery that the receiver has made, until it is committed.
+    pub fn delivery(&self) -> Option<MsgId>
+        ensures { result ≡ delivery_in self.now.phase }
+    {
+        match self.shelf.outcome() {
+            Some(outcome) => Some(outcome.delivery().message().id),
+            None => None,
+        }
+    }
+
+    /// Has the receiver of the assigned message react to it. It needs no sequencer. It fails only when
+    /// out of memory, and then the shelf is as before.
+    pub fn enter(&mut self) -> Result<(), AllocError>
+        requires { is_assigned self.old.phase ≡ true }
+        ensures ok { OnOk result (self.new
+            ≡ record self.old { phase = entered self.old.phase }) }
+        ensures err { OnErr result (self.new ≡ self.old) }
+    {
+        self.shelf.perform()?;
+        self.output = self.shelf.take_output();
+        Ok(())
+    }
+}

@@ -1,0 +1,2 @@
+-- Lemmas on the rule of a queue.
+pub mod Moves
