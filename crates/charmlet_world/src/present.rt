@@ -40,7 +40,6 @@ use std::sync::ledger::Ledger;
 /// The present world without its objects: the place and the counts of each element, the pending
 /// messages in order of birth, and the clients' rows in the present and in the durable world. A
 /// contract sees what is kept, and how many deliveries there is room for.
-#[derive(Drop)]
 pub struct PresentWorld {
     manifest: Manifest,
     dispatch: Dispatch,
@@ -64,6 +63,22 @@ impl Model for PresentWorld {
     } };
 
     ghost invariant = { λ w. HasRoom w.dispatch.processors w.promised w.dispatch.room };
+}
+
+// Written by hand, so that dropping all that it has is proved here, and not in each crate that drops
+// one.
+impl Drop for PresentWorld {
+    fn drop(self) {
+        let PresentWorld {
+            manifest,
+            dispatch,
+            clients,
+            promised: _,
+        } = self;
+        drop(manifest);
+        drop(dispatch);
+        drop(clients);
+    }
 }
 
 impl PresentWorld {
