@@ -119,6 +119,9 @@ impl<B: SeatBookName> SeatBook<B> {
         ensures room { seat.new.room + 1 ≡ seat.old.room }
         ensures out { self.new.out ≡ self.old.out }
         ensures own { self.new.own ≡ self.old.own }
+        ensures had { slice_get self.old.lists seat.old.place ≡ Some (Some seat.old.ids) }
+        ensures has { self.new.lists
+            ≡ slice_set self.old.lists seat.old.place (Some seat.new.ids) }
         ensures all { (deliveries : List names.MsgId) → HaveAll self.old deliveries →
             HaveAll self.new (deliveries ++ id ∷ []) }
     {

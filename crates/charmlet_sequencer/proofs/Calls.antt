@@ -230,6 +230,12 @@ module _ {C E : Type 0} {H : chares.Ghosts C} (history : History) (stock after :
   supplied_count (Ok x) before same more = λ kind. ap (λ (t : Tally). t.supplied) (more kind) ∙ ap (λ (v : ByKind Tally). (at v kind).supplied + count_of state objects kind) same
   supplied_count (Err back) before same more = tt
 
+  -- and none is retired by it
+  pub supplied_retired : (result : Result (Unit {0}) E) (before : ByKind Tally) → census_of stock ≡ before → OnOk result ((kind : Kind) → tally_in after kind ≡ supplied_more (tally_in stock kind) (count_of state objects kind)) →
+      OnOk result ((kind : Kind) → (tally_in after kind).retired ≡ (at before kind).retired)
+  supplied_retired (Ok x) before same more = λ kind. ap (λ (t : Tally). t.retired) (more kind) ∙ ap (λ (v : ByKind Tally). (at v kind).retired) same
+  supplied_retired (Err back) before same more = tt
+
 -- where they aren't taken, all is as it was
 pub unsupplied_same : {D C E : Type 0} {G : disks.Ghosts D} {H : chares.Ghosts C} (history : History) (stock after : Stock C H) (halves : Halves D G) (Q : E → Type 0) (result : Result (Unit {0}) E) → IfErr result (λ back. Q back × (census_of after ≡ census_of stock)) →
     IfErr result (λ back. Q back × (shown_by history after halves ≡ shown_by history stock halves))

@@ -10,6 +10,9 @@ use Rattle.charmlet_history.specs.declared.history.History.{History}
 use Rattle.charmlet_history.specs.Kept.{core_in}
 use Rattle.charmlet_shelf.specs.Due.{Due}
 use Rattle.charmlet_stock.specs.declared.stock.Stock.{Stock}
+use Rattle.charmlet_stock.specs.declared.by_kind.ByKind.{ByKind}
+use Rattle.charmlet_stock.specs.declared.pile.Tally.{Tally}
+use Rattle.charmlet_stock.specs.ByKind.{at}
 use Rattle.charmlet_stock.specs.Stock.{blanks_in, supplied_to, tally_in}
 use Rattle.charmlet_delivery.specs.UnderWay.{IsUnderWay}
 use Rattle.charmlet_sequencer.specs.Part.{Part, no_part, objects_in}
@@ -47,3 +50,13 @@ pub record IsBookOf {C : Type 0} {G : Ghosts C} (history : History) (stock : Sto
       IsDueOn (core_in history) processor (part_at parts processor).due
   pub census : AddsUp (supplied_to stock) (objects_in_all parts) (blanks_in stock)
       (λ kind. (tally_in stock kind).retired)
+
+-- the same of a core and a census
+pub record IsBookIn (core : Core) (census : ByKind Tally) (parts : List (Option Part))
+    : Type 0 where
+  pub count : length parts ≡ core.processors
+  pub shows : Shows (records_in parts) core.places (present core)
+  pub dues : (processor : ℕ) → processor < length parts →
+      IsDueOn core processor (part_at parts processor).due
+  pub counted : AddsUp (λ kind. (at census kind).supplied) (objects_in_all parts)
+      (λ kind. (at census kind).in_stock) (λ kind. (at census kind).retired)

@@ -1,13 +1,15 @@
 //! What is asked of a sequencer: requests by clients' passes, and what is under way on a shelf.
 
-ghost use Rattle.std.specs.Prelude.{◌≡◌, IfOk, OnErr, OnOk, take};
+ghost use Rattle.std.specs.Prelude.{◌≡◌, ◌<◌, IfOk, OnErr, OnOk, take};
 ghost use Rattle.charmlet_model.specs.Core as core;
+ghost use Rattle.charmlet_model.specs.Core.{present};
 ghost use Rattle.charmlet_model.specs.Run.{Goes};
 ghost use Rattle.charmlet_model.specs.Told.{Holds};
 ghost use Rattle.charmlet_history.specs.Kept.{told_or_refused};
 ghost use Rattle.charmlet_requests.specs.Pass.{with_accept, with_told};
 ghost use Rattle.charmlet_passes.specs.Passes.{AreCurrent, IsAnswered, IsKept, accepts_after};
 ghost use Rattle.charmlet_delivery.specs.UnderWay.{due_in};
+ghost use Rattle.charmlet_delivery.specs.Workplace.{ShowsOn};
 ghost use Rattle.charmlet_sequencer.specs.Book.{IsDueOn};
 ghost use Rattle.charmlet_sequencer.specs.Sequencer.{store_of};
 
@@ -55,9 +57,13 @@ impl<D: Disk, C: Chare, B: RuntimeName> Sequencer<D, C, B> {
         told
     }
 
-    /// Shows that what is under way on the shelf is what is assigned to its processor. Nothing is
-    /// compared, and nothing changes.
+    /// Shows that the shelf is a processor's, that it has the records of the elements that stand
+    /// there in the world after the history, and that what is under way there is what is assigned.
+    /// Nothing is compared, and nothing changes.
     pub fn agree(&mut self, locked: &mut LockedShelf<C, B>)
+        ensures on { locked.old.number < self.old.core.processors }
+        ensures shows { ShowsOn locked.old.number locked.old.records self.old.core.places
+            (present self.old.core) }
         ensures due { IsDueOn self.old.core locked.old.number (due_in locked.old.phase) }
         ensures sequencer { self.new ≡ self.old }
         ensures locked { locked.new ≡ locked.old }

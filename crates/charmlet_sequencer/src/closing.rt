@@ -1,12 +1,14 @@
 //! The end of a sequencer and its shelves.
 
-ghost use Rattle.std.specs.Prelude.{◌≡◌, false, IfErr, IfOk, None, Some, length, slice_get, slice_set, vec_len};
+ghost use Rattle.std.specs.Prelude.{◌≡◌, false, None, Some, length, slice_get, slice_set, vec_len};
 ghost use Rattle.std.specs.List.{All};
 ghost use Rattle.charmlet_disk.specs.File.{CrashBytes, MayLeave};
 ghost use Rattle.charmlet_halves.specs.Halves.{disk_of};
 ghost use Rattle.charmlet_history.specs.Kept.{core_in};
+ghost use Rattle.charmlet_journal.specs.Rest.{Agrees};
 ghost use Rattle.charmlet_migrate.specs.Moving.{IsIdle};
 ghost use Rattle.charmlet_stock.specs.ByKind.{for_all};
+ghost use Rattle.charmlet_store.specs.Store.{AreEmpty};
 ghost use Rattle.charmlet_sequencer.specs.Part.{part_on};
 ghost use Rattle.charmlet_sequencer.specs.Sequencer.{is_lawful};
 
@@ -19,50 +21,37 @@ use charmlet_chare::Chare;
 use charmlet_disk::Disk;
 use charmlet_halves::Halves;
 use charmlet_shelf::Shelf;
-use charmlet_store::{Store, empty_shelves};
+use charmlet_store::Store;
 
 /// What a sequencer and its shelves were made of: a store, and the halves of its disk.
 #[derive(Drop)]
-pub struct Closed<D: Disk, C: Chare> {
+pub struct TakenApart<D: Disk, C: Chare> {
     pub store: Store<C>,
     pub halves: Halves<D>,
 }
 
-/// A sequencer and its shelves that weren't taken apart, for want of memory. They are as before.
-#[derive(Drop)]
-pub struct NotClosed<D: Disk, C: Chare, B: RuntimeName> {
-    pub sequencer: Sequencer<D, C, B>,
-    pub shelves: Vec<LockedShelf<C, B>>,
-}
-
 impl<D: Disk, C: Chare, B: RuntimeName> Sequencer<D, C, B> {
     /// Takes all apart where no delivery is under way, also when halted. It makes no call of the
-    /// disk. The shelves are handed in all at once, in any order; the store has each in the place of
-    /// its processor. It fails only when out of memory, which the list of these places takes, and
-    /// then the sequencer and its shelves come back as they were.
+    /// disk, and takes no memory. The shelves are handed in all at once, in any order; the store
+    /// has each in the place of its processor, for which an empty one is handed in.
     pub fn take_apart(
         self,
         shelves: Vec<LockedShelf<C, B>>,
-    ) -> Result<Closed<D, C>, NotClosed<D, C, B>>
+        empty: Vec<Shelf<C>>,
+    ) -> TakenApart<D, C>
         requires count { vec_len shelves ≡ B.processors }
         requires idle { All IsIdle shelves.items }
-        ensures core { IfOk result (λ closed. core_in closed.store.history ≡ self.core) }
-        ensures census { IfOk result (λ closed. closed.store.census ≡ self.census) }
-        ensures keeping { IfOk result (λ closed. closed.store.keeping ≡ for_all false) }
-        ensures disk { IfOk result (λ closed. disk_of closed.halves ≡ self.disk) }
-        ensures lawful { D.honest self.disk → IfOk result (λ closed. (outcome : CrashBytes) →
-            MayLeave (D.file (disk_of closed.halves)) outcome →
-            is_lawful (core_in closed.store.history) outcome) }
-        ensures err { IfErr result (λ back. (back.sequencer ≡ self)
-            × (back.shelves ≡ shelves)) }
+        requires empty { AreEmpty B.processors empty.items }
+        ensures core { core_in result.store.history ≡ self.core }
+        ensures census { result.store.census ≡ self.census }
+        ensures keeping { result.store.keeping ≡ for_all false }
+        ensures disk { disk_of result.halves ≡ self.disk }
+        ensures agrees { Agrees (core_in result.store.history) result.halves }
+        ensures lawful { D.honest self.disk → (outcome : CrashBytes) →
+            MayLeave (D.file (disk_of result.halves)) outcome →
+            is_lawful (core_in result.store.history) outcome }
     {
         self.history.facts();
-        let Ok(mut slots) = empty_shelves(self.alloc, shelves.len() as u16) else {
-            return Err(NotClosed {
-                sequencer: self,
-                shelves,
-            });
-        };
         let Sequencer {
             alloc,
             history,
@@ -71,6 +60,7 @@ impl<D: Disk, C: Chare, B: RuntimeName> Sequencer<D, C, B> {
             mut parts,
         } = self;
         let mut shelves = shelves;
+        let mut slots = empty;
         while let Some(locked) = shelves.pop() {
             take_in(&mut parts, &mut slots, locked);
         }
@@ -80,7 +70,7 @@ impl<D: Disk, C: Chare, B: RuntimeName> Sequencer<D, C, B> {
             shelves: slots,
             stock,
         };
-        Ok(Closed { store, halves })
+        TakenApart { store, halves }
     }
 }
 

@@ -15,7 +15,7 @@ mod reopening;
 mod sequencer;
 mod shelf;
 
-pub use crate::closing::{Closed, NotClosed};
+pub use crate::closing::TakenApart;
 pub use crate::names::RuntimeName;
 pub use crate::opening::{Opened, open_new};
 pub use crate::part::SeenPart;

@@ -29,6 +29,7 @@ impl<D: Disk, C: Chare, B: RuntimeName> Sequencer<D, C, B> {
     pub fn source_of_move(&self, elem: Elem, processor: u16) -> Result<Option<u16>, Refusal>
         ensures ok { IfOk result (λ source. StaysOrLeaves (store_of self.now) elem processor
             source) }
+        ensures running { OnOk result (self.now.core.halted ≡ false) }
         ensures err { IfErr result (λ refusal. Goes (store_of self.now)
             (core.Move elem processor) (Refuses refusal) (store_of self.now)) }
         ensures away { (place : ℕ) → IsAway self.now.core elem place processor →

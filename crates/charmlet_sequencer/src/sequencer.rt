@@ -1,6 +1,6 @@
 //! The sequencer: what orders the steps of all processors.
 
-ghost use Rattle.std.specs.Prelude.{◌≡◌, ◌≢◌, ◌+◌, ◌≤◌, false, true, IfErr, IfOk, IsOk, OnErr, OnOk, length, take};
+ghost use Rattle.std.specs.Prelude.{◌≡◌, ◌≢◌, ◌+◌, ◌≤◌, List, Option, false, true, IfErr, IfOk, IsOk, OnErr, OnOk, length, take};
 ghost use Rattle.charmlet_model.specs.declared.kind.Kind as kinds;
 ghost use Rattle.charmlet_model.specs.declared.refusal.Refusal.TheVariants as refusals;
 ghost use Rattle.charmlet_model.specs.Core as core;
@@ -15,8 +15,12 @@ ghost use Rattle.charmlet_disk.specs.File.{CrashBytes, MayLeave};
 ghost use Rattle.charmlet_halves.specs.Answers.{is_no_failure};
 ghost use Rattle.charmlet_history.specs.Kept.{core_in, counts_or_refused, oldest_on_in, told_or_refused};
 ghost use Rattle.charmlet_shelf.specs.Shelf.{is_assigned, settled};
+ghost use Rattle.charmlet_stock.specs.ByKind.{at};
 ghost use Rattle.charmlet_shelf.specs.declared.phase.Phase.TheVariants as phases;
+ghost use Rattle.charmlet_delivery.specs.UnderWay.{due_in};
 ghost use Rattle.charmlet_delivery.specs.Workplace.{done_or_refused};
+ghost use Rattle.charmlet_sequencer.specs.Book.{IsBookIn, IsDueOn};
+ghost use Rattle.charmlet_sequencer.specs.Part.{Part};
 ghost use Rattle.charmlet_sequencer.specs.Sequencer.{IsOf, KeepsObjects, is_lawful, store_of, supplied_of};
 ghost use Rattle.charmlet_sequencer.specs.Shelf.{is_done};
 
@@ -69,12 +73,17 @@ impl<D: Disk, C: Chare, B: RuntimeName> Model for Sequencer<D, C, B> {
 }
 
 impl<D: Disk, C: Chare, B: RuntimeName> Sequencer<D, C, B> {
-    /// States what always holds of a sequencer: its store is the one that it is named for; the history
-    /// was made by events, each in its turn; and on an honest disk a crash now leaves the world
-    /// after some of it, with all durable events among it.
+    /// States what always holds of a sequencer: its store is the one that it is named for; the
+    /// history was made by events, each in its turn; it has, for each shelf, the records of the
+    /// world after that history and the delivery that is assigned there, and of each kind all
+    /// objects that were supplied are on the shelves, in the stock, or retired; and on an honest
+    /// disk a crash now leaves the world after some of the history, with all durable events among
+    /// it.
     pub fn facts(&self)
         ensures of { IsOf B.opening B.before B.processors self.now.core }
         ensures sound { IsSound self.now.core }
+        ensures book { (parts : List (Option Part))
+            × IsBookIn self.now.core self.now.census parts }
         ensures lawful { D.honest self.now.disk → (outcome : CrashBytes) →
             MayLeave (D.file self.now.disk) outcome → is_lawful self.now.core outcome }
     {
@@ -114,6 +123,8 @@ impl<D: Disk, C: Chare, B: RuntimeName> Sequencer<D, C, B> {
             ≡ (store_of self.old).blanks kind + count_of C.state blanks.items kind) }
         ensures supplied { OnOk result ((kind : kinds.Kind) → supplied_of self.new kind
             ≡ supplied_of self.old kind + count_of C.state blanks.items kind) }
+        ensures retired { OnOk result ((kind : kinds.Kind) → (at self.new.census kind).retired
+            ≡ (at self.old.census kind).retired) }
         ensures disk { self.new.disk ≡ self.old.disk }
         ensures err { IfErr result (λ back. (back.items ≡ blanks.items)
             × (self.new ≡ self.old)) }
@@ -162,6 +173,7 @@ impl<D: Disk, C: Chare, B: RuntimeName> Sequencer<D, C, B> {
         ensures goes { Goes (store_of self.old) (core.Assign locked.old.number id)
             (done_or_refused result) (store_of self.new) }
         ensures ok { OnOk result (is_assigned locked.new.phase ≡ true) }
+        ensures due { IsDueOn self.new.core locked.old.number (due_in locked.new.phase) }
         ensures shelf { locked.new ≡ record locked.old { phase = locked.new.phase } }
         ensures objects { KeepsObjects self.old self.new locked.old locked.new }
         ensures disk { self.new.disk ≡ self.old.disk }

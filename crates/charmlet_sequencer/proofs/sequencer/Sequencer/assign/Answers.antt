@@ -3,9 +3,13 @@ use Rattle.std.specs.Prelude.{OnErr}
 use Rattle.charmlet_model.specs.Core.{Assign}
 use Rattle.charmlet_model.specs.Run.{Goes}
 use Rattle.charmlet_shelf.specs.Shelf.{View}
+use Rattle.charmlet_delivery.specs.UnderWay.{due_in}
 use Rattle.charmlet_delivery.specs.Workplace.{done_or_refused, store_with}
+use Rattle.charmlet_history.specs.Kept.{core_in}
+use Rattle.charmlet_sequencer.specs.Book.{IsDueOn}
 use Rattle.charmlet_sequencer.specs.Sequencer.{SequencerShown, KeepsObjects, store_of}
 use Rattle.charmlet_sequencer.specs.Together.{shown_by}
+use Rattle.charmlet_sequencer.proofs.Agreeing.{due_after}
 use Rattle.charmlet_sequencer.proofs.Calls.{at_work, both_same, sequencer_again, keeps_objects, refused_same}
 use Rattle.charmlet_sequencer.proofs.sequencer.Sequencer.assign.Goals as goal
 
@@ -30,6 +34,14 @@ returns-clause-goes g c =
     let done = c.assign-assigned in
     let after = store_with done.new.history done.new.stock in
     subst (λ (x : SequencerShown _ × View). Goes (store_of x.0) (Assign x.1.number c.args.id) (done_or_refused done.result) after) (λ i. (c.self.view_is i, c.locked.view_is i)) done.ensures.goes
+
+pub returns-clause-due : goal.returns-clause-due
+returns-clause-due g c =
+    let h = c.self.inside in
+    let s = c.locked.inside in
+    let done = c.assign-assigned in
+    subst (λ (v : View). IsDueOn (core_in done.new.history) v.number (due_in done.new.shelf.phase)) c.locked.view_is
+    (due_after h.history h.stock h.parts c.self.invariant.1.book s.shelf s.share c.locked.invariant.0 c.agree.ensures.agrees done.new.history done.new.shelf done.new.stock done.ensures.turns)
 
 pub returns-clause-objects : goal.returns-clause-objects
 returns-clause-objects g c =

@@ -1,9 +1,19 @@
-use Rattle.std.proofs.Common.{subst}
+use Rattle.std.proofs.Common.{List, subst}
+use Rattle.std.specs.Prelude.{Option}
 use Rattle.charmlet_disk.specs.File.{CrashBytes, MayLeave}
 use Rattle.charmlet_recovery.proofs.Outcomes.{kept_is_lawful}
 use Rattle.charmlet_history.specs.Kept.{core_in}
+use Rattle.charmlet_sequencer.specs.Book.{IsBookIn}
+use Rattle.charmlet_sequencer.specs.Part.{Part}
 use Rattle.charmlet_sequencer.specs.Sequencer.{SequencerShown, is_lawful}
+use Rattle.charmlet_sequencer.proofs.Agreeing.{book_in}
 use Rattle.charmlet_sequencer.proofs.sequencer.Sequencer.facts.Goals as goal
+
+pub returns-clause-book : goal.returns-clause-book
+returns-clause-book g c =
+    let h = c.self.inside in
+    subst (λ (v : SequencerShown _). (parts : List (Option Part)) × IsBookIn v.core v.census parts) c.self.view_is
+    (h.parts, book_in h.history h.stock h.parts c.self.invariant.1.book)
 
 pub returns-clause-lawful : goal.returns-clause-lawful
 returns-clause-lawful g c =

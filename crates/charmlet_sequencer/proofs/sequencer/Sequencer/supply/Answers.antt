@@ -2,7 +2,7 @@ use Rattle.std.proofs.Common.{◌≡◌, ap, subst, ◌∙◌}
 use Rattle.std.specs.Prelude.{IfErr}
 use Rattle.charmlet_sequencer.specs.Sequencer.{SequencerShown}
 use Rattle.charmlet_sequencer.specs.Together.{shown_by}
-use Rattle.charmlet_sequencer.proofs.Calls.{supplied_blanks, supplied_book, supplied_count, unsupplied_same}
+use Rattle.charmlet_sequencer.proofs.Calls.{supplied_blanks, supplied_book, supplied_count, supplied_retired, unsupplied_same}
 use Rattle.charmlet_sequencer.proofs.sequencer.Sequencer.supply.Goals as goal
 
 pub invariant_of-self : goal.invariant_of-self
@@ -28,6 +28,11 @@ pub returns-clause-supplied : goal.returns-clause-supplied
 returns-clause-supplied g c =
     let h = c.self.inside in
     supplied_count h.history h.stock c.supply.new.self h.parts g.C.Chare.state c.args.blanks.items c.supply.result c.args.self.now.census (ap (λ (v : SequencerShown _). v.census) c.self.view_is) c.supply.ensures.ok
+
+pub returns-clause-retired : goal.returns-clause-retired
+returns-clause-retired g c =
+    let h = c.self.inside in
+    supplied_retired h.history h.stock c.supply.new.self h.parts g.C.Chare.state c.args.blanks.items c.supply.result c.args.self.now.census (ap (λ (v : SequencerShown _). v.census) c.self.view_is) c.supply.ensures.ok
 
 pub returns-clause-err : goal.returns-clause-err
 returns-clause-err g c =

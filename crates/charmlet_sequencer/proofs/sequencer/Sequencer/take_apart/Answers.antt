@@ -15,8 +15,8 @@ loop-locked-init g c =
     let h = c.self.inside in
     let of = c.self.invariant.0 in
     let book = c.self.invariant.1.book in
-    let slots = c.in-Ok.slots.items in
-    let many : length h.parts ≡ length slots = search rules in
+    let slots = c.args.empty.items in
+    let many : length h.parts ≡ length slots = book.count ∙ of.processors_are ∙ sym c.requires.empty.count in
     record {
       back = back_start 0 h.parts slots many;
       count = refl {a = left_in h.parts + vec_len c.args.shelves};
@@ -65,6 +65,9 @@ invariant_of-store g c =
     let gone : left_in parts ≡ 0 = omega (arith, none, many, most, so_far.count) in
     let slots = c.loop-locked.slots.items in
     closed_fits h.history slots h.stock h.parts book (back_end 0 h.parts parts slots all gone so_far.back)
+
+pub returns-clause-agrees : goal.returns-clause-agrees
+returns-clause-agrees g c = c.self.invariant.1.agrees
 
 pub returns-clause-lawful : goal.returns-clause-lawful
 returns-clause-lawful g c = λ honest outcome left.
