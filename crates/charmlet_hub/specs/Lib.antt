@@ -23,3 +23,9 @@ pub use Rattle.charmlet_delivery.specs.Workplace
 pub use Rattle.charmlet_sequencer.specs.Sequencer
 pub use Rattle.charmlet_store.specs.Store
 pub use Rattle.charmlet_sequencer.specs.Shelf
+pub use Rattle.charmlet_stock.specs.ByKind
+pub use Rattle.charmlet_delivery.specs.UnderWay
+pub use Rattle.charmlet_sequencer.specs.Book
+pub use Rattle.charmlet_sequencer.specs.Part
+pub use Rattle.charmlet_sequencer.specs.Relocating
+pub use Rattle.charmlet_sequencer.specs.Rest

@@ -6,12 +6,14 @@ ghost use Rattle.charmlet_model.specs.declared.refusal.Refusal.TheVariants as re
 ghost use Rattle.charmlet_disk.specs.File.{CrashBytes, MayLeave};
 ghost use Rattle.charmlet_halves.specs.Halves.{disk_of};
 ghost use Rattle.charmlet_history.specs.Kept.{core_in};
+ghost use Rattle.charmlet_sequencer.specs.Rest.{Agrees};
+ghost use Rattle.charmlet_stock.specs.ByKind.{for_all};
 ghost use Rattle.charmlet_passes.specs.Passes.{AreAll, HeldPass, IsCurrent};
 ghost use Rattle.charmlet_seats.specs.Seats.{HeldSeat};
 ghost use Rattle.charmlet_seats.specs.Woven.{IsWoven};
 ghost use Rattle.charmlet_sequencer.specs.Sequencer.{IsOf, is_lawful};
 ghost use Rattle.charmlet_hub.specs.Hub.{HubShown, deliveries_in};
-ghost use Rattle.charmlet_hub.specs.Settling.{SettleAll, are_all_in, closing_refusal, ended};
+ghost use Rattle.charmlet_hub.specs.Settling.{SettleAll, are_all_in, closing_refusal};
 
 use crate::hub::Hub;
 use crate::names::{PassesOf, SeatsOf};
@@ -22,7 +24,7 @@ use charmlet_model::Refusal;
 use charmlet_passes::ClientPass;
 use charmlet_seats::{DeliveryIds, Seat};
 use charmlet_sequencer::{LockedShelf, RuntimeName};
-use charmlet_store::Store;
+use charmlet_store::{Store, empty_shelves};
 
 /// What a closed hub was made of: a store, in which no delivery is under way, and the halves of its
 /// disk; and the ids of the deliveries that were committed without a seat.
@@ -51,8 +53,8 @@ impl<D: Disk, C: Chare, B: RuntimeName> Hub<D, C, B> {
     /// lists, in the history's order. Each pass has exactly its client's accepts since it was lent,
     /// and all that its client was told is true of the durable events.
     ///
-    /// `PassOut` if a seat or a pass that is out isn't handed in: then all comes back as it was.
-    /// Otherwise `Memory`: then all comes back too, with no delivery under way.
+    /// `PassOut` if a seat or a pass that is out isn't handed in; otherwise `Memory`. Then all comes
+    /// back as it was.
     pub fn close(
         self,
         shelves: Vec<LockedShelf<C, B>>,
@@ -68,6 +70,9 @@ impl<D: Disk, C: Chare, B: RuntimeName> Hub<D, C, B> {
             × (closed.store.census ≡ last.census)
             × (disk_of closed.halves ≡ last.disk)
             × (closed.own ≡ last.seats.own)) }
+        ensures agrees { IfOk result (λ closed. Agrees (core_in closed.store.history)
+            closed.halves) }
+        ensures keeping { IfOk result (λ closed. closed.store.keeping ≡ for_all false) }
         ensures disk { IfOk result (λ closed. disk_of closed.halves ≡ self.disk) }
         ensures lawful { D.honest self.disk → IfOk result (λ closed. (outcome : CrashBytes) →
             MayLeave (D.file (disk_of closed.halves)) outcome →
@@ -81,12 +86,8 @@ impl<D: Disk, C: Chare, B: RuntimeName> Hub<D, C, B> {
         ensures all_in { OnOk result (are_all_in self (vec_len seats) (vec_len passes) ≡ true) }
         ensures err { IfErr result (λ back. back.refusal
             ≡ closing_refusal self (vec_len seats) (vec_len passes)) }
-        ensures back { IfErr result (λ back. (back.seats ≡ seats) × (back.passes ≡ passes)) }
-        ensures out { are_all_in self (vec_len seats) (vec_len passes) ≡ false →
-            IfErr result (λ back. (back.hub ≡ self) × (back.shelves ≡ shelves)) }
-        ensures settled { are_all_in self (vec_len seats) (vec_len passes) ≡ true →
-            IfErr result (λ back. SettleAll self shelves.items back.hub
-            × (back.shelves.items ≡ map ended shelves.items)) }
+        ensures back { IfErr result (λ back. (back.hub ≡ self) × (back.shelves ≡ shelves)
+            × (back.seats ≡ seats) × (back.passes ≡ passes)) }
     {
         if seats.len() != self.seats.seat_count() || passes.len() != self.passes.pass_count() {
             return Err(NotClosed {
@@ -97,6 +98,16 @@ impl<D: Disk, C: Chare, B: RuntimeName> Hub<D, C, B> {
                 passes,
             });
         }
+        self.facts();
+        let Ok(empty) = empty_shelves(self.alloc, self.processors) else {
+            return Err(NotClosed {
+                refusal: Refusal::Memory,
+                hub: self,
+                shelves,
+                seats,
+                passes,
+            });
+        };
         let mut hub = self;
         let mut shelves = shelves;
         for i in 0..shelves.len() {
@@ -107,26 +118,9 @@ impl<D: Disk, C: Chare, B: RuntimeName> Hub<D, C, B> {
             sequencer,
             seats: seat_book,
             passes: pass_book,
-            processors,
+            ..
         } = hub;
-        let apart = match sequencer.take_apart(shelves) {
-            Ok(apart) => apart,
-            Err(back) => {
-                let hub = Hub {
-                    sequencer: back.sequencer,
-                    seats: seat_book,
-                    passes: pass_book,
-                    processors,
-                };
-                return Err(NotClosed {
-                    refusal: Refusal::Memory,
-                    hub,
-                    shelves: back.shelves,
-                    seats,
-                    passes,
-                });
-            }
-        };
+        let apart = sequencer.take_apart(shelves, empty);
         let Ok(own) = seat_book.close(seats) else {
             unreachable!()
         };

@@ -1,13 +1,15 @@
 //! Deliveries by a hub and a shelf that is lent to it.
 
-ghost use Rattle.std.specs.Prelude.{◌≡◌, ◌+◌, ◌<◌, ◌++◌, ◌∷◌, [], Some, false, true, IfErr, IfOk, IsOk, OnErr, OnOk};
+ghost use Rattle.std.specs.Prelude.{◌≡◌, ◌+◌, ◌<◌, ◌++◌, ◌∷◌, [], Some, false, true, IfErr, IfOk, IsOk, OnErr, OnOk, slice_get, slice_set};
 ghost use Rattle.charmlet_model.specs.declared.refusal.Refusal.TheVariants as refusals;
 ghost use Rattle.charmlet_model.specs.Core as core;
 ghost use Rattle.charmlet_model.specs.Core.{Done, Refuses, assigned_to};
 ghost use Rattle.charmlet_model.specs.Run.{Goes};
 ghost use Rattle.charmlet_shelf.specs.Shelf.{is_assigned, settled};
 ghost use Rattle.charmlet_shelf.specs.declared.phase.Phase.TheVariants as phases;
+ghost use Rattle.charmlet_delivery.specs.UnderWay.{due_in};
 ghost use Rattle.charmlet_delivery.specs.Workplace.{done_or_refused};
+ghost use Rattle.charmlet_sequencer.specs.Book.{IsDueOn};
 ghost use Rattle.charmlet_sequencer.specs.Sequencer.{KeepsObjects};
 ghost use Rattle.charmlet_sequencer.specs.Shelf.{delivery_in, is_done};
 ghost use Rattle.charmlet_hub.specs.Hub.{roomless, sequencer_in, store_in};
@@ -33,6 +35,8 @@ impl<D: Disk, C: Chare, B: RuntimeName> Hub<D, C, B> {
         ensures goes { Goes (store_in self.old) (core.Assign locked.old.number id)
             (done_or_refused result) (store_in self.new) }
         ensures ok { OnOk result (is_assigned locked.new.phase ≡ true) }
+        ensures due { OnOk result (IsDueOn self.new.core locked.old.number
+            (due_in locked.new.phase)) }
         ensures shelf { locked.new ≡ record locked.old { phase = locked.new.phase } }
         ensures objects { KeepsObjects (sequencer_in self.old) (sequencer_in self.new)
             locked.old locked.new }
@@ -95,6 +99,10 @@ impl<D: Disk, C: Chare, B: RuntimeName> Hub<D, C, B> {
             locked.old locked.new }
         ensures own { self.new.seats.own ≡ self.old.seats.own }
         ensures out { self.new.seats.out ≡ self.old.seats.out }
+        ensures had { OnOk result (slice_get self.old.seats.lists seat.old.place
+            ≡ Some (Some seat.old.ids)) }
+        ensures has { OnOk result (self.new.seats.lists
+            ≡ slice_set self.old.seats.lists seat.old.place (Some seat.new.ids)) }
         ensures rest { self.new ≡ record self.old {
           core = self.new.core;
           census = self.new.census;

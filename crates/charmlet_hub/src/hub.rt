@@ -1,6 +1,6 @@
 //! The hub.
 
-ghost use Rattle.std.specs.Prelude.{◌≡◌, ◌+◌, ◌≤◌, ◌++◌, ◌∷◌, [], false, true, IfErr, IfOk, OnErr, OnOk, length};
+ghost use Rattle.std.specs.Prelude.{◌≡◌, ◌+◌, ◌<◌, ◌≤◌, ◌++◌, ◌∷◌, [], List, Option, false, true, IfErr, IfOk, OnErr, OnOk, length};
 ghost use Rattle.std.specs.BTreeSet.{insert_key};
 ghost use Rattle.std.specs.Ordering.{nat_cmp};
 ghost use Rattle.charmlet_model.specs.declared.kind.Kind as kinds;
@@ -13,6 +13,11 @@ ghost use Rattle.charmlet_history.specs.Kept.{core_in, oldest_on_in};
 ghost use Rattle.charmlet_requests.specs.Pass.{is_out as is_pass_out, lending_refusal as pass_refusal};
 ghost use Rattle.charmlet_passes.specs.Passes.{lent_since};
 ghost use Rattle.charmlet_seats.specs.Seats.{is_out as is_seat_out};
+ghost use Rattle.charmlet_stock.specs.ByKind.{at};
+ghost use Rattle.charmlet_delivery.specs.UnderWay.{due_in};
+ghost use Rattle.charmlet_delivery.specs.Workplace.{ShowsOn};
+ghost use Rattle.charmlet_sequencer.specs.Book.{IsBookIn, IsDueOn};
+ghost use Rattle.charmlet_sequencer.specs.Part.{Part};
 ghost use Rattle.charmlet_sequencer.specs.Sequencer.{IsOf, is_lawful, supplied_of};
 ghost use Rattle.charmlet_hub.specs.Hub.{IsHub, seat_refusal, sequencer_in, store_in};
 
@@ -25,7 +30,7 @@ use charmlet_history::History;
 use charmlet_model::{MsgId, Refusal};
 use charmlet_passes::{ClientPass, PassBook, SeenPass};
 use charmlet_seats::{Seat, SeatBook, SeenIds};
-use charmlet_sequencer::{RuntimeName, Sequencer};
+use charmlet_sequencer::{LockedShelf, RuntimeName, Sequencer};
 use charmlet_stock::{ByKind, Tally};
 use std::alloc::Global;
 use std::marker::Model;
@@ -41,6 +46,7 @@ use std::sync::ledger::Ledger;
 /// assigned delivery, so that one can always be finished without memory.
 #[derive(Drop)]
 pub struct Hub<D: Disk, C: Chare, B: RuntimeName> {
+    pub(crate) alloc: Global,
     pub(crate) sequencer: Sequencer<D, C, B>,
     pub(crate) seats: SeatBook<SeatsOf<B>>,
     pub(crate) passes: PassBook<PassesOf<B>>,
@@ -81,6 +87,7 @@ impl<D: Disk, C: Chare, B: RuntimeName> Hub<D, C, B> {
         ensures passes { result.passes.out ≡ [] }
     {
         Hub {
+            alloc,
             sequencer,
             seats: SeatBook::new(alloc, seats),
             passes: PassBook::new(alloc, passes),
@@ -89,12 +96,16 @@ impl<D: Disk, C: Chare, B: RuntimeName> Hub<D, C, B> {
     }
 
     /// States what always holds of a hub: its store is the one that it is named for; its history is
-    /// legal; on an honest disk a crash now leaves the world after some of it, with all durable
-    /// events among it; all deliveries are held by the seats or by the hub itself; and all passes
-    /// are current.
+    /// legal; it has, for each shelf, the records of the world after that history and the delivery
+    /// that is assigned there, and of each kind all objects that were supplied are on the shelves,
+    /// in the stock, or retired; on an honest disk a crash now leaves the world after some of the
+    /// history, with all durable events among it; all deliveries are held by the seats or by the
+    /// hub itself; and all passes are current.
     pub fn facts(&self)
         ensures of { IsOf B.opening B.before B.processors self.now.core }
         ensures sound { IsSound self.now.core }
+        ensures book { (parts : List (Option Part))
+            × IsBookIn self.now.core self.now.census parts }
         ensures lawful { D.honest self.now.disk → (outcome : CrashBytes) →
             MayLeave (D.file self.now.disk) outcome → is_lawful self.now.core outcome }
         ensures hub { IsHub self.now }
@@ -107,6 +118,29 @@ impl<D: Disk, C: Chare, B: RuntimeName> Hub<D, C, B> {
         ensures { core_in result.now ≡ self.now.core }
     {
         self.sequencer.history()
+    }
+
+    /// How many processors there are.
+    pub fn processors(&self) -> u16
+        ensures named { result ≡ B.processors }
+        ensures core { result ≡ self.now.core.processors }
+    {
+        self.sequencer.facts();
+        self.processors
+    }
+
+    /// Shows that the shelf is a processor's, that it has the records of the elements that stand
+    /// there in the world after the history, and that what is under way there is what is assigned.
+    /// Nothing is compared, and nothing changes.
+    pub fn agree(&mut self, locked: &mut LockedShelf<C, B>)
+        ensures on { locked.old.number < self.old.core.processors }
+        ensures shows { ShowsOn locked.old.number locked.old.records self.old.core.places
+            (present self.old.core) }
+        ensures due { IsDueOn self.old.core locked.old.number (due_in locked.old.phase) }
+        ensures hub { self.new ≡ self.old }
+        ensures locked { locked.new ≡ locked.old }
+    {
+        self.sequencer.agree(locked);
     }
 
     /// How many objects of each kind were supplied, are in the stock, and were retired.
@@ -135,6 +169,8 @@ impl<D: Disk, C: Chare, B: RuntimeName> Hub<D, C, B> {
         ensures supplied { OnOk result ((kind : kinds.Kind) →
             supplied_of (sequencer_in self.new) kind
             ≡ supplied_of (sequencer_in self.old) kind + count_of C.state blanks.items kind) }
+        ensures retired { OnOk result ((kind : kinds.Kind) → (at self.new.census kind).retired
+            ≡ (at self.old.census kind).retired) }
         ensures err { IfErr result (λ back. (back.items ≡ blanks.items)
             × (self.new ≡ self.old)) }
     {

@@ -10,6 +10,7 @@ mod asking;
 mod closing;
 mod delivering;
 mod hub;
+mod moving;
 mod names;
 
 pub use crate::closing::{Closed, NotClosed};

@@ -7,9 +7,8 @@ use Rattle.charmlet_model.specs.Core.{Core}
 use Rattle.charmlet_passes.specs.Passes.{HeldPass, IsCurrent}
 use Rattle.charmlet_seats.specs.Seats.{HeldSeat, IdList}
 use Rattle.charmlet_seats.specs.Woven.{IsWoven}
-use Rattle.charmlet_hub.specs.Hub.{HubShown, deliveries_in, shown_by}
-use Rattle.charmlet_hub.specs.Settling.{SettleAll}
-use Rattle.charmlet_hub.proofs.Endings.{all_settled, are_in, one_settled, shelves_ended, shelves_idle}
+use Rattle.charmlet_hub.specs.Hub.{HubShown, deliveries_in}
+use Rattle.charmlet_hub.proofs.Endings.{all_settled, are_in, one_settled, shelves_idle}
 use Rattle.charmlet_hub.proofs.hub.Hub.close.Goals as goal
 
 pub loop-i-preserved : goal.loop-i-preserved
@@ -18,35 +17,18 @@ loop-i-preserved g c =
     let within : c.loop-i.i < length now = search rules in
     one_settled c.args.self c.loop-i.hub c.args.shelves.items now c.loop-i.i c.loop-i.invariant c.settle.new.self c.index_mut.result.now c.settle.new.locked within c.index_mut.ensures.value c.settle.ensures.settles c.settle.ensures.shelf c.settle.ensures.rest
 
-pub take_apart-requires-clause-idle : goal.take_apart-requires-clause-idle
-take_apart-requires-clause-idle g c κs within =
+pub take_apart-apart-requires-clause-idle : goal.take_apart-apart-requires-clause-idle
+take_apart-apart-requires-clause-idle g c κs within =
     let all : length c.args.shelves.items ≤ c.loop-i.i = search rules in
     shelves_idle c.args.self c.loop-i.hub c.args.shelves.items c.loop-i.shelves.items c.loop-i.i c.loop-i.invariant all
 
 -- ---- where memory is refused
 
-pub returns-in-Err-clause-err : goal.returns-in-Err-clause-err
-returns-in-Err-clause-err g c =
+pub returns-in_default-clause-err : goal.returns-in_default-clause-err
+returns-in_default-clause-err g c =
     let seats = sym c.len.ensures ∙ c.if-len-seat_count.false ∙ c.seat_count.ensures ∙ ap (λ (v : HubShown _). length v.seats.out) c.self.view_is in
     let passes = sym c.len-else-len-seat_count.ensures ∙ c.if-len-pass_count.false ∙ c.pass_count.ensures ∙ ap (λ (v : HubShown _). length v.passes.out) c.self.view_is in
     ap (λ b. if b then refusals.Memory else refusals.PassOut) (sym (are_in c.args.self (vec_len c.args.seats) (vec_len c.args.passes) seats passes))
-
-pub returns-in-Err-clause-out : goal.returns-in-Err-clause-out
-returns-in-Err-clause-out g c = λ out.
-    let seats = sym c.len.ensures ∙ c.if-len-seat_count.false ∙ c.seat_count.ensures ∙ ap (λ (v : HubShown _). length v.seats.out) c.self.view_is in
-    let passes = sym c.len-else-len-seat_count.ensures ∙ c.if-len-pass_count.false ∙ c.pass_count.ensures ∙ ap (λ (v : HubShown _). length v.passes.out) c.self.view_is in
-    let never : false ≡ true = sym out ∙ are_in c.args.self (vec_len c.args.seats) (vec_len c.args.passes) seats passes in
-    absurd (let contra : ⊥ = cc in contra)
-
-pub returns-in-Err-clause-settled : goal.returns-in-Err-clause-settled
-returns-in-Err-clause-settled g c = λ out.
-    let all : length c.args.shelves.items ≤ c.loop-i.i = search rules in
-    let h = c.hub.inside in
-    let back = c.in-Err.ensures.err in
-    let same : shown_by c.in-Err.back.sequencer h.seats h.passes ≡ c.loop-i.hub = (λ i. shown_by (back.0 i) h.seats h.passes) ∙ c.hub.view_is in (
-      subst (SettleAll c.args.self c.args.shelves.items) (sym same) (all_settled c.args.self c.loop-i.hub c.args.shelves.items c.loop-i.shelves.items c.loop-i.i c.loop-i.invariant all),
-      ap (λ v. v.items) back.1 ∙ shelves_ended c.args.self c.loop-i.hub c.args.shelves.items c.loop-i.shelves.items c.loop-i.i c.loop-i.invariant all,
-    )
 
 -- ---- where all is taken apart
 
@@ -55,13 +37,13 @@ unreachable-requires g c =
     let seats = sym c.len.ensures ∙ c.if-len-seat_count.false ∙ c.seat_count.ensures ∙ ap (λ (v : HubShown _). length v.seats.out) c.self.view_is in
     let out = length c.hub.inside.seats.out in
     let same : vec_len c.args.seats ≡ out = seats ∙ sym (ap length (ap (λ (v : HubShown _). v.seats.out) c.hub.view_is ∙ c.loop-i.invariant.out)) in
-    let never : false ≡ true = (c.in_default.ensures {u = tt}).which ∙ ap (λ n. n == out) same ∙ nat_eq_equiv.refl out in
+    let never : false ≡ true = (c.in_default-close.ensures {u = tt}).which ∙ ap (λ n. n == out) same ∙ nat_eq_equiv.refl out in
     let contra : ⊥ = cc in contra
 
 pub returns-clause-settles : goal.returns-clause-settles
 returns-clause-settles g c =
     let all : length c.args.shelves.items ≤ c.loop-i.i = search rules in
-    let apart = c.in-Ok.ensures in (
+    let apart = c.take_apart-apart.ensures in (
       c.loop-i.hub,
       all_settled c.args.self c.loop-i.hub c.args.shelves.items c.loop-i.shelves.items c.loop-i.i c.loop-i.invariant all,
       apart.core ∙ ap (λ (v : HubShown _). v.core) c.hub.view_is,
@@ -73,16 +55,16 @@ returns-clause-settles g c =
 pub returns-clause-lawful : goal.returns-clause-lawful
 returns-clause-lawful g c = λ honest.
     let disk = ap (λ (v : HubShown _). v.disk) c.hub.view_is ∙ c.loop-i.invariant.disk in
-    c.in-Ok.ensures.lawful (subst g.D.Disk.honest (sym disk) honest)
+    c.take_apart-apart.ensures.lawful (subst g.D.Disk.honest (sym disk) honest)
 
 pub returns-clause-woven : goal.returns-clause-woven
 returns-clause-woven g c =
     let h = c.hub.inside in
-    subst (λ (x : IdList × Core). IsWoven (x.0.items ∷ map (λ (seat : HeldSeat). seat.ids) c.args.seats.items) (deliveries_in x.1.history)) (λ i. (sym c.in-Ok-close.ensures.own i, sym c.in-Ok.ensures.core i))
+    subst (λ (x : IdList × Core). IsWoven (x.0.items ∷ map (λ (seat : HeldSeat). seat.ids) c.args.seats.items) (deliveries_in x.1.history)) (λ i. (sym c.in-Ok-close.ensures.own i, sym c.take_apart-apart.ensures.core i))
     (c.in-Ok-close.ensures.woven (deliveries_in h.sequencer.core.history) c.hub.invariant.0.seats)
 
 pub returns-clause-current : goal.returns-clause-current
 returns-clause-current g c =
     let h = c.hub.inside in
-    subst (λ core. AllByRecursion (λ (held : HeldPass). IsCurrent held core) c.args.passes.items) (sym c.in-Ok.ensures.core)
+    subst (λ core. AllByRecursion (λ (held : HeldPass). IsCurrent held core) c.args.passes.items) (sym c.take_apart-apart.ensures.core)
     (c.in-Ok-close-2.ensures.current h.sequencer.core c.hub.invariant.0.passes)
