@@ -10,7 +10,7 @@ ghost use Rattle.charmlet_disk.specs.Disk.{LeavesOnly};
 ghost use Rattle.charmlet_halves.specs.Answers.{is_no_failure};
 ghost use Rattle.charmlet_history.specs.Kept.{counts_or_refused, told_or_refused};
 ghost use Rattle.charmlet_requests.specs.Pass.{with_accept, with_told};
-ghost use Rattle.charmlet_passes.specs.Passes.{IsAnswered, IsKept, accepts_after, with_flush};
+ghost use Rattle.charmlet_passes.specs.Passes.{IsAnswered, IsKept, TellAll, accepts_after, with_flush};
 ghost use Rattle.charmlet_sequencer.specs.Sequencer.{is_lawful};
 ghost use Rattle.charmlet_hub.specs.Hub.{store_in};
 
@@ -95,6 +95,7 @@ impl<D: Disk, C: Chare, B: RuntimeName> Hub<D, C, B> {
         ensures disk { AfterCall D.Disk self.old.disk self.new.disk (is_no_failure result) }
         ensures idle { self.old.core.durable ≡ length self.old.core.history →
             self.new.disk ≡ self.old.disk }
+        ensures kept { OnOk result (TellAll self.old.passes passes.old self.new.passes) }
         ensures out { self.new.passes.out ≡ self.old.passes.out }
         ensures census { self.new.census ≡ self.old.census }
         ensures seats { self.new.seats ≡ self.old.seats }

@@ -47,6 +47,13 @@ module _ {A : Type 0} where
   next-changed f (y ∷ xs) zero x at = let same : y ≡ x = cc in ap (λ z. f z ∷ xs) (sym same)
   next-changed f (y ∷ xs) (suc i) x at = ap (λ l. f y ∷ l) (next-changed f xs i x at)
 
+  -- and is the first of those that are left
+  pub next-left : (f : A → A) (xs : List A) (i : ℕ) (x : A) → slice_get (map f (take i xs) ++ drop i xs) i ≡ Some x → drop i xs ≡ x ∷ drop (suc i) xs
+  next-left f [] zero x at = absurd (cc)
+  next-left f [] (suc i) x at = absurd (cc)
+  next-left f (y ∷ xs) zero x at = let same : y ≡ x = cc in ap (λ z. z ∷ xs) same
+  next-left f (y ∷ xs) (suc i) x at = next-left f xs i x at
+
   pub found : (xs : List A) (i : ℕ) (x : A) → i < length xs → x ≡ get_or xs i x → slice_get xs i ≡ Some x
   found [] i x within is = absurd (omega arith)
   found (y ∷ xs) zero x within is = cc

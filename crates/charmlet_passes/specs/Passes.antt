@@ -119,3 +119,9 @@ pub record IsAnswered (old new : HeldPass) (number : ℕ)
 abbrev pub with_flush : HeldPass → HeldPass
 with_flush held = if nat_lt held.pass.lent_at held.pass.last
     then record held { pass = with_told held.pass held.pass.last Accepted } else held
+
+-- the book once a flush has told each of these passes, one after another
+abbrev pub TellAll : LentPasses → List HeldPass → LentPasses → Type 0
+TellAll book [] last = last ≡ book
+TellAll book (held ∷ rest) last = (next : LentPasses) × IsKept book next held (with_flush held)
+    × TellAll next rest last

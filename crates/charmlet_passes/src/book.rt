@@ -9,7 +9,7 @@ ghost use Rattle.charmlet_model.specs.Core.{Blanks, Core, Steps, present};
 ghost use Rattle.charmlet_model.specs.World.{client_of};
 ghost use Rattle.charmlet_history.specs.Kept.{core_in, told_or_refused};
 ghost use Rattle.charmlet_requests.specs.Pass.{is_out, lending_refusal, with_accept, with_told};
-ghost use Rattle.charmlet_passes.specs.Passes.{AreAll, AreCurrent, HeldPass, IsAnswered, IsCurrent, IsKept, accepts_after, held_by, lent_since, passes_out, with_flush, with_request};
+ghost use Rattle.charmlet_passes.specs.Passes.{AreAll, AreCurrent, HeldPass, IsAnswered, IsCurrent, IsKept, TellAll, accepts_after, held_by, lent_since, passes_out, with_flush, with_request};
 
 use crate::pass::{ClientPass, SeenPass};
 use charmlet_agreement::{Book, BookName, GhostValue, Share};
@@ -184,6 +184,7 @@ impl<B: BookName> PassBook<B> {
         ensures current { AreCurrent self.new (core_in history.now) }
         ensures out { self.new.out ≡ self.old.out }
         ensures told { passes.new ≡ map with_flush passes.old }
+        ensures kept { TellAll self.old passes.old self.new }
     {
         for i in 0..passes.len() {
             self.tell_one(history, &mut passes[i]);
@@ -195,14 +196,14 @@ impl<B: BookName> PassBook<B> {
         requires current { AreCurrent self.old (core_in history.now) }
         requires durable { (core_in history.now).durable ≡ length (core_in history.now).history }
         ensures current { AreCurrent self.new (core_in history.now) }
-        ensures out { self.new.out ≡ self.old.out }
         ensures told { pass.new ≡ with_flush pass.old }
+        ensures kept { IsKept self.old self.new pass.old pass.new }
     {
+        self.book.agree(&mut pass.share);
         if pass.pass.accept_count() == 0 {
             return;
         }
         history.facts();
-        self.book.agree(&mut pass.share);
         let last = pass.pass.last();
         let Ok(()) = pass.pass.hear(last, &Told::Accepted) else {
             unreachable!()

@@ -1,7 +1,8 @@
-use Rattle.std.proofs.Common.{◌≡◌, ◌+◌, ◌++◌, ◌<◌, suc, List, Some, map, take, drop, length, ap, sym, ◌∙◌, subst, arith, rules}
+use Rattle.std.proofs.Common.{◌≡◌, ◌+◌, ◌++◌, ◌∷◌, ◌<◌, ◌≤◌, suc, refl, List, Some, map, take, drop, length, ap, sym, ◌∙◌, subst, arith, rules}
 use Rattle.std.specs.Prelude.{slice_get, slice_set}
-use Rattle.charmlet_passes.specs.Passes.{HeldPass, with_flush}
-use Rattle.charmlet_passes.proofs.Places.{found, next-changed}
+use Rattle.std.proofs.lemmas.List.{drop_all}
+use Rattle.charmlet_passes.specs.Passes.{HeldPass, IsKept, TellAll, with_flush}
+use Rattle.charmlet_passes.proofs.Places.{found, next-changed, next-left}
 use Rattle.charmlet_passes.proofs.book.PassBook.tell.Goals as goal
 
 pub loop-i-preserved : goal.loop-i-preserved
@@ -13,10 +14,19 @@ loop-i-preserved g c =
     let within : i < length c.loop-i.passes = search rules in
     let at : slice_get ys i ≡ Some x = subst (λ (l : List HeldPass). slice_get l i ≡ Some x) c.loop-i.invariant.2 (found c.loop-i.passes i x within c.index-passes-i.is) in
     let told : c.tell_one.new.pass ≡ with_flush x = c.tell_one.ensures.told ∙ ap with_flush (sym c.index-passes-i.is) in
-    let one : suc i ≡ i + 1 = omega arith in (
+    let one : suc i ≡ i + 1 = omega arith in
+    let left : drop i xs ≡ x ∷ drop (suc i) xs = next-left with_flush xs i x at in
+    let kept : IsKept c.loop-i.self c.tell_one.new.self x (with_flush x) = subst (λ (h : HeldPass × HeldPass). IsKept c.loop-i.self c.tell_one.new.self h.0 h.1) (λ k. (sym c.index-passes-i.is k, told k)) c.tell_one.ensures.kept in (
       c.tell_one.ensures.current,
-      c.tell_one.ensures.out ∙ c.loop-i.invariant.1,
+      c.tell_one.ensures.kept.out ∙ c.loop-i.invariant.1,
       (λ k. slice_set (c.loop-i.invariant.2 k) i (told k))
           ∙ next-changed with_flush xs i x at
           ∙ ap (λ n. map with_flush (take n xs) ++ drop n xs) one,
+      (λ last all. c.loop-i.invariant.3 last (subst (λ l. TellAll c.loop-i.self l last) (sym left) (c.tell_one.new.self, kept, subst (λ n. TellAll c.tell_one.new.self (drop n xs) last) (sym one) all))),
     )
+
+pub returns-clause-kept : goal.returns-clause-kept
+returns-clause-kept g c =
+    let xs = c.args.passes.now in
+    let all : length xs ≤ c.loop-i.i = search rules in
+    c.loop-i.invariant.3 c.loop-i.self (subst (λ l. TellAll c.loop-i.self l c.loop-i.self) (sym (drop_all c.loop-i.i xs all)) refl)

@@ -1,12 +1,12 @@
 use Rattle.std.proofs.Common.{◌≡◌, Some, length, ap, sym, ◌∙◌, subst, rules}
-use Rattle.std.specs.Prelude.{slice_set}
+use Rattle.std.specs.Prelude.{slice_get, slice_set}
 use Rattle.charmlet_model.specs.declared.told.Told.TheVariants.{Accepted}
 use Rattle.charmlet_history.specs.Kept.{core_in}
 use Rattle.charmlet_requests.specs.Pass.{Pass, IsTold, IsUpToDate, with_told}
-use Rattle.charmlet_passes.specs.Passes.{HeldPass, AreCurrent, IsCurrent, passes_out, held_by}
+use Rattle.charmlet_passes.specs.Passes.{HeldPass, LentPasses, AreCurrent, IsCurrent, IsKept, passes_out, held_by}
 use Rattle.charmlet_passes.proofs.OtherSteps.{stays}
-use Rattle.charmlet_passes.proofs.Places.{count-set}
-use Rattle.charmlet_passes.proofs.Requests.{Known, known_by, accepted_holds, are_current-written, told-current}
+use Rattle.charmlet_passes.proofs.Places.{count-set, kept-same}
+use Rattle.charmlet_passes.proofs.Requests.{Known, known_by, accepted_holds, are_current-written, kept-written, told-current}
 use Rattle.charmlet_passes.proofs.book.PassBook.tell_one.Goals as goal
 
 known_at : (g : _) (c : goal.After-write_told g) → Known c.self.inside.book c.pass.inside.share c.pass.inside.pass (core_in c.args.history.now) c.self.inside.out
@@ -14,8 +14,8 @@ known_at g c =
     known_by c.self.inside.book c.pass.inside.share c.pass.inside.pass (core_in c.args.history.now) c.self.inside.out
     c.agree.ensures.agrees c.pass.invariant.0 c.pass.invariant.1 (subst (λ p. AreCurrent p (core_in c.args.history.now)) (sym c.self.view_is) c.requires.current)
 
-pub invariant_of-self : goal.invariant_of-self
-invariant_of-self g c =
+pub invariant_of-self-2 : goal.invariant_of-self-2
+invariant_of-self-2 g c =
     let held = c.self.inside.book in
     let share = c.pass.inside.share in
     let h = held_by share.1 in
@@ -43,3 +43,23 @@ returns-clause-current g c =
     subst (λ l. AreCurrent (record { out = c.self.inside.out; held = l }) core) (sym new)
     (are_current-written (record { out = c.self.inside.out; held = held }) core core share.0 h next known.there (ap (λ (p : Pass). p.client) is ∙ sym (ap (λ (p : Pass). p.client) known.is)) current
     (λ client apart. stays client core) sound sound known.are)
+
+pub returns-clause-kept : goal.returns-clause-kept
+returns-clause-kept g c =
+    let share = c.pass.inside.share in
+    let next : HeldPass = record (held_by share.1) { pass = c.hear.new.self } in
+    let new : c.write_told.new.book ≡ slice_set c.self.inside.book share.0 (Some next) = search rules in
+    let shared : c.write_told.new.share ≡ (share.0, Some next) = search rules in
+    subst (λ (x : LentPasses × (HeldPass × HeldPass)). IsKept x.0 (record { out = c.self.inside.out; held = c.write_told.new.book }) x.1.0 x.1.1) (λ i. (c.self.view_is i, (c.pass.view_is i, held_by (sym shared i).1)))
+    (kept-written c.self.inside.book c.write_told.new.book share c.pass.inside.pass (core_in c.args.history.now) c.self.inside.out next (known_at g c) new)
+
+-- ---- where it made no request
+
+pub returns-then-accept_count-eq0-clause-kept : goal.returns-then-accept_count-eq0-clause-kept
+returns-then-accept_count-eq0-clause-kept g c =
+    let h = held_by c.pass.inside.share.1 in
+    let there : slice_get c.self.inside.book c.pass.inside.share.0 ≡ Some (Some h) = c.agree.ensures.agrees ∙ ap Some c.pass.invariant.0 in
+    let share : c.agree.new.share ≡ c.pass.inside.share = search rules in
+    let book : c.agree.new.self ≡ c.self.inside.book = search rules in
+    subst (λ (x : (LentPasses × LentPasses) × (HeldPass × HeldPass)). IsKept x.0.0 x.0.1 x.1.0 x.1.1) (λ i. ((c.self.view_is i, record { out = c.self.inside.out; held = sym book i }), (c.pass.view_is i, held_by (sym share i).1)))
+    (kept-same (record { out = c.self.inside.out; held = c.self.inside.book }) c.pass.inside.share.0 h there)
