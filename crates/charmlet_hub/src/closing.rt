@@ -51,7 +51,7 @@ impl<D: Disk, C: Chare, B: RuntimeName> Hub<D, C, B> {
     /// it. The objects show the world after the history. The ids that the seats hold and those of
     /// the commits without a seat are all deliveries of the history: each stands in one of these
     /// lists, in the history's order. Each pass has exactly its client's accepts since it was lent,
-    /// and all that its client was told is true of the durable events.
+    /// and all that it knows of its client's requests is true of the durable events.
     ///
     /// `PassOut` if a seat or a pass that is out isn't handed in; otherwise `Memory`. Then all comes
     /// back as it was.

@@ -41,9 +41,9 @@ use std::sync::ledger::Ledger;
 ///
 /// Each call is one step of the core, or leaves it as it is. Each delivery of the history stands
 /// once among the ids that the seats hold and the hub's own, in each of these lists in the
-/// history's order. All passes are current: what a client was told is true of the durable events,
-/// and its pass has exactly its accepts since it was lent. The hub's own list has room for each
-/// assigned delivery, so that one can always be finished without memory.
+/// history's order. All passes are current: what a pass knows of its client's requests is true of
+/// the durable events, and it has exactly its client's accepts since it was lent. The hub's own
+/// list has room for each assigned delivery, so that one can always be finished without memory.
 #[derive(Drop)]
 pub struct Hub<D: Disk, C: Chare, B: RuntimeName> {
     pub(crate) alloc: Global,

@@ -33,7 +33,10 @@ is_lawful core = IsLawful core.opening core.before core.history core.durable
 module _ {D : Type 0} where
   -- the sequencer as a core and the blanks of its stock
   abbrev pub store_of : SequencerShown D → StoreView
-  store_of sequencer = record { core = sequencer.core; blanks = λ kind. (at sequencer.census kind).in_stock }
+  store_of sequencer = record {
+    core = sequencer.core;
+    blanks = λ kind. (at sequencer.census kind).in_stock;
+  }
 
   -- how many objects of each kind were supplied
   abbrev pub supplied_of : SequencerShown D → Kind → ℕ
@@ -44,7 +47,7 @@ module _ {D : Type 0} where
   held_with shelf sequencer kind = objects_on shelf kind + (at sequencer.census kind).in_stock
       + (at sequencer.census kind).retired
 
-  -- a call on the sequencer and a shelf loses no object, and makes none
+  -- a call on the sequencer and a shelf loses no object of any kind, and makes none
   pub record KeepsObjects (old new : SequencerShown D) (shelf next : View) : Type 0 where
     pub held : held_with next new ≡ held_with shelf old
     pub supplied : supplied_of new ≡ supplied_of old

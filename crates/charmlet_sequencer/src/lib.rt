@@ -1,7 +1,7 @@
 //! What orders the steps of a runtime with threads, and a shelf for each processor.
 //!
-//! A shelf and the sequencer lie under different locks, and yet it is known, without comparing, that
-//! they agree: the sequencer has a book of what stands on each shelf and of the delivery that is
+//! A shelf and the sequencer lie under different locks, and yet it is known, without comparing,
+//! that they agree: the sequencer has a book of what stands on each shelf and of the delivery that is
 //! assigned there, and each shelf has its share of the book. Each call is one step of the core.
 #![tactic(auto)]
 

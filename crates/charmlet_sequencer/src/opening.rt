@@ -34,8 +34,8 @@ pub struct Opened<D: Disk, C: Chare, B: RuntimeName> {
     pub shelves: Vec<LockedShelf<C, B>>,
 }
 
-/// A sequencer of a new store, under its name, and an empty shelf for each processor, for which the list
-/// has room. Its stock is empty. It takes no memory.
+/// A sequencer of a new store, under its name, and an empty shelf for each processor, for which the
+/// list has room. Its stock is empty. It takes no memory.
 pub fn open_new<D: Disk, C: Chare, B: RuntimeName>(
     alloc: Global,
     created: Created<D>,

@@ -8,8 +8,8 @@ use charmlet_chare::Chare;
 use charmlet_shelf::Shelf;
 use std::marker::{Brand, Model};
 
-/// What the sequencer has of a shelf, as only contracts see it: the one value that code makes is that of
-/// a shelf on which nothing stands.
+/// What the sequencer has of a shelf, as only contracts see it: the one value that code makes is
+/// that of a shelf on which nothing stands.
 #[derive(Drop)]
 pub struct SeenPart;
 

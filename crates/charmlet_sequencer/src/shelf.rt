@@ -80,8 +80,8 @@ impl<C: Chare, B: BookName> LockedShelf<C, B> {
         }
     }
 
-    /// Has the receiver of the assigned message react to it. It needs no sequencer. It fails only when
-    /// out of memory, and then the shelf is as before.
+    /// Has the receiver of the assigned message react to it. It needs no sequencer. It fails only
+    /// when out of memory, and then the shelf is as before.
     pub fn enter(&mut self) -> Result<(), AllocError>
         requires { is_assigned self.old.phase ≡ true }
         ensures ok { OnOk result (self.new
