@@ -1,11 +1,15 @@
 -- The definitions that contracts cite.
 pub mod Showing
+pub mod Imaging
 pub use Rattle.charmlet_pup.specs.Fields
 pub use Rattle.charmlet_model.specs.Core
+pub use Rattle.charmlet_model.specs.Names
 pub use Rattle.charmlet_model.specs.Packed
 pub use Rattle.charmlet_model.specs.Spelling
 pub use Rattle.charmlet_record.specs.Limits
 pub use Rattle.charmlet_image.specs.Images
+pub use Rattle.charmlet_shelf.specs.Image as OneImage
+pub use Rattle.charmlet_shelf.specs.Shelf as OneShelf
 pub use Rattle.charmlet_disk.specs.Calls
 pub use Rattle.charmlet_disk.specs.Disk
 pub use Rattle.charmlet_halves.specs.Answers

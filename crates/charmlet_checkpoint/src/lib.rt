@@ -1,12 +1,14 @@
 //! Checkpoints: the image of the present world of a history and its shelves, and what takes the
-//! place of a store.
+//! place of a store. A shelf may stand alone, or lie under a lock that the caller holds.
 #![tactic(auto)]
 
 mod clients;
+mod holding;
 mod image;
 mod pending;
 mod records;
 mod taking;
 
+pub use crate::holding::HoldsShelf;
 pub use crate::image::image_of;
-pub use crate::taking::checkpoint;
+pub use crate::taking::{checkpoint, checkpoint_with};
