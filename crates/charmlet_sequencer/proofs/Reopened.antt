@@ -78,7 +78,7 @@ module _ (before : List View) (shelf : View) (after all : List View) (is : befor
 
 -- ---- what the book has of all of them
 
-rows_are : (shelves : List View) → records_on shelves ≡ records_in (parts_of shelves)
+pub rows_are : (shelves : List View) → records_on shelves ≡ records_in (parts_of shelves)
 rows_are [] = refl
 rows_are (s ∷ ss) = ap (λ rows. s.records ∷ rows) (rows_are ss)
 

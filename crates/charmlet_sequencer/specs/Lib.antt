@@ -6,6 +6,7 @@ pub mod Sequencer
 pub mod Relocating
 pub mod Together
 pub mod Opened
+pub mod Sealing
 pub use Rattle.charmlet_agreement.specs.Naming
 pub use Rattle.charmlet_model.specs.Core
 pub use Rattle.charmlet_model.specs.Run

@@ -12,6 +12,7 @@ mod names;
 mod opening;
 mod part;
 mod reopening;
+mod sealing;
 mod sequencer;
 mod shelf;
 

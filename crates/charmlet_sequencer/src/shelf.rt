@@ -1,10 +1,10 @@
 //! A shelf under its lock.
 
 use crate::part::SeenPart;
-use charmlet_agreement::{BookName, Share};
+use charmlet_agreement::{Book, BookName, Share};
 use charmlet_chare::{Chare, Output};
-use charmlet_model::MsgId;
-use charmlet_shelf::Shelf;
+use charmlet_model::{Elem, MsgId, Refusal};
+use charmlet_shelf::{Image, Shelf};
 use std::alloc::AllocError;
 use std::marker::Model;
 
@@ -36,6 +36,8 @@ impl<C: Chare, B: BookName> Model for LockedShelf<C, B> {
 impl<C: Chare, B: BookName> LockedShelf<C, B> {
     ghost use Rattle.std.specs.Prelude.{◌≡◌, true, OnErr, OnOk};
     ghost use Rattle.charmlet_shelf.specs.Shelf.{is_assigned, is_idle};
+    ghost use Rattle.charmlet_checkpoint.specs.Imaging.{AnswersImage};
+    ghost use Rattle.charmlet_sequencer.specs.Part.{HasPart};
     ghost use Rattle.charmlet_sequencer.specs.Shelf.{delivery_in, entered, is_done};
 
     /// The number of its processor.
@@ -91,5 +93,24 @@ impl<C: Chare, B: BookName> LockedShelf<C, B> {
         self.shelf.perform()?;
         self.output = self.shelf.take_output();
         Ok(())
+    }
+
+    /// Shows that the book has what stands on the shelf, and the delivery that is under way there.
+    /// Nothing is compared, and nothing changes.
+    pub(crate) fn agree(&mut self, parts: &mut Book<SeenPart, B>)
+        ensures agrees { HasPart parts.old self.old }
+        ensures parts { parts.new ≡ parts.old }
+        ensures shelf { self.new ≡ self.old }
+    {
+        parts.agree(&mut self.share);
+    }
+
+    /// The image of an element, or `None` if it isn't here. `Uncommitted` if a delivery is under
+    /// way; otherwise `Memory`. The shelf is as before.
+    pub(crate) fn image(&mut self, elem: Elem) -> Result<Option<Image>, Refusal>
+        ensures image { AnswersImage self.old elem result }
+        ensures same { self.new ≡ self.old }
+    {
+        self.shelf.image(elem)
     }
 }

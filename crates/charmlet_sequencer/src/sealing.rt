@@ -1,0 +1,109 @@
+//! Checkpoints, under the locks of all shelves.
+
+ghost use Rattle.std.specs.Prelude.{◌≡◌, ◌≢◌, false, IfErr, map};
+ghost use Rattle.std.specs.List.{All};
+ghost use Rattle.std.specs.Sync.Mutex.{mutex_guard_value};
+ghost use Rattle.charmlet_model.specs.declared.refusal.Refusal.TheVariants as refusals;
+ghost use Rattle.charmlet_model.specs.Core as core;
+ghost use Rattle.charmlet_model.specs.Run.{Goes};
+ghost use Rattle.charmlet_disk.specs.Calls.{AfterCall};
+ghost use Rattle.charmlet_disk.specs.Disk.{LeavesOnly};
+ghost use Rattle.charmlet_halves.specs.Answers.{is_no_failure};
+ghost use Rattle.charmlet_history.specs.Kept.{counts_or_refused};
+ghost use Rattle.charmlet_journal.specs.Rest.{HasOldOrSealed};
+ghost use Rattle.charmlet_checkpoint.specs.Imaging.{AnswersImage};
+ghost use Rattle.charmlet_sequencer.specs.Part.{HasPart};
+ghost use Rattle.charmlet_sequencer.specs.Sealing.{AreAllIdle};
+ghost use Rattle.charmlet_sequencer.specs.Sequencer.{is_lawful, store_of};
+
+use crate::names::RuntimeName;
+use crate::part::SeenPart;
+use crate::sequencer::Sequencer;
+use crate::shelf::LockedShelf;
+use charmlet_agreement::{Book, BookName};
+use charmlet_chare::Chare;
+use charmlet_checkpoint::{HoldsShelf, checkpoint_with};
+use charmlet_disk::Disk;
+use charmlet_model::{Elem, Refusal};
+use charmlet_shelf::Image;
+use std::sync::MutexGuard;
+
+/// What a shelf answers that is asked for the image of an element.
+type ImageAnswer = Result<Option<Image>, Refusal>;
+
+impl<C: Chare, B: BookName> HoldsShelf for LockedShelf<C, B> {
+    ghost shown = { λ locked. locked };
+}
+
+impl<D: Disk, C: Chare, B: RuntimeName> Sequencer<D, C, B> {
+    /// Makes all events durable by an image of the present world, which takes the place of the
+    /// store in the spare half, and answers its generation. The locks of all shelves are held, in
+    /// the order of their numbers, and no delivery is under way on any: the image has the objects
+    /// that stand on them. They stay as they are.
+    ///
+    /// `Halted`; `Memory`; `ImageFull` if the generation would be past 2^40 or the file past 2^31
+    /// bytes: then nothing changes. `Device` halts the store. On an honest disk a crash at any
+    /// moment of the call leaves the world after some of the history, with all events among it that
+    /// were durable before; and of a store that isn't halted it leaves the world after the durable
+    /// events, as it was, or the present one at the next generation, and none between them.
+    pub fn seal(
+        &mut self,
+        shelves: &mut [MutexGuard<'_, LockedShelf<C, B>>],
+    ) -> Result<u64, Refusal>
+        requires { AreAllIdle B.processors (map mutex_guard_value shelves.old) }
+        ensures goes { Goes (store_of self.old) core.Checkpoint (counts_or_refused result)
+            (store_of self.new) }
+        ensures any_moment { D.honest self.old.disk → LeavesOnly D.moment D.since self.old.disk
+            self.new.disk (is_lawful self.old.core) }
+        ensures stored { D.honest self.old.disk → self.old.core.halted ≡ false →
+            LeavesOnly D.moment D.since self.old.disk self.new.disk
+            (HasOldOrSealed self.old.core) }
+        ensures disk { AfterCall D.Disk self.old.disk self.new.disk (is_no_failure result) }
+        ensures census { self.new.census ≡ self.old.census }
+        ensures shelves { shelves.new ≡ shelves.old }
+        ensures err { IfErr result (λ refusal. refusal ≢ refusals.Device →
+            self.new ≡ self.old) }
+    {
+        self.history.facts();
+        agree_all(&mut self.parts, shelves);
+        let sealed = checkpoint_with(
+            self.alloc,
+            &mut self.history,
+            &mut self.halves,
+            shelves,
+            &|guard: &mut MutexGuard<'_, LockedShelf<C, B>>, elem: Elem| -> ImageAnswer
+                ensures image { AnswersImage (mutex_guard_value guard.old) elem result }
+                ensures same { guard.new ≡ guard.old }
+            { guard.image(elem) },
+        );
+        self.history.facts();
+        sealed
+    }
+}
+
+/// Shows that the book has what stands on each of the shelves. Nothing is compared, and nothing
+/// changes.
+fn agree_all<C: Chare, B: BookName>(
+    parts: &mut Book<SeenPart, B>,
+    shelves: &mut [MutexGuard<'_, LockedShelf<C, B>>],
+)
+    ensures agrees { All (HasPart parts.old) (map mutex_guard_value shelves.old) }
+    ensures parts { parts.new ≡ parts.old }
+    ensures shelves { shelves.new ≡ shelves.old }
+{
+    for i in 0..shelves.len() {
+        agree_one(parts, &mut shelves[i]);
+    }
+}
+
+/// The same of one of them.
+fn agree_one<C: Chare, B: BookName>(
+    parts: &mut Book<SeenPart, B>,
+    guard: &mut MutexGuard<'_, LockedShelf<C, B>>,
+)
+    ensures agrees { HasPart parts.old (mutex_guard_value guard.old) }
+    ensures parts { parts.new ≡ parts.old }
+    ensures shelf { guard.new ≡ guard.old }
+{
+    guard.agree(parts);
+}
