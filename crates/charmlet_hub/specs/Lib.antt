@@ -14,12 +14,14 @@ pub use Rattle.charmlet_disk.specs.File
 pub use Rattle.charmlet_halves.specs.Answers
 pub use Rattle.charmlet_halves.specs.Halves
 pub use Rattle.charmlet_history.specs.Kept
+pub use Rattle.charmlet_journal.specs.Rest
 pub use Rattle.charmlet_requests.specs.Pass
 pub use Rattle.charmlet_passes.specs.Passes
 pub use Rattle.charmlet_seats.specs.Seats
 pub use Rattle.charmlet_seats.specs.Woven
 pub use Rattle.charmlet_shelf.specs.Shelf as OneShelf
 pub use Rattle.charmlet_delivery.specs.Workplace
+pub use Rattle.charmlet_sequencer.specs.Sealing
 pub use Rattle.charmlet_sequencer.specs.Sequencer
 pub use Rattle.charmlet_store.specs.Store
 pub use Rattle.charmlet_sequencer.specs.Shelf

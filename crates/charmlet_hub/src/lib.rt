@@ -12,6 +12,7 @@ mod delivering;
 mod hub;
 mod moving;
 mod names;
+mod sealing;
 
 pub use crate::closing::{Closed, NotClosed};
 pub use crate::hub::Hub;
