@@ -1,0 +1,16 @@
+-- The definitions that contracts cite.
+pub mod Runtime
+pub mod Working
+pub use Rattle.charmlet_agreement.specs.Naming
+pub use Rattle.charmlet_model.specs.Core
+pub use Rattle.charmlet_model.specs.World
+pub use Rattle.charmlet_disk.specs.File
+pub use Rattle.charmlet_halves.specs.Halves
+pub use Rattle.charmlet_history.specs.Kept
+pub use Rattle.charmlet_requests.specs.Pass
+pub use Rattle.charmlet_passes.specs.Passes
+pub use Rattle.charmlet_seats.specs.Seats
+pub use Rattle.charmlet_seats.specs.Woven
+pub use Rattle.charmlet_shelf.specs.Shelf as OneShelf
+pub use Rattle.charmlet_sequencer.specs.Sequencer
+pub use Rattle.charmlet_hub.specs.Hub

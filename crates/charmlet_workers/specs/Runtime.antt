@@ -1,0 +1,49 @@
+-- What is seen of a runtime, and what it opens with.
+use Rattle.std.specs.Prelude.{◌≡◌, ℕ, ◌≤◌, false, []}
+use Rattle.charmlet_model.specs.Core.{Core}
+use Rattle.charmlet_model.specs.World.{World}
+use Rattle.charmlet_disk.specs.declared.disk.Disk.{Ghosts}
+use Rattle.charmlet_halves.specs.declared.halves.Halves.{Halves}
+use Rattle.charmlet_halves.specs.Halves.{disk_of}
+use Rattle.charmlet_history.specs.Kept.{core_in}
+use Rattle.charmlet_journal.specs.Rest.{Agrees, IsCurrent, IsKept}
+use Rattle.charmlet_passes.specs.Passes.{HeldPass, lent_since}
+use Rattle.charmlet_stock.specs.ByKind.{for_all}
+use Rattle.charmlet_store.specs.Store.{StoreShown}
+
+-- the world with which it opened, how many events came before it, and how many processors it has
+pub record RuntimeShown : Type 0 where
+  pub opening : World
+  pub before : ℕ
+  pub processors : ℕ
+
+-- that of a runtime whose name has these
+abbrev pub named : World → ℕ → ℕ → RuntimeShown
+named opening before processors = record {
+  opening = opening;
+  before = before;
+  processors = processors;
+}
+
+-- that of a runtime over a store with this core
+abbrev pub shown_of : Core → RuntimeShown
+shown_of core = named core.opening core.before core.processors
+
+-- the pass was lent to the client after at least so many events, and was told nothing yet
+pub record IsLent (client before : ℕ) (held : HeldPass) : Type 0 where
+  pub last : ℕ
+  pub new : held ≡ lent_since client last held.since
+  pub since : before ≤ held.since
+
+module _ {D : Type 0} {G : Ghosts D} where
+  -- Nothing has happened in the store since it opened. Its stock drops what is retired; the halves
+  -- go on where the store does; and on an honest disk each crash keeps what is durable, and events
+  -- may be appended unless the store is halted.
+  pub record IsReady (store : StoreShown) (halves : Halves D G) : Type 0 where
+    pub no_events : (core_in store.history).history ≡ []
+    pub unassigned : (core_in store.history).assigned ≡ []
+    pub dropping : store.keeping ≡ for_all false
+    pub agrees : Agrees (core_in store.history) halves
+    pub kept : G.honest (disk_of halves) → IsKept (core_in store.history) halves
+    pub current : G.honest (disk_of halves) → (core_in store.history).halted ≡ false →
+        IsCurrent halves

@@ -1,0 +1,73 @@
+//! What clients ask of a runtime, and the flush that makes it durable.
+
+ghost use Rattle.std.specs.Prelude.{◌≡◌, ◌≢◌, IfErr, IfOk, OnErr, OnOk, map};
+ghost use Rattle.charmlet_model.specs.declared.refusal.Refusal.TheVariants as refusals;
+ghost use Rattle.charmlet_requests.specs.Pass.{with_accept, with_told};
+ghost use Rattle.charmlet_passes.specs.Passes.{IsAnswered, accepts_after, with_flush};
+
+use crate::runtime::Runtime;
+use charmlet_chare::Chare;
+use charmlet_disk::Disk;
+use charmlet_history::Request;
+use charmlet_hub::PassesOf;
+use charmlet_model::{Refusal, Told};
+use charmlet_passes::ClientPass;
+use charmlet_sequencer::RuntimeName;
+use std::sync::Wait;
+
+impl<D: Disk, C: Chare, B: RuntimeName> Runtime<D, C, B> {
+    /// Accepts a request of the pass's client, unless it repeats one in the client's window, and
+    /// tells the client what is durable of it, in one hold of the hub. The refusals are those of
+    /// [`charmlet_history::History::request`], in their order. If it isn't refused, the pass
+    /// records that it was accepted, and what was told about it. What is told is no less than the
+    /// pass knew, and no other words. A refusal changes nothing.
+    pub fn request<R: Wait>(
+        &self,
+        rt: &R,
+        pass: &mut ClientPass<PassesOf<B>>,
+        request: &Request<'_>,
+    ) -> Result<Told, Refusal>
+        ensures answered { IsAnswered pass.old pass.new request.now.number result }
+        ensures told { IfOk result (λ told. pass.new.pass
+            ≡ with_accept (with_told pass.old.pass request.now.number told) request.now.number) }
+        ensures accepts { OnOk result (pass.new.accepts ≡ accepts_after pass.old request.now) }
+    {
+        self.hub.lock(rt).request(pass, request)
+    }
+
+    /// Tells the pass's client what is durable of its request, in one hold of the hub. `Halted`;
+    /// otherwise `Memory`, but only if the answer has words. The pass records the answer. What is
+    /// told is no less than the pass knew, and no other words. A refusal changes nothing.
+    pub fn status<R: Wait>(
+        &self,
+        rt: &R,
+        pass: &mut ClientPass<PassesOf<B>>,
+        number: u64,
+    ) -> Result<Told, Refusal>
+        ensures answered { IsAnswered pass.old pass.new number result }
+        ensures told { IfOk result (λ told. pass.new.pass ≡ with_told pass.old.pass number told) }
+        ensures accepts { pass.new.accepts ≡ pass.old.accepts }
+    {
+        self.hub.lock(rt).status(pass, number)
+    }
+
+    /// Makes all events durable, in one hold of the hub, and answers how many there are, those
+    /// before the opening world among them. Then it tells each client whose pass is handed in that
+    /// the last of its accepts is accepted. It takes no memory; where no events are to be written
+    /// it makes no call of the disk.
+    ///
+    /// `Halted`; `LogFull` if the file would have more than 2^31 bytes, the closed gate after its
+    /// log among them: then nothing changes. `Device` halts the store. When refused, no client is
+    /// told anything.
+    pub fn flush<R: Wait>(
+        &self,
+        rt: &R,
+        passes: &mut [ClientPass<PassesOf<B>>],
+    ) -> Result<u64, Refusal>
+        ensures told { OnOk result (passes.new ≡ map with_flush passes.old) }
+        ensures untold { OnErr result (passes.new ≡ passes.old) }
+        ensures memory { IfErr result (λ refusal. refusal ≢ refusals.Memory) }
+    {
+        self.hub.lock(rt).flush(passes)
+    }
+}

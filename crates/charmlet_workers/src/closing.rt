@@ -1,0 +1,101 @@
+//! The end of a runtime.
+
+ghost use Rattle.std.specs.Prelude.{◌≡◌, ◌⊎◌, ◌∷◌, ◌+◌, ◌≤◌, IfErr, IfOk, map, vec_len};
+ghost use Rattle.std.specs.List.{AllByRecursion};
+ghost use Rattle.std.specs.Vec.{vec_capacity};
+ghost use Rattle.charmlet_model.specs.declared.refusal.Refusal.TheVariants as refusals;
+ghost use Rattle.charmlet_disk.specs.File.{CrashBytes, MayLeave};
+ghost use Rattle.charmlet_halves.specs.Halves.{disk_of};
+ghost use Rattle.charmlet_history.specs.Kept.{core_in};
+ghost use Rattle.charmlet_passes.specs.Passes.{HeldPass, IsCurrent};
+ghost use Rattle.charmlet_seats.specs.Seats.{HeldSeat};
+ghost use Rattle.charmlet_seats.specs.Woven.{IsWoven};
+ghost use Rattle.charmlet_sequencer.specs.Sequencer.{IsOf, is_lawful};
+ghost use Rattle.charmlet_hub.specs.Hub.{deliveries_in};
+
+use crate::opening::lock_all;
+use crate::runtime::{Runtime, SpareList};
+use charmlet_chare::Chare;
+use charmlet_disk::Disk;
+use charmlet_hub::{Closed, PassesOf, SeatsOf};
+use charmlet_model::Refusal;
+use charmlet_passes::ClientPass;
+use charmlet_seats::Seat;
+use charmlet_sequencer::{LockedShelf, RuntimeName};
+use std::sync::Mutex;
+
+/// A runtime that wasn't closed, why not, and the seats and passes that were handed in.
+#[derive(Drop)]
+pub struct NotClosed<D: Disk, C: Chare, B: RuntimeName> {
+    pub refusal: Refusal,
+    pub runtime: Runtime<D, C, B>,
+    pub seats: Vec<Seat<SeatsOf<B>>>,
+    pub passes: Vec<ClientPass<PassesOf<B>>>,
+}
+
+impl<D: Disk, C: Chare, B: RuntimeName> Runtime<D, C, B> {
+    /// Takes all apart, also when halted, and makes no call of the disk. A delivery that was made
+    /// and isn't committed is finished first. The objects of the store show the world after the
+    /// history, and the world with which it opened is the runtime's own. The ids that the seats
+    /// hold and those of the commits without a seat are all deliveries of the history: each stands
+    /// in one of these lists, in the history's order. Each pass has exactly its client's accepts
+    /// since it was lent, and all that it knows of its client's requests is true of the durable
+    /// events. On an honest disk a crash leaves the world after some of the history, with all
+    /// durable events among it.
+    ///
+    /// `PassOut` if a seat or a pass that is out isn't handed in; otherwise `Memory`. Then the
+    /// runtime, the seats and the passes come back.
+    pub fn close(
+        self,
+        seats: Vec<Seat<SeatsOf<B>>>,
+        passes: Vec<ClientPass<PassesOf<B>>>,
+    ) -> Result<Closed<D, C>, NotClosed<D, C, B>>
+        ensures of { IfOk result (λ closed. IsOf self.opening self.before self.processors
+            (core_in closed.store.history)) }
+        ensures lawful { IfOk result (λ closed. D.honest (disk_of closed.halves) →
+            (outcome : CrashBytes) → MayLeave (D.file (disk_of closed.halves)) outcome →
+            is_lawful (core_in closed.store.history) outcome) }
+        ensures woven { IfOk result (λ closed. IsWoven
+            (closed.own.items ∷ map (λ (seat : HeldSeat). seat.ids) seats.items)
+            (deliveries_in (core_in closed.store.history).history)) }
+        ensures current { IfOk result (λ closed. AllByRecursion
+            (λ (held : HeldPass). IsCurrent held (core_in closed.store.history)) passes.items) }
+        ensures err { IfErr result (λ back. (back.refusal ≡ refusals.PassOut)
+            ⊎ (back.refusal ≡ refusals.Memory)) }
+        ensures back { IfErr result (λ back. (back.runtime ≡ self) × (back.seats ≡ seats)
+            × (back.passes ≡ passes)) }
+    {
+        let Runtime {
+            shelves: mut locks,
+            hub,
+            spare,
+        } = self;
+        let shelves = unlock_all(&mut locks, spare.into_inner());
+        match hub.into_inner().close(shelves, seats, passes) {
+            Ok(closed) => Ok(closed),
+            Err(back) => Err(NotClosed {
+                refusal: back.refusal,
+                runtime: lock_all(back.shelves, locks, back.hub),
+                seats: back.seats,
+                passes: back.passes,
+            }),
+        }
+    }
+}
+
+/// Takes the shelves out of their locks, last first. The list of locks keeps its room.
+fn unlock_all<C: Chare, B: RuntimeName>(
+    locks: &mut Vec<Mutex<LockedShelf<C, B>>>,
+    spare: SpareList<C, B>,
+) -> Vec<LockedShelf<C, B>>
+    requires { vec_len locks.old ≡ B.processors }
+    ensures shelves { vec_len result ≡ B.processors }
+    ensures none { vec_len locks.new ≡ 0 }
+    ensures room { B.processors ≤ vec_capacity locks.new }
+{
+    let SpareList { mut shelves } = spare;
+    while let Some(lock) = locks.pop() {
+        shelves.push_reserved(lock.into_inner());
+    }
+    shelves
+}

@@ -1,0 +1,25 @@
+//! Gates of workers.
+
+use charmlet_model::MsgId;
+
+/// How often a worker asks a gate before it goes on anyway.
+pub const MOST_ASKS: u32 = 100_000_000;
+
+/// What a worker asks between the assignment of a message and the reaction of its receiver, and
+/// tells after each of its commits.
+pub trait Gate: Sync {
+    /// Whether the delivery may go on. The shelf of the processor is locked, and the hub is free.
+    fn open(&self, processor: u16, id: &MsgId) -> bool;
+
+    /// The delivery was committed with the worker's seat. The worker has no lock.
+    fn committed(&self, processor: u16, id: &MsgId);
+}
+
+/// Asks until the gate is open, at most [`MOST_ASKS`] times.
+pub(crate) fn wait_at<G: Gate>(gate: &G, processor: u16, id: &MsgId) {
+    for _ in 0..MOST_ASKS {
+        if gate.open(processor, id) {
+            return;
+        }
+    }
+}

@@ -1,0 +1,24 @@
+//! A runtime with threads: its shelves and its hub, each under a lock.
+//!
+//! Locks are taken in this order: those of the shelves by rising number, then the hub's. While an
+//! object runs and while a worker is at its gate the hub is free. What changes under the locks is
+//! stated by the calls of the hub and of its shelves; what is known here of a change is what the
+//! caller's own seat or pass has of it, and, once all is closed, the whole.
+#![tactic(auto)]
+
+mod asking;
+mod closing;
+mod gate;
+mod looking;
+mod moving;
+mod opening;
+mod runtime;
+mod session;
+mod working;
+
+pub use crate::closing::NotClosed;
+pub use crate::gate::{Gate, MOST_ASKS};
+pub use crate::opening::{NotOpened, UnnamedBooks};
+pub use crate::runtime::Runtime;
+pub use crate::session::{NotBegun, Session, run};
+pub use crate::working::{Station, Worked, work_all};

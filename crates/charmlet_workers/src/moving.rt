@@ -1,0 +1,123 @@
+//! Moves of elements between two processors.
+
+ghost use Rattle.std.specs.Prelude.{◌≡◌, ◌≢◌, ◌<◌, false, true, Ok, IfOk, IfSome, OnErr};
+ghost use Rattle.charmlet_model.specs.Core as core;
+ghost use Rattle.charmlet_model.specs.Core.{Done};
+ghost use Rattle.charmlet_model.specs.Run.{Goes};
+ghost use Rattle.charmlet_sequencer.specs.Relocating.{Carries};
+ghost use Rattle.charmlet_hub.specs.Hub.{store_in};
+
+use crate::runtime::Runtime;
+use charmlet_chare::Chare;
+use charmlet_disk::Disk;
+use charmlet_hub::Hub;
+use charmlet_model::{Elem, Refusal};
+use charmlet_sequencer::{LockedShelf, RuntimeName};
+use std::sync::Wait;
+
+impl<D: Disk, C: Chare, B: RuntimeName> Runtime<D, C, B> {
+    /// Moves an element to a processor. It is done if the element is there already. Else both
+    /// shelves are locked, by rising number, and then the hub; where the element has moved
+    /// meanwhile, it is looked for again.
+    ///
+    /// The refusal is the first that applies of `Halted`, `BadPes`, `Absent`, `Uncommitted` where
+    /// one of the two processors has an assigned message, `NoBlank` and `Memory`. Then nothing has
+    /// moved.
+    pub fn move_to<R: Wait>(&self, rt: &R, elem: Elem, processor: u16) -> Result<(), Refusal> {
+        for _ in rt.forever() {
+            let source = self.source_of_move(rt, elem, processor);
+            let place = match source {
+                Ok(Some(place)) => place,
+                Ok(None) => return Ok(()),
+                Err(refusal) => return Err(refusal),
+            };
+            match self.carry(rt, elem, place, processor) {
+                Ok(true) => return Ok(()),
+                Ok(false) => {}
+                Err(refusal) => return Err(refusal),
+            }
+        }
+        unreachable!()
+    }
+
+    /// The processor that an element has to leave for a move to this one, if it isn't there.
+    fn source_of_move<R: Wait>(
+        &self,
+        rt: &R,
+        elem: Elem,
+        processor: u16,
+    ) -> Result<Option<u16>, Refusal>
+        ensures { IfOk result (λ source. IfSome source (λ place. (place < B.processors)
+            × (processor < B.processors) × (place ≢ processor))) }
+    {
+        let hub = self.hub.lock(rt);
+        hub.facts();
+        hub.source_of_move(elem, processor)
+    }
+
+    /// Locks both shelves and moves the element, if it still stands there. It answers whether it
+    /// did.
+    fn carry<R: Wait>(
+        &self,
+        rt: &R,
+        elem: Elem,
+        place: u16,
+        processor: u16,
+    ) -> Result<bool, Refusal>
+        requires { (place < B.processors) × (processor < B.processors) × (place ≢ processor) }
+    {
+        let first = &self.shelves[usize::from(place.min(processor))];
+        let second = &self.shelves[usize::from(place.max(processor))];
+        let mut first = first.lock(rt);
+        let mut second = second.lock(rt);
+        if place < processor {
+            self.carry_between(rt, &mut first, &mut second, elem)
+        } else {
+            self.carry_between(rt, &mut second, &mut first, elem)
+        }
+    }
+
+    /// The same, from one locked shelf to another.
+    fn carry_between<R: Wait>(
+        &self,
+        rt: &R,
+        from: &mut LockedShelf<C, B>,
+        to: &mut LockedShelf<C, B>,
+        elem: Elem,
+    ) -> Result<bool, Refusal> {
+        if let Err(refusal) = self.catch_up(rt, from) {
+            return Err(refusal);
+        }
+        if let Err(refusal) = self.catch_up(rt, to) {
+            return Err(refusal);
+        }
+        relocate_from(&mut self.hub.lock(rt), from, to, elem)
+    }
+}
+
+/// Moves the element from the one shelf to the other, if it stands on the one. It answers whether
+/// it did. The refusals are those of [`Hub::relocate`].
+fn relocate_from<D: Disk, C: Chare, B: RuntimeName>(
+    hub: &mut Hub<D, C, B>,
+    from: &mut LockedShelf<C, B>,
+    to: &mut LockedShelf<C, B>,
+    elem: Elem,
+) -> Result<bool, Refusal>
+    ensures moves { result ≡ Ok true → Goes (store_in hub.old) (core.Move elem to.old.number) Done
+        (store_in hub.new) × Carries elem from.old to.old from.new to.new }
+    ensures stays { result ≡ Ok false → (hub.new ≡ hub.old) × (from.new ≡ from.old)
+        × (to.new ≡ to.old) }
+    ensures err { OnErr result ((hub.new ≡ hub.old) × (from.new ≡ from.old)
+        × (to.new ≡ to.old)) }
+{
+    let Some(place) = hub.history().where_is(elem) else {
+        return Ok(false);
+    };
+    if place != from.number() || place == to.number() {
+        return Ok(false);
+    }
+    match hub.relocate(from, to, elem) {
+        Ok(()) => Ok(true),
+        Err(refusal) => Err(refusal),
+    }
+}

@@ -1,0 +1,98 @@
+//! The locks.
+
+ghost use Rattle.std.specs.Prelude.{◌≡◌, ◌<◌, ◌≤◌, [], Err, IfErr, IfOk, OnOk};
+ghost use Rattle.charmlet_model.specs.declared.refusal.Refusal.TheVariants as refusals;
+ghost use Rattle.charmlet_workers.specs.Runtime.{IsLent};
+
+use charmlet_chare::Chare;
+use charmlet_disk::Disk;
+use charmlet_hub::{Hub, PassesOf, SeatsOf};
+use charmlet_model::Refusal;
+use charmlet_passes::ClientPass;
+use charmlet_seats::Seat;
+use charmlet_sequencer::{LockedShelf, RuntimeName};
+use charmlet_stock::{ByKind, Tally};
+use std::marker::Model;
+use std::sync::{Mutex, Wait};
+
+/// A shelf for each processor, and the hub, each under its lock. A contract sees the world with
+/// which the runtime opened, how many events came before it, and how many processors there are:
+/// they are the hub's, and take no bytes.
+#[derive(Drop)]
+pub struct Runtime<D: Disk, C: Chare, B: RuntimeName> {
+    /// The lock of each processor's shelf. They count from 0.
+    pub(crate) shelves: Vec<Mutex<LockedShelf<C, B>>>,
+    pub(crate) hub: Mutex<Hub<D, C, B>>,
+    /// For the end. No call takes this lock, which lets threads share objects that they don't look
+    /// at.
+    pub(crate) spare: Mutex<SpareList<C, B>>,
+}
+
+impl<D: Disk, C: Chare, B: RuntimeName> Model for Runtime<D, C, B> {
+    ghost use Rattle.std.specs.Prelude.{◌≡◌};
+    ghost use Rattle.std.specs.Vec.{vec_len};
+    ghost use Rattle.charmlet_workers.specs.Runtime.{RuntimeShown, named};
+
+    ghost Value = { RuntimeShown };
+
+    ghost view = { λ _. named B.opening B.before B.processors };
+
+    ghost invariant = { λ r. vec_len r.shelves ≡ B.processors };
+}
+
+/// An empty list with room for all shelves, so that a runtime that is closed can take them out of
+/// their locks without memory.
+#[derive(Drop)]
+pub(crate) struct SpareList<C: Chare, B: RuntimeName> {
+    pub(crate) shelves: Vec<LockedShelf<C, B>>,
+}
+
+impl<C: Chare, B: RuntimeName> Model for SpareList<C, B> {
+    ghost use Rattle.std.specs.Prelude.{◌≡◌, ◌≤◌};
+    ghost use Rattle.std.specs.Vec.{vec_capacity, vec_len};
+
+    ghost Value = { Unit {0} };
+
+    ghost view = { λ _. tt };
+
+    ghost invariant = { λ s. (vec_len s.shelves ≡ 0)
+        × (B.processors ≤ vec_capacity s.shelves) };
+}
+
+impl<D: Disk, C: Chare, B: RuntimeName> Runtime<D, C, B> {
+    /// Takes blank objects into the stock. Where memory is refused it hands all of them back, and
+    /// nothing has changed.
+    pub fn supply<R: Wait>(&self, rt: &R, blanks: Vec<C>) -> Result<(), Vec<C>>
+        ensures { IfErr result (λ back. back.items ≡ blanks.items) }
+    {
+        self.hub.lock(rt).supply(blanks)
+    }
+
+    /// How many objects of each kind were supplied, are in the stock, and were retired.
+    pub fn census<R: Wait>(&self, rt: &R) -> ByKind<Tally> {
+        self.hub.lock(rt).census()
+    }
+
+    /// Lends a client its pass, which was told nothing and has no accepts yet. `PassOut` if it is
+    /// out; otherwise `Memory`. When refused, nothing changes.
+    pub fn client<R: Wait>(&self, rt: &R, client: u32) -> Result<ClientPass<PassesOf<B>>, Refusal>
+        ensures { IfOk result (IsLent client self.now.before) }
+    {
+        let mut hub = self.hub.lock(rt);
+        hub.facts();
+        hub.lend_pass(client)
+    }
+
+    /// Lends a processor's seat, which has no ids yet. `BadPes` if there is no such processor;
+    /// `PassOut` if its seat is out; otherwise `Memory`. When refused, nothing changes.
+    pub fn seat<R: Wait>(&self, rt: &R, processor: u16) -> Result<Seat<SeatsOf<B>>, Refusal>
+        ensures seat { IfOk result (λ seat. (seat.processor ≡ processor) × (seat.ids ≡ [])) }
+        ensures is_there { OnOk result (processor < self.now.processors) }
+        ensures bad { self.now.processors ≤ processor → result ≡ Err refusals.BadPes }
+    {
+        if usize::from(processor) >= self.shelves.len() {
+            return Err(Refusal::BadPes);
+        }
+        self.hub.lock(rt).lend_seat(processor)
+    }
+}
