@@ -48,8 +48,8 @@ impl<D: Disk, C: Chare> Drop for Engine<D, C> {
 }
 
 impl<D: Disk, C: Chare> Engine<D, C> {
-    /// What the engine is made of.
-    pub(crate) fn into_parts(self) -> (Store<C>, Halves<D>)
+    /// What the engine is made of: a store, and the halves of its disk.
+    pub fn into_parts(self) -> (Store<C>, Halves<D>)
         ensures shown { shown_by result.0 result.1 ≡ self }
         ensures tied { AreTied result.0 result.1 }
     {

@@ -106,8 +106,8 @@ impl<C: Chare, B: BookName> LockedShelf<C, B> {
     }
 
     /// The image of an element, or `None` if it isn't here. `Uncommitted` if a delivery is under
-    /// way; otherwise `Memory`. The shelf is as before.
-    pub(crate) fn image(&mut self, elem: Elem) -> Result<Option<Image>, Refusal>
+    /// way; otherwise `Memory`, but only if the element is here. The shelf is as before.
+    pub fn image(&mut self, elem: Elem) -> Result<Option<Image>, Refusal>
         ensures image { AnswersImage self.old elem result }
         ensures same { self.new ≡ self.old }
     {
