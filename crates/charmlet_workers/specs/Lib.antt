@@ -7,6 +7,8 @@ pub use Rattle.charmlet_model.specs.World
 pub use Rattle.charmlet_disk.specs.File
 pub use Rattle.charmlet_halves.specs.Halves
 pub use Rattle.charmlet_history.specs.Kept
+pub use Rattle.charmlet_journal.specs.Rest
+pub use Rattle.charmlet_stock.specs.ByKind
 pub use Rattle.charmlet_requests.specs.Pass
 pub use Rattle.charmlet_passes.specs.Passes
 pub use Rattle.charmlet_seats.specs.Seats

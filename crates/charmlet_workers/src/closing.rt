@@ -1,12 +1,14 @@
 //! The end of a runtime.
 
-ghost use Rattle.std.specs.Prelude.{◌≡◌, ◌⊎◌, ◌∷◌, ◌+◌, ◌≤◌, IfErr, IfOk, map, vec_len};
+ghost use Rattle.std.specs.Prelude.{◌≡◌, ◌⊎◌, ◌∷◌, ◌+◌, ◌≤◌, false, IfErr, IfOk, map, vec_len};
 ghost use Rattle.std.specs.List.{AllByRecursion};
 ghost use Rattle.std.specs.Vec.{vec_capacity};
 ghost use Rattle.charmlet_model.specs.declared.refusal.Refusal.TheVariants as refusals;
 ghost use Rattle.charmlet_disk.specs.File.{CrashBytes, MayLeave};
 ghost use Rattle.charmlet_halves.specs.Halves.{disk_of};
 ghost use Rattle.charmlet_history.specs.Kept.{core_in};
+ghost use Rattle.charmlet_journal.specs.Rest.{Agrees};
+ghost use Rattle.charmlet_stock.specs.ByKind.{for_all};
 ghost use Rattle.charmlet_passes.specs.Passes.{HeldPass, IsCurrent};
 ghost use Rattle.charmlet_seats.specs.Seats.{HeldSeat};
 ghost use Rattle.charmlet_seats.specs.Woven.{IsWoven};
@@ -52,6 +54,9 @@ impl<D: Disk, C: Chare, B: RuntimeName> Runtime<D, C, B> {
     ) -> Result<Closed<D, C>, NotClosed<D, C, B>>
         ensures of { IfOk result (λ closed. IsOf self.opening self.before self.processors
             (core_in closed.store.history)) }
+        ensures agrees { IfOk result (λ closed. Agrees (core_in closed.store.history)
+            closed.halves) }
+        ensures keeping { IfOk result (λ closed. closed.store.keeping ≡ for_all false) }
         ensures lawful { IfOk result (λ closed. D.honest (disk_of closed.halves) →
             (outcome : CrashBytes) → MayLeave (D.file (disk_of closed.halves)) outcome →
             is_lawful (core_in closed.store.history) outcome) }

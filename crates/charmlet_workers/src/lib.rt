@@ -13,12 +13,10 @@ mod looking;
 mod moving;
 mod opening;
 mod runtime;
-mod session;
 mod working;
 
 pub use crate::closing::NotClosed;
 pub use crate::gate::{Gate, MOST_ASKS};
 pub use crate::opening::{NotOpened, UnnamedBooks};
 pub use crate::runtime::Runtime;
-pub use crate::session::{NotBegun, Session, run};
 pub use crate::working::{Station, Worked, work_all};
