@@ -51,10 +51,11 @@ pub struct NotOpened<D: Disk, C: Chare> {
 
 impl<D: Disk, C: Chare, B: RuntimeName> Runtime<D, C, B> {
     /// A runtime over a store in which nothing has happened since it opened, and the halves of its
-    /// disk, under the name `B` of the store and of these books. The call that makes the books picks
-    /// the name: it passes `Brand` to a function that is generic in it, so that nothing which bears
-    /// the name can leave that function. It makes no call of the disk. It fails only when out of
-    /// memory.
+    /// disk, under the name `B` of the store and of these books. It makes no call of the disk. It
+    /// fails only when out of memory.
+    ///
+    /// The call that makes the books picks the name: it passes `Brand` to a function that is
+    /// generic in it, so that nothing which bears the name can leave that function.
     pub fn open(
         store: Store<C>,
         halves: Halves<D>,

@@ -18,6 +18,9 @@ use std::sync::{Mutex, Wait};
 /// A shelf for each processor, and the hub, each under its lock. A contract sees the world with
 /// which the runtime opened, how many events came before it, and how many processors there are:
 /// they are the hub's, and take no bytes.
+///
+/// No fact of a type can say which shelf lies under which lock. Each call goes by the number of the
+/// shelf that it finds there.
 #[derive(Drop)]
 pub struct Runtime<D: Disk, C: Chare, B: RuntimeName> {
     /// The lock of each processor's shelf. They count from 0.
