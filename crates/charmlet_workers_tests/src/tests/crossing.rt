@@ -1,0 +1,253 @@
+//! Two workers whose commits cross at a gate, and a flush that fails after them.
+
+ghost use Rattle.std.specs.Prelude.{◌≡◌};
+ghost use Rattle.charmlet_agreement.specs.Naming.{table_of};
+ghost use Rattle.charmlet_history.specs.Kept.{core_in};
+ghost use Rattle.charmlet_sequencer.specs.Sequencer.{IsOf};
+ghost use Rattle.charmlet_workers.specs.Runtime.{IsReady};
+
+use super::opening::new_store;
+use charmlet_disk::CrashChoice;
+use charmlet_halves::Halves;
+use charmlet_history::Request;
+use charmlet_hub::{Closed, PassesOf, SeatsOf};
+use charmlet_model::{CONSTRUCT, Elem, Event, Kind, MsgId, Origin, Refusal, Told};
+use charmlet_passes::ClientPass;
+use charmlet_probe_disk::{ProbeDisk, Switches};
+use charmlet_probe_objects::{Object, Tally, blanks};
+use charmlet_probe_store::{Blanks, ProbeStore, wanted_objects};
+use charmlet_seats::Seat;
+use charmlet_sequencer::RuntimeName;
+use charmlet_store::Store;
+use charmlet_workers::{Gate, MOST_ASKS, Runtime, Station, UnnamedBooks, Worked, work_all};
+use std::alloc::AllocGlobal;
+use std::marker::Brand;
+use std::process::Abort;
+use std::sync::atomic::{AtomicU64, Ordering};
+use std::sync::{Arc, Wait};
+use std::thread::Threads;
+
+// Processor 1 may go on once processor 0 has asked, and 0 once 1 has committed.
+#[derive(Drop)]
+struct Crossing {
+    asks_of_zero: AtomicU64,
+    commits_of_one: AtomicU64,
+}
+
+impl Gate for Crossing {
+    fn open(&self, processor: u16, _id: &MsgId) -> bool {
+        if processor == 0 {
+            self.asks_of_zero.fetch_add(1, Ordering::SeqCst);
+            self.commits_of_one.load(Ordering::SeqCst) > 0
+        } else {
+            self.asks_of_zero.load(Ordering::SeqCst) > 0
+        }
+    }
+
+    fn committed(&self, processor: u16, _id: &MsgId) {
+        if processor == 1 {
+            self.commits_of_one.fetch_add(1, Ordering::SeqCst);
+        }
+    }
+}
+
+// The id of a client's first request.
+fn first_of(client: u32) -> MsgId {
+    MsgId {
+        origin: Origin::Client(client),
+        number: 1,
+    }
+}
+
+// Client 7 asks for a counter on processor 0, or client 8 for one on processor 1. A second pass of
+// either is refused.
+fn ask<B: RuntimeName, R: Wait + Abort>(
+    rt: &R,
+    runtime: &Runtime<ProbeDisk, Object, B>,
+    client: u32,
+    index: u64,
+) -> ClientPass<PassesOf<B>> {
+    let mut pass = runtime.client(rt, client).expect(rt, "it isn't out");
+    assert_eq!(rt; runtime.client(rt, client).err(), Some(Refusal::PassOut));
+    let request = Request {
+        number: 1,
+        to: Elem { array: 0, index },
+        entry: CONSTRUCT,
+        words: &[5],
+    };
+    assert!(rt; matches!(runtime.request(rt, &mut pass, &request), Ok(Told::Unknown)));
+    pass
+}
+
+// A processor's seat, whose worker has done nothing. A second one is refused.
+fn sit<B: RuntimeName, R: Wait + Abort>(
+    rt: &R,
+    runtime: &Runtime<ProbeDisk, Object, B>,
+    processor: u16,
+) -> Station<B> {
+    let seat = runtime.seat(rt, processor).expect(rt, "it isn't out");
+    assert_eq!(rt; runtime.seat(rt, processor).err(), Some(Refusal::PassOut));
+    let worked = Worked {
+        count: 0,
+        refusal: None,
+    };
+    Station { seat, worked }
+}
+
+// Each worker has committed its one message.
+fn has_worked<B: RuntimeName>(rt: &impl Abort, station: &Station<B>, client: u32) {
+    assert_eq!(rt; station.worked.count, 1);
+    assert_eq!(rt; station.worked.refusal, None);
+    assert_eq!(rt; station.seat.ids(), [first_of(client)].as_slice());
+}
+
+// A flush fails, and then all is refused.
+fn fail<B: RuntimeName, R: Wait + Abort>(
+    rt: &R,
+    runtime: &Runtime<ProbeDisk, Object, B>,
+    passes: &mut [ClientPass<PassesOf<B>>],
+) {
+    assert_eq!(rt; runtime.flush(rt, passes).err(), Some(Refusal::Device));
+    assert_eq!(rt; runtime.flush(rt, passes).err(), Some(Refusal::Halted));
+    assert!(rt; runtime.is_halted(rt));
+    for pass in passes.iter_mut() {
+        assert_eq!(rt; runtime.status(rt, pass, 1).err(), Some(Refusal::Halted));
+    }
+}
+
+// The runtime is closed. Both deliveries stand in its history, processor 1's first, and no other.
+fn end<B: RuntimeName>(
+    rt: &impl Abort,
+    runtime: Runtime<ProbeDisk, Object, B>,
+    seats: Vec<Seat<SeatsOf<B>>>,
+    passes: Vec<ClientPass<PassesOf<B>>>,
+) -> ProbeDisk {
+    let Closed { store, halves, own } = match runtime.close(seats, passes) {
+        Ok(closed) => closed,
+        Err(_) => panic!(rt; "all seats and passes are in"),
+    };
+    assert_eq!(rt; own.as_slice().len(), 0);
+    let events = store.history.events().expect(rt, "they were noted");
+    assert_eq!(rt; events.len(), 4);
+    assert!(rt; matches!(&events[2], Event::Deliver(id) if *id == first_of(8)));
+    assert!(rt; matches!(&events[3], Event::Deliver(id) if *id == first_of(7)));
+    halves.into_disk()
+}
+
+// What two workers on two processors begin with.
+#[derive(Drop)]
+struct Start {
+    store: Store<Object>,
+    halves: Halves<ProbeDisk>,
+    books: UnnamedBooks,
+    switches: Arc<Switches>,
+    blanks: Vec<Object>,
+}
+
+// Both workers deliver, each in a thread; then a flush fails, and the runtime is closed.
+fn cross<B: RuntimeName + Send + Sync, R: Threads + Wait + Sync + AllocGlobal + Abort>(
+    rt: &R,
+    runtime: Runtime<ProbeDisk, Object, B>,
+    gate: &Crossing,
+    switches: &Switches,
+    blanks: Vec<Object>,
+) -> ProbeDisk {
+    assert!(rt; runtime.supply(rt, blanks).is_ok());
+    let mut passes = Vec::new(rt.alloc());
+    let mut stations = Vec::new(rt.alloc());
+    for place in 0..2 {
+        let pass = ask(rt, &runtime, 7 + place, u64::from(place));
+        passes.push(pass).expect(rt, "memory");
+        let station = sit(rt, &runtime, place as u16);
+        stations.push(station).expect(rt, "memory");
+    }
+    assert_eq!(rt; runtime.seat(rt, 2).err(), Some(Refusal::BadPes));
+    work_all(rt, &runtime, stations.as_mut_slice(), gate, 3);
+    switches.fuse.store(2, Ordering::SeqCst);
+    fail(rt, &runtime, passes.as_mut_slice());
+    end(rt, runtime, stand(rt, stations), passes)
+}
+
+// Each worker has committed its one message. Their seats.
+fn stand<B: RuntimeName>(
+    rt: &(impl AllocGlobal + Abort),
+    stations: Vec<Station<B>>,
+) -> Vec<Seat<SeatsOf<B>>> {
+    let mut seats = Vec::new(rt.alloc());
+    for (client, station) in (7..).zip(stations) {
+        has_worked(rt, &station, client);
+        let Station { seat, worked: _ } = station;
+        seats.push(seat).expect(rt, "memory");
+    }
+    seats
+}
+
+// The same over a store, with books that `B` names.
+fn cross_named<B: RuntimeName + Send + Sync, R: Threads + Wait + Sync + AllocGlobal + Abort>(
+    rt: &R,
+    start: Start,
+    gate: &Crossing,
+) -> ProbeDisk
+    requires ready { IsReady start.store start.halves }
+    requires named { IsOf B.opening B.before B.processors (core_in start.store.history) }
+    requires parts { table_of start.books.parts ≡ B.table }
+    requires seats { table_of start.books.seats ≡ B.seats }
+    requires passes { table_of start.books.passes ≡ B.passes }
+{
+    let Start {
+        store,
+        halves,
+        books,
+        switches,
+        blanks,
+    } = start;
+    match Runtime::<ProbeDisk, Object, B>::open(store, halves, books) {
+        Ok(runtime) => cross(rt, runtime, gate, &switches, blanks),
+        Err(_) => panic!(rt; "memory"),
+    }
+}
+
+// The same, under a name of its own.
+fn cross_once<R: Threads + Wait + Sync + AllocGlobal + Abort>(
+    rt: &R,
+    start: Start,
+    gate: &Crossing,
+) -> ProbeDisk
+    requires { IsReady start.store start.halves }
+{
+    cross_named::<Brand, R>(rt, start, gate)
+}
+
+// What a crash leaves of the disk restarts with no event, since none was durable.
+fn restarts(rt: &(impl AllocGlobal + Abort), tally: &Arc<Tally>, disk: ProbeDisk) {
+    let mut disk = disk.crash(CrashChoice::New);
+    let objects = wanted_objects(rt.alloc(), tally, &mut disk).expect(rt, "memory");
+    let blanks = Blanks::of(rt.alloc(), objects).expect(rt, "memory");
+    match ProbeStore::restart(rt.alloc(), disk, blanks, 1) {
+        Ok(store) => assert!(rt; store.engine.event_count() <= 4),
+        Err(_) => panic!(rt; "a store stands there"),
+    }
+}
+
+#[test]
+fn commits_cross_and_a_flush_fails(rt: HostRuntime) {
+    let alloc = rt.alloc();
+    let tally = Arc::new(alloc, Tally::new()).expect(&rt, "memory");
+    let disk = ProbeDisk::new(alloc).expect(&rt, "memory");
+    let switches = disk.switches().expect(&rt, "memory");
+    let (store, halves) = new_store(&rt, alloc, disk);
+    let gate = Crossing {
+        asks_of_zero: AtomicU64::new(0),
+        commits_of_one: AtomicU64::new(0),
+    };
+    let start = Start {
+        store,
+        halves,
+        books: UnnamedBooks::new(alloc).expect(&rt, "memory"),
+        switches,
+        blanks: blanks(alloc, &tally, &[(Kind::Counter, 2)]).expect(&rt, "memory"),
+    };
+    let disk = cross_once(&rt, start, &gate);
+    assert!(&rt; gate.asks_of_zero.load(Ordering::SeqCst) < u64::from(MOST_ASKS));
+    restarts(&rt, &tally, disk);
+}
