@@ -110,7 +110,17 @@ fn fail<B: RuntimeName, R: Wait + Abort>(
     assert_eq!(rt; runtime.flush(rt, passes).err(), Some(Refusal::Device));
     assert_eq!(rt; runtime.flush(rt, passes).err(), Some(Refusal::Halted));
     assert!(rt; runtime.is_halted(rt));
+    let request = Request {
+        number: 2,
+        to: Elem { array: 0, index: 0 },
+        entry: 0,
+        words: &[1],
+    };
     for pass in passes.iter_mut() {
+        assert_eq!(rt;
+            runtime.request(rt, pass, &request).err(),
+            Some(Refusal::Halted)
+        );
         assert_eq!(rt; runtime.status(rt, pass, 1).err(), Some(Refusal::Halted));
     }
 }
