@@ -228,7 +228,7 @@ fn cross_once<R: Threads + Wait + Sync + AllocGlobal + Abort>(
     cross_named::<Brand, R>(rt, start, gate)
 }
 
-// What a crash leaves of the disk restarts with no event, since none was durable.
+// What a crash leaves of the disk restarts, with some of the events.
 fn restarts(rt: &(impl AllocGlobal + Abort), tally: &Arc<Tally>, disk: ProbeDisk) {
     let mut disk = disk.crash(CrashChoice::New);
     let objects = wanted_objects(rt.alloc(), tally, &mut disk).expect(rt, "memory");
