@@ -2,7 +2,8 @@
 
 use crate::words::{bytes, choice, half, kind, number};
 use charmlet_model::Answer;
-use charmlet_testing::{Bench, Failed, say};
+use charmlet_probe_store::{Failed, Machine, Turn, Without};
+use charmlet_testing::{Bench, give, held, image, lend, lend_seat, look, next, pass, say, turn};
 use std::alloc::Global;
 use std::io::Write;
 use std::sync::atomic::Ordering;
@@ -12,20 +13,21 @@ const REFUSED: &[u8] = b"refused 1 Memory\n";
 
 /// Runs a line, and prints what it answers. Where memory is refused, and that is asked for, it is
 /// run once more.
-pub(crate) fn run_line(
+pub(crate) fn run_line<M: Machine>(
     alloc: Global,
     bench: &mut Bench,
+    store: &mut Option<M>,
     text: &str,
     out: &mut Vec<u8>,
 ) -> Result<(), Failed> {
-    let mut result = act(alloc, bench, text, out);
+    let mut result = act(alloc, bench, store, text, out);
     let is_refused = match &result {
         Ok(()) => out.as_slice() == REFUSED,
         Err(failed) => failed.is_memory(),
     };
     if is_refused && bench.tries_again() {
         out.clear();
-        result = act(alloc, bench, text, out);
+        result = act(alloc, bench, store, text, out);
     }
     match result {
         Ok(()) => Ok(()),
@@ -40,7 +42,13 @@ pub(crate) fn run_line(
 }
 
 /// Does what a line says, by its first word.
-fn act(alloc: Global, bench: &mut Bench, text: &str, out: &mut Vec<u8>) -> Result<(), Failed> {
+fn act<M: Machine>(
+    alloc: Global,
+    bench: &mut Bench,
+    store: &mut Option<M>,
+    text: &str,
+    out: &mut Vec<u8>,
+) -> Result<(), Failed> {
     let words: Vec<&str> = text.split(' ').collect(alloc)?;
     let Some((name, words)) = words.split_first() else {
         return Ok(());
@@ -50,11 +58,11 @@ fn act(alloc: Global, bench: &mut Bench, text: &str, out: &mut Vec<u8>) -> Resul
     } else if ["create", "blanks", "restart", "again"].contains(name) {
         begin(bench, name, words, out)
     } else if ["leave", "close", "crash", "disk"].contains(name) {
-        end(bench, name, words, out)
+        end(bench, store, name, words, out)
     } else if ["look", "next", "image", "tally", "versions"].contains(name) {
-        look(bench, name, out)
+        show(bench, store, name, out)
     } else if ["lend", "give", "pass", "known"].contains(name) {
-        ask(bench, name, words, out)
+        ask(bench, store, name, words, out)
     } else if ["fuse", "once", "sound", "forget"].contains(name) {
         tell(bench, name, words)
     } else if ["calls", "passed", "trace"].contains(name) {
@@ -63,8 +71,64 @@ fn act(alloc: Global, bench: &mut Bench, text: &str, out: &mut Vec<u8>) -> Resul
         touch(alloc, bench, name, words, out)
     } else if ["manifest", "survey", "recover"].contains(name) {
         find(bench, name, out)
+    } else if ["assign", "seat", "held", "tell", "close-without"].contains(name) {
+        handle(alloc, bench, store, name, words, text, out)
+    } else if let Some(of) = turn_of(name) {
+        turn(store, of, name, number(only(words)?)?, out)
     } else {
-        bench.script(text, out)
+        bench.script(store, text, out)
+    }
+}
+
+/// What a worker's line calls, by its name.
+fn turn_of(name: &str) -> Option<Turn> {
+    match name {
+        "enter" => Some(Turn::Enter),
+        "commit" => Some(Turn::Commit),
+        "commit-own" => Some(Turn::CommitOwn),
+        "finish" => Some(Turn::Finish),
+        "release" => Some(Turn::Release),
+        "settle" => Some(Turn::Settle),
+        _ => None,
+    }
+}
+
+/// A line of a hub.
+fn handle<M: Machine>(
+    alloc: Global,
+    bench: &mut Bench,
+    store: &mut Option<M>,
+    name: &str,
+    words: &[&str],
+    text: &str,
+    out: &mut Vec<u8>,
+) -> Result<(), Failed> {
+    match name {
+        "assign" => bench.assign(store, delivering(alloc, text)?.as_str(), out),
+        "seat" => lend_seat(store, number(only(words)?)?, out),
+        "held" => held(store, number(only(words)?)?, out),
+        "tell" => bench.tell(store, out),
+        _ => bench.close(store, without(words)?, out),
+    }
+}
+
+/// The line that delivers what a line assigns.
+fn delivering(alloc: Global, text: &str) -> Result<String, Failed> {
+    let Some(words) = text.strip_prefix("assign") else {
+        return Err(Failed::Malformed);
+    };
+    let mut line = String::new(alloc);
+    line.push_str("deliver")?;
+    line.push_str(words)?;
+    Ok(line)
+}
+
+/// What isn't handed in, by two words.
+fn without(words: &[&str]) -> Result<Without, Failed> {
+    match words {
+        ["seat", processor] => Ok(Without::Seat(number(processor)?)),
+        ["pass", client] => Ok(Without::Pass(number(client)?)),
+        _ => Err(Failed::Malformed),
     }
 }
 
@@ -92,21 +156,32 @@ fn begin(bench: &mut Bench, name: &str, words: &[&str], out: &mut Vec<u8>) -> Re
 }
 
 /// A line with which a store ends.
-fn end(bench: &mut Bench, name: &str, words: &[&str], out: &mut Vec<u8>) -> Result<(), Failed> {
+fn end<M: Machine>(
+    bench: &mut Bench,
+    store: &mut Option<M>,
+    name: &str,
+    words: &[&str],
+    out: &mut Vec<u8>,
+) -> Result<(), Failed> {
     match name {
-        "leave" => Ok(bench.leave()),
-        "close" => bench.close(out),
-        "disk" => bench.renew(),
-        _ => Ok(bench.crash(choice(only(words)?)?)),
+        "leave" => Ok(bench.leave(store)),
+        "close" => bench.close(store, Without::Nothing, out),
+        "disk" => bench.renew(store),
+        _ => Ok(bench.crash(store, choice(only(words)?)?)),
     }
 }
 
 /// A line that shows something of a store.
-fn look(bench: &mut Bench, name: &str, out: &mut Vec<u8>) -> Result<(), Failed> {
+fn show<M: Machine>(
+    bench: &mut Bench,
+    store: &mut Option<M>,
+    name: &str,
+    out: &mut Vec<u8>,
+) -> Result<(), Failed> {
     match name {
-        "look" => bench.look(out),
-        "next" => bench.next(out),
-        "image" => bench.image(out),
+        "look" => look(store, out),
+        "next" => next(store, out),
+        "image" => image(store, out),
         "versions" => {
             let [retros, upgrades] = bench.tally().versions();
             Ok(writeln!(out, "retros {retros} upgrades {upgrades}")?)
@@ -120,16 +195,22 @@ fn look(bench: &mut Bench, name: &str, out: &mut Vec<u8>) -> Result<(), Failed> 
 }
 
 /// A line of a client's pass.
-fn ask(bench: &mut Bench, name: &str, words: &[&str], out: &mut Vec<u8>) -> Result<(), Failed> {
+fn ask<M: Machine>(
+    bench: &mut Bench,
+    store: &mut Option<M>,
+    name: &str,
+    words: &[&str],
+    out: &mut Vec<u8>,
+) -> Result<(), Failed> {
     match name {
-        "lend" => bench.lend(number(only(words)?)?, out),
-        "give" => bench.give(number(only(words)?)?, out),
-        "pass" => bench.pass(number(only(words)?)?, out),
+        "lend" => lend(store, number(only(words)?)?, out),
+        "give" => give(store, number(only(words)?)?, out),
+        "pass" => pass(store, number(only(words)?)?, out),
         _ => {
             let [client, request] = words else {
                 return Err(Failed::Malformed);
             };
-            bench.known(number(client)?, number(request)?, out)
+            bench.known(store, number(client)?, number(request)?, out)
         }
     }
 }

@@ -1,13 +1,18 @@
 //! `charmlet_probe`: runs the lines of a probe, over a disk that fails as told and objects that
-//! count what is done with them.
+//! count what is done with them; by an engine, or after `--hub` by a hub.
 #![tactic(auto)]
 
+mod hubs;
 mod lines;
+mod script;
 mod words;
 
+use crate::hubs::live_on_hub;
 use crate::lines::run_line;
+use crate::script::Script;
 use charmlet_cli::{Failure, Stop, end_program, open_script};
-use charmlet_testing::{Bench, Failed};
+use charmlet_probe_store::{EngineMachine, Failed, Machine, ProbeStore};
+use charmlet_testing::Bench;
 use std::alloc::{AllocError, Global};
 use std::io::Write;
 use std::process::ExitCode;
@@ -16,13 +21,10 @@ use std::{env, io};
 /// The room of a line's output, in bytes.
 const ROOM: usize = 8_192;
 
-/// The text of the probe in the file that the command line names.
-fn text(rt: HostRuntime) -> Result<String, Stop> {
-    let words: Vec<String> = env::args(&rt)?.collect(rt.alloc())?;
-    match words.as_slice() {
-        [_, path] => Ok(io::read_to_string(rt.alloc(), open_script(&rt, path.as_str())?)?),
-        _ => Err(Stop::UnreadableScript),
-    }
+/// The lines of the probe in a file.
+fn script_in(rt: HostRuntime, path: &str) -> Result<Script, Stop> {
+    let text = io::read_to_string(rt.alloc(), open_script(&rt, path)?)?;
+    Ok(Script::of(rt.alloc(), text.as_str())?)
 }
 
 /// An output with room, so that few lines need more. Where memory is refused it is tried once more.
@@ -33,19 +35,67 @@ fn output(alloc: Global) -> Result<Vec<u8>, AllocError> {
     }
 }
 
-/// Runs a line of this number, and prints what it answers.
-fn print_line<W: Write>(
+/// Runs the next line of a probe, and prints what it answers.
+fn print_line<M: Machine, W: Write>(
     alloc: Global,
     bench: &mut Bench,
-    number: usize,
-    line: &str,
+    store: &mut Option<M>,
+    script: &mut Script,
     writer: &mut W,
 ) -> Result<(), Stop> {
     let mut out = output(alloc)?;
-    match run_line(alloc, bench, line, &mut out) {
+    match run_line(alloc, bench, store, script.take(), &mut out) {
         Ok(()) => Ok(writer.write_all(&out)?),
-        Err(Failed::Malformed) => Err(Stop::MalformedLine((number as u64).saturating_add(1))),
+        Err(Failed::Malformed) => Err(Stop::MalformedLine(script.taken() as u64)),
         Err(_) => Err(Stop::CannotGoOn),
+    }
+}
+
+/// Runs the lines of a probe until its store ends. What each answers is printed before the next one
+/// is run.
+pub(crate) fn live<M: Machine, W: Write>(
+    alloc: Global,
+    bench: &mut Bench,
+    store: &mut Option<M>,
+    script: &mut Script,
+    writer: &mut W,
+) -> Result<(), Stop> {
+    for _ in 0..script.left() {
+        if store.is_none() {
+            break;
+        }
+        print_line(alloc, bench, store, script, writer)?;
+    }
+    Ok(())
+}
+
+/// The same over an engine.
+fn live_on_engine<W: Write>(
+    alloc: Global,
+    bench: &mut Bench,
+    store: ProbeStore,
+    script: &mut Script,
+    writer: &mut W,
+) -> Result<(), Stop> {
+    let mut store = Some(EngineMachine::new(alloc, store));
+    live(alloc, bench, &mut store, script, writer)
+}
+
+/// Runs the next line of a probe, where there is no store, and then those of the store that it
+/// makes, if it makes one.
+fn go_on<W: Write>(
+    alloc: Global,
+    bench: &mut Bench,
+    is_over_hubs: bool,
+    script: &mut Script,
+    writer: &mut W,
+) -> Result<(), Stop> {
+    let mut none: Option<EngineMachine> = None;
+    print_line(alloc, bench, &mut none, script, writer)?;
+    match bench.take_born() {
+        Some(store) if is_over_hubs => live_on_hub(alloc, bench, store, script, writer),
+        Some(store) => live_on_engine(alloc, bench, store, script, writer),
+        None => Ok(()),
     }
 }
 
@@ -53,20 +103,32 @@ fn print_line<W: Write>(
 fn print_lines<W: Write>(
     alloc: Global,
     bench: &mut Bench,
-    text: &str,
+    is_over_hubs: bool,
+    script: &mut Script,
     writer: &mut W,
 ) -> Result<(), Stop> {
-    for (number, line) in text.lines().enumerate() {
-        print_line(alloc, bench, number, line, writer)?;
+    for _ in 0..script.left() {
+        if script.left() == 0 {
+            break;
+        }
+        go_on(alloc, bench, is_over_hubs, script, writer)?;
     }
     Ok(())
 }
 
 /// Runs the probe in a file.
 fn probe(rt: HostRuntime) -> Result<(), Stop> {
-    let text = text(rt)?;
+    let words: Vec<String> = env::args(&rt)?.collect(rt.alloc())?;
+    let is_over_hubs = words.len() == 3 && words[1].as_str() == "--hub";
+    let mut script = match words.last() {
+        Some(path) => script_in(rt, path.as_str())?,
+        None => return Err(Stop::UnreadableScript),
+    };
     match Bench::new(rt.alloc()) {
-        Ok(mut bench) => print_lines(rt.alloc(), &mut bench, text.as_str(), &mut io::writer(&rt)),
+        Ok(mut bench) => {
+            let writer = &mut io::writer(&rt);
+            print_lines(rt.alloc(), &mut bench, is_over_hubs, &mut script, writer)
+        }
         Err(_) => Err(Stop::CannotGoOn),
     }
 }

@@ -20,7 +20,8 @@ impl Drop for Parts {
 }
 
 impl Parts {
-    pub(crate) fn new(parts: Dismantled<Object>) -> Parts {
+    /// The parts of a store.
+    pub fn new(parts: Dismantled<Object>) -> Parts {
         Parts { parts }
     }
 

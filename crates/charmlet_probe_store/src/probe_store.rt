@@ -1,20 +1,40 @@
-//! A store on the disk of probes, with the objects of probes.
+//! Stores on the disk of probes, with the objects of probes.
 
+ghost use Rattle.std.specs.Prelude.{◌≡◌, []};
 ghost use Rattle.charmlet_model.specs.Edition.{AreNewest};
+ghost use Rattle.charmlet_history.specs.Kept.{core_in};
+ghost use Rattle.charmlet_engine.specs.Together.{AreTied};
 
 use crate::blanks::Blanks;
-use crate::parts::Parts;
-use charmlet_engine::{Closed, Engine};
-use charmlet_halves::Refused;
+use charmlet_engine::Engine;
+use charmlet_halves::{Halves, Refused};
 use charmlet_model::{Manifest, Refusal};
 use charmlet_probe_disk::ProbeDisk;
 use charmlet_probe_objects::Object;
 use charmlet_recover::NotRestarted;
+use charmlet_store::Store;
 use std::alloc::Global;
+use std::marker::Model;
 
-/// A store on a disk that fails as told, with objects that count what is done with them.
+/// A store on a disk that fails as told, with objects that count what is done with them. It was
+/// just made or came back, and nothing has happened since.
 pub struct ProbeStore {
-    pub engine: Engine<ProbeDisk, Object>,
+    engine: Engine<ProbeDisk, Object>,
+    processors: u16,
+}
+
+impl Model for ProbeStore {
+    ghost use Rattle.std.specs.Prelude.{◌≡◌, []};
+    ghost use Rattle.charmlet_model.specs.Core.{Core};
+    ghost use Rattle.charmlet_engine.specs.Engine.{core_of};
+
+    ghost Value = { Core };
+
+    ghost view = { λ store. core_of store.engine };
+
+    ghost invariant = { λ store. ((core_of store.engine).history ≡ [])
+        × ((core_of store.engine).assigned ≡ [])
+        × ((core_of store.engine).processors ≡ store.processors) };
 }
 
 /// Why no store came back, the disk, and all blanks.
@@ -29,7 +49,10 @@ pub struct NotBack {
 // store of probes.
 impl Drop for ProbeStore {
     fn drop(self) {
-        let ProbeStore { engine } = self;
+        let ProbeStore {
+            engine,
+            processors: _,
+        } = self;
         drop(engine);
     }
 }
@@ -45,7 +68,7 @@ impl ProbeStore {
         requires { AreNewest manifest }
     {
         match Engine::create(alloc, disk, manifest, processors) {
-            Ok(engine) => Ok(ProbeStore { engine }),
+            Ok(engine) => Ok(ProbeStore { engine, processors }),
             Err(refused) => Err(refused),
         }
     }
@@ -58,7 +81,7 @@ impl ProbeStore {
         processors: u16,
     ) -> Result<ProbeStore, NotBack> {
         match Engine::restart(alloc, disk, blanks.into_stock(), processors) {
-            Ok(engine) => Ok(ProbeStore { engine }),
+            Ok(engine) => Ok(ProbeStore { engine, processors }),
             Err(
                 NotRestarted {
                     refusal,
@@ -73,19 +96,43 @@ impl ProbeStore {
         }
     }
 
-    /// Its disk, and the objects that it was made of. It fails only when out of memory, and then
-    /// the store comes back.
-    pub fn close(self) -> Result<(ProbeDisk, Parts), ProbeStore> {
-        let ProbeStore { engine } = self;
-        match engine.close() {
-            Ok(Closed { disk, parts }) => Ok((disk, Parts::new(parts))),
-            Err(engine) => Err(ProbeStore { engine }),
-        }
+    /// The generation of its image.
+    pub fn generation(&self) -> u64 {
+        self.engine.generation()
     }
 
-    /// Its disk. The objects are dropped.
-    pub fn into_disk(self) -> ProbeDisk {
-        let ProbeStore { engine } = self;
-        engine.into_disk()
+    /// How many events are durable.
+    pub fn durable(&self) -> u64 {
+        self.engine.durable()
+    }
+
+    /// How many processors it has.
+    pub fn processors(&self) -> u16
+        ensures { result ≡ self.now.processors }
+    {
+        self.processors
+    }
+
+    /// The engine that it is.
+    pub(crate) fn into_engine(self) -> Engine<ProbeDisk, Object> {
+        let ProbeStore {
+            engine,
+            processors: _,
+        } = self;
+        engine
+    }
+
+    /// What it is made of.
+    pub fn into_parts(self) -> (Store<Object>, Halves<ProbeDisk>)
+        ensures shown { core_in result.0.history ≡ self }
+        ensures history { (core_in result.0.history).history ≡ [] }
+        ensures assigned { (core_in result.0.history).assigned ≡ [] }
+        ensures tied { AreTied result.0 result.1 }
+    {
+        let ProbeStore {
+            engine,
+            processors: _,
+        } = self;
+        engine.into_parts()
     }
 }

@@ -1,18 +1,17 @@
-//! What the lines of a probe work on: a disk, a store on it, and its clients.
+//! What the lines of a probe work on: a disk, and what stores begin with.
 
-use crate::failed::Failed;
 use charmlet_disk::CrashChoice;
 use charmlet_model::Kind;
 use charmlet_probe_disk::{ProbeDisk, Switches};
 use charmlet_probe_objects::Tally;
-use charmlet_probe_store::{Blanks, ProbeStore};
-use charmlet_requests::{ClientPass, Handlers, Passes};
+use charmlet_probe_store::{Blanks, Failed, Machine, ProbeStore};
+use charmlet_requests::Handlers;
 use std::alloc::{AllocError, Global};
-use std::collections::BTreeMap;
 use std::marker::Model;
 use std::sync::Arc;
 
-/// A disk, the store that has it, and what clients and restarts bring.
+/// A disk, and what stores and restarts begin with. The store that has the disk is handed to each
+/// call that needs it, since its type has a name that is picked where it begins.
 pub struct Bench {
     pub(crate) alloc: Global,
     /// The lines of the header for the next store.
@@ -20,15 +19,14 @@ pub struct Bench {
     pub(crate) handlers: Handlers,
     /// The disk, where it is free.
     pub(crate) disk: Option<ProbeDisk>,
-    pub(crate) store: Option<ProbeStore>,
+    /// The store that was just made, or came back, until it is taken.
+    pub(crate) born: Option<ProbeStore>,
     pub(crate) switches: Arc<Switches>,
     pub(crate) tally: Arc<Tally>,
     /// How many blanks of which kinds are laid by for the next restart.
     pub(crate) laid: Vec<(Kind, u64)>,
     /// The blanks that came back of a restart that was refused.
     pub(crate) back: Option<Blanks>,
-    pub(crate) passes: Passes,
-    pub(crate) held: BTreeMap<u32, ClientPass>,
     /// Whether a line that is refused memory is tried once more.
     pub(crate) again: bool,
 }
@@ -50,25 +48,21 @@ impl Drop for Bench {
             header,
             handlers,
             disk,
-            store,
+            born,
             switches,
             tally,
             laid,
             back,
-            passes,
-            held,
             again: _,
         } = self;
         drop(header);
         drop(handlers);
         drop(disk);
-        drop(store);
+        drop(born);
         drop(switches);
         drop(tally);
         drop(laid);
         drop(back);
-        drop(passes);
-        drop(held);
     }
 }
 
@@ -83,13 +77,11 @@ impl Bench {
             header: String::new(alloc),
             handlers: Handlers::new(alloc),
             disk: Some(disk),
-            store: None,
+            born: None,
             switches,
             tally,
             laid: Vec::new(alloc),
             back: None,
-            passes: Passes::new(alloc),
-            held: BTreeMap::new(alloc),
             again: false,
         })
     }
@@ -130,33 +122,31 @@ impl Bench {
         self.again
     }
 
+    /// Takes the store that was just made or came back, if there is one.
+    pub fn take_born(&mut self) -> Option<ProbeStore> {
+        self.born.take()
+    }
+
     /// A new disk takes the place of what is there.
-    pub fn renew(&mut self) -> Result<(), Failed> {
+    pub fn renew<M: Machine>(&mut self, store: &mut Option<M>) -> Result<(), Failed> {
         let disk = ProbeDisk::new(self.alloc)?;
         let switches = disk.switches()?;
-        self.leave();
+        self.leave(store);
         self.disk = Some(disk);
         self.switches = switches;
         Ok(())
     }
 
     /// The store is dropped, if there is one, and its disk is free.
-    pub fn leave(&mut self) {
-        if let Some(store) = self.store.take() {
-            self.disk = Some(store.into_disk());
+    pub fn leave<M: Machine>(&mut self, store: &mut Option<M>) {
+        if let Some(machine) = store.take() {
+            self.disk = machine.into_disk();
         }
-        self.end_passes();
-    }
-
-    /// No client has a pass any more.
-    pub(crate) fn end_passes(&mut self) {
-        self.held = BTreeMap::new(self.alloc);
-        self.passes = Passes::new(self.alloc);
     }
 
     /// The disk crashes, and a store with it.
-    pub fn crash(&mut self, choice: CrashChoice) {
-        self.leave();
+    pub fn crash<M: Machine>(&mut self, store: &mut Option<M>, choice: CrashChoice) {
+        self.leave(store);
         if let Some(disk) = self.disk.take() {
             self.disk = Some(disk.crash(choice));
         }

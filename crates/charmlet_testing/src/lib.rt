@@ -4,12 +4,16 @@
 
 mod bench;
 mod clients;
-mod failed;
+mod hubs;
 mod lives;
 mod running;
 mod saying;
+mod showing;
 mod shows;
+mod store_of;
 
 pub use crate::bench::Bench;
-pub use crate::failed::Failed;
+pub use crate::clients::{give, lend, pass};
+pub use crate::hubs::{held, lend_seat, turn};
 pub use crate::saying::say;
+pub use crate::shows::{image, look, next};

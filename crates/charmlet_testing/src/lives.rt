@@ -1,13 +1,14 @@
 //! Stores that begin, come back and come apart.
 
 use crate::bench::Bench;
-use crate::failed::Failed;
 use crate::saying::say;
 use charmlet_cli::RestartedLine;
 use charmlet_halves::Refused;
 use charmlet_model::{Kind, Refusal};
 use charmlet_probe_objects::{Object, blanks};
-use charmlet_probe_store::{Blanks, NotBack, Parts, ProbeStore, wanted_objects};
+use charmlet_probe_store::{
+    Blanks, Ended, Failed, Machine, NotBack, Parts, ProbeStore, Without, wanted_objects,
+};
 use charmlet_requests::{Handler, Handlers};
 use charmlet_script::{HandlerLine, Script, read_script};
 use std::alloc::Global;
@@ -57,7 +58,7 @@ impl Bench {
         };
         match ProbeStore::create(self.alloc, disk, manifest, script.processors()) {
             Ok(store) => {
-                self.store = Some(store);
+                self.born = Some(store);
                 self.header.clear();
                 Ok(())
             }
@@ -123,7 +124,7 @@ impl Bench {
         self.laid.clear();
         match ProbeStore::restart(self.alloc, disk, blanks, processors) {
             Ok(store) => {
-                self.store = Some(store);
+                self.born = Some(store);
                 Ok(())
             }
             Err(
@@ -143,31 +144,38 @@ impl Bench {
 
     /// Prints that the store came back.
     fn say_restarted(&self, processors: u16, out: &mut Vec<u8>) -> Result<(), Failed> {
-        let Some(ProbeStore { engine }) = &self.store else {
+        let Some(store) = &self.born else {
             return Err(Failed::Lacks("store"));
         };
         let line = RestartedLine {
-            generation: engine.generation(),
-            events: engine.durable(),
+            generation: store.generation(),
+            events: store.durable(),
             processors,
         };
         say(self.alloc, out, &line)
     }
 
-    /// The store comes apart, and its disk is free.
-    pub fn close(&mut self, out: &mut Vec<u8>) -> Result<(), Failed> {
-        let Some(store) = self.store.take() else {
+    /// The store comes apart, where all but this is handed in, and its disk is free.
+    pub fn close<M: Machine>(
+        &mut self,
+        store: &mut Option<M>,
+        without: Without,
+        out: &mut Vec<u8>,
+    ) -> Result<(), Failed> {
+        let Some(machine) = store.take() else {
             return Err(Failed::Lacks("store"));
         };
-        match store.close() {
-            Ok((disk, parts)) => {
+        match machine.close(without) {
+            Ok(Ended { disk, parts }) => {
                 self.disk = Some(disk);
-                self.end_passes();
-                say_parts(&parts, out)
+                match parts {
+                    Some(parts) => say_parts(&parts, out),
+                    None => Err(Failed::MEMORY),
+                }
             }
-            Err(store) => {
-                self.store = Some(store);
-                Err(Failed::MEMORY)
+            Err((refusal, machine)) => {
+                *store = Some(machine);
+                Err(Failed::Refused(refusal))
             }
         }
     }

@@ -1,49 +1,41 @@
 //! What is seen of a store and on a disk.
 
 use crate::bench::Bench;
-use crate::failed::Failed;
 use crate::saying::say_bytes;
+use crate::store_of::store_of;
 use charmlet_cli::{ShowError, show_store};
 use charmlet_disk::Call;
 use charmlet_halves::{Surveyed, survey};
 use charmlet_model::Half;
 use charmlet_plain_recovery::{Recovered, recover};
-use charmlet_probe_store::ProbeStore;
+use charmlet_probe_store::{Failed, Machine};
 use std::io::Write;
 
+/// What the store counts.
+pub fn look<M: Machine>(store: &mut Option<M>, out: &mut Vec<u8>) -> Result<(), Failed> {
+    let counts = store_of(store)?.counts();
+    let (generation, durable) = (counts.generation, counts.durable);
+    let (events, pending) = (counts.events, counts.pending);
+    let halted = if counts.is_halted { "yes" } else { "no" };
+    write!(out, "store generation {generation} durable {durable} ")?;
+    Ok(writeln!(out, "events {events} pending {pending} halted {halted}")?)
+}
+
+/// Which message comes next, and where.
+pub fn next<M: Machine>(store: &mut Option<M>, out: &mut Vec<u8>) -> Result<(), Failed> {
+    match store_of(store)?.next() {
+        Some((processor, id)) => Ok(writeln!(out, "next {processor} {id}")?),
+        None => Ok(writeln!(out, "next none")?),
+    }
+}
+
+/// The bytes of an image of the store.
+pub fn image<M: Machine>(store: &mut Option<M>, out: &mut Vec<u8>) -> Result<(), Failed> {
+    let bytes = store_of(store)?.image()?;
+    say_image(&bytes, out)
+}
+
 impl Bench {
-    /// What the store counts.
-    pub fn look(&self, out: &mut Vec<u8>) -> Result<(), Failed> {
-        let Some(ProbeStore { engine }) = &self.store else {
-            return Err(Failed::Lacks("store"));
-        };
-        let (generation, durable) = (engine.generation(), engine.durable());
-        let (events, pending) = (engine.event_count(), engine.pending_count());
-        let halted = if engine.is_halted() { "yes" } else { "no" };
-        write!(out, "store generation {generation} durable {durable} ")?;
-        Ok(writeln!(out, "events {events} pending {pending} halted {halted}")?)
-    }
-
-    /// Which message comes next, and where.
-    pub fn next(&self, out: &mut Vec<u8>) -> Result<(), Failed> {
-        let Some(ProbeStore { engine }) = &self.store else {
-            return Err(Failed::Lacks("store"));
-        };
-        match engine.next() {
-            Some((processor, id)) => Ok(writeln!(out, "next {processor} {id}")?),
-            None => Ok(writeln!(out, "next none")?),
-        }
-    }
-
-    /// The bytes of an image of the store.
-    pub fn image(&mut self, out: &mut Vec<u8>) -> Result<(), Failed> {
-        let Some(ProbeStore { engine }) = &mut self.store else {
-            return Err(Failed::Lacks("store"));
-        };
-        let bytes = engine.image()?;
-        say_image(&bytes, out)
-    }
-
     /// Writes bytes to a half of the free disk.
     pub fn write(&mut self, half: Half, offset: u64, bytes: &[u8]) -> Result<(), Failed> {
         Ok(self.disk()?.put(half, offset, bytes)?)

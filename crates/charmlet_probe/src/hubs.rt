@@ -1,0 +1,53 @@
+//! Lines of probes over a hub.
+
+ghost use Rattle.std.specs.Prelude.{◌≡◌};
+ghost use Rattle.charmlet_agreement.specs.Naming.{table_of};
+ghost use Rattle.charmlet_sequencer.specs.Sequencer.{IsOf};
+
+use crate::live;
+use crate::script::Script;
+use charmlet_cli::Stop;
+use charmlet_probe_hub::{Books, HubMachine};
+use charmlet_probe_store::ProbeStore;
+use charmlet_sequencer::RuntimeName;
+use charmlet_testing::Bench;
+use std::alloc::Global;
+use std::io::Write;
+use std::marker::Brand;
+
+/// Runs the lines of a probe until its store ends, over a hub.
+pub(crate) fn live_on_hub<W: Write>(
+    alloc: Global,
+    bench: &mut Bench,
+    store: ProbeStore,
+    script: &mut Script,
+    writer: &mut W,
+) -> Result<(), Stop> {
+    let Ok(books) = Books::new(alloc) else {
+        return Err(Stop::CannotGoOn);
+    };
+    live_as::<Brand, W>(alloc, bench, store, books, script, writer)
+}
+
+/// The same, under this name.
+fn live_as<B: RuntimeName, W: Write>(
+    alloc: Global,
+    bench: &mut Bench,
+    store: ProbeStore,
+    books: Books,
+    script: &mut Script,
+    writer: &mut W,
+) -> Result<(), Stop>
+    requires named { IsOf B.opening B.before B.processors store }
+    requires parts { table_of books.parts ≡ B.table }
+    requires seats { table_of books.seats ≡ B.seats }
+    requires passes { table_of books.passes ≡ B.passes }
+{
+    match HubMachine::<B>::open(alloc, store, books) {
+        Ok(machine) => {
+            let mut store = Some(machine);
+            live(alloc, bench, &mut store, script, writer)
+        }
+        Err(_) => Err(Stop::CannotGoOn),
+    }
+}

@@ -1,0 +1,8 @@
+//! The store that a line needs.
+
+use charmlet_probe_store::{Failed, Machine};
+
+/// The store, if there is one.
+pub(crate) fn store_of<M: Machine>(store: &mut Option<M>) -> Result<&mut M, Failed> {
+    store.as_mut().ok_or(Failed::Lacks("store"))
+}
