@@ -234,7 +234,7 @@ fn restarts(rt: &(impl AllocGlobal + Abort), tally: &Arc<Tally>, disk: ProbeDisk
     let objects = wanted_objects(rt.alloc(), tally, &mut disk).expect(rt, "memory");
     let blanks = Blanks::of(rt.alloc(), objects).expect(rt, "memory");
     match ProbeStore::restart(rt.alloc(), disk, blanks, 1) {
-        Ok(store) => assert!(rt; store.engine.event_count() <= 4),
+        Ok(store) => assert!(rt; store.durable() <= 4),
         Err(_) => panic!(rt; "a store stands there"),
     }
 }
