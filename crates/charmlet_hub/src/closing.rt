@@ -15,7 +15,7 @@ ghost use Rattle.charmlet_sequencer.specs.Sequencer.{IsOf, is_lawful};
 ghost use Rattle.charmlet_hub.specs.Hub.{HubShown, deliveries_in};
 ghost use Rattle.charmlet_hub.specs.Settling.{SettleAll, are_all_in, closing_refusal};
 
-use crate::hub::Hub;
+use crate::hub::{Hub, HubParts};
 use crate::names::{PassesOf, SeatsOf};
 use charmlet_chare::Chare;
 use charmlet_disk::Disk;
@@ -114,12 +114,11 @@ impl<D: Disk, C: Chare, B: RuntimeName> Hub<D, C, B> {
             hub.settle(&mut shelves[i]);
         }
         hub.facts();
-        let Hub {
+        let HubParts {
             sequencer,
             seats: seat_book,
             passes: pass_book,
-            ..
-        } = hub;
+        } = hub.into_parts();
         let apart = sequencer.take_apart(shelves, empty);
         let Ok(own) = seat_book.close(seats) else {
             unreachable!()

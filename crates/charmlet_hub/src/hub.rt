@@ -19,7 +19,7 @@ ghost use Rattle.charmlet_delivery.specs.Workplace.{ShowsOn};
 ghost use Rattle.charmlet_sequencer.specs.Book.{IsBookIn, IsDueOn};
 ghost use Rattle.charmlet_sequencer.specs.Part.{Part};
 ghost use Rattle.charmlet_sequencer.specs.Sequencer.{IsOf, is_lawful, supplied_of};
-ghost use Rattle.charmlet_hub.specs.Hub.{IsHub, seat_refusal, sequencer_in, store_in};
+ghost use Rattle.charmlet_hub.specs.Hub.{IsHub, seat_refusal, sequencer_in, shown_by, store_in};
 
 use crate::names::{PassesOf, SeatsOf};
 use charmlet_agreement::Book;
@@ -44,7 +44,6 @@ use std::sync::ledger::Ledger;
 /// history's order. All passes are current: what a pass knows of its client's requests is true of
 /// the durable events, and it has exactly its client's accepts since it was lent. The hub's own
 /// list has room for each assigned delivery, so that one can always be finished without memory.
-#[derive(Drop)]
 pub struct Hub<D: Disk, C: Chare, B: RuntimeName> {
     pub(crate) alloc: Global,
     pub(crate) sequencer: Sequencer<D, C, B>,
@@ -66,7 +65,51 @@ impl<D: Disk, C: Chare, B: RuntimeName> Model for Hub<D, C, B> {
         × (h.processors ≡ B.processors) };
 }
 
+/// What a hub is made of.
+#[derive(Drop)]
+pub(crate) struct HubParts<D: Disk, C: Chare, B: RuntimeName> {
+    pub(crate) sequencer: Sequencer<D, C, B>,
+    pub(crate) seats: SeatBook<SeatsOf<B>>,
+    pub(crate) passes: PassBook<PassesOf<B>>,
+}
+
+// Written by hand, so that dropping all that a hub has is proved here, and not in each function
+// that drops one.
+impl<D: Disk, C: Chare, B: RuntimeName> Drop for Hub<D, C, B> {
+    fn drop(self) {
+        let Hub {
+            alloc: _,
+            sequencer,
+            seats,
+            passes,
+            processors: _,
+        } = self;
+        drop(sequencer);
+        drop(seats);
+        drop(passes);
+    }
+}
+
 impl<D: Disk, C: Chare, B: RuntimeName> Hub<D, C, B> {
+    /// What the hub is made of.
+    pub(crate) fn into_parts(self) -> HubParts<D, C, B>
+        ensures shown { shown_by result.sequencer result.seats result.passes ≡ self }
+        ensures hub { IsHub (shown_by result.sequencer result.seats result.passes) }
+    {
+        let Hub {
+            alloc: _,
+            sequencer,
+            seats,
+            passes,
+            processors: _,
+        } = self;
+        HubParts {
+            sequencer,
+            seats,
+            passes,
+        }
+    }
+
     /// A hub over a sequencer in whose history nothing has happened, with new books of seats and of
     /// passes: none is out. It takes no memory.
     pub fn new(

@@ -14,7 +14,7 @@ ghost use Rattle.charmlet_sequencer.specs.Sequencer.{is_lawful};
 
 use crate::names::RuntimeName;
 use crate::part::SeenPart;
-use crate::sequencer::Sequencer;
+use crate::sequencer::{Sequencer, SequencerParts};
 use crate::shelf::LockedShelf;
 use charmlet_agreement::{Book, BookName};
 use charmlet_chare::Chare;
@@ -52,13 +52,13 @@ impl<D: Disk, C: Chare, B: RuntimeName> Sequencer<D, C, B> {
             is_lawful (core_in result.store.history) outcome }
     {
         self.history.facts();
-        let Sequencer {
+        let SequencerParts {
             alloc,
             history,
             halves,
             stock,
             mut parts,
-        } = self;
+        } = self.into_parts();
         let mut shelves = shelves;
         let mut slots = empty;
         while let Some(locked) = shelves.pop() {
@@ -85,7 +85,7 @@ fn take_in<C: Chare, B: BookName>(
     ensures parts { parts.new ≡ slice_set parts.old locked.number None }
     ensures slots { slots.new.items ≡ slice_set slots.old.items locked.number locked }
 {
-    let LockedShelf { shelf, share, .. } = locked;
+    let (shelf, share) = locked.into_parts();
     let place = usize::from(shelf.number());
     parts.take_back(share);
     slots[place] = shelf;

@@ -23,6 +23,7 @@ ghost use Rattle.charmlet_sequencer.specs.Book.{IsBookIn, IsDueOn};
 ghost use Rattle.charmlet_sequencer.specs.Part.{Part};
 ghost use Rattle.charmlet_sequencer.specs.Sequencer.{IsOf, KeepsObjects, is_lawful, store_of, supplied_of};
 ghost use Rattle.charmlet_sequencer.specs.Shelf.{is_done};
+ghost use Rattle.charmlet_sequencer.specs.Together.{AreTied, shown_by};
 
 use crate::names::RuntimeName;
 use crate::part::{SeenPart, write};
@@ -49,7 +50,6 @@ use std::sync::ledger::Ledger;
 /// shows the world after the history, and the delivery that is under way there is the one that is
 /// assigned to its processor. On an honest disk a crash leaves the world after some of the history,
 /// with all durable events among it.
-#[derive(Drop)]
 pub struct Sequencer<D: Disk, C: Chare, B: RuntimeName> {
     pub(crate) alloc: Global,
     pub(crate) history: History,
@@ -72,7 +72,57 @@ impl<D: Disk, C: Chare, B: RuntimeName> Model for Sequencer<D, C, B> {
         × AreTied h.history h.stock h.parts h.halves };
 }
 
+/// What a sequencer is made of.
+#[derive(Drop)]
+pub(crate) struct SequencerParts<D: Disk, C: Chare, B: RuntimeName> {
+    pub(crate) alloc: Global,
+    pub(crate) history: History,
+    pub(crate) halves: Halves<D>,
+    pub(crate) stock: Stock<C>,
+    pub(crate) parts: Book<SeenPart, B>,
+}
+
+// Written by hand, so that dropping all that a sequencer has is proved here, and not in each
+// function that drops one.
+impl<D: Disk, C: Chare, B: RuntimeName> Drop for Sequencer<D, C, B> {
+    fn drop(self) {
+        let Sequencer {
+            alloc: _,
+            history,
+            halves,
+            stock,
+            parts,
+        } = self;
+        drop(history);
+        drop(halves);
+        drop(stock);
+        drop(parts);
+    }
+}
+
 impl<D: Disk, C: Chare, B: RuntimeName> Sequencer<D, C, B> {
+    /// What the sequencer is made of.
+    pub(crate) fn into_parts(self) -> SequencerParts<D, C, B>
+        ensures shown { shown_by result.history result.stock result.halves ≡ self }
+        ensures of { IsOf B.opening B.before B.processors (core_in result.history) }
+        ensures tied { AreTied result.history result.stock result.parts result.halves }
+    {
+        let Sequencer {
+            alloc,
+            history,
+            halves,
+            stock,
+            parts,
+        } = self;
+        SequencerParts {
+            alloc,
+            history,
+            halves,
+            stock,
+            parts,
+        }
+    }
+
     /// States what always holds of a sequencer: its store is the one that it is named for; the
     /// history was made by events, each in its turn; it has, for each shelf, the records of the
     /// world after that history and the delivery that is assigned there, and of each kind all

@@ -11,7 +11,6 @@ use std::marker::Model;
 /// A shelf, and its share of the sequencer's book, which has the records of its elements before the
 /// delivery that is under way there, and that delivery. A contract sees the shelf. Its objects show
 /// these records; once the receiver has reacted, its object is ahead by exactly that delivery.
-#[derive(Drop)]
 pub struct LockedShelf<C: Chare, B: BookName> {
     pub(crate) shelf: Shelf<C>,
     /// What the receiver sent and replied, once it has reacted.
@@ -33,12 +32,41 @@ impl<C: Chare, B: BookName> Model for LockedShelf<C, B> {
         × HasOutput s.shelf.phase s.output };
 }
 
+// Written by hand, so that dropping all that such a shelf has is proved here, and not in each
+// function that drops one.
+impl<C: Chare, B: BookName> Drop for LockedShelf<C, B> {
+    fn drop(self) {
+        let LockedShelf {
+            shelf,
+            output,
+            share,
+        } = self;
+        drop(shelf);
+        drop(output);
+        drop(share);
+    }
+}
+
 impl<C: Chare, B: BookName> LockedShelf<C, B> {
-    ghost use Rattle.std.specs.Prelude.{◌≡◌, true, OnErr, OnOk};
+    ghost use Rattle.std.specs.Prelude.{◌≡◌, true, Some, OnErr, OnOk};
     ghost use Rattle.charmlet_shelf.specs.Shelf.{is_assigned, is_idle};
     ghost use Rattle.charmlet_checkpoint.specs.Imaging.{AnswersImage};
-    ghost use Rattle.charmlet_sequencer.specs.Part.{HasPart};
+    ghost use Rattle.charmlet_sequencer.specs.Part.{HasPart, part_on};
     ghost use Rattle.charmlet_sequencer.specs.Shelf.{delivery_in, entered, is_done};
+
+    /// The shelf, and its share of the book.
+    pub(crate) fn into_parts(self) -> (Shelf<C>, Share<SeenPart, B>)
+        ensures shelf { result.0 ≡ self }
+        ensures share { result.1 ≡ (self.number, Some (part_on self)) }
+    {
+        let LockedShelf {
+            shelf,
+            output,
+            share,
+        } = self;
+        drop(output);
+        (shelf, share)
+    }
 
     /// The number of its processor.
     pub fn number(&self) -> u16

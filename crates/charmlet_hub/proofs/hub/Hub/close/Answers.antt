@@ -35,8 +35,8 @@ returns-in_default-clause-err g c =
 pub unreachable-requires : goal.unreachable-requires
 unreachable-requires g c =
     let seats = sym c.len.ensures ∙ c.if-len-seat_count.false ∙ c.seat_count.ensures ∙ ap (λ (v : HubShown _). length v.seats.out) c.self.view_is in
-    let out = length c.hub.inside.seats.out in
-    let same : vec_len c.args.seats ≡ out = seats ∙ sym (ap length (ap (λ (v : HubShown _). v.seats.out) c.hub.view_is ∙ c.loop-i.invariant.out)) in
+    let out = length c.into_parts-sequencer.result.seats.out in
+    let same : vec_len c.args.seats ≡ out = seats ∙ sym (ap length (ap (λ (v : HubShown _). v.seats.out) c.into_parts-sequencer.ensures.shown ∙ c.loop-i.invariant.out)) in
     let never : false ≡ true = (c.in_default-close.ensures {u = tt}).which ∙ ap (λ n. n == out) same ∙ nat_eq_equiv.refl out in
     let contra : ⊥ = cc in contra
 
@@ -46,25 +46,25 @@ returns-clause-settles g c =
     let apart = c.take_apart-apart.ensures in (
       c.loop-i.hub,
       all_settled c.args.self c.loop-i.hub c.args.shelves.items c.loop-i.shelves.items c.loop-i.i c.loop-i.invariant all,
-      apart.core ∙ ap (λ (v : HubShown _). v.core) c.hub.view_is,
-      apart.census ∙ ap (λ (v : HubShown _). v.census) c.hub.view_is,
-      apart.disk ∙ ap (λ (v : HubShown _). v.disk) c.hub.view_is,
-      c.in-Ok-close.ensures.own ∙ ap (λ (v : HubShown _). v.seats.own) c.hub.view_is,
+      apart.core ∙ ap (λ (v : HubShown _). v.core) c.into_parts-sequencer.ensures.shown,
+      apart.census ∙ ap (λ (v : HubShown _). v.census) c.into_parts-sequencer.ensures.shown,
+      apart.disk ∙ ap (λ (v : HubShown _). v.disk) c.into_parts-sequencer.ensures.shown,
+      c.in-Ok-close.ensures.own ∙ ap (λ (v : HubShown _). v.seats.own) c.into_parts-sequencer.ensures.shown,
     )
 
 pub returns-clause-lawful : goal.returns-clause-lawful
 returns-clause-lawful g c = λ honest.
-    let disk = ap (λ (v : HubShown _). v.disk) c.hub.view_is ∙ c.loop-i.invariant.disk in
+    let disk = ap (λ (v : HubShown _). v.disk) c.into_parts-sequencer.ensures.shown ∙ c.loop-i.invariant.disk in
     c.take_apart-apart.ensures.lawful (subst g.D.Disk.honest (sym disk) honest)
 
 pub returns-clause-woven : goal.returns-clause-woven
 returns-clause-woven g c =
-    let h = c.hub.inside in
+    let h = c.into_parts-sequencer.result in
     subst (λ (x : IdList × Core). IsWoven (x.0.items ∷ map (λ (seat : HeldSeat). seat.ids) c.args.seats.items) (deliveries_in x.1.history)) (λ i. (sym c.in-Ok-close.ensures.own i, sym c.take_apart-apart.ensures.core i))
-    (c.in-Ok-close.ensures.woven (deliveries_in h.sequencer.core.history) c.hub.invariant.0.seats)
+    (c.in-Ok-close.ensures.woven (deliveries_in h.sequencer.core.history) c.into_parts-sequencer.ensures.hub.seats)
 
 pub returns-clause-current : goal.returns-clause-current
 returns-clause-current g c =
-    let h = c.hub.inside in
+    let h = c.into_parts-sequencer.result in
     subst (λ core. AllByRecursion (λ (held : HeldPass). IsCurrent held core) c.args.passes.items) (sym c.take_apart-apart.ensures.core)
-    (c.in-Ok-close-2.ensures.current h.sequencer.core c.hub.invariant.0.passes)
+    (c.in-Ok-close-2.ensures.current h.sequencer.core c.into_parts-sequencer.ensures.hub.passes)

@@ -12,9 +12,9 @@ use Rattle.charmlet_sequencer.proofs.sequencer.Sequencer.take_apart.Goals as goa
 
 pub loop-locked-init : goal.loop-locked-init
 loop-locked-init g c =
-    let h = c.self.inside in
-    let of = c.self.invariant.0 in
-    let book = c.self.invariant.1.book in
+    let h = c.into_parts-history.result in
+    let of = c.into_parts-history.ensures.of in
+    let book = c.into_parts-history.ensures.tied.book in
     let slots = c.args.empty.items in
     let many : length h.parts ≡ length slots = book.count ∙ of.processors_are ∙ sym c.requires.empty.count in
     record {
@@ -26,12 +26,12 @@ loop-locked-init g c =
 pub take_in-requires-clause-count : goal.take_in-requires-clause-count
 take_in-requires-clause-count g c κs within =
     let slots = c.loop-locked.slots in
-    let same = back_slots 0 c.self.inside.parts c.loop-locked.parts slots.items c.loop-locked.invariant.back in
+    let same = back_slots 0 c.into_parts-history.result.parts c.loop-locked.parts slots.items c.loop-locked.invariant.back in
     omega (arith, same, slots.ok.0)
 
 pub loop-locked-preserved : goal.loop-locked-preserved
 loop-locked-preserved g c =
-    let all = c.self.inside.parts in
+    let all = c.into_parts-history.result.parts in
     let so_far = c.loop-locked.invariant in
     let parts = c.loop-locked.parts in
     let slots = c.loop-locked.slots.items in
@@ -53,9 +53,9 @@ loop-locked-preserved g c =
 
 pub invariant_of-store : goal.invariant_of-store
 invariant_of-store g c =
-    let h = c.self.inside in
-    let of = c.self.invariant.0 in
-    let book = c.self.invariant.1.book in
+    let h = c.into_parts-history.result in
+    let of = c.into_parts-history.ensures.of in
+    let book = c.into_parts-history.ensures.tied.book in
     let parts = c.loop-locked.parts in
     let so_far = c.loop-locked.invariant in
     let none : vec_len c.loop-locked.shelves ≡ 0 = search rules in
@@ -67,10 +67,10 @@ invariant_of-store g c =
     closed_fits h.history slots h.stock h.parts book (back_end 0 h.parts parts slots all gone so_far.back)
 
 pub returns-clause-agrees : goal.returns-clause-agrees
-returns-clause-agrees g c = c.self.invariant.1.agrees
+returns-clause-agrees g c = c.into_parts-history.ensures.tied.agrees
 
 pub returns-clause-lawful : goal.returns-clause-lawful
 returns-clause-lawful g c = λ honest outcome left.
-    let core = core_in c.self.inside.history in
-    let disk = ap (λ (v : SequencerShown _). v.disk) c.self.view_is in
-    kept_is_lawful core.opening core.before core.history core.durable outcome ((c.self.invariant.1.keeps (subst g.D.Disk.honest (sym disk) honest)).now outcome left)
+    let core = core_in c.into_parts-history.result.history in
+    let disk = ap (λ (v : SequencerShown _). v.disk) c.into_parts-history.ensures.shown in
+    kept_is_lawful core.opening core.before core.history core.durable outcome ((c.into_parts-history.ensures.tied.keeps (subst g.D.Disk.honest (sym disk) honest)).now outcome left)
