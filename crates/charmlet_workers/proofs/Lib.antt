@@ -1,1 +1,2 @@
 pub mod Runtimes
+pub mod Seals

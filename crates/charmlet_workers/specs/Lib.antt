@@ -1,6 +1,7 @@
 -- The definitions that contracts cite.
 pub mod Runtime
 pub mod Working
+pub mod Sealing
 pub use Rattle.charmlet_agreement.specs.Naming
 pub use Rattle.charmlet_model.specs.Core
 pub use Rattle.charmlet_model.specs.World

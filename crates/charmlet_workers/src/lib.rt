@@ -13,6 +13,7 @@ mod looking;
 mod moving;
 mod opening;
 mod runtime;
+mod sealing;
 mod working;
 
 pub use crate::closing::NotClosed;

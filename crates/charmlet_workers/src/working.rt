@@ -1,8 +1,10 @@
 //! What workers do.
 
-ghost use Rattle.std.specs.Prelude.{◌≡◌, ℕ, ◌<◌, ◌≤◌, None, true, IfOk, IfSome, OnErr, length, slice_index_or};
+ghost use Rattle.std.specs.Prelude.{◌≡◌, ℕ, ◌<◌, ◌≤◌, None, false, true, IfErr, IfOk, IfSome, OnErr, OnOk, length, slice_index_or};
+ghost use Rattle.charmlet_model.specs.declared.refusal.Refusal.TheVariants as refusals;
 ghost use Rattle.charmlet_history.specs.Kept.{oldest_on_in};
 ghost use Rattle.charmlet_shelf.specs.Shelf.{is_assigned};
+ghost use Rattle.charmlet_sequencer.specs.Shelf.{is_done};
 ghost use Rattle.charmlet_hub.specs.Hub.{roomless};
 ghost use Rattle.charmlet_workers.specs.Working.{HasWorked, Takes};
 
@@ -127,7 +129,10 @@ impl<D: Disk, C: Chare, B: RuntimeName> Runtime<D, C, B> {
         &self,
         rt: &R,
         locked: &mut LockedShelf<C, B>,
-    ) -> Result<(), Refusal> {
+    ) -> Result<(), Refusal>
+        ensures settled { OnOk result (is_done locked.new.phase ≡ false) }
+        ensures err { IfErr result (λ refusal. refusal ≡ refusals.Halted) }
+    {
         if !locked.is_done() {
             return Ok(());
         }
