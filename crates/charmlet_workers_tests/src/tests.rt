@@ -1,2 +1,3 @@
 mod crossing;
+mod moving;
 mod opening;

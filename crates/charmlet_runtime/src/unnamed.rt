@@ -1,0 +1,68 @@
+//! Runtimes that have no name yet.
+
+ghost use Rattle.std.specs.Prelude.{◌≡◌, [], IfErr, IfOk};
+ghost use Rattle.charmlet_agreement.specs.Naming.{table_of};
+ghost use Rattle.charmlet_sequencer.specs.Sequencer.{IsOf};
+ghost use Rattle.charmlet_workers.specs.Runtime.{shown_of};
+ghost use Rattle.charmlet_engine.specs.Engine.{core_of};
+ghost use Rattle.charmlet_engine.specs.Together.{AreTied, shown_by};
+
+use charmlet_chare::Chare;
+use charmlet_disk::Disk;
+use charmlet_engine::Engine;
+use charmlet_sequencer::RuntimeName;
+use charmlet_workers::{NotOpened, Runtime, UnnamedBooks};
+use std::marker::Model;
+
+/// A runtime with threads before it has its name: an engine in which nothing has happened since it
+/// was made or came back. A contract sees the engine.
+#[derive(Drop)]
+pub struct UnnamedRuntime<D: Disk, C: Chare> {
+    pub(crate) engine: Engine<D, C>,
+}
+
+impl<D: Disk, C: Chare> Model for UnnamedRuntime<D, C> {
+    ghost use Rattle.std.specs.Prelude.{◌≡◌, []};
+    ghost use Rattle.charmlet_engine.specs.Engine.{EngineShown, core_of};
+
+    ghost Value = { EngineShown D };
+
+    ghost view = { λ r. r.engine };
+
+    ghost invariant = { λ r. ((core_of r.engine).history ≡ [])
+        × ((core_of r.engine).assigned ≡ []) };
+}
+
+impl<D: Disk, C: Chare> UnnamedRuntime<D, C> {
+    /// The runtime that goes on with an engine.
+    pub fn new(engine: Engine<D, C>) -> Self
+        requires no_events { (core_of engine).history ≡ [] }
+        requires unassigned { (core_of engine).assigned ≡ [] }
+        ensures { result ≡ engine }
+    {
+        UnnamedRuntime { engine }
+    }
+
+    /// The runtime under the name `B`, which its caller has picked for it and for these books. It
+    /// opens with the engine's world, after as many events and on as many processors, and makes no
+    /// call of the disk. It fails only when out of memory; then the engine's store and its halves
+    /// come back as they were.
+    ///
+    /// As with [`Runtime::open`], nothing that bears the name can leave the function that is
+    /// generic in it.
+    pub fn open<B: RuntimeName>(
+        self,
+        books: UnnamedBooks,
+    ) -> Result<Runtime<D, C, B>, NotOpened<D, C>>
+        requires named { IsOf B.opening B.before B.processors (core_of self) }
+        requires parts { table_of books.parts ≡ B.table }
+        requires seats { table_of books.seats ≡ B.seats }
+        requires passes { table_of books.passes ≡ B.passes }
+        ensures shown { IfOk result (λ runtime. runtime ≡ shown_of (core_of self)) }
+        ensures back { IfErr result (λ back. (shown_by back.store back.halves ≡ self)
+            × AreTied back.store back.halves) }
+    {
+        let (store, halves) = self.engine.into_parts();
+        Runtime::open(store, halves, books)
+    }
+}

@@ -1,0 +1,264 @@
+//! An element that moves while a runtime goes on, a checkpoint, one that fails, and what comes back
+//! after a crash.
+
+ghost use Rattle.std.specs.Prelude.{◌≡◌};
+ghost use Rattle.charmlet_agreement.specs.Naming.{table_of};
+ghost use Rattle.charmlet_sequencer.specs.Sequencer.{IsOf};
+ghost use Rattle.charmlet_engine.specs.Engine.{core_of};
+
+use super::opening::{create_on, restart_on};
+use charmlet_disk::CrashChoice;
+use charmlet_history::Request;
+use charmlet_hub::{Closed, PassesOf, SeatsOf};
+use charmlet_model::{CONSTRUCT, Elem, Kind, MsgId, Origin, Refusal, Told};
+use charmlet_passes::ClientPass;
+use charmlet_probe_disk::{ProbeDisk, Switches};
+use charmlet_probe_objects::{Object, Tally, blanks};
+use charmlet_runtime::UnnamedRuntime;
+use charmlet_seats::Seat;
+use charmlet_sequencer::RuntimeName;
+use charmlet_store::Look;
+use charmlet_workers::{Gate, Runtime, UnnamedBooks};
+use std::alloc::AllocGlobal;
+use std::marker::Brand;
+use std::process::Abort;
+use std::sync::atomic::Ordering;
+use std::sync::{Arc, Wait};
+
+const CLIENT: u32 = 7;
+
+const ELEM: Elem = Elem { array: 0, index: 0 };
+
+// A counter that has 9, and never had more.
+const NINE: [u8; 16] = [9, 0, 0, 0, 0, 0, 0, 0, 9, 0, 0, 0, 0, 0, 0, 0];
+
+// A gate that is always open.
+#[derive(Drop)]
+struct Open;
+
+impl Gate for Open {
+    fn open(&self, _processor: u16, _id: &MsgId) -> bool {
+        true
+    }
+
+    fn committed(&self, _processor: u16, _id: &MsgId) {}
+}
+
+// One more blank counter is there.
+fn give<B: RuntimeName, R: Wait + AllocGlobal + Abort>(
+    rt: &R,
+    runtime: &Runtime<ProbeDisk, Object, B>,
+    tally: &Arc<Tally>,
+) {
+    let counter = blanks(rt.alloc(), tally, &[(Kind::Counter, 1)]).expect(rt, "memory");
+    assert!(rt; runtime.supply(rt, counter).is_ok());
+}
+
+// The client asks something of the counter, whose message is then the only one.
+fn ask<B: RuntimeName, R: Wait + AllocGlobal + Abort>(
+    rt: &R,
+    runtime: &Runtime<ProbeDisk, Object, B>,
+    pass: &mut ClientPass<PassesOf<B>>,
+    number: u64,
+    entry: u16,
+    word: u64,
+) {
+    let request = Request {
+        number,
+        to: ELEM,
+        entry,
+        words: &[word],
+    };
+    assert!(rt; matches!(runtime.request(rt, pass, &request), Ok(Told::Unknown)));
+    let ids = runtime.pending(rt, rt.alloc()).expect(rt, "memory");
+    let id = MsgId {
+        origin: Origin::Client(CLIENT),
+        number,
+    };
+    assert_eq!(rt; ids.as_slice(), [id].as_slice());
+    assert_eq!(rt; runtime.pending_count(rt), 1);
+}
+
+// Only the worker of this processor has something to deliver.
+fn work<B: RuntimeName, R: Wait + Abort>(
+    rt: &R,
+    runtime: &Runtime<ProbeDisk, Object, B>,
+    seats: &mut [Seat<SeatsOf<B>>],
+    processor: u16,
+) {
+    assert!(rt; !runtime.quiet(rt));
+    for seat in seats.iter_mut() {
+        let is_here = seat.processor() == processor;
+        let worked = runtime.work(rt, seat, &Open, 2);
+        assert_eq!(rt; worked.count, u64::from(is_here));
+        assert_eq!(rt; worked.refusal, None);
+    }
+    assert!(rt; runtime.quiet(rt));
+}
+
+// The counter is to go to this processor.
+fn go<B: RuntimeName, R: Wait + Abort>(
+    rt: &R,
+    runtime: &Runtime<ProbeDisk, Object, B>,
+    processor: u16,
+    refusal: Option<Refusal>,
+) {
+    assert_eq!(rt; runtime.move_to(rt, ELEM, processor).err(), refusal);
+}
+
+// The counter is made on processor 0, and goes to 1, back to 0, and to 1 again. What is asked of it
+// is delivered where it stands.
+fn roam<B: RuntimeName, R: Wait + AllocGlobal + Abort>(
+    rt: &R,
+    runtime: &Runtime<ProbeDisk, Object, B>,
+    tally: &Arc<Tally>,
+    pass: &mut ClientPass<PassesOf<B>>,
+    seats: &mut [Seat<SeatsOf<B>>],
+) {
+    go(rt, runtime, 1, Some(Refusal::Absent));
+    go(rt, runtime, 2, Some(Refusal::BadPes));
+    give(rt, runtime, tally);
+    ask(rt, runtime, pass, 1, CONSTRUCT, 5);
+    work(rt, runtime, seats, 0);
+    go(rt, runtime, 0, None);
+    go(rt, runtime, 1, Some(Refusal::NoBlank(Kind::Counter)));
+    for (number, word, processor) in &[(2, 3, 1), (3, 1, 0)] {
+        give(rt, runtime, tally);
+        go(rt, runtime, *processor, None);
+        ask(rt, runtime, pass, *number, 0, *word);
+        work(rt, runtime, seats, *processor);
+    }
+    give(rt, runtime, tally);
+    go(rt, runtime, 1, None);
+    let counters = runtime.census(rt).counters;
+    assert_eq!(rt;
+        [counters.supplied, counters.in_stock, counters.retired],
+        [4, 0, 3]
+    );
+}
+
+// All six events are durable, in an image of generation 2.
+fn is_durable<B: RuntimeName, R: Wait + Abort>(
+    rt: &R,
+    runtime: &Runtime<ProbeDisk, Object, B>,
+    pass: &mut ClientPass<PassesOf<B>>,
+) {
+    assert_eq!(rt; runtime.generation(rt), 2);
+    assert_eq!(rt; [runtime.durable(rt), runtime.event_count(rt)], [6, 6]);
+    let told = runtime.status(rt, pass, 3);
+    assert!(rt; matches!(&told, Ok(Told::Replied(words)) if words.as_slice() == [9].as_slice()));
+}
+
+// A checkpoint makes all durable. At the next one the device fails, and then all is refused.
+fn seal<B: RuntimeName, R: Wait + AllocGlobal + Abort>(
+    rt: &R,
+    runtime: &Runtime<ProbeDisk, Object, B>,
+    switches: &Switches,
+    pass: &mut ClientPass<PassesOf<B>>,
+) {
+    assert_eq!(rt; runtime.durable(rt), 0);
+    assert_eq!(rt; runtime.checkpoint(rt, rt.alloc()), Ok(2));
+    is_durable(rt, runtime, pass);
+    switches.fuse.store(0, Ordering::SeqCst);
+    assert_eq!(rt; runtime.checkpoint(rt, rt.alloc()), Err(Refusal::Device));
+    assert_eq!(rt; runtime.checkpoint(rt, rt.alloc()), Err(Refusal::Halted));
+    go(rt, runtime, 0, Some(Refusal::Halted));
+}
+
+// Whether the counter stands on the processor, with all three messages received.
+fn stands(look: &Look, processor: u16) -> bool {
+    let Some(standing) = &look.standing else {
+        return false;
+    };
+    standing.processor == processor
+        && standing.packed.as_slice() == NINE.as_slice()
+        && look.sent == 0
+        && look.received == 3
+}
+
+// The runtime is closed, and the counter's object stands on the processor.
+fn end<B: RuntimeName>(
+    rt: &impl Abort,
+    runtime: Runtime<ProbeDisk, Object, B>,
+    seats: Vec<Seat<SeatsOf<B>>>,
+    passes: Vec<ClientPass<PassesOf<B>>>,
+    processor: u16,
+) -> ProbeDisk {
+    let Closed {
+        mut store,
+        halves,
+        own: _,
+    } = match runtime.close(seats, passes) {
+        Ok(closed) => closed,
+        Err(_) => panic!(rt; "all seats and passes are in"),
+    };
+    let look = store.look(ELEM).expect(rt, "memory");
+    assert!(rt; stands(&look, processor));
+    halves.into_disk()
+}
+
+// A runtime's first life, in which the counter moves, or its second one, in which it is on its home
+// again.
+fn live<B: RuntimeName, R: Wait + AllocGlobal + Abort>(
+    rt: &R,
+    runtime: Runtime<ProbeDisk, Object, B>,
+    tally: &Arc<Tally>,
+    first: Option<&Switches>,
+) -> ProbeDisk {
+    let mut pass = runtime.client(rt, CLIENT).expect(rt, "it isn't out");
+    let mut seats = Vec::new(rt.alloc());
+    for processor in 0..2 {
+        let seat = runtime.seat(rt, processor).expect(rt, "it isn't out");
+        seats.push(seat).expect(rt, "memory");
+    }
+    if let Some(switches) = first {
+        roam(rt, &runtime, tally, &mut pass, seats.as_mut_slice());
+        seal(rt, &runtime, switches, &mut pass);
+    } else {
+        is_durable(rt, &runtime, &mut pass);
+    }
+    let mut passes = Vec::new(rt.alloc());
+    passes.push(pass).expect(rt, "memory");
+    end(rt, runtime, seats, passes, u16::from(first.is_some()))
+}
+
+// The same under the name `B`.
+fn live_named<B: RuntimeName, R: Wait + AllocGlobal + Abort>(
+    rt: &R,
+    begun: UnnamedRuntime<ProbeDisk, Object>,
+    books: UnnamedBooks,
+    tally: &Arc<Tally>,
+    first: Option<&Switches>,
+) -> ProbeDisk
+    requires named { IsOf B.opening B.before B.processors (core_of begun) }
+    requires parts { table_of books.parts ≡ B.table }
+    requires seats { table_of books.seats ≡ B.seats }
+    requires passes { table_of books.passes ≡ B.passes }
+{
+    match begun.open::<B>(books) {
+        Ok(runtime) => live(rt, runtime, tally, first),
+        Err(_) => panic!(rt; "memory"),
+    }
+}
+
+// The same, under a name of its own.
+fn live_once<R: Wait + AllocGlobal + Abort>(
+    rt: &R,
+    begun: UnnamedRuntime<ProbeDisk, Object>,
+    tally: &Arc<Tally>,
+    first: Option<&Switches>,
+) -> ProbeDisk {
+    let books = UnnamedBooks::new(rt.alloc()).expect(rt, "memory");
+    live_named::<Brand, R>(rt, begun, books, tally, first)
+}
+
+#[test]
+fn a_counter_moves_and_comes_back(rt: HostRuntime) {
+    let alloc = rt.alloc();
+    let tally = Arc::new(alloc, Tally::new()).expect(&rt, "memory");
+    let disk = ProbeDisk::new(alloc).expect(&rt, "memory");
+    let switches = disk.switches().expect(&rt, "memory");
+    let disk = live_once(&rt, create_on(&rt, disk), &tally, Some(&switches));
+    let disk = disk.crash(CrashChoice::New);
+    let _disk = live_once(&rt, restart_on(&rt, disk, &tally), &tally, None);
+}
