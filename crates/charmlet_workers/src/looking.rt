@@ -1,6 +1,7 @@
-//! What is seen of a runtime, in one hold of its hub each.
+//! What is seen of a runtime: of an element on its shelf, and all else in one hold of the hub.
 
-ghost use Rattle.std.specs.Prelude.{◌≡◌, ◌≤◌, IfOk, length, map};
+ghost use Rattle.std.specs.Prelude.{◌≡◌, ◌≤◌, ◌⊎◌, IfErr, IfOk, length, map};
+ghost use Rattle.charmlet_model.specs.declared.refusal.Refusal.TheVariants as refusals;
 ghost use Rattle.charmlet_model.specs.Core.{present};
 ghost use Rattle.charmlet_history.specs.Kept.{core_in};
 
@@ -8,8 +9,10 @@ use crate::runtime::Runtime;
 use charmlet_chare::Chare;
 use charmlet_disk::Disk;
 use charmlet_history::History;
-use charmlet_model::MsgId;
-use charmlet_sequencer::RuntimeName;
+use charmlet_model::{Elem, MsgId, Refusal};
+use charmlet_sequencer::{LockedShelf, RuntimeName};
+use charmlet_shelf::Image;
+use charmlet_store::{Look, Standing};
 use std::alloc::{AllocError, Global};
 use std::sync::Wait;
 
@@ -55,6 +58,80 @@ impl<D: Disk, C: Chare, B: RuntimeName> Runtime<D, C, B> {
     /// The ids of the pending messages, in order of birth. It fails only when out of memory.
     pub fn pending<R: Wait>(&self, rt: &R, alloc: Global) -> Result<Vec<MsgId>, AllocError> {
         pending_in(alloc, self.hub.lock(rt).history())
+    }
+
+    /// What is seen of an element: its counts, and, if it is there, where it stands and its packed
+    /// state. The hub is locked to find it, and then the shelf on which it stands; where the
+    /// element has moved meanwhile, it is looked for again.
+    ///
+    /// A delivery that was made on that shelf and isn't committed is committed first, or refused as
+    /// `Halted`. `Memory` is the only other refusal, for the packed state.
+    pub fn look<R: Wait>(&self, rt: &R, elem: Elem) -> Result<Look, Refusal>
+        ensures { IfErr result (λ refusal. (refusal ≡ refusals.Halted)
+            ⊎ (refusal ≡ refusals.Memory)) }
+    {
+        for _ in rt.forever() {
+            let element = self.hub.lock(rt).history().element(elem);
+            let Some(place) = element.place else {
+                return Ok(Look {
+                    standing: None,
+                    sent: element.sent,
+                    received: element.received,
+                });
+            };
+            match self.look_at(rt, elem, place) {
+                Ok(Some(look)) => return Ok(look),
+                Ok(None) => {}
+                Err(refusal) => return Err(refusal),
+            }
+        }
+        unreachable!()
+    }
+
+    /// The same, if the element stands on the processor.
+    fn look_at<R: Wait>(&self, rt: &R, elem: Elem, place: u16) -> Result<Option<Look>, Refusal>
+        ensures { IfErr result (λ refusal. (refusal ≡ refusals.Halted)
+            ⊎ (refusal ≡ refusals.Memory)) }
+    {
+        match self.shelves.get(usize::from(place)) {
+            Some(lock) => self.look_on(rt, &mut lock.lock(rt), elem),
+            None => Ok(None),
+        }
+    }
+
+    /// The same, on its locked shelf.
+    fn look_on<R: Wait>(
+        &self,
+        rt: &R,
+        locked: &mut LockedShelf<C, B>,
+        elem: Elem,
+    ) -> Result<Option<Look>, Refusal>
+        ensures { IfErr result (λ refusal. (refusal ≡ refusals.Halted)
+            ⊎ (refusal ≡ refusals.Memory)) }
+    {
+        if let Err(refusal) = self.settle(rt, locked) {
+            return Err(refusal);
+        }
+        match locked.image(elem) {
+            Ok(Some(image)) => Ok(Some(standing_look(locked.number(), image))),
+            Ok(None) => Ok(None),
+            Err(refusal) => Err(refusal),
+        }
+    }
+}
+
+/// What is seen of an element of which this is the image, on this processor.
+fn standing_look(processor: u16, image: Image) -> Look {
+    let Image {
+        elem: _,
+        sent,
+        received,
+        packed,
+    } = image;
+    Look {
+        standing: Some(Standing { processor, packed }),
+        sent,
+        received,
     }
 }
 

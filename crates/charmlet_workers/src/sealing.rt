@@ -139,7 +139,11 @@ impl<D: Disk, C: Chare, B: RuntimeName> Runtime<D, C, B> {
     }
 
     /// The same of the shelf itself.
-    fn settle<R: Wait>(&self, rt: &R, locked: &mut LockedShelf<C, B>) -> Result<(), Refusal>
+    pub(crate) fn settle<R: Wait>(
+        &self,
+        rt: &R,
+        locked: &mut LockedShelf<C, B>,
+    ) -> Result<(), Refusal>
         ensures idle { OnOk result (IsIdle locked.new) }
         ensures err { IfErr result (λ refusal. refusal ≡ refusals.Halted) }
     {
