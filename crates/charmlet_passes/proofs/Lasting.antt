@@ -23,7 +23,7 @@ use Rattle.charmlet_model.proofs.Histories.{row_of-insert, world-append}
 use Rattle.charmlet_model.proofs.Lasts.{holds_later}
 use Rattle.charmlet_requests.specs.Pass.{known}
 use Rattle.charmlet_requests.proofs.Truth.{can_all-first}
-use Rattle.charmlet_passes.specs.Passes.{HeldPass, LentPasses, IsCurrent, AreCurrent, accepts_in}
+use Rattle.charmlet_passes.specs.Passes.{HeldPass, LentPasses, AreTrue, IsCurrent, AreCurrent, accepts_in}
 
 -- The later core goes on after the same opening world, with no fewer durable events, and without
 -- accepts of this client.
@@ -110,6 +110,10 @@ module _ (old new : Core) (client : ℕ) (on : GoesOnWithout client old new) (so
       subst (λ es. Holds new.opening es client number t) (sym goes_on)
       (holds_later new.opening (sure old) more.0 client number t (subst (λ es. can_all new.opening es ≡ true) goes_on legal) here)
 
+  all-later : (answers : List (ℕ × Told)) → AreTrue old client answers → AreTrue new client answers
+  all-later [] all = tt
+  all-later (answer ∷ answers) all = (holds-later answer.0 answer.1 all.0, all-later answers all.1)
+
   last-later : (client_of (present new) client).last ≡ (client_of (present old) client).last
   last-later =
       ap (λ (p : World × List Event). (client_of (world p.0 p.1) client).last) (λ i. (on.opening i, on.grows i))
@@ -134,6 +138,7 @@ current-later old new h on sound sound' is =
     let since = is.since in
     let within = is.within in
     record {
+      heard = all-later old new h.pass.client on sound sound' h.heard is.heard;
       told = λ number. holds-later old new h.pass.client on sound sound' number (known h.pass number) (is.told number);
       up_to_date = last-later old new h.pass.client on sound sound' ∙ is.up_to_date;
       since = omega arith;

@@ -1,11 +1,12 @@
 -- What is made of the passes by requests.
 use Rattle.std.proofs.Common.{◌≡◌, ◌≢◌, ◌⊎◌, inl, inr, ⊎_elim, ℕ, ◌+◌, ◌-◌, ◌≤◌, true, false, List, [], ◌∷◌, ◌++◌, length, take, drop, refl, sym, ap, subst, ◌∙◌, arith, length-append, if◌then◌else◌, Option, Some, None, nat_lt, Result}
-use Rattle.std.specs.Prelude.{◌==◌, slice_get, slice_set, IfErr, OnErr}
+use Rattle.std.specs.Prelude.{◌==◌, slice_get, slice_set, IfErr, IfOk, OnErr}
+use Rattle.std.specs.List.{AllByRecursion}
 use Rattle.std.specs.Cmp.{nat_eq_equiv}
 use Rattle.std.specs.Ordering.{nat_cmp}
 use Rattle.std.specs.BTreeSet.{insert_key}
 use Rattle.std.proofs.lemmas.Bool.{ltb-true, ltb-false}
-use Rattle.std.proofs.lemmas.List.{drop-append-le, drop_all, take_all}
+use Rattle.std.proofs.lemmas.List.{drop-append-le, drop_all, take-append-le, take_all}
 use Rattle.std.proofs.lemmas.Map.Views.{exact_unsigned_eq}
 use Rattle.charmlet_model.specs.declared.names.Elem.{Elem}
 use Rattle.charmlet_model.specs.declared.event.Event.{Event}
@@ -20,11 +21,12 @@ use Rattle.charmlet_model.specs.Row.{below, no_client}
 use Rattle.charmlet_model.specs.Told.{Holds, told, told_of}
 use Rattle.charmlet_model.specs.World.{client_of, world}
 use Rattle.charmlet_model.specs.Sound.{IsSound}
+use Rattle.charmlet_model.proofs.ToldLemmas.{told_durable}
 use Rattle.charmlet_model.proofs.Windows.{inside-parts}
 use Rattle.charmlet_requests.specs.Pass.{Pass, IsTold, IsUpToDate, IsHeard, is_out}
 use Rattle.charmlet_requests.proofs.Covering.{told-above, told-below}
 use Rattle.charmlet_requests.proofs.Turns.{IsAnswered, answered, follows}
-use Rattle.charmlet_passes.specs.Passes.{HeldPass, LentPasses, IsCurrent, AreCurrent, accepts_in, lent_since, held_by}
+use Rattle.charmlet_passes.specs.Passes.{HeldPass, LentPasses, AreTrue, IsCurrent, AreCurrent, accepts_in, lent_since, held_by, with_answer}
 use Rattle.charmlet_passes.specs.Passes as answers
 use Rattle.charmlet_passes.proofs.Lasting.{GoesOnWithout, accepts_in-append, current-later}
 use Rattle.charmlet_passes.proofs.Places.{at_end, at_set}
@@ -47,6 +49,7 @@ nothing_told core client number =
 
 lent_current : (core : Core) (client : ℕ) → IsCurrent (lent_since client (client_of (present core) client).last (core.before + length core.history)) core
 lent_current core client = record {
+  heard = tt;
   told = nothing_told core client;
   up_to_date = refl;
   since = omega arith;
@@ -98,6 +101,11 @@ are_current-written passes core new place h g there own is others sound sound' a
           (both i f at);
     }
 
+-- all of two lists of answers are true
+true-append : (core : Core) (client : ℕ) (xs ys : List (ℕ × Told)) → AreTrue core client xs → AreTrue core client ys → AreTrue core client (xs ++ ys)
+true-append core client [] ys all more = more
+true-append core client (x ∷ xs) ys all more = (all.0, true-append core client xs ys all.1 more)
+
 -- ---- a request
 
 module _ (core : Core) (blanks : Blanks) (client number : ℕ) (to : Elem) (entry : ℕ) (words : List ℕ) (sound : IsSound core) (new : Core) (t : Told)
@@ -132,12 +140,21 @@ module _ (core : Core) (blanks : Blanks) (client number : ℕ) (to : Elem) (entr
     ] refl;
   })
 
+  -- what is true of the durable events stays so
+  true_still : (answers : List (ℕ × Told)) → AreTrue core client answers → AreTrue new client answers
+  true_still answers are = either (λ c. AreTrue c client answers) (λ _. are)
+      (λ _. subst (λ es. AllByRecursion (λ (a : ℕ × Told). Holds core.opening es client a.0 a.1) answers) (sym (take-append-le core.durable core.history (event ∷ []) sound.durable)) are)
+
+  -- and so is the answer
+  answer_true : AreTrue new client ((number, t) ∷ [])
+  answer_true = true_still ((number, t) ∷ []) (told_durable core blanks (Request client number to entry words) (record { answer = Tells t; core = new; blanks = blanks }) client number t (refl, refl) steps refl, tt)
+
   own_event : accepts_in client (event ∷ []) ≡ event ∷ []
   own_event = ap (λ b. if b then event ∷ [] else []) (nat_eq_equiv.refl client)
 
   -- what the pass then holds
-  pub own-current : (h g : HeldPass) → h.pass.client ≡ client → IsCurrent h core → IsTold g.pass new → IsUpToDate g.pass new → g.pass.client ≡ client → g.since ≡ h.since → g.accepts ≡ accepts_with h → IsCurrent g new
-  own-current h g own is told up_to_date own' since' accepts' =
+  pub own-current : (h g : HeldPass) → h.pass.client ≡ client → IsCurrent h core → IsTold g.pass new → IsUpToDate g.pass new → g.pass.client ≡ client → g.since ≡ h.since → g.accepts ≡ accepts_with h → g.heard ≡ h.heard ++ (number, t) ∷ [] → IsCurrent g new
+  own-current h g own is told up_to_date own' since' accepts' heard' =
       let last : (client_of (present core) client).last ≡ h.pass.last = subst (λ c. (client_of (present core) c).last ≡ h.pass.last) own is.up_to_date in
       let Whole : Core → Type 0 = λ c. (c.before ≤ h.since) × (h.since ≤ c.before + length c.history) × (accepts_with h ≡ accepts_in client (drop (h.since - c.before) c.history)) in
       let had : h.accepts ≡ accepts_in client (drop (h.since - core.before) core.history) = is.accepts ∙ ap (λ c. accepts_in c (drop (h.since - core.before) core.history)) own in
@@ -170,7 +187,9 @@ module _ (core : Core) (blanks : Blanks) (client number : ℕ) (to : Elem) (entr
       )) in
       let low = whole.0 in
       let high = whole.1 in
+      let had_heard : AreTrue core client h.heard = subst (λ c. AreTrue core c h.heard) own is.heard in
       record {
+        heard = subst (λ (x : ℕ × List (ℕ × Told)). AreTrue new x.0 x.1) (λ i. (sym own' i, sym heard' i)) (true-append new client h.heard ((number, t) ∷ []) (true_still h.heard had_heard) answer_true);
         told = told;
         up_to_date = up_to_date;
         since = omega arith;
@@ -224,14 +243,15 @@ module _ (core : Core) (blanks : Blanks) (client number : ℕ) (to : Elem) (entr
   ]
 
 -- what was heard, of all that a pass holds
-pub heard_answered : (h g : HeldPass) (p q : Pass) (core after : Core) (number : ℕ) (result : Result Told Refusal) → IsHeard p q core after number result → IsTold p core → h.pass ≡ p → g.pass ≡ q → g.since ≡ h.since →
+pub heard_answered : (h g : HeldPass) (p q : Pass) (core after : Core) (number : ℕ) (result : Result Told Refusal) → IsHeard p q core after number result → IsTold p core → h.pass ≡ p → g.pass ≡ q → IfOk result (λ told. g.heard ≡ h.heard ++ (number, told) ∷ []) → g.since ≡ h.since →
     OnErr result (g ≡ h) → IfErr result (λ refusal. (n : ℕ) → refusal ≡ refusals.OutOfTurn n → n ≡ capped h.pass.last 1) → answers.IsAnswered h g number result
-heard_answered h g p q core after number result heard told is is' since err wanted =
+heard_answered h g p q core after number result heard told is is' behind since err wanted =
     let heard' : IsHeard h.pass g.pass core after number result = subst (λ (x : Pass × Pass). IsHeard x.0 x.1 core after number result) (λ i. (sym is i, sym is' i)) heard in
     let told' : IsTold h.pass core = subst (λ (x : Pass). IsTold x core) (sym is) told in
     record {
       no_less = heard'.no_less told';
       kept = heard'.kept;
+      heard = behind;
       since = since;
       err = err;
       wanted = wanted;
@@ -269,10 +289,13 @@ module _ (core : Core) (blanks : Blanks) (client number : ℕ) where
   ]
 
 -- what a pass is told of durable events
-pub told-current : (core : Core) (h : HeldPass) (p q : Pass) → h.pass ≡ p → IsCurrent h core → q.client ≡ p.client → q.last ≡ p.last → IsTold q core → IsCurrent (record h { pass = q }) core
-told-current core h p q is current client last told =
+pub told-current : (core : Core) (h : HeldPass) (p q : Pass) (number : ℕ) (t : Told) → h.pass ≡ p → IsCurrent h core → q.client ≡ p.client → q.last ≡ p.last → IsTold q core →
+    Holds core.opening (take core.durable core.history) p.client number t → IsCurrent (with_answer h q number t) core
+told-current core h p q number t is current client last told holds =
     let own : h.pass.client ≡ q.client = ap (λ (x : Pass). x.client) is ∙ sym client in
     record {
+      heard = true-append core q.client h.heard ((number, t) ∷ []) (subst (λ c. AreTrue core c h.heard) own current.heard)
+          (subst (λ c. Holds core.opening (take core.durable core.history) c number t) (sym client) holds, tt);
       told = told;
       up_to_date = ap (λ c. (client_of (present core) c).last) (sym own) ∙ current.up_to_date ∙ ap (λ (x : Pass). x.last) is ∙ sym last;
       since = current.since;

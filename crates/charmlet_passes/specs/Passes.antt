@@ -1,5 +1,5 @@
 -- What passes hold, and what their book has of them.
-use Rattle.std.specs.Prelude.{◌≡◌, ℕ, ◌+◌, ◌-◌, ◌≤◌, ◌==◌, nat_lt, true, List, [], ◌∷◌, ◌++◌, length, drop, if◌then◌else◌, Option, Some, None, slice_get, slice_set, Contains, Result, IfOk, IfErr, OnErr}
+use Rattle.std.specs.Prelude.{◌≡◌, ℕ, ◌+◌, ◌-◌, ◌≤◌, ◌==◌, nat_lt, true, List, [], ◌∷◌, ◌++◌, length, drop, take, if◌then◌else◌, Option, Some, None, slice_get, slice_set, Contains, Result, IfOk, IfErr, OnErr}
 use Rattle.std.specs.List.{AllByRecursion}
 use Rattle.charmlet_model.specs.declared.event.Event.{Event}
 use Rattle.charmlet_model.specs.declared.event.Event.TheVariants.{Accept, Deliver}
@@ -9,20 +9,28 @@ use Rattle.charmlet_model.specs.declared.told.Told.{Told}
 use Rattle.charmlet_model.specs.declared.told.Told.TheVariants.{Accepted}
 use Rattle.charmlet_model.specs.Core.{Core}
 use Rattle.charmlet_model.specs.Reaction.{capped}
+use Rattle.charmlet_model.specs.Told.{Holds}
 use Rattle.charmlet_history.specs.declared.request.Request.{Request}
 use Rattle.charmlet_requests.specs.Knowing.{IsNoLess}
 use Rattle.charmlet_requests.specs.Pass.{Pass, known, lent, with_told, is_out, IsTold, IsUpToDate}
 
--- A pass was lent after so many events, those before the opening world among them. It holds what
--- its client was told, and its client's accepts since then, in order.
+-- A pass was lent after so many events, those before the opening world among them. It knows the
+-- highest that its client was told of each request, and holds its client's accepts since then, and
+-- all that its client was told, about which request and what; both in order.
 pub record HeldPass : Type 0 where
   pub pass : Pass
   pub since : ℕ
   pub accepts : List Event
+  pub heard : List (ℕ × Told)
 
 -- a pass that is lent after so many events to a client whose last number is this one
 abbrev pub lent_since : ℕ → ℕ → ℕ → HeldPass
-lent_since client last since = record { pass = lent client last; since = since; accepts = [] }
+lent_since client last since = record {
+  pass = lent client last;
+  since = since;
+  accepts = [];
+  heard = [];
+}
 
 -- what the pass with this share holds
 abbrev pub held_by : Option HeldPass → HeldPass
@@ -37,9 +45,16 @@ accepts_in client (Accept asking number to entry words ∷ events) =
     if asking == client then Accept asking number to entry words ∷ accepts_in client events
     else accepts_in client events
 
--- All that the pass's client was told is true of the durable events, the pass's last number is its
--- client's, and its accepts are exactly its client's since it was lent.
+-- these answers to a client, each about a request, are true of the durable events
+abbrev pub AreTrue : Core → ℕ → List (ℕ × Told) → Type 0
+AreTrue core client answers = AllByRecursion (λ (answer : ℕ × Told).
+    Holds core.opening (take core.durable core.history) client answer.0 answer.1) answers
+
+-- All that the pass's client was told is true of the durable events, and so is what the pass knows
+-- by it; the pass's last number is its client's, and its accepts are exactly its client's since it
+-- was lent.
 pub record IsCurrent (held : HeldPass) (core : Core) : Type 0 where
+  pub heard : AreTrue core held.pass.client held.heard
   pub told : IsTold held.pass core
   pub up_to_date : IsUpToDate held.pass core
   pub since : core.before ≤ held.since
@@ -92,24 +107,30 @@ abbrev pub accepts_after : HeldPass → Request → List Event
 accepts_after held request = if nat_lt held.pass.last request.number
     then held.accepts ++ accept_of held.pass.client request ∷ [] else held.accepts
 
--- what the pass holds once a request of its client was answered, with what the client was told by
--- now
-abbrev pub with_request : HeldPass → Pass → Request → HeldPass
-with_request held pass request = record {
+-- what the pass holds once its client was told this about a request
+abbrev pub with_answer : HeldPass → Pass → ℕ → Told → HeldPass
+with_answer held pass number told = record held {
   pass = pass;
-  since = held.since;
+  heard = held.heard ++ (number, told) ∷ [];
+}
+
+-- what the pass holds once a request of its client was answered
+abbrev pub with_request : HeldPass → Pass → Request → Told → HeldPass
+with_request held pass request told = record (with_answer held pass request.number told) {
   accepts = accepts_after held request;
 }
 
 -- The answer to a request or a question with this number by a pass. What is told is no less than
 -- what the pass knew about it, and no other words, and then the pass knows no less than that. It
--- knows no less about any request than before. A refusal leaves it as it was, and if it says which
--- number is wanted, that is the one after the pass's last.
+-- knows no less about any request than before, and holds the answer behind the earlier ones. A
+-- refusal leaves it as it was, and if it says which number is wanted, that is the one after the
+-- pass's last.
 pub record IsAnswered (old new : HeldPass) (number : ℕ)
     (result : Result Told Refusal) : Type 0 where
   pub no_less : IfOk result (λ told.
       IsNoLess (known old.pass number) told × IsNoLess told (known new.pass number))
   pub kept : (other : ℕ) → IsNoLess (known old.pass other) (known new.pass other)
+  pub heard : IfOk result (λ told. new.heard ≡ old.heard ++ (number, told) ∷ [])
   pub since : new.since ≡ old.since
   pub err : OnErr result (new ≡ old)
   pub wanted : IfErr result (λ refusal. (wanted : ℕ) → refusal ≡ refusals.OutOfTurn wanted →
@@ -118,7 +139,8 @@ pub record IsAnswered (old new : HeldPass) (number : ℕ)
 -- a flush tells the pass's client that the last of its accepts is accepted, if there is one
 abbrev pub with_flush : HeldPass → HeldPass
 with_flush held = if nat_lt held.pass.lent_at held.pass.last
-    then record held { pass = with_told held.pass held.pass.last Accepted } else held
+    then with_answer held (with_told held.pass held.pass.last Accepted) held.pass.last Accepted
+    else held
 
 -- the book once a flush has told each of these passes, one after another
 abbrev pub TellAll : LentPasses → List HeldPass → LentPasses → Type 0

@@ -9,7 +9,7 @@ ghost use Rattle.charmlet_model.specs.Core.{Blanks, Core, Steps, present};
 ghost use Rattle.charmlet_model.specs.World.{client_of};
 ghost use Rattle.charmlet_history.specs.Kept.{core_in, told_or_refused};
 ghost use Rattle.charmlet_requests.specs.Pass.{is_out, lending_refusal, with_accept, with_told};
-ghost use Rattle.charmlet_passes.specs.Passes.{AreAll, AreCurrent, HeldPass, IsAnswered, IsCurrent, IsKept, TellAll, accepts_after, held_by, lent_since, passes_out, with_flush, with_request};
+ghost use Rattle.charmlet_passes.specs.Passes.{AreAll, AreCurrent, HeldPass, IsAnswered, IsCurrent, IsKept, TellAll, accepts_after, held_by, lent_since, passes_out, with_answer, with_flush, with_request};
 
 use crate::pass::{ClientPass, SeenPass};
 use charmlet_agreement::{Book, BookName, GhostValue, Share};
@@ -138,7 +138,8 @@ impl<B: BookName> PassBook<B> {
             Err(refusal) => return Err(refusal),
         };
         history.facts();
-        write_accept::<Brand, B>(&mut self.book, &mut pass.share, &pass.pass, request);
+        let share = &mut pass.share;
+        write_accept::<Brand, B>(&mut self.book, share, &pass.pass, request, &told);
         Ok(told)
     }
 
@@ -171,7 +172,7 @@ impl<B: BookName> PassBook<B> {
             Ok(told) => told,
             Err(refusal) => return Err(refusal),
         };
-        write_told::<Brand, B>(&mut self.book, &mut pass.share, &pass.pass);
+        write_told::<Brand, B>(&mut self.book, &mut pass.share, &pass.pass, number, &told);
         Ok(told)
     }
 
@@ -208,7 +209,8 @@ impl<B: BookName> PassBook<B> {
         let Ok(()) = pass.pass.hear(last, &Told::Accepted) else {
             unreachable!()
         };
-        write_told::<Brand, B>(&mut self.book, &mut pass.share, &pass.pass);
+        let share = &mut pass.share;
+        write_told::<Brand, B>(&mut self.book, share, &pass.pass, last, &Told::Accepted);
     }
 
     /// Takes all passes in: each has exactly its client's accepts since it was lent, and all that
@@ -231,40 +233,43 @@ impl<B: BookName> PassBook<B> {
     }
 }
 
-/// Writes what a pass's client was told into the book and the pass's share, which had the same
-/// value before.
+/// Writes what a pass's client was told about a request into the book and the pass's share, which
+/// had the same value before.
 fn write_told<N: GhostValue<SeenPass>, B: BookName>(
     book: &mut Book<SeenPass, B>,
     share: &mut Share<SeenPass, B>,
     _pass: &requests::ClientPass,
+    _number: u64,
+    _told: &Told,
 )
-    requires { N.value ≡ record (held_by share.old.1) { pass = _pass.now } }
+    requires { N.value ≡ with_answer (held_by share.old.1) _pass.now _number _told.now }
     ensures agrees { slice_get book.old share.old.0 ≡ Some share.old.1 }
     ensures book { book.new ≡ slice_set book.old share.old.0
-        (Some (record (held_by share.old.1) { pass = _pass.now })) }
+        (Some (with_answer (held_by share.old.1) _pass.now _number _told.now)) }
     ensures share { share.new ≡ (
       share.old.0,
-      Some (record (held_by share.old.1) { pass = _pass.now }),
+      Some (with_answer (held_by share.old.1) _pass.now _number _told.now),
     ) }
 {
     book.change_to::<N>(share);
 }
 
-/// Writes what a pass's client was told and its accepted request into the book and the pass's
-/// share, which had the same value before.
+/// Writes what a pass's client was told about its request, and that this was accepted, into the book
+/// and the pass's share, which had the same value before.
 fn write_accept<N: GhostValue<SeenPass>, B: BookName>(
     book: &mut Book<SeenPass, B>,
     share: &mut Share<SeenPass, B>,
     _pass: &requests::ClientPass,
     _request: &Request<'_>,
+    _told: &Told,
 )
-    requires { N.value ≡ with_request (held_by share.old.1) _pass.now _request.now }
+    requires { N.value ≡ with_request (held_by share.old.1) _pass.now _request.now _told.now }
     ensures agrees { slice_get book.old share.old.0 ≡ Some share.old.1 }
     ensures book { book.new ≡ slice_set book.old share.old.0
-        (Some (with_request (held_by share.old.1) _pass.now _request.now)) }
+        (Some (with_request (held_by share.old.1) _pass.now _request.now _told.now)) }
     ensures share { share.new ≡ (
       share.old.0,
-      Some (with_request (held_by share.old.1) _pass.now _request.now),
+      Some (with_request (held_by share.old.1) _pass.now _request.now _told.now),
     ) }
 {
     book.change_to::<N>(share);

@@ -26,12 +26,12 @@ returns-clause-answered g c =
     let number = c.args.request.now.number in
     let h = held_by c.pass.inside.share.1 in
     let known = known_at g c in
-    let next = with_request h c.request.new.pass c.args.request.now in
+    let next = with_request h c.request.new.pass c.args.request.now c.in-Ok.told in
     let share : c.write_accept.new.share ≡ (c.pass.inside.share.0, Some next) = search rules in
     let heard : IsHeard c.pass.inside.pass c.request.new.pass core after number (Ok c.in-Ok.told) = subst (IsHeard c.pass.inside.pass c.request.new.pass core after number) c.in-Ok.is c.request.ensures.heard in
     let told : IsTold c.pass.inside.pass core = subst (λ (p : Pass). IsTold p core) known.is known.current.told in
     subst (λ (x : HeldPass × HeldPass). IsAnswered x.0 x.1 number (Ok c.in-Ok.told)) (λ i. (c.pass.view_is i, held_by (sym share i).1))
-    (heard_answered h next c.pass.inside.pass c.request.new.pass core after number (Ok c.in-Ok.told) heard told known.is refl refl tt tt)
+    (heard_answered h next c.pass.inside.pass c.request.new.pass core after number (Ok c.in-Ok.told) heard told known.is refl refl refl tt tt)
 
 pub invariant_of-self-2 : goal.invariant_of-self-2
 invariant_of-self-2 g c =
@@ -39,14 +39,14 @@ invariant_of-self-2 g c =
     let share = c.pass.inside.share in
     let h = held_by share.1 in
     let known = known_at g c in
-    let next = with_request h c.request.new.pass c.args.request.now in
+    let next = with_request h c.request.new.pass c.args.request.now c.in-Ok.told in
     let new : c.write_accept.new.book ≡ slice_set held share.0 (Some next) = search rules in
     (c.self.invariant.0, ap (λ l. length (passes_out l)) new ∙ count-set held share.0 h next known.there ∙ c.self.invariant.1)
 
 pub returns-clause-kept : goal.returns-clause-kept
 returns-clause-kept g c =
     let share = c.pass.inside.share in
-    let next = with_request (held_by share.1) c.request.new.pass c.args.request.now in
+    let next = with_request (held_by share.1) c.request.new.pass c.args.request.now c.in-Ok.told in
     let new : c.write_accept.new.book ≡ slice_set c.self.inside.book share.0 (Some next) = search rules in
     let shared : c.write_accept.new.share ≡ (share.0, Some next) = search rules in
     subst (λ (x : LentPasses × (HeldPass × HeldPass)). IsKept x.0 (record { out = c.self.inside.out; held = c.write_accept.new.book }) x.1.0 x.1.1) (λ i. (c.self.view_is i, (c.pass.view_is i, held_by (sym shared i).1)))
@@ -62,7 +62,7 @@ returns-clause-current g c =
     let h = held_by share.1 in
     let client = h.pass.client in
     let known = known_at g c in
-    let next = with_request h c.request.new.pass asked in
+    let next = with_request h c.request.new.pass asked c.in-Ok.told in
     let new : c.write_accept.new.book ≡ slice_set held share.0 (Some next) = search rules in
     let own : c.pass.inside.pass.client ≡ client = sym (ap (λ (p : Pass). p.client) known.is) in
     let told : IsTold c.pass.inside.pass core = subst (λ (p : Pass). IsTold p core) known.is known.current.told in
@@ -72,7 +72,7 @@ returns-clause-current g c =
     subst (λ (x : ℕ × Result Told Refusal). Steps core plenty (Request x.0 asked.number asked.to asked.entry asked.words.now) (record { answer = told_or_refused x.1; core = after; blanks = plenty })) (λ i. (own i, c.in-Ok.is i)) (c.request.ensures.steps plenty) in
     let current : IsCurrent next after =
     own-current core plenty client asked.number asked.to asked.entry asked.words.now c.facts.ensures.sound after c.in-Ok.told steps h next refl known.current
-    (c.request.ensures.heard.holds told) (c.request.ensures.up_to_date up_to_date) (same_client ∙ own) refl refl in
+    (c.request.ensures.heard.holds told) (c.request.ensures.up_to_date up_to_date) (same_client ∙ own) refl refl refl in
     subst (λ l. AreCurrent (record { out = c.self.inside.out; held = l }) after) (sym new)
     (are_current-written (record { out = c.self.inside.out; held = held }) core after share.0 h next known.there (same_client ∙ own) current
     (others_go_on core plenty client asked.number asked.to asked.entry asked.words.now c.facts.ensures.sound after c.in-Ok.told steps)
@@ -102,7 +102,7 @@ returns-in-Err-clause-answered g c =
     subst (λ (x : ℕ × Result Told Refusal). Steps core plenty (Request x.0 asked.number asked.to asked.entry asked.words.now) (record { answer = told_or_refused x.1; core = after; blanks = plenty })) (λ i. (own i, c.in-Err.is i)) (c.request.ensures.steps plenty) in
     let want : (n : ℕ) → refusal ≡ refusals.OutOfTurn n → n ≡ capped h.pass.last 1 = λ n e. wanted core plenty h.pass.client asked.number asked.to asked.entry asked.words.now after refusal steps n e ∙ ap (λ l. capped l 1) known.current.up_to_date in
     subst (λ (x : HeldPass × HeldPass). IsAnswered x.0 x.1 asked.number (Err refusal)) (λ i. (c.pass.view_is i, held_by (sym share i).1))
-    (heard_answered h h c.pass.inside.pass c.request.new.pass core after asked.number (Err refusal) heard told known.is (known.is ∙ sym same) refl refl want)
+    (heard_answered h h c.pass.inside.pass c.request.new.pass core after asked.number (Err refusal) heard told known.is (known.is ∙ sym same) tt refl refl want)
 
 pub returns-in-Err-clause-kept : goal.returns-in-Err-clause-kept
 returns-in-Err-clause-kept g c =

@@ -4,10 +4,11 @@ use Rattle.charmlet_model.specs.declared.told.Told.{Told}
 use Rattle.charmlet_model.specs.declared.refusal.Refusal.{Refusal}
 use Rattle.charmlet_model.specs.declared.refusal.Refusal.TheVariants as refusals
 use Rattle.charmlet_model.specs.Reaction.{capped}
-use Rattle.charmlet_model.specs.Core.{Status, Steps, Refuses}
+use Rattle.charmlet_model.specs.Core.{Status, Steps, Refuses, Tells}
+use Rattle.charmlet_model.proofs.ToldLemmas.{told_durable}
 use Rattle.charmlet_history.specs.Kept.{core_in, plenty, told_or_refused}
 use Rattle.charmlet_requests.specs.Pass.{Pass, IsHeard, IsTold, with_told}
-use Rattle.charmlet_passes.specs.Passes.{HeldPass, LentPasses, AreCurrent, IsAnswered, IsCurrent, IsKept, passes_out, held_by}
+use Rattle.charmlet_passes.specs.Passes.{HeldPass, LentPasses, AreCurrent, IsAnswered, IsCurrent, IsKept, passes_out, held_by, with_answer}
 use Rattle.charmlet_passes.proofs.OtherSteps.{stays}
 use Rattle.charmlet_passes.proofs.Places.{count-set, kept-same}
 use Rattle.charmlet_passes.proofs.Requests.{Known, known_by, are_current-written, heard_answered, kept-written, told-current, status_wanted}
@@ -25,12 +26,12 @@ returns-clause-answered g c =
     let core = core_in c.args.history.now in
     let h = held_by c.pass.inside.share.1 in
     let known = known_at g c in
-    let next : HeldPass = record h { pass = c.status.new.pass } in
+    let next : HeldPass = with_answer h c.status.new.pass c.args.number c.in-Ok.told in
     let share : c.write_told.new.share ≡ (c.pass.inside.share.0, Some next) = search rules in
     let heard : IsHeard c.pass.inside.pass c.status.new.pass core core c.args.number (Ok c.in-Ok.told) = subst (IsHeard c.pass.inside.pass c.status.new.pass core core c.args.number) c.in-Ok.is c.status.ensures.heard in
     let told : IsTold c.pass.inside.pass core = subst (λ (p : Pass). IsTold p core) known.is known.current.told in
     subst (λ (x : HeldPass × HeldPass). IsAnswered x.0 x.1 c.args.number (Ok c.in-Ok.told)) (λ i. (c.pass.view_is i, held_by (sym share i).1))
-    (heard_answered h next c.pass.inside.pass c.status.new.pass core core c.args.number (Ok c.in-Ok.told) heard told known.is refl refl tt tt)
+    (heard_answered h next c.pass.inside.pass c.status.new.pass core core c.args.number (Ok c.in-Ok.told) heard told known.is refl refl refl tt tt)
 
 pub invariant_of-self-2 : goal.invariant_of-self-2
 invariant_of-self-2 g c =
@@ -38,14 +39,14 @@ invariant_of-self-2 g c =
     let share = c.pass.inside.share in
     let h = held_by share.1 in
     let known = known_at g c in
-    let next : HeldPass = record h { pass = c.status.new.pass } in
+    let next : HeldPass = with_answer h c.status.new.pass c.args.number c.in-Ok.told in
     let new : c.write_told.new.book ≡ slice_set held share.0 (Some next) = search rules in
     (c.self.invariant.0, ap (λ l. length (passes_out l)) new ∙ count-set held share.0 h next known.there ∙ c.self.invariant.1)
 
 pub returns-clause-kept : goal.returns-clause-kept
 returns-clause-kept g c =
     let share = c.pass.inside.share in
-    let next : HeldPass = record (held_by share.1) { pass = c.status.new.pass } in
+    let next : HeldPass = with_answer (held_by share.1) c.status.new.pass c.args.number c.in-Ok.told in
     let new : c.write_told.new.book ≡ slice_set c.self.inside.book share.0 (Some next) = search rules in
     let shared : c.write_told.new.share ≡ (share.0, Some next) = search rules in
     subst (λ (x : LentPasses × (HeldPass × HeldPass)). IsKept x.0 (record { out = c.self.inside.out; held = c.write_told.new.book }) x.1.0 x.1.1) (λ i. (c.self.view_is i, (c.pass.view_is i, held_by (sym shared i).1)))
@@ -58,12 +59,15 @@ returns-clause-current g c =
     let share = c.pass.inside.share in
     let h = held_by share.1 in
     let known = known_at g c in
-    let next : HeldPass = record h { pass = c.status.new.pass } in
+    let next : HeldPass = with_answer h c.status.new.pass c.args.number c.in-Ok.told in
     let new : c.write_told.new.book ≡ slice_set held share.0 (Some next) = search rules in
     let told : IsTold c.pass.inside.pass core = subst (λ (p : Pass). IsTold p core) known.is known.current.told in
     let is : c.status.new.pass ≡ with_told c.pass.inside.pass c.args.number c.in-Ok.told = search rules in
     let current : IsCurrent next core =
-    told-current core h c.pass.inside.pass c.status.new.pass known.is known.current (ap (λ (p : Pass). p.client) is) (ap (λ (p : Pass). p.last) is) (c.status.ensures.heard.holds told) in
+    let steps : Steps core plenty (Status c.pass.inside.pass.client c.args.number) (record { answer = Tells c.in-Ok.told; core = core; blanks = plenty }) =
+    subst (λ (r : Result Told Refusal). Steps core plenty (Status c.pass.inside.pass.client c.args.number) (record { answer = told_or_refused r; core = core; blanks = plenty })) c.in-Ok.is (c.status.ensures.steps plenty) in
+    let true_now = told_durable core plenty (Status c.pass.inside.pass.client c.args.number) (record { answer = Tells c.in-Ok.told; core = core; blanks = plenty }) c.pass.inside.pass.client c.args.number c.in-Ok.told (refl, refl) steps refl in
+    told-current core h c.pass.inside.pass c.status.new.pass c.args.number c.in-Ok.told known.is known.current (ap (λ (p : Pass). p.client) is) (ap (λ (p : Pass). p.last) is) (c.status.ensures.heard.holds told) true_now in
     subst (λ l. AreCurrent (record { out = c.self.inside.out; held = l }) core) (sym new)
     (are_current-written (record { out = c.self.inside.out; held = held }) core core share.0 h next known.there (ap (λ (p : Pass). p.client) is ∙ sym (ap (λ (p : Pass). p.client) known.is)) current
     (λ client apart. stays client core) c.facts.ensures.sound c.facts.ensures.sound known.are)
@@ -89,7 +93,7 @@ returns-in-Err-clause-answered g c =
     subst (λ (r : Result Told Refusal). Steps core plenty (Status c.pass.inside.pass.client c.args.number) (record { answer = told_or_refused r; core = core; blanks = plenty })) c.in-Err.is (c.status.ensures.steps plenty) in
     let want : (n : ℕ) → refusal ≡ refusals.OutOfTurn n → n ≡ capped h.pass.last 1 = λ n e. absurd (status_wanted core plenty c.pass.inside.pass.client c.args.number core refusal steps n e) in
     subst (λ (x : HeldPass × HeldPass). IsAnswered x.0 x.1 c.args.number (Err refusal)) (λ i. (c.pass.view_is i, held_by (sym share i).1))
-    (heard_answered h h c.pass.inside.pass c.status.new.pass core core c.args.number (Err refusal) heard told known.is (known.is ∙ sym same) refl refl want)
+    (heard_answered h h c.pass.inside.pass c.status.new.pass core core c.args.number (Err refusal) heard told known.is (known.is ∙ sym same) tt refl refl want)
 
 pub returns-in-Err-clause-kept : goal.returns-in-Err-clause-kept
 returns-in-Err-clause-kept g c =

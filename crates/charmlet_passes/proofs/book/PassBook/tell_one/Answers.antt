@@ -3,7 +3,7 @@ use Rattle.std.specs.Prelude.{slice_get, slice_set}
 use Rattle.charmlet_model.specs.declared.told.Told.TheVariants.{Accepted}
 use Rattle.charmlet_history.specs.Kept.{core_in}
 use Rattle.charmlet_requests.specs.Pass.{Pass, IsTold, IsUpToDate, with_told}
-use Rattle.charmlet_passes.specs.Passes.{HeldPass, LentPasses, AreCurrent, IsCurrent, IsKept, passes_out, held_by}
+use Rattle.charmlet_passes.specs.Passes.{HeldPass, LentPasses, AreCurrent, IsCurrent, IsKept, passes_out, held_by, with_answer}
 use Rattle.charmlet_passes.proofs.OtherSteps.{stays}
 use Rattle.charmlet_passes.proofs.Places.{count-set, kept-same}
 use Rattle.charmlet_passes.proofs.Requests.{Known, known_by, accepted_holds, are_current-written, kept-written, told-current}
@@ -20,7 +20,7 @@ invariant_of-self-2 g c =
     let share = c.pass.inside.share in
     let h = held_by share.1 in
     let known = known_at g c in
-    let next : HeldPass = record h { pass = c.hear.new.self } in
+    let next : HeldPass = with_answer h c.hear.new.self c.last-last.result Accepted in
     let new : c.write_told.new.book ≡ slice_set held share.0 (Some next) = search rules in
     (c.self.invariant.0, ap (λ l. length (passes_out l)) new ∙ count-set held share.0 h next known.there ∙ c.self.invariant.1)
 
@@ -32,14 +32,14 @@ returns-clause-current g c =
     let share = c.pass.inside.share in
     let h = held_by share.1 in
     let known = known_at g c in
-    let next : HeldPass = record h { pass = c.hear.new.self } in
+    let next : HeldPass = with_answer h c.hear.new.self c.last-last.result Accepted in
     let new : c.write_told.new.book ≡ slice_set held share.0 (Some next) = search rules in
     let told : IsTold c.pass.inside.pass core = subst (λ (p : Pass). IsTold p core) known.is known.current.told in
     let up_to_date : IsUpToDate c.pass.inside.pass core = subst (λ (p : Pass). IsUpToDate p core) known.is known.current.up_to_date in
     let is : c.hear.new.self ≡ with_told c.pass.inside.pass c.last-last.result Accepted = search rules in
     let holds = accepted_holds core c.pass.inside.pass c.last-last.result c.last-last.ensures c.requires.durable up_to_date in
     let current : IsCurrent next core =
-    told-current core h c.pass.inside.pass c.hear.new.self known.is known.current (ap (λ (p : Pass). p.client) is) (ap (λ (p : Pass). p.last) is) (c.hear.ensures.holds core sound holds told) in
+    told-current core h c.pass.inside.pass c.hear.new.self c.last-last.result Accepted known.is known.current (ap (λ (p : Pass). p.client) is) (ap (λ (p : Pass). p.last) is) (c.hear.ensures.holds core sound holds told) holds in
     subst (λ l. AreCurrent (record { out = c.self.inside.out; held = l }) core) (sym new)
     (are_current-written (record { out = c.self.inside.out; held = held }) core core share.0 h next known.there (ap (λ (p : Pass). p.client) is ∙ sym (ap (λ (p : Pass). p.client) known.is)) current
     (λ client apart. stays client core) sound sound known.are)
@@ -47,7 +47,7 @@ returns-clause-current g c =
 pub returns-clause-kept : goal.returns-clause-kept
 returns-clause-kept g c =
     let share = c.pass.inside.share in
-    let next : HeldPass = record (held_by share.1) { pass = c.hear.new.self } in
+    let next : HeldPass = with_answer (held_by share.1) c.hear.new.self c.last-last.result Accepted in
     let new : c.write_told.new.book ≡ slice_set c.self.inside.book share.0 (Some next) = search rules in
     let shared : c.write_told.new.share ≡ (share.0, Some next) = search rules in
     subst (λ (x : LentPasses × (HeldPass × HeldPass)). IsKept x.0 (record { out = c.self.inside.out; held = c.write_told.new.book }) x.1.0 x.1.1) (λ i. (c.self.view_is i, (c.pass.view_is i, held_by (sym shared i).1)))
