@@ -115,6 +115,7 @@ fn roam<B: RuntimeName, R: Wait + AllocGlobal + Abort>(
     pass: &mut ClientPass<PassesOf<B>>,
     seats: &mut [Seat<SeatsOf<B>>],
 ) {
+    assert!(rt; matches!(runtime.look(rt, ELEM), Ok(look) if look.standing.is_none()));
     go(rt, runtime, 1, Some(Refusal::Absent));
     go(rt, runtime, 2, Some(Refusal::BadPes));
     give(rt, runtime, tally);
@@ -176,6 +177,16 @@ fn stands(look: &Look, processor: u16) -> bool {
         && look.received == 3
 }
 
+// The counter is seen on the processor.
+fn is_seen<B: RuntimeName, R: Wait + Abort>(
+    rt: &R,
+    runtime: &Runtime<ProbeDisk, Object, B>,
+    processor: u16,
+) {
+    let look = runtime.look(rt, ELEM).expect(rt, "memory");
+    assert!(rt; stands(&look, processor));
+}
+
 // The runtime is closed, and the counter's object stands on the processor.
 fn end<B: RuntimeName>(
     rt: &impl Abort,
@@ -217,9 +228,11 @@ fn live<B: RuntimeName, R: Wait + AllocGlobal + Abort>(
     } else {
         is_durable(rt, &runtime, &mut pass);
     }
+    let processor = u16::from(first.is_some());
+    is_seen(rt, &runtime, processor);
     let mut passes = Vec::new(rt.alloc());
     passes.push(pass).expect(rt, "memory");
-    end(rt, runtime, seats, passes, u16::from(first.is_some()))
+    end(rt, runtime, seats, passes, processor)
 }
 
 // The same under the name `B`.
