@@ -1,5 +1,5 @@
-//! Tests of disks in memory and of fuses, in a crate of their own, since a crate with tests is
-//! proved twice.
+//! Tests of disks in memory, of fuses, and of disks over a folder's files, in a crate of their own,
+//! since a crate with tests is proved twice.
 #![tactic(auto)]
 
 #[cfg(test)]

@@ -1,2 +1,4 @@
+mod births;
+mod index;
 mod pending;
 mod worlds;

@@ -1,9 +1,9 @@
 // What a crash leaves of a disk in memory, by its bytes.
+use super::{has_failures, has_len, syncs};
 use charmlet_disk::{CrashChoice, Disk, MemDisk, sync_both, write_through};
 use charmlet_model::Half;
 use std::alloc::{AllocError, AllocGlobal, Global};
 use std::process::Abort;
-use std::test::Fail;
 
 // A write at an offset.
 #[derive(Clone, Copy)]
@@ -22,19 +22,9 @@ fn puts(rt: &impl Abort, disk: &mut MemDisk, half: Half, offset: u64, bytes: &[u
     assert!(rt; put(disk, half, offset, bytes));
 }
 
-// The half is synced.
-fn syncs(rt: &impl Abort, disk: &mut MemDisk, half: Half) {
-    assert!(rt; disk.sync(half).is_ok());
-}
-
 // Both halves are synced.
 fn settles(rt: &impl Abort, disk: &mut MemDisk) {
     assert!(rt; sync_both(disk).is_ok());
-}
-
-// The half has this length.
-fn has_len(rt: &impl Abort, disk: &mut MemDisk, half: Half, len: u64) {
-    assert_eq!(rt; disk.len(half), Ok(len));
 }
 
 // The bytes are these.
@@ -43,15 +33,9 @@ fn are_bytes(rt: &impl Abort, found: &[u8], wanted: &[u8]) {
 }
 
 // The half has these bytes.
-fn has_bytes(
-    rt: &(impl AllocGlobal + Abort),
-    disk: &mut MemDisk,
-    half: Half,
-    bytes: &[u8],
-) -> Result<(), AllocError> {
-    let found = all(rt.alloc(), disk, half)?;
+fn has_bytes(rt: &(impl AllocGlobal + Abort), disk: &mut MemDisk, half: Half, bytes: &[u8]) {
+    let found = all(rt.alloc(), disk, half).expect(rt, "memory");
     are_bytes(rt, &found, bytes);
-    Ok(())
 }
 
 // All bytes of a half.
@@ -76,16 +60,10 @@ fn written(rt: &(impl AllocGlobal + Abort), half: Half, old: &[u8], writes: &[Wr
 }
 
 // The half has these bytes, all of which are sure, and the other half is empty.
-fn stays(
-    rt: &(impl AllocGlobal + Abort),
-    mut disk: MemDisk,
-    half: Half,
-    bytes: &[u8],
-) -> Result<(), Fail> {
-    has_bytes(rt, &mut disk, half, bytes)?;
+fn stays(rt: &(impl AllocGlobal + Abort), mut disk: MemDisk, half: Half, bytes: &[u8]) {
+    has_bytes(rt, &mut disk, half, bytes);
     has_len(rt, &mut disk, half.other(), 0);
-    has_bytes(rt, &mut disk.crash(CrashChoice::Old), half, bytes)?;
-    Ok(())
+    has_bytes(rt, &mut disk.crash(CrashChoice::Old), half, bytes);
 }
 
 // Each choice leaves of the half what is wanted, all of it is sure, and the other half stays empty.
@@ -95,16 +73,15 @@ fn leaves(
     old: &[u8],
     writes: &[Write],
     wanted: &[&[u8]; 6],
-) -> Result<(), Fail> {
+) {
     for k in 0..6 {
         let left = written(rt, half, old, writes).crash(CrashChoice::ALL[k]);
-        stays(rt, left, half, wanted[k])?;
+        stays(rt, left, half, wanted[k]);
     }
-    Ok(())
 }
 
 #[test]
-fn crashes_leave_overlapping_ranges(rt: HostRuntime) -> Result<(), Fail> {
+fn crashes_leave_overlapping_ranges(rt: HostRuntime) {
     let writes = [Write(2, b"CDEF"), Write(4, b"xyzw"), Write(7, b"12345")];
     let wanted: [&[u8]; 6] = [
         b"abcdefgh",
@@ -114,12 +91,12 @@ fn crashes_leave_overlapping_ranges(rt: HostRuntime) -> Result<(), Fail> {
         b"ab\x07\x07\x07\x07\x07\x07\x07\x07\x07\x07",
         b"abCDxyg12",
     ];
-    leaves(&rt, Half::Zero, b"abcdefgh", &writes, &wanted)?;
-    leaves(&rt, Half::One, b"abcdefgh", &writes, &wanted)
+    leaves(&rt, Half::Zero, b"abcdefgh", &writes, &wanted);
+    leaves(&rt, Half::One, b"abcdefgh", &writes, &wanted);
 }
 
 #[test]
-fn crashes_leave_ranges_apart(rt: HostRuntime) -> Result<(), Fail> {
+fn crashes_leave_ranges_apart(rt: HostRuntime) {
     let writes = [Write(6, b"GH"), Write(1, b"BCD"), Write(3, b"")];
     let wanted: [&[u8]; 6] = [
         b"abcdefghi",
@@ -129,12 +106,12 @@ fn crashes_leave_ranges_apart(rt: HostRuntime) -> Result<(), Fail> {
         b"a\x07\x07\x07ef\x07\x07i",
         b"aBcdefGhi",
     ];
-    leaves(&rt, Half::One, b"abcdefghi", &writes, &wanted)
+    leaves(&rt, Half::One, b"abcdefghi", &writes, &wanted);
 }
 
 // The rest of a range is in the first half of an older one.
 #[test]
-fn first_half_counts_where_any_range_has_it(rt: HostRuntime) -> Result<(), Fail> {
+fn first_half_counts_where_any_range_has_it(rt: HostRuntime) {
     let writes = [Write(0, b"AAAAAAAA"), Write(1, b"bc")];
     let wanted: [&[u8]; 6] = [
         b"01234567",
@@ -144,12 +121,12 @@ fn first_half_counts_where_any_range_has_it(rt: HostRuntime) -> Result<(), Fail>
         b"\x07\x07\x07\x07\x07\x07\x07\x07",
         b"AbcA4567",
     ];
-    leaves(&rt, Half::Zero, b"01234567", &writes, &wanted)
+    leaves(&rt, Half::Zero, b"01234567", &writes, &wanted);
 }
 
 // Past the old end, what is in no first half is cut off, or 00 before one.
 #[test]
-fn crashes_cut_off_what_is_past_the_old_end(rt: HostRuntime) -> Result<(), Fail> {
+fn crashes_cut_off_what_is_past_the_old_end(rt: HostRuntime) {
     let writes = [Write(4, b"EFGH"), Write(8, b"IJKLM"), Write(13, b"N")];
     let wanted: [&[u8]; 6] = [
         b"abcd",
@@ -159,10 +136,10 @@ fn crashes_cut_off_what_is_past_the_old_end(rt: HostRuntime) -> Result<(), Fail>
         b"abcd\x07\x07\x07\x07\x07\x07\x07\x07\x07\x07",
         b"abcdEF\0\0IJ",
     ];
-    leaves(&rt, Half::Zero, b"abcd", &writes, &wanted)?;
+    leaves(&rt, Half::Zero, b"abcd", &writes, &wanted);
     let one = [Write(0, b"Z")];
     let wanted: [&[u8]; 6] = [b"", b"Z", b"\0", b"\x01", b"\x07", b""];
-    leaves(&rt, Half::One, b"", &one, &wanted)
+    leaves(&rt, Half::One, b"", &one, &wanted);
 }
 
 // A disk with all of half 0 sure, and nothing of half 1.
@@ -175,22 +152,20 @@ fn half_sure(rt: &(impl AllocGlobal + Abort)) -> MemDisk {
 
 // A sync of one half makes nothing sure of the other one.
 #[test]
-fn crashes_leave_what_was_synced(rt: HostRuntime) -> Result<(), Fail> {
+fn crashes_leave_what_was_synced(rt: HostRuntime) {
     let mut left = half_sure(&rt).crash(CrashChoice::Old);
-    has_bytes(&rt, &mut left, Half::Zero, b"sure")?;
+    has_bytes(&rt, &mut left, Half::Zero, b"sure");
     has_len(&rt, &mut left, Half::One, 0);
-    Ok(())
 }
 
 #[test]
-fn bytes_written_through_are_sure(rt: HostRuntime) -> Result<(), Fail> {
+fn bytes_written_through_are_sure(rt: HostRuntime) {
     let mut disk = half_sure(&rt).crash(CrashChoice::Sevens);
     if let Ok(end) = disk.len(Half::One) {
         assert!(rt; write_through(&mut disk, Half::One, end, b"kept").is_ok());
     }
     let mut left = disk.crash(CrashChoice::Old);
-    has_bytes(&rt, &mut left, Half::One, b"\x07\x07\x07\x07kept")?;
-    Ok(())
+    has_bytes(&rt, &mut left, Half::One, b"\x07\x07\x07\x07kept");
 }
 
 // No calls are on record.
@@ -199,15 +174,14 @@ fn has_no_calls(rt: &impl Abort, disk: &MemDisk) {
 }
 
 // These calls are on record, in words.
-fn has_calls(rt: &(impl AllocGlobal + Abort), disk: &MemDisk, wanted: &str) -> Result<(), Fail> {
-    let text = format!(in rt.alloc(); "{:?}", disk.calls())?;
+fn has_calls(rt: &(impl AllocGlobal + Abort), disk: &MemDisk, wanted: &str) {
+    let text = format!(in rt.alloc(); "{:?}", disk.calls()).expect(rt, "memory");
     assert_eq!(rt; text.as_str(), wanted);
-    Ok(())
 }
 
 // A write, a sync, a crash, and a second crash that changes nothing.
 #[test]
-fn calls_are_on_record(rt: HostRuntime) -> Result<(), Fail> {
+fn calls_are_on_record(rt: HostRuntime) {
     let mut disk = MemDisk::new(rt.alloc());
     has_no_calls(&rt, &disk);
     puts(&rt, &mut disk, Half::One, 0, b"a");
@@ -218,12 +192,7 @@ fn calls_are_on_record(rt: HostRuntime) -> Result<(), Fail> {
         &rt,
         &again,
         "[Write(One, 0, [97]), Sync(One), Write(One, 1, [98, 99]), Crash(New)]",
-    )
-}
-
-// `failures` calls were faults.
-fn has_failures(rt: &impl Abort, disk: &MemDisk, failures: u64) {
-    assert_eq!(rt; disk.failures(), failures);
+    );
 }
 
 // A half ends there, or two bytes before.
@@ -256,9 +225,9 @@ fn refused_memory_is_a_fault_that_changes_nothing(rt: HostRuntime) {
 
 // Small writes after a large file cost what they write.
 #[test]
-fn small_writes_after_a_large_file(rt: HostRuntime) -> Result<(), Fail> {
+fn small_writes_after_a_large_file(rt: HostRuntime) {
     let mut disk = MemDisk::new(rt.alloc());
-    let large = vec![in rt.alloc(); 7u8; 1_000_000]?;
+    let large = vec![in rt.alloc(); 7u8; 1_000_000].expect(&rt, "memory");
     assert!(rt; write_through(&mut disk, Half::One, 0, &large).is_ok());
     for k in 0..20_000 {
         puts(&rt, &mut disk, Half::One, 1_000_000 + k, &[1]);
@@ -269,5 +238,4 @@ fn small_writes_after_a_large_file(rt: HostRuntime) -> Result<(), Fail> {
     has_len(&rt, &mut disk, Half::One, 1_020_000);
     let mut left = disk.crash(CrashChoice::Old);
     has_len(&rt, &mut left, Half::One, 1_019_993);
-    Ok(())
 }

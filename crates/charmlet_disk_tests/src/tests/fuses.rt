@@ -2,6 +2,7 @@
 ghost use Rattle.std.specs.Prelude.{◌≡◌, ◌≤◌, false};
 ghost use Rattle.charmlet_disk.specs.Disk.{faults_after};
 
+use super::{has_failures, has_len};
 use charmlet_disk::{DeviceFault, Disk, FuseDisk, MemDisk, OnceDisk};
 use charmlet_model::Half;
 use std::process::Abort;
@@ -27,17 +28,6 @@ fn is_number(rt: &impl Abort, found: u64, wanted: u64) {
 // `calls` calls succeed while a half is lengthened `times` times.
 fn lengthens<D: Disk>(rt: &impl Abort, disk: &mut D, half: Half, times: u64, calls: u64) {
     is_number(rt, lengthen(disk, half, times), calls);
-}
-
-// `failures` calls were faults.
-fn has_failures<D: Disk>(rt: &impl Abort, disk: &D, failures: u64) {
-    is_number(rt, disk.failures(), failures);
-}
-
-// The half has this length.
-fn has_len<D: Disk>(rt: &impl Abort, disk: &mut D, half: Half, len: u64) {
-    let found = disk.len(half).ok().expect(rt, "a length");
-    is_number(rt, found, len);
 }
 
 // `calls` calls are on record.

@@ -1,26 +1,9 @@
 //! What a pass knows after it was told less than before, which no history does.
 
-ghost use Rattle.charmlet_model.specs.Fit.{IsFit};
-ghost use Rattle.charmlet_model.specs.Sound.{new_world};
-
-use charmlet_history::History;
-use charmlet_model::{Manifest, Told, Words};
+use super::passes::new_history;
+use charmlet_model::{Told, Words};
 use charmlet_requests::{ClientPass, Passes};
 use std::process::Abort;
-
-// An array of counters.
-fn one_array(rt: &(impl AllocGlobal + Abort)) -> Manifest {
-    match Manifest::of(rt.alloc(), &[(0, 1)]) {
-        Ok(Some(manifest)) => manifest,
-        _ => panic!(rt; "there is an array"),
-    }
-}
-
-// The history of a new store of counters.
-fn new_history(rt: &(impl AllocGlobal + Abort)) -> History {
-    let history = History::new(rt.alloc(), one_array(rt), 0, 1);
-    history.ok().expect(rt, "one processor is right")
-}
 
 // The pass of client 7 of a new store.
 fn new_pass(rt: &(impl AllocGlobal + Abort)) -> ClientPass {

@@ -1,4 +1,0 @@
-mod passes;
-mod seats;
-mod tickets;
-mod values;

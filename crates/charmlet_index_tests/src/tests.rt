@@ -1,2 +1,0 @@
-mod births;
-mod index;

@@ -1,5 +1,0 @@
-mod backlog;
-mod damage;
-mod memory;
-mod random;
-mod worked;

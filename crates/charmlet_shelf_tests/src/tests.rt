@@ -1,4 +1,0 @@
-mod copies;
-mod objects;
-mod packing;
-mod shelf;

@@ -1,3 +1,0 @@
-mod chare;
-mod locate;
-mod pup;
