@@ -32,10 +32,12 @@ fn answer(
 
 // The children of the tree are constructed with depth 1.
 fn are_children(rt: &impl Abort, sends: &[Outgoing]) {
-    assert_eq!(rt; sends.len(), 2);
-    assert_eq!(rt; sends[0].to, Elem { array: 2, index: 7 });
-    assert_eq!(rt; sends[1].to, Elem { array: 2, index: 8 });
-    assert_eq!(rt; sends[1].words.as_slice(), [1u64].as_slice());
+    let [first, second] = sends else {
+        panic!(rt; "not two messages");
+    };
+    assert_eq!(rt; first.to, Elem { array: 2, index: 7 });
+    assert_eq!(rt; second.to, Elem { array: 2, index: 8 });
+    assert_eq!(rt; second.words.as_slice(), [1u64].as_slice());
 }
 
 #[test]
@@ -119,12 +121,21 @@ fn packed_tape(rt: &(impl AllocGlobal + Abort)) -> Vec<u8> {
     pack_state(rt.alloc(), &State::Tape { items }).expect(rt, "memory")
 }
 
+// The bytes are those of the tape.
+fn are_tape(rt: &impl Abort, bytes: &[u8]) {
+    assert_eq!(rt; bytes, TAPE.as_slice());
+}
+
+// The object is the tape.
+fn is_tape(rt: &impl Abort, read: &State) {
+    assert!(rt; matches!(read, State::Tape { items } if items.as_slice() == ITEMS.as_slice()));
+}
+
 #[test]
 fn tapes_are_packed_and_read(rt: HostRuntime) {
-    let bytes = packed_tape(&rt);
-    assert_eq!(rt; bytes.as_slice(), TAPE.as_slice());
-    let read = read_state(rt.alloc(), Edition::Tape, &TAPE).expect(&rt, "a tape");
-    assert!(rt; matches!(&read, State::Tape { items } if items.as_slice() == ITEMS.as_slice()));
+    are_tape(&rt, &packed_tape(&rt));
+    let read = read_state(rt.alloc(), Edition::Tape, &TAPE);
+    is_tape(&rt, &read.expect(&rt, "a tape"));
     let short = read_state(rt.alloc(), Edition::Tape, &TAPE[..19]);
     assert!(rt; matches!(short, Err(PupFault::Short)));
 }
@@ -137,9 +148,12 @@ fn is_kind(rt: &impl Abort, kind: Kind, number: u16) {
 
 #[test]
 fn kinds_have_their_numbers(rt: HostRuntime) {
-    for (number, kind) in [1, 2, 3, 4, 5, 6].into_iter().zip(Kind::ALL) {
+    let mut number = 1;
+    for kind in Kind::ALL {
         is_kind(&rt, kind, number);
+        number = number.saturating_add(1);
     }
+    assert_eq!(rt; number, 7);
     assert_eq!(rt; Kind::of_number(0), None);
     assert_eq!(rt; Kind::of_number(7), None);
 }
@@ -165,16 +179,24 @@ fn manifest_of(rt: &(impl AllocGlobal + Abort), pairs: &[(u16, u16)]) -> Option<
     Manifest::of(rt.alloc(), pairs).expect(rt, "memory")
 }
 
+// Array 9 has tapes, array 0 counters, and there is no array 1.
+fn has_two_arrays(rt: &impl Abort, manifest: &Manifest) {
+    for (array, edition) in [
+        (9, Some(Edition::Tape)),
+        (0, Some(Edition::Counter)),
+        (1, None),
+    ] {
+        assert_eq!(rt; manifest.edition_of(array), edition);
+    }
+}
+
 #[test]
 fn manifests_have_distinct_arrays(rt: HostRuntime) {
-    let manifest = manifest_of(&rt, &[(9, 6), (0, 1)]).expect(&rt, "a manifest");
-    assert_eq!(rt; manifest.edition_of(9), Some(Edition::Tape));
-    assert_eq!(rt; manifest.edition_of(0), Some(Edition::Counter));
-    assert_eq!(rt; manifest.edition_of(1), None);
-    assert!(rt; manifest_of(&rt, &[]).is_none());
-    assert!(rt; manifest_of(&rt, &[(0, 0)]).is_none());
-    assert!(rt; manifest_of(&rt, &[(0, 7)]).is_none());
-    assert!(rt; manifest_of(&rt, &[(0, 1), (0, 2)]).is_none());
+    let manifest = manifest_of(&rt, &[(9, 6), (0, 1)]);
+    has_two_arrays(&rt, &manifest.expect(&rt, "a manifest"));
+    for pairs in [[].as_slice(), &[(0, 0)], &[(0, 7)], &[(0, 1), (0, 2)]] {
+        assert!(rt; manifest_of(&rt, pairs).is_none());
+    }
 }
 
 // The value is printed like this.

@@ -426,10 +426,9 @@ impl Story {
 }
 
 // Adds an id to those that are pending.
-fn push_id(rt: &(impl AllocGlobal + Abort), ids: &mut String, id: MsgId) {
+fn push_id(rt: &impl Abort, ids: &mut String, id: MsgId) {
     let space = if ids.is_empty() { "" } else { " " };
-    let text = format!(in rt.alloc(); "{space}{id}").expect(rt, "memory");
-    ids.push_str(text.as_str()).expect(rt, "memory");
+    write!(ids, "{space}{id}").expect(rt, "memory");
 }
 
 fn empty_world(alloc: Global, array: u16, kind: u16) -> Result<PlainWorld, AllocError> {
@@ -508,8 +507,12 @@ fn print_step(
     step: &str,
 ) {
     let answer = story.answer(rt, step);
-    let answered = format!(in rt.alloc(); "> {step}\n{answer}\n").expect(rt, "memory");
-    printed.push_str(answered.as_str()).expect(rt, "memory");
+    print_answer(rt, printed, step, answer.as_str());
+}
+
+// Prints a step with its answer.
+fn print_answer(rt: &impl Abort, printed: &mut String, step: &str, answer: &str) {
+    write!(printed, "> {step}\n{answer}\n").expect(rt, "memory");
 }
 
 // Runs the steps of a transcript, and compares what they answer with it.
@@ -552,15 +555,31 @@ fn asks_first(
     wanted: &str,
 ) {
     let payload = vec![in rt.alloc(); 1; words].expect(rt, "memory");
+    let answer = ask_first(rt, story, client, entry, &payload);
+    is_answer(rt, answer.as_str(), wanted, client);
+}
+
+// What the first request of a client is answered.
+fn ask_first(
+    rt: &(impl AllocGlobal + Abort),
+    story: &mut Story,
+    client: u32,
+    entry: u16,
+    words: &[u64],
+) -> String {
     let request = Request {
         client,
         number: 1,
         to: Elem { array: 0, index: 0 },
         entry,
-        words: payload.as_slice(),
+        words,
     };
-    let answer = story.request(rt, &request);
-    assert_eq!(rt; answer.as_str(), wanted, "client {client}");
+    story.request(rt, &request)
+}
+
+// The client is answered this.
+fn is_answer(rt: &impl Abort, answer: &str, wanted: &str, client: u32) {
+    assert_eq!(rt; answer, wanted, "client {client}");
 }
 
 #[test]
@@ -589,24 +608,23 @@ fn worlds_keep_their_manifest(rt: HostRuntime) {
 
 const ROOT: Elem = Elem { array: 0, index: 0 };
 
-// A tree of depth 1 is constructed, and destroys itself.
-fn life_of_a_tree(alloc: Global) -> Result<Vec<Event>, AllocError> {
-    let mut events = Vec::new(alloc);
+// A tree of depth 1 is constructed, and destroys itself. The events are added to the others.
+fn live_as_a_tree(alloc: Global, events: &mut Vec<Event>) -> Result<(), AllocError> {
     for (number, entry) in [(1, CONSTRUCT), (2, 0)] {
-        let id = MsgId {
-            origin: Origin::Client(7),
-            number,
-        };
+        let words = Words::from_slice(alloc, &[1])?;
         events.push(Event::Accept {
             client: 7,
             number,
             to: ROOT,
             entry,
-            words: Words::from_slice(alloc, &[1])?,
+            words,
         })?;
-        events.push(Event::Deliver(id))?;
+        events.push(Event::Deliver(MsgId {
+            origin: Origin::Client(7),
+            number,
+        }))?;
     }
-    Ok(events)
+    Ok(())
 }
 
 // Whether an event happened. When out of memory, the world has to be as it was, and the event is
@@ -635,26 +653,33 @@ fn world_after(alloc: Global, events: &[Event]) -> Result<Option<PlainWorld>, Al
     Ok(Some(world))
 }
 
+// The world after such a life.
+fn world_of_a_tree(alloc: Global) -> Result<Option<PlainWorld>, AllocError> {
+    let mut events = Vec::new(alloc);
+    live_as_a_tree(alloc, &mut events)?;
+    world_after(alloc, &events)
+}
+
+// The tree sent to its two children, and replied to its client.
+fn was_a_tree(rt: &impl Abort, world: &PlainWorld) {
+    assert_eq!(rt; world.pending().len(), 2);
+    let root = world.record(ROOT).expect(rt, "the destroyed root's record");
+    assert!(rt; root.state.is_none());
+    assert_eq!(rt; (root.sent, root.received), (2, 2));
+    let row = world.client(7).expect(rt, "the client's row");
+    assert!(rt; matches!(row.reply(2), Some(words) if words.as_slice() == [1].as_slice()));
+}
+
 // What memory is refused outside the events is tried again here.
 #[test]
 fn refused_memory_leaves_the_world(rt: HostRuntime) -> Result<(), Fail> {
-    let alloc = rt.alloc();
-    let events = match life_of_a_tree(alloc) {
-        Ok(events) => events,
-        Err(AllocError) => life_of_a_tree(alloc)?,
-    };
-    let world = match world_after(alloc, events.as_slice()) {
+    let world = match world_of_a_tree(rt.alloc()) {
         Ok(world) => world,
-        Err(AllocError) => world_after(alloc, events.as_slice())?,
+        Err(AllocError) => world_of_a_tree(rt.alloc())?,
     };
-    let world = world.expect(&rt, "what refused memory left as it was");
-    assert_eq!(rt; world.pending().len(), 2);
-    let root = world
-        .record(ROOT)
-        .expect(&rt, "the destroyed root's record");
-    assert!(rt; root.state.is_none());
-    assert_eq!(rt; (root.sent, root.received), (2, 2));
-    let row = world.client(7).expect(&rt, "the client's row");
-    assert!(rt; matches!(row.reply(2), Some(words) if words.as_slice() == [1].as_slice()));
+    was_a_tree(
+        &rt,
+        &world.expect(&rt, "what refused memory left as it was"),
+    );
     Ok(())
 }
