@@ -121,7 +121,7 @@ impl<'a> fmt::Display for JsonState<'a> {
     ghost output = { λ state. Some (json_state state.0.now) };
 
     fn fmt<W: fmt::Write>(&self, f: &mut fmt::Formatter<W>) -> fmt::Result {
-        match self.0 {
+        match *self.0 {
             State::FirstCounter { count } => {
                 write!(f, "\"kind\":\"counter\",\"state\":{{\"count\":{count}}}")
             }
@@ -152,7 +152,7 @@ impl<'a> fmt::Display for JsonState<'a> {
             State::Tree { depth } => {
                 write!(f, "\"kind\":\"tree\",\"state\":{{\"depth\":{depth}}}")
             }
-            State::Tape { items } => {
+            State::Tape { ref items } => {
                 let items = JsonNumbers(items);
                 write!(f, "\"kind\":\"tape\",\"state\":{{\"items\":{items}}}")
             }

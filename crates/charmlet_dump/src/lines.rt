@@ -82,7 +82,7 @@ impl<'a> fmt::Display for PlainState<'a> {
     ghost output = { λ state. Some (plain_state state.0.now) };
 
     fn fmt<W: fmt::Write>(&self, f: &mut fmt::Formatter<W>) -> fmt::Result {
-        match self.0 {
+        match *self.0 {
             State::FirstCounter { count } => write!(f, "counter count {count}"),
             State::Counter { count, peak } => write!(f, "counter count {count} peak {peak}"),
             State::Ring { next, seen } => write!(f, "ring next {next} seen {seen}"),
@@ -94,7 +94,7 @@ impl<'a> fmt::Display for PlainState<'a> {
                 up,
             } => write!(f, "sum want {want} got {got} total {total} up {up}"),
             State::Tree { depth } => write!(f, "tree depth {depth}"),
-            State::Tape { items } => write!(f, "tape items{items}"),
+            State::Tape { ref items } => write!(f, "tape items{items}"),
         }
     }
 }
