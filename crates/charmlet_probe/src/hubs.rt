@@ -14,9 +14,11 @@ use charmlet_testing::Bench;
 use std::alloc::Global;
 use std::io::Write;
 use std::marker::Brand;
+use std::sync::Wait;
 
 /// Runs the lines of a probe until its store ends, over a hub.
-pub(crate) fn live_on_hub<W: Write>(
+pub(crate) fn live_on_hub<W: Write, R: Wait>(
+    rt: &R,
     alloc: Global,
     bench: &mut Bench,
     store: ProbeStore,
@@ -26,11 +28,12 @@ pub(crate) fn live_on_hub<W: Write>(
     let Ok(books) = Books::new(alloc) else {
         return Err(Stop::CannotGoOn);
     };
-    live_as::<Brand, W>(alloc, bench, store, books, script, writer)
+    live_as::<Brand, W, R>(rt, alloc, bench, store, books, script, writer)
 }
 
 /// The same, under this name.
-fn live_as<B: RuntimeName, W: Write>(
+fn live_as<B: RuntimeName, W: Write, R: Wait>(
+    rt: &R,
     alloc: Global,
     bench: &mut Bench,
     store: ProbeStore,
@@ -46,7 +49,7 @@ fn live_as<B: RuntimeName, W: Write>(
     match HubMachine::<B>::open(alloc, store, books) {
         Ok(machine) => {
             let mut store = Some(machine);
-            live(alloc, bench, &mut store, script, writer)
+            live(rt, alloc, bench, &mut store, script, writer)
         }
         Err(_) => Err(Stop::CannotGoOn),
     }

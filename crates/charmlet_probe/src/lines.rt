@@ -6,6 +6,7 @@ use charmlet_probe_store::{Failed, Machine, Turn, Without};
 use charmlet_testing::{Bench, give, held, image, lend, lend_seat, look, next, pass, say, turn};
 use std::alloc::Global;
 use std::io::Write;
+use std::sync::Wait;
 use std::sync::atomic::Ordering;
 
 /// What a line prints that shows something and is refused memory.
@@ -13,21 +14,22 @@ const REFUSED: &[u8] = b"refused 1 Memory\n";
 
 /// Runs a line, and prints what it answers. Where memory is refused, and that is asked for, it is
 /// run once more.
-pub(crate) fn run_line<M: Machine>(
+pub(crate) fn run_line<M: Machine, R: Wait>(
+    rt: &R,
     alloc: Global,
     bench: &mut Bench,
     store: &mut Option<M>,
     text: &str,
     out: &mut Vec<u8>,
 ) -> Result<(), Failed> {
-    let mut result = act(alloc, bench, store, text, out);
+    let mut result = act(rt, alloc, bench, store, text, out);
     let is_refused = match &result {
         Ok(()) => out.as_slice() == REFUSED,
         Err(failed) => failed.is_memory(),
     };
     if is_refused && bench.tries_again() {
         out.clear();
-        result = act(alloc, bench, store, text, out);
+        result = act(rt, alloc, bench, store, text, out);
     }
     match result {
         Ok(()) => Ok(()),
@@ -42,7 +44,8 @@ pub(crate) fn run_line<M: Machine>(
 }
 
 /// Does what a line says, by its first word.
-fn act<M: Machine>(
+fn act<M: Machine, R: Wait>(
+    rt: &R,
     alloc: Global,
     bench: &mut Bench,
     store: &mut Option<M>,
@@ -76,7 +79,7 @@ fn act<M: Machine>(
     } else if let Some(of) = turn_of(name) {
         turn(store, of, name, number(only(words)?)?, out)
     } else {
-        bench.script(store, text, out)
+        bench.script(rt, store, text, out)
     }
 }
 

@@ -16,6 +16,7 @@ use charmlet_testing::Bench;
 use std::alloc::{AllocError, Global};
 use std::io::Write;
 use std::process::ExitCode;
+use std::sync::Wait;
 use std::{env, io};
 
 /// The room of a line's output, in bytes.
@@ -36,7 +37,8 @@ fn output(alloc: Global) -> Result<Vec<u8>, AllocError> {
 }
 
 /// Runs the next line of a probe, and prints what it answers.
-fn print_line<M: Machine, W: Write>(
+fn print_line<M: Machine, W: Write, R: Wait>(
+    rt: &R,
     alloc: Global,
     bench: &mut Bench,
     store: &mut Option<M>,
@@ -44,7 +46,7 @@ fn print_line<M: Machine, W: Write>(
     writer: &mut W,
 ) -> Result<(), Stop> {
     let mut out = output(alloc)?;
-    match run_line(alloc, bench, store, script.take(), &mut out) {
+    match run_line(rt, alloc, bench, store, script.take(), &mut out) {
         Ok(()) => Ok(writer.write_all(&out)?),
         Err(Failed::Malformed) => Err(Stop::MalformedLine(script.taken() as u64)),
         Err(_) => Err(Stop::CannotGoOn),
@@ -53,7 +55,8 @@ fn print_line<M: Machine, W: Write>(
 
 /// Runs the lines of a probe until its store ends. What each answers is printed before the next one
 /// is run.
-pub(crate) fn live<M: Machine, W: Write>(
+pub(crate) fn live<M: Machine, W: Write, R: Wait>(
+    rt: &R,
     alloc: Global,
     bench: &mut Bench,
     store: &mut Option<M>,
@@ -64,13 +67,14 @@ pub(crate) fn live<M: Machine, W: Write>(
         if store.is_none() {
             break;
         }
-        print_line(alloc, bench, store, script, writer)?;
+        print_line(rt, alloc, bench, store, script, writer)?;
     }
     Ok(())
 }
 
 /// The same over an engine.
-fn live_on_engine<W: Write>(
+fn live_on_engine<W: Write, R: Wait>(
+    rt: &R,
     alloc: Global,
     bench: &mut Bench,
     store: ProbeStore,
@@ -78,12 +82,13 @@ fn live_on_engine<W: Write>(
     writer: &mut W,
 ) -> Result<(), Stop> {
     let mut store = Some(EngineMachine::new(alloc, store));
-    live(alloc, bench, &mut store, script, writer)
+    live(rt, alloc, bench, &mut store, script, writer)
 }
 
 /// Runs the next line of a probe, where there is no store, and then those of the store that it
 /// makes, if it makes one.
-fn go_on<W: Write>(
+fn go_on<W: Write, R: Wait>(
+    rt: &R,
     alloc: Global,
     bench: &mut Bench,
     is_over_hubs: bool,
@@ -91,16 +96,17 @@ fn go_on<W: Write>(
     writer: &mut W,
 ) -> Result<(), Stop> {
     let mut none: Option<EngineMachine> = None;
-    print_line(alloc, bench, &mut none, script, writer)?;
+    print_line(rt, alloc, bench, &mut none, script, writer)?;
     match bench.take_born() {
-        Some(store) if is_over_hubs => live_on_hub(alloc, bench, store, script, writer),
-        Some(store) => live_on_engine(alloc, bench, store, script, writer),
+        Some(store) if is_over_hubs => live_on_hub(rt, alloc, bench, store, script, writer),
+        Some(store) => live_on_engine(rt, alloc, bench, store, script, writer),
         None => Ok(()),
     }
 }
 
 /// Runs each line of a probe, and prints what it answers before the next one is run.
-fn print_lines<W: Write>(
+fn print_lines<W: Write, R: Wait>(
+    rt: &R,
     alloc: Global,
     bench: &mut Bench,
     is_over_hubs: bool,
@@ -111,13 +117,13 @@ fn print_lines<W: Write>(
         if script.left() == 0 {
             break;
         }
-        go_on(alloc, bench, is_over_hubs, script, writer)?;
+        go_on(rt, alloc, bench, is_over_hubs, script, writer)?;
     }
     Ok(())
 }
 
 /// Runs the probe in a file.
-fn probe(rt: HostRuntime) -> Result<(), Stop> {
+fn probe<R: Wait>(rt: HostRuntime, wait: &R) -> Result<(), Stop> {
     let words: Vec<String> = env::args(&rt)?.collect(rt.alloc())?;
     let is_over_hubs = words.len() == 3 && words[1].as_str() == "--hub";
     let mut script = match words.last() {
@@ -127,14 +133,14 @@ fn probe(rt: HostRuntime) -> Result<(), Stop> {
     match Bench::new(rt.alloc()) {
         Ok(mut bench) => {
             let writer = &mut io::writer(&rt);
-            print_lines(rt.alloc(), &mut bench, is_over_hubs, &mut script, writer)
+            print_lines(wait, rt.alloc(), &mut bench, is_over_hubs, &mut script, writer)
         }
         Err(_) => Err(Stop::CannotGoOn),
     }
 }
 
 fn main(rt: HostRuntime) -> ExitCode {
-    let result = probe(rt).map_err(Failure::from);
+    let result = probe(rt, &rt).map_err(Failure::from);
     let (status, _) = end_program(&result, &mut rt.stderr());
     ExitCode::from(status)
 }

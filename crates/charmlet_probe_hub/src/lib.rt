@@ -6,5 +6,6 @@ mod delivering;
 mod hub_machine;
 mod places;
 mod running;
+mod sealing;
 
 pub use crate::hub_machine::{Books, HubMachine};

@@ -3,6 +3,7 @@
 use crate::delivering::{carry_among, commit, deliver, turn};
 use crate::hub_machine::HubMachine;
 use crate::places::{place_of_pass, place_of_seat};
+use crate::sealing::seal_under_locks;
 use charmlet_hub::PassesOf;
 use charmlet_model::{Answer, Elem, Kind, MsgId, Refusal, Step, Told};
 use charmlet_passes::ClientPass;
@@ -13,6 +14,7 @@ use charmlet_requests::{Handlers, Request, target};
 use charmlet_sequencer::RuntimeName;
 use charmlet_store::{Census, Look, Standing};
 use std::alloc::AllocError;
+use std::sync::Wait;
 
 impl<B: RuntimeName> HubMachine<B> {
     /// A client's pass, where it is lent.
@@ -167,8 +169,17 @@ impl<B: RuntimeName> Machine for HubMachine<B> {
                 })
             }
             Step::Flush => Ok(Answer::Flushed(self.flush()?)),
-            // A hub takes no checkpoint yet.
-            Step::Checkpoint => Err(Failed::Lacks("checkpoint")),
+            Step::Checkpoint => Err(Failed::Lacks("lock")),
+        }
+    }
+
+    fn checkpoint<R: Wait>(&mut self, rt: &R) -> Result<u64, Failed> {
+        if self.hub.history().is_halted() {
+            return Err(Failed::Refused(Refusal::Halted));
+        }
+        match seal_under_locks(rt, self.alloc, &mut self.hub, &mut self.shelves) {
+            Ok(generation) => Ok(generation),
+            Err(refusal) => Err(Failed::Refused(refusal)),
         }
     }
 

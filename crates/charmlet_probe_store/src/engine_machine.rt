@@ -12,6 +12,7 @@ use charmlet_requests::{ClientPass, Handlers, Passes, Request};
 use charmlet_store::{Census, Look};
 use std::alloc::{AllocError, Global};
 use std::collections::BTreeMap;
+use std::sync::Wait;
 
 /// What lacks where a line is one of a hub.
 const HUB: Failed = Failed::Lacks("hub");
@@ -103,6 +104,14 @@ impl Machine for EngineMachine {
                 None => self.take(step),
             },
             _ => self.take(step),
+        }
+    }
+
+    fn checkpoint<R: Wait>(&mut self, _rt: &R) -> Result<u64, Failed> {
+        match self.engine.step(&Step::Checkpoint) {
+            Answer::Checkpointed(generation) => Ok(generation),
+            Answer::Refused(refusal) => Err(Failed::Refused(refusal)),
+            _ => Err(Failed::Lacks("checkpoint")),
         }
     }
 

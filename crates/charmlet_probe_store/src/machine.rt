@@ -8,6 +8,7 @@ use charmlet_probe_objects::Object;
 use charmlet_requests::Handlers;
 use charmlet_store::{Census, Look};
 use std::alloc::AllocError;
+use std::sync::Wait;
 
 /// What a store counts.
 #[derive(Clone, Copy)]
@@ -65,8 +66,12 @@ pub struct Call<'a> {
 
 /// A store on the disk of probes, and the passes of its clients.
 pub trait Machine: Drop {
-    /// Takes a step, by the client's pass where it has one and the step is the client's.
+    /// Takes a step that is no checkpoint, by the client's pass where it has one and the step is the
+    /// client's.
     fn step(&mut self, step: &Step) -> Result<Answer, Failed>;
+
+    /// Makes all events durable in an image, which may have to wait for locks.
+    fn checkpoint<R: Wait>(&mut self, rt: &R) -> Result<u64, Failed>;
 
     /// A request to a named handler, by the client's pass.
     fn call(&mut self, handlers: &Handlers, call: &Call<'_>) -> Result<Told, Failed>;

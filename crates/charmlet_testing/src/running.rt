@@ -8,24 +8,27 @@ use charmlet_model::{Answer, Kind, Step};
 use charmlet_probe_objects::blanks;
 use charmlet_probe_store::{Call, Failed, Machine};
 use charmlet_script::{Drained, Line, Supplied, read_restart_script};
+use std::sync::Wait;
 
 impl Bench {
     /// Runs a line of a script.
-    pub fn script<M: Machine>(
+    pub fn script<M: Machine, R: Wait>(
         &mut self,
+        rt: &R,
         store: &mut Option<M>,
         text: &str,
         out: &mut Vec<u8>,
     ) -> Result<(), Failed> {
         let script = read_restart_script(self.alloc, &mut text.as_bytes())?;
         match script.lines().first() {
-            Some(line) => self.run(store_of(store)?, line, out),
+            Some(line) => self.run(rt, store_of(store)?, line, out),
             None => Ok(()),
         }
     }
 
-    fn run<M: Machine>(
+    fn run<M: Machine, R: Wait>(
         &mut self,
+        rt: &R,
         machine: &mut M,
         line: &Line,
         out: &mut Vec<u8>,
@@ -33,6 +36,10 @@ impl Bench {
         match line {
             Line::Supply { kind, count } => self.supply(machine, *kind, *count, out),
             Line::Drain { count } => self.drain(machine, *count, out),
+            Line::Step(Step::Checkpoint) => {
+                let generation = machine.checkpoint(rt)?;
+                say(self.alloc, out, &Answer::Checkpointed(generation))
+            }
             Line::Step(step) => {
                 let answer = machine.step(step)?;
                 say(self.alloc, out, &answer)
