@@ -133,7 +133,14 @@ fn probe<R: Wait>(rt: HostRuntime, wait: &R) -> Result<(), Stop> {
     match Bench::new(rt.alloc()) {
         Ok(mut bench) => {
             let writer = &mut io::writer(&rt);
-            print_lines(wait, rt.alloc(), &mut bench, is_over_hubs, &mut script, writer)
+            print_lines(
+                wait,
+                rt.alloc(),
+                &mut bench,
+                is_over_hubs,
+                &mut script,
+                writer,
+            )
         }
         Err(_) => Err(Stop::CannotGoOn),
     }
