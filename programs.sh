@@ -65,6 +65,48 @@ is_proved() {
   touch -d "@$since" "$seal" 2>/dev/null || true
 }
 
+# A sum of all that a proof of the whole tree rests on: the kit, and what all crates are made from.
+sum_of_tree() {
+  (
+    cd "$top" || exit
+    {
+      rt version
+      cat HANDLES
+      find crates.txt crates -name out -prune -o -name 'must-fail*' -prune -o -type f -print0 | LC_ALL=C sort -z | xargs -0 sha256sum
+    } | sha256sum | cut -d' ' -f1
+  )
+}
+
+# The file that says of which tree the libraries in the crates' out/ are.
+tree_file() { echo "$top/out/proved"; }
+
+# The copy of the tree in which it is proved.
+copy_of_tree() { echo "$top/out/tree"; }
+
+# Proves all crates and their tests from nothing, and builds and runs the programs and the tests, by `rt ci`, in a copy of the
+# tree. The copy has no edits, since edits.py tries those together, and is the top of a repository for rt. What was built goes
+# into the crates' out/; it stays in the copy too, for what reads it there.
+prove_tree() {
+  local tree sum crate out
+  tree=$(copy_of_tree)
+  sum=$(sum_of_tree)
+  rm -rf "$tree" "$(tree_file)"
+  mkdir -p "$tree/.git"
+  tar -C "$top" -cf - --exclude=out --exclude='must-fail*' HANDLES crates crates.txt | tar -C "$tree" -xf - || return
+  (cd "$tree" && rt ci) || return
+  for crate in "$tree"/crates/*; do
+    out=$top/crates/$(basename "$crate")/out
+    rm -rf "$out"
+    cp -al "$crate/out" "$out" || return
+  done
+  echo "$sum" >"$(tree_file)"
+}
+
+# Whether the libraries in the crates' out/ are of the tree as it is now.
+is_tree_proved() {
+  [ -f "$(tree_file)" ] && [ "$(sum_of_tree)" = "$(cat "$(tree_file)")" ]
+}
+
 # A folder's path from the root on.
 from_root() {
   case $1 in
