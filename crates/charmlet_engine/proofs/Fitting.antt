@@ -11,7 +11,7 @@ use Rattle.charmlet_shelf.specs.Shelf.{View}
 use Rattle.charmlet_stock.specs.declared.stock.Stock.{Stock}
 use Rattle.charmlet_migrate.specs.Moving.{records_on}
 use Rattle.charmlet_checkpoint.specs.Showing.{IsShown}
-use Rattle.charmlet_store.specs.Together.{FitTogether}
+use Rattle.charmlet_migrate.specs.StoreParts.{FitTogether}
 use Rattle.charmlet_store.proofs.Showing.{ShowsCore, flush_shows, request_shows}
 
 -- so they are shown to an image

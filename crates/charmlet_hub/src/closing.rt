@@ -53,8 +53,8 @@ impl<D: Disk, C: Chare, B: RuntimeName> Hub<D, C, B> {
     /// lists, in the history's order. Each pass has exactly its client's accepts since it was lent,
     /// and all that it knows of its client's requests is true of the durable events.
     ///
-    /// `PassOut` if a seat or a pass that is out isn't handed in; otherwise `Memory`. Then all comes
-    /// back as it was.
+    /// `PassOut` if a seat or a pass that is out isn't handed in; otherwise `Memory`. Then all
+    /// comes back as it was.
     pub fn close(
         self,
         shelves: Vec<LockedShelf<C, B>>,

@@ -6,3 +6,5 @@ pub mod Others
 pub mod CanMove
 pub mod Leaving
 pub mod MoveCensus
+pub mod EachShelf
+pub mod Moved

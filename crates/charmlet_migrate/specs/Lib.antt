@@ -1,6 +1,7 @@
 -- The definitions that contracts cite.
 pub mod Copying
 pub mod Moving
+pub mod StoreParts
 pub use Rattle.charmlet_model.specs.Core
 pub use Rattle.charmlet_model.specs.Names
 pub use Rattle.charmlet_model.specs.Reaction

@@ -1,8 +1,10 @@
 //! Moves of elements between processors.
 #![tactic(auto)]
 
+mod among;
 mod copying;
 mod moving;
 
+pub use crate::among::move_among;
 pub use crate::copying::{become_copy, place_copy};
 pub use crate::moving::move_between;

@@ -254,8 +254,8 @@ fn write_told<N: GhostValue<SeenPass>, B: BookName>(
     book.change_to::<N>(share);
 }
 
-/// Writes what a pass's client was told about its request, and that this was accepted, into the book
-/// and the pass's share, which had the same value before.
+/// Writes what a pass's client was told about its request, and that this was accepted, into the
+/// book and the pass's share, which had the same value before.
 fn write_accept<N: GhostValue<SeenPass>, B: BookName>(
     book: &mut Book<SeenPass, B>,
     share: &mut Share<SeenPass, B>,

@@ -46,5 +46,6 @@ pub use Rattle.charmlet_world.specs.Seen
 pub use Rattle.charmlet_history.specs.Kept
 pub use Rattle.charmlet_history.specs.Opened
 pub use Rattle.charmlet_migrate.specs.Moving
+pub use Rattle.charmlet_migrate.specs.StoreParts
 pub use Rattle.charmlet_delivery.specs.Workplace
 pub use Rattle.charmlet_store.specs.Store

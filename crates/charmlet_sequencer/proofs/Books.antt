@@ -32,7 +32,7 @@ use Rattle.charmlet_delivery.specs.Leaves.{Leaves}
 use Rattle.charmlet_delivery.specs.Turns.{Turns}
 use Rattle.charmlet_delivery.specs.UnderWay.{IsUnderWay, due_in}
 use Rattle.charmlet_delivery.specs.Workplace.{IsConsistentWorkplace, IsFreeIfIdle, IsWithin, ShowsOn, held_in, workplace_of}
-use Rattle.charmlet_store.proofs.Shelved.{each_or_one}
+use Rattle.charmlet_migrate.proofs.EachShelf.{each_or_one}
 use Rattle.charmlet_sequencer.specs.Book.{IsBookOf, IsDueOn, objects_in_all, part_at, part_in, records_in}
 use Rattle.charmlet_sequencer.specs.Part.{Part, brings, objects_in, part_on}
 

@@ -16,7 +16,7 @@ use Rattle.charmlet_history.specs.Kept.{core_in}
 use Rattle.charmlet_stock.specs.Stock.{blanks_in, tally_in}
 use Rattle.charmlet_history.specs.declared.history.History.{History}
 use Rattle.charmlet_stock.specs.declared.stock.Stock.{Stock}
-use Rattle.charmlet_store.specs.Together.{FitTogether}
+use Rattle.charmlet_migrate.specs.StoreParts.{FitTogether}
 use Rattle.charmlet_sequencer.specs.Book.{IsBookOf, objects_in_all, part_in, records_in}
 use Rattle.charmlet_sequencer.specs.Part.{Part, objects_in, part_on}
 use Rattle.charmlet_sequencer.proofs.Books.{objects_are}

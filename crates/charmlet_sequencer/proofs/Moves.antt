@@ -32,7 +32,7 @@ use Rattle.charmlet_delivery.specs.Workplace.{ShowsOn, store_with}
 use Rattle.charmlet_delivery.proofs.Places.{stepped_core}
 use Rattle.charmlet_migrate.specs.Moving.{IsShelfOf, held_in_both}
 use Rattle.charmlet_migrate.proofs.Others.{LeavesOthers, move_leaves}
-use Rattle.charmlet_store.proofs.Moved.{both_set, each_or_two}
+use Rattle.charmlet_migrate.proofs.Moved.{both_set, each_or_two}
 use Rattle.charmlet_sequencer.specs.Book.{IsBookOf, IsDueOn, objects_in_all, part_at, part_in, records_in}
 use Rattle.charmlet_sequencer.specs.Part.{Part, objects_in, part_on}
 use Rattle.charmlet_sequencer.proofs.Books.{objects_are, part_is, ready, there_at}

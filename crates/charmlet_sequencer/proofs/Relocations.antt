@@ -37,7 +37,7 @@ use Rattle.charmlet_migrate.proofs.CanMove.{CanGo, destination_stays, idle_both,
 use Rattle.charmlet_migrate.proofs.Carried.{stands}
 use Rattle.charmlet_migrate.proofs.MoveChecks.{stays_there}
 use Rattle.charmlet_migrate.proofs.Others.{LeavesOthers, move_leaves}
-use Rattle.charmlet_store.proofs.Moved.{both_set}
+use Rattle.charmlet_migrate.proofs.Moved.{both_set}
 use Rattle.charmlet_sequencer.specs.Book.{IsBookOf}
 use Rattle.charmlet_sequencer.specs.Relocating.{Carries, IsAway, StaysOrLeaves}
 use Rattle.charmlet_sequencer.specs.Part.{Part, part_on}

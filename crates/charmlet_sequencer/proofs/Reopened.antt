@@ -23,7 +23,7 @@ use Rattle.charmlet_stock.specs.declared.stock.Stock.{Stock}
 use Rattle.charmlet_stock.specs.Stock.{blanks_in, tally_in}
 use Rattle.charmlet_migrate.specs.Moving.{IsIdle, objects_among, records_on}
 use Rattle.charmlet_delivery.specs.UnderWay.{due_in}
-use Rattle.charmlet_store.specs.Together.{AreNumbered, FitTogether}
+use Rattle.charmlet_migrate.specs.StoreParts.{AreNumbered, FitTogether}
 use Rattle.charmlet_sequencer.specs.Book.{IsBookOf, IsDueOn, objects_in_all, part_at, part_in, records_in}
 use Rattle.charmlet_sequencer.specs.Opened.{AreShelvesOf}
 use Rattle.charmlet_sequencer.specs.Part.{Part, objects_in, part_on}

@@ -31,6 +31,7 @@ pub use Rattle.charmlet_journal.specs.Rest
 pub use Rattle.charmlet_checkpoint.specs.Imaging
 pub use Rattle.charmlet_migrate.specs.Copying
 pub use Rattle.charmlet_migrate.specs.Moving
+pub use Rattle.charmlet_migrate.specs.StoreParts
 pub use Rattle.charmlet_store.specs.Store
 pub use Rattle.charmlet_delivery.specs.UnderWay
 pub use Rattle.charmlet_delivery.specs.Workplace

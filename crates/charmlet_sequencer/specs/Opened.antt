@@ -6,7 +6,7 @@ use Rattle.charmlet_model.specs.Shelves.{AddsUp, Shows}
 use Rattle.charmlet_shelf.specs.Shelf.{View}
 use Rattle.charmlet_stock.specs.ByKind.{at}
 use Rattle.charmlet_migrate.specs.Moving.{IsIdle, objects_among, records_on}
-use Rattle.charmlet_store.specs.Together.{AreNumbered}
+use Rattle.charmlet_migrate.specs.StoreParts.{AreNumbered}
 use Rattle.charmlet_sequencer.specs.Sequencer.{SequencerShown, supplied_of}
 
 -- There is a shelf for each processor, in their order, with no delivery under way; the shelves show

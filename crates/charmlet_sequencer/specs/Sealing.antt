@@ -3,7 +3,7 @@ use Rattle.std.specs.Prelude.{◌≡◌, ℕ, List, length}
 use Rattle.std.specs.List.{All}
 use Rattle.charmlet_shelf.specs.Shelf.{View}
 use Rattle.charmlet_migrate.specs.Moving.{IsIdle}
-use Rattle.charmlet_store.specs.Together.{AreNumbered}
+use Rattle.charmlet_migrate.specs.StoreParts.{AreNumbered}
 
 -- there is a shelf for each processor, in their order, with no delivery under way
 pub record AreAllIdle (processors : ℕ) (shelves : List View) : Type 0 where

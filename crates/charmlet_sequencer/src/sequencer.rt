@@ -42,8 +42,8 @@ use std::alloc::Global;
 use std::marker::Model;
 use std::sync::ledger::Ledger;
 
-/// What orders all steps: a history, the halves of a disk, the stock, and the book of what stands on
-/// each shelf. A contract sees the core, the census and the disk.
+/// What orders all steps: a history, the halves of a disk, the stock, and the book of what stands
+/// on each shelf. A contract sees the core, the census and the disk.
 ///
 /// Each call is one step of the core, or leaves it as it is. The history is legal. Of each kind,
 /// what was supplied is on the shelves, in the stock, or retired. A shelf that is lent to a call

@@ -1,5 +1,4 @@
 pub mod Shelved
-pub mod Moved
 pub mod Showing
 pub mod Looks
 pub mod Theres

@@ -34,12 +34,13 @@ use Rattle.charmlet_stock.specs.declared.pile.Tally.{Tally}
 use Rattle.charmlet_stock.specs.Pile.{nothing}
 use Rattle.charmlet_stock.specs.Stock.{tally_in, supplied_to}
 use Rattle.charmlet_migrate.specs.Moving.{IsCountedAmong, IsIdle, ShowsPresent, objects_among, records_on}
+use Rattle.charmlet_migrate.proofs.EachShelf.{each_or_one, number_is, records_at, shows_on, within_supply}
 use Rattle.charmlet_migrate.proofs.Shelves as all_shelves
 use Rattle.charmlet_delivery.specs.Turns.{Turns}
 use Rattle.charmlet_delivery.specs.UnderWay.{IsUnderWay, due_in}
 use Rattle.charmlet_delivery.specs.Workplace.{IsConsistentWorkplace, IsWithin, ShowsOn, workplace_of, held_in}
 use Rattle.charmlet_store.specs.Store.{AreEmpty, IsNew}
-use Rattle.charmlet_store.specs.Together.{AreNumbered, FitTogether}
+use Rattle.charmlet_migrate.specs.StoreParts.{AreNumbered, FitTogether}
 use Rattle.charmlet_store.specs.declared.store.Store.TheInside.{Inside}
 use Rattle.charmlet_migrate.specs.Copying.{empty_shelf}
 
@@ -63,47 +64,6 @@ module _ {X Z : Type 0} (v : Vec X Z) where
 
   pub same_item : (i : ℕ) (x : X) → slice_set v.items i x ≡ v.items → with_item v i x ≡ v
   same_item i x same = refilled_same (sym same) (with_item v i x).ok.0
-
--- each element is as before, or the one that was written
-module _ {X : Type 0} (xs : List X) (p : ℕ) (y : X) (within : p < length xs) where
-  pub each_or_one : (P : ℕ → X → Type 0) (d : X) → P p y → ((q : ℕ) → (p == q) ≡ false → P q (get_or xs q d)) → (q : ℕ) → P q (get_or (slice_set xs p y) q d)
-  each_or_one P d own others q = elim (p == q) as (λ b. (p == q) ≡ b → P q (get_or (slice_set xs p y) q d)) [
-    | true ↦ λ same.
-        subst (λ q. P q (get_or (slice_set xs p y) q d)) (exact_unsigned_eq p q same)
-        (subst (P p) (sym (get_or-set_same xs p y d within)) own)
-    | false ↦ λ apart.
-        let not_same : q ≡ p → ⊥ = λ same. (let itself = nat_eq_equiv.refl p in let bad : (p == p) ≡ false = ap (λ n. p == n) (sym same) ∙ apart in cc) in
-        subst (P q) (sym (get_or-set_other xs p q y d not_same)) (others q apart)
-  ] refl
-
--- ---- one of the shelves
-
--- its records
-pub records_at : (shelves : List View) (p : ℕ) (shelf : View) → p < length shelves → shelf_of (records_on shelves) p ≡ (get_or shelves p shelf).records
-records_at shelves p shelf within = all_shelves.records_at shelves p ∙ ap (λ (v : View). v.records) (get_or_default shelves p (empty_shelf 0) shelf within)
-
-module _ {C : Type 0} {G : Ghosts C} (history : History) (shelves : List View) (stock : Stock C G) (numbers : AreNumbered shelves) (count : length shelves ≡ (core_in history).processors) (shows : ShowsPresent shelves history) (p : ℕ) (within : p < length shelves) (shelf : View) (is : shelf ≡ get_or shelves p shelf) where
-  pub number_is : shelf.number ≡ p
-  number_is = ap (λ (v : View). v.number) is ∙ numbers p shelf within
-
-  -- it shows its part of the world
-  pub shows_on : ShowsOn shelf.number shelf.records (core_in history).places (present (core_in history))
-  shows_on =
-      let records : shelf_of (records_on shelves) p ≡ shelf.records = records_at shelves p shelf within ∙ sym (ap (λ (v : View). v.records) is) in
-      subst (λ n. ShowsOn n shelf.records (core_in history).places (present (core_in history))) (sym number_is)
-      (subst (λ rs. ShowsOn p rs (core_in history).places (present (core_in history))) records (record {
-        rising = All-get_or (λ (rs : List (Elem × Record)). IsStrictlySortedBy elem_cmp (keys_of rs)) (records_on shelves) p [] (let same = length-map shelves (λ (v : View). v.records) in omega arith)
-            (All-from_recursion (λ (rs : List (Elem × Record)). IsStrictlySortedBy elem_cmp (keys_of rs)) (records_on shelves) shows.rising);
-        shown = λ x. shows.shown p x;
-      }))
-
-  -- its objects were supplied
-  pub within_supply : IsCountedAmong shelves stock → IsWithin shelf stock
-  within_supply counted = λ kind.
-      let all = counted kind in
-      let own : objects_on shelf kind ≤ objects_among shelves kind =
-      subst (λ (v : View). objects_on v kind ≤ objects_among shelves kind) (sym is) (get_or-le-sum_by (λ (v : View). objects_on v kind) shelves p shelf within) in
-      omega arith
 
 -- no delivery is under way there
 idle_at : {C : Type 0} {G : Ghosts C} (store : Inside C G) → IsTogether store → (p : ℕ) (shelf : View) → p < length store.shelves.items → shelf ≡ get_or store.shelves.items p shelf → shelf.phase ≡ Idle

@@ -35,7 +35,7 @@ use Rattle.charmlet_stock.specs.Stock.{blanks_in, census_of, supplied_to}
 use Rattle.charmlet_migrate.specs.Moving.{IsIdle, objects_among, records_on}
 use Rattle.charmlet_store.specs.declared.store.Store.TheInside.{Inside}
 use Rattle.charmlet_store.proofs.Shelved.{IsTogether}
-use Rattle.charmlet_store.specs.Together.{AreNumbered}
+use Rattle.charmlet_migrate.specs.StoreParts.{AreNumbered}
 use Rattle.charmlet_store.specs.Upgraded.{up_shelf, up_shelves}
 
 -- ---- the first so many shelves

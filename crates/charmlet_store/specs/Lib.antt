@@ -29,3 +29,4 @@ pub use Rattle.charmlet_delivery.specs.UnderWay
 pub use Rattle.charmlet_delivery.specs.Workplace
 pub use Rattle.charmlet_migrate.specs.Copying
 pub use Rattle.charmlet_migrate.specs.Moving
+pub use Rattle.charmlet_migrate.specs.StoreParts

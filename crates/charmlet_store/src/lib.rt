@@ -4,7 +4,6 @@
 mod census;
 mod dismantling;
 mod look;
-mod moving;
 mod store;
 mod upgrading;
 

@@ -15,16 +15,17 @@ ghost use Rattle.charmlet_stock.specs.ByKind.{for_all, with_at};
 ghost use Rattle.charmlet_stock.specs.Pile.{with_out};
 ghost use Rattle.charmlet_stock.specs.Stock.{blanks_in, census_of, keeping_of, part_of, tally_in};
 ghost use Rattle.charmlet_store.specs.Dismantled.{IsCountedIn};
-ghost use Rattle.charmlet_store.specs.Together.{FitTogether, shown_by};
+ghost use Rattle.charmlet_migrate.specs.StoreParts.{FitTogether};
+ghost use Rattle.charmlet_store.specs.Together.{shown_by};
 ghost use Rattle.charmlet_store.specs.Store.{AreEmpty, IsNew, store_in, supplied_in, world_in};
 ghost use Rattle.charmlet_delivery.specs.UnderWay.{Ends};
 
 use crate::dismantling::{Dismantled, lift_all};
-use crate::moving::move_among;
 use charmlet_births::Ticks;
 use charmlet_chare::Chare;
 use charmlet_delivery::deliver_on;
 use charmlet_history::{History, Request};
+use charmlet_migrate::move_among;
 use charmlet_model::{Elem, Kind, MsgId, Refusal, Told};
 use charmlet_shelf::Shelf;
 use charmlet_stock::Stock;
@@ -46,7 +47,8 @@ pub struct Store<C: Chare> {
 
 impl<C: Chare> Model for Store<C> {
     ghost use Rattle.charmlet_store.specs.Store.{StoreShown};
-    ghost use Rattle.charmlet_store.specs.Together.{FitTogether, shown_by};
+    ghost use Rattle.charmlet_migrate.specs.StoreParts.{FitTogether};
+    ghost use Rattle.charmlet_store.specs.Together.{shown_by};
 
     ghost Value = { StoreShown };
 

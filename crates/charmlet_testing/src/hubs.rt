@@ -5,7 +5,7 @@ use crate::saying::say;
 use crate::store_of::store_of;
 use charmlet_model::{Answer, Step};
 use charmlet_probe_store::{Failed, Machine, Turn};
-use charmlet_script::{Line, read_restart_script};
+use charmlet_script::{Line, Runner, read_restart_script};
 use std::io::Write;
 
 impl Bench {
@@ -16,7 +16,7 @@ impl Bench {
         text: &str,
         out: &mut Vec<u8>,
     ) -> Result<(), Failed> {
-        let script = read_restart_script(self.alloc, &mut text.as_bytes())?;
+        let script = read_restart_script(self.alloc, &mut text.as_bytes(), Runner::Engine)?;
         let Some(Line::Step(Step::Deliver { processor, id })) = script.lines().first() else {
             return Err(Failed::Malformed);
         };

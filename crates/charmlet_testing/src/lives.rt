@@ -10,7 +10,7 @@ use charmlet_probe_store::{
     Blanks, Ended, Failed, Machine, NotBack, Parts, ProbeStore, Without, wanted_objects,
 };
 use charmlet_requests::{Handler, Handlers};
-use charmlet_script::{HandlerLine, Script, read_script};
+use charmlet_script::{HandlerLine, Runner, Script, read_script};
 use std::alloc::Global;
 use std::io::Write;
 
@@ -36,7 +36,7 @@ fn register(handlers: &mut Handlers, lines: &[HandlerLine]) -> Result<(), Refusa
 impl Bench {
     /// Makes a store by the header.
     pub fn create(&mut self, out: &mut Vec<u8>) -> Result<(), Failed> {
-        let script = read_script(self.alloc, &mut self.header.as_bytes())?;
+        let script = read_script(self.alloc, &mut self.header.as_bytes(), Runner::Engine)?;
         self.create_by(&script)?;
         say(self.alloc, out, &"created")
     }

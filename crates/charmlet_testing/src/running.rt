@@ -7,7 +7,7 @@ use crate::store_of::store_of;
 use charmlet_model::{Answer, Kind, Step};
 use charmlet_probe_objects::blanks;
 use charmlet_probe_store::{Call, Failed, Machine};
-use charmlet_script::{Drained, Line, Supplied, read_restart_script};
+use charmlet_script::{Drained, Line, Runner, Supplied, read_restart_script};
 use std::sync::Wait;
 
 impl Bench {
@@ -19,7 +19,7 @@ impl Bench {
         text: &str,
         out: &mut Vec<u8>,
     ) -> Result<(), Failed> {
-        let script = read_restart_script(self.alloc, &mut text.as_bytes())?;
+        let script = read_restart_script(self.alloc, &mut text.as_bytes(), Runner::Engine)?;
         match script.lines().first() {
             Some(line) => self.run(rt, store_of(store)?, line, out),
             None => Ok(()),

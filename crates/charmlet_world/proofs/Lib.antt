@@ -7,9 +7,7 @@ pub mod Suiting
 pub mod Receiving
 pub mod Risen
 pub mod Rows
-pub mod RowsLemmas
 pub mod Sends
-pub mod ShownLemmas
 pub mod Showing
 pub mod Letters
 pub mod Enveloped

@@ -1,6 +1,6 @@
 -- The definitions that contracts cite.
 pub mod Changed
-pub mod Client
+pub use Rattle.charmlet_client.specs.Client
 pub mod Envelopes
 pub mod Ids
 pub mod Laws

@@ -3,7 +3,6 @@
 #![tactic(auto)]
 
 mod calls;
-mod client;
 mod clients;
 mod dispatch;
 mod element;
@@ -18,7 +17,6 @@ mod present;
 mod receivers;
 mod sending;
 
-pub use crate::client::Client;
 pub use crate::element::Element;
 pub use crate::elements::{Elements, Slot};
 pub use crate::letter::Letter;

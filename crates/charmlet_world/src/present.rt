@@ -21,7 +21,6 @@ ghost use Rattle.charmlet_world.specs.Seen.{IsSlot, Shows, client_at, element_at
 ghost use Rattle.charmlet_world.specs.Standing.{places_of, risen};
 ghost use Rattle.charmlet_world.specs.Waiting.{message_of};
 
-use crate::client::Client;
 use crate::clients::{flush_row, keep_reply, note_request};
 use crate::dispatch::{Delivered, Dispatch, place_in};
 use crate::element::Element;
@@ -31,6 +30,7 @@ use crate::messages::Messages;
 use crate::sending::push_sends;
 use charmlet_births::Ticks;
 use charmlet_chare::Output;
+use charmlet_client::Client;
 use charmlet_model::{ClientRow, Elem, MAX_SENDS, Manifest, Message, MsgId, Origin, Told, Words};
 use std::alloc::{AllocError, Global};
 use std::collections::BTreeMap;

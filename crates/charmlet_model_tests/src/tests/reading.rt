@@ -1,6 +1,6 @@
 //! Scripts of readers that fail, which no file does at will.
 
-use charmlet_script::{ReadError, read_restart_script, read_script};
+use charmlet_script::{ReadError, Runner, read_restart_script, read_script};
 use std::alloc::AllocGlobal;
 use std::io;
 use std::io::{ErrorKind, Read};
@@ -34,12 +34,14 @@ fn failing_with(kind: ErrorKind) -> Failing {
 
 // The error of reading a script from a reader that fails with this kind of error.
 fn failure(rt: &(impl AllocGlobal + Abort), kind: ErrorKind) -> ReadError {
-    read_script(rt.alloc(), &mut failing_with(kind)).expect_err(rt, "it fails")
+    read_script(rt.alloc(), &mut failing_with(kind), Runner::Engine).expect_err(rt, "it fails")
 }
 
 // The error of reading a restart's script from a reader that fails with this kind of error.
 fn failure_of_restart(rt: &(impl AllocGlobal + Abort), kind: ErrorKind) -> ReadError {
-    read_restart_script(rt.alloc(), &mut failing_with(kind)).expect_err(rt, "it fails")
+    read_restart_script(rt.alloc(), &mut failing_with(kind), Runner::Engine).expect_err(
+        rt, "it fails",
+    )
 }
 
 // Whether a read failed for lack of permission.
@@ -76,17 +78,19 @@ impl Read for Interrupted {
     }
 }
 
-// A script of an array and a flush. Each read of it is interrupted at first.
+// A script of an array and a delivery. Each read of it is interrupted at first.
 fn interrupted_script() -> Interrupted {
     Interrupted {
-        bytes: b"array 0 1\nflush\n",
+        bytes: b"array 0 1\ndeliver 0 c7.1\n",
         is_interrupted: false,
     }
 }
 
 #[test]
 fn an_interrupted_read_is_tried_again(rt: HostRuntime) {
-    let read = read_script(rt.alloc(), &mut interrupted_script());
+    let read = read_script(rt.alloc(), &mut interrupted_script(), Runner::Engine);
     let lines = read.map(|script| script.lines().len());
     assert!(rt; matches!(lines, Ok(1)));
+    let read = read_script(rt.alloc(), &mut interrupted_script(), Runner::Workers);
+    assert!(rt; matches!(read, Err(ReadError::Malformed(2))));
 }

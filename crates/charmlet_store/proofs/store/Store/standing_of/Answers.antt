@@ -10,7 +10,7 @@ use Rattle.charmlet_history.specs.Kept.{core_in}
 use Rattle.charmlet_shelf.specs.Image.{IsImageIf}
 use Rattle.charmlet_store.specs.Look.{StandsWith}
 use Rattle.charmlet_store.specs.Store.{StoreShown, world_in}
-use Rattle.charmlet_store.specs.Together.{FitTogether}
+use Rattle.charmlet_migrate.specs.StoreParts.{FitTogether}
 use Rattle.charmlet_store.proofs.Looks.{has_image, stands_so}
 use Rattle.charmlet_store.proofs.Shelved.{world_of, same_item, seen_at}
 use Rattle.charmlet_store.proofs.store.Store.standing_of.Goals as goal

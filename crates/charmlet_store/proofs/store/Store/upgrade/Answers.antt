@@ -10,7 +10,7 @@ use Rattle.charmlet_shelf.specs.Shelf.{View}
 use Rattle.charmlet_stock.specs.Stock.{blanks_in, supplied_to, tally_in}
 use Rattle.charmlet_migrate.specs.Moving.{IsIdle, objects_among, records_on}
 use Rattle.charmlet_store.specs.Store.{StoreShown}
-use Rattle.charmlet_store.specs.Together.{AreNumbered}
+use Rattle.charmlet_migrate.specs.StoreParts.{AreNumbered}
 use Rattle.charmlet_store.specs.Upgraded.{up_shelf, up_shelves}
 use Rattle.charmlet_store.proofs.Upgrades.{count_up, idle_up, numbers_up, objects_up}
 use Rattle.charmlet_store.proofs.store.Store.upgrade.Goals as goal

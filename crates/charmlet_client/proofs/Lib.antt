@@ -1,0 +1,2 @@
+pub mod RowsLemmas
+pub mod ShownLemmas
