@@ -6,6 +6,7 @@ use charmlet_any_disk::AnyDisk;
 use charmlet_cli::{Stop, write_line};
 use charmlet_lab::{LabLine, Watch, try_crashes};
 use charmlet_model::{Answer, Refusal};
+use charmlet_script::Runner;
 use std::io;
 use std::io::{BufWriter, IsTerminal, Write};
 use std::time::Instant;
@@ -82,7 +83,7 @@ fn tell_found(rt: HostRuntime, found: Result<LabLine, Refusal>) -> Result<(), St
 
 /// Tries the crashes of a script, and writes what was found on standard output.
 pub(crate) fn lab(rt: HostRuntime, path: &str) -> Result<(), Stop> {
-    let script = script_in(rt, path)?;
+    let script = script_in(rt, path, Runner::Engine)?;
     let mut progress = Progress::new(rt);
     let found = try_crashes::<AnyDisk, AllKinds, Progress>(
         rt.alloc(),

@@ -6,14 +6,18 @@ mod blanks;
 mod lab;
 mod runs;
 mod scripts;
+mod workers;
 
 use crate::lab::lab;
 use crate::runs::{restart, run};
+use crate::workers::{restart_by_workers, run_by_workers};
 use charmlet_any_disk::AnyDisk;
 use charmlet_cli::{Failure, Stop, end_program, show_store};
 use charmlet_command::{Command, command_of};
 use std::io::{BufWriter, Write};
 use std::process::ExitCode;
+use std::sync::Wait;
+use std::thread::Threads;
 use std::{env, io};
 
 /// Shows the store in the two files of a folder on standard output.
@@ -31,17 +35,29 @@ fn words(rt: HostRuntime) -> io::Result<Vec<String>> {
     Ok(env::args(&rt)?.collect(rt.alloc())?)
 }
 
-/// Does what the command line asks for.
-fn charmlet(rt: HostRuntime) -> Result<(), Failure> {
+/// Does what the command line asks for. Workers run in threads of `threads`.
+fn charmlet<R: Threads + Wait + Sync>(rt: HostRuntime, threads: &R) -> Result<(), Failure> {
     let words = words(rt)?;
     match command_of(rt.alloc(), words.as_slice())? {
-        Command::Run { script, dir } => run(rt, script, dir)?,
+        Command::Run {
+            script,
+            dir,
+            workers: false,
+        } => run(rt, script, dir)?,
+        Command::Run { script, dir, .. } => run_by_workers(rt, threads, script, dir)?,
         Command::Show { dir } => show(rt, dir)?,
         Command::Restart {
             dir,
             script,
             processors,
+            workers: false,
         } => restart(rt, dir, script, processors)?,
+        Command::Restart {
+            dir,
+            script,
+            processors,
+            ..
+        } => restart_by_workers(rt, threads, dir, script, processors)?,
         Command::Lab { script } => lab(rt, script)?,
     }
     Ok(())
@@ -49,6 +65,6 @@ fn charmlet(rt: HostRuntime) -> Result<(), Failure> {
 
 fn main(rt: HostRuntime) -> ExitCode {
     // If nothing can be written, only the status tells of the failure.
-    let (status, _) = end_program(&charmlet(rt), &mut rt.stderr());
+    let (status, _) = end_program(&charmlet(rt, &rt), &mut rt.stderr());
     ExitCode::from(status)
 }

@@ -11,7 +11,7 @@ use charmlet_cli::{
 };
 use charmlet_model::Kind;
 use charmlet_recover::Wanted;
-use charmlet_script::{RestartScript, Script};
+use charmlet_script::{RestartScript, Runner, Script};
 use std::alloc::Global;
 use std::io;
 use std::io::{BufWriter, Write};
@@ -54,7 +54,7 @@ impl<W: Write> Task for ScriptRun<'_, W> {
 /// without one.
 pub(crate) fn run(rt: HostRuntime, path: &str, dir: Option<&str>) -> Result<(), Stop> {
     let alloc = rt.alloc();
-    let script = script_in(rt, path)?;
+    let script = script_in(rt, path, Runner::Engine)?;
     let mut writer = BufWriter::new(alloc, io::writer(&rt))?;
     let disk = match dir {
         Some(dir) => AnyDisk::folder(rt, dir)?,
@@ -116,7 +116,7 @@ impl<W: Write> Task for ScriptRestart<'_, W> {
 /// on `processors` processors.
 pub(crate) fn restart(rt: HostRuntime, dir: &str, path: &str, processors: u16) -> Result<(), Stop> {
     let alloc = rt.alloc();
-    let script = restart_script_in(rt, path)?;
+    let script = restart_script_in(rt, path, Runner::Engine)?;
     let mut writer = BufWriter::new(alloc, io::writer(&rt))?;
     let mut disk = AnyDisk::folder(rt, dir)?;
     let wanted = find_blanks(alloc, &mut disk, processors, &mut writer)?;

@@ -12,6 +12,8 @@ use Rattle.charmlet_model.specs.Run.{StoreView}
 use Rattle.charmlet_model.specs.Texts.{Text}
 use Rattle.charmlet_script.specs.declared.printed.Counted.{Counted}
 use Rattle.charmlet_script.specs.Printed.{absent_text, counted_text, standing_text}
+use Rattle.charmlet_store.specs.declared.look.Look.{Look}
+use Rattle.charmlet_store.specs.declared.look.Standing.{Standing}
 use Rattle.charmlet_store.specs.Census.{census_in}
 use Rattle.charmlet_store.specs.There.{there_of}
 use Rattle.charmlet_engine.specs.Engine.{EngineShown}
@@ -22,6 +24,15 @@ abbrev pub state_text : Elem → (processor : ℕ) → Option State → (sent re
 state_text elem processor None sent received = absent_text elem sent received
 state_text elem processor (Some state) sent received =
     standing_text elem processor sent received (encode_lower (pupped state))
+
+-- an element of which this is seen
+abbrev pub standing_texts : Elem → Option Standing → (sent received : ℕ) → Text
+standing_texts elem None sent received = absent_text elem sent received
+standing_texts elem (Some standing) sent received =
+    standing_text elem standing.processor sent received (encode_lower standing.packed.items)
+
+abbrev pub look_text : Elem → Look → Text
+look_text elem look = standing_texts elem look.standing look.sent look.received
 
 -- an element on this processor, if it is there, with this record
 abbrev pub record_text : Elem → (processor : ℕ) → Record → Text

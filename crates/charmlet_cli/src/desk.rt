@@ -30,12 +30,12 @@ pub(crate) struct Desk {
 
 /// What a client asks of a named handler.
 #[derive(Clone, Copy)]
-pub(crate) struct Call<'a> {
-    pub(crate) client: u32,
-    pub(crate) number: u64,
-    pub(crate) name: &'a str,
-    pub(crate) index: u64,
-    pub(crate) words: &'a [u64],
+pub struct Call<'a> {
+    pub client: u32,
+    pub number: u64,
+    pub name: &'a str,
+    pub index: u64,
+    pub words: &'a [u64],
 }
 
 impl Desk {
@@ -145,7 +145,7 @@ impl Desk {
 
 /// The handlers of these lines. If a name comes twice, the last line counts. It fails only when out
 /// of memory.
-fn handlers_of(alloc: Global, lines: &[HandlerLine]) -> Result<Handlers, AllocError>
+pub fn handlers_of(alloc: Global, lines: &[HandlerLine]) -> Result<Handlers, AllocError>
     ensures { IfOk result (λ handlers. (name : List ℕ) →
         handler_of handlers name ≡ named_by lines.now name) }
 {

@@ -176,7 +176,7 @@ pub fn restart_script<D: Disk, C: Chare, W: Write>(
     ensures honest { (D.honest disk → D.honest result.disk)
         × (D.honest result.disk → D.honest disk) }
 {
-    if !has_enough(&supplied_by(script), supplies.as_slice()) {
+    if !has_enough(&supplied_at_restart(script), supplies.as_slice()) {
         let result = Err(RestartError::TooFewBlanks(blanks, supplies));
         return Restarted { disk, result };
     }
@@ -190,7 +190,7 @@ pub fn restart_script<D: Disk, C: Chare, W: Write>(
 }
 
 /// How many blanks of each kind the script's lines supply.
-fn supplied_by(script: &RestartScript) -> Wanted
+pub fn supplied_at_restart(script: &RestartScript) -> Wanted
     ensures { (kind : Kind) → blanks_in result kind ≡ blanks_of kind script.now.lines }
 {
     Wanted {

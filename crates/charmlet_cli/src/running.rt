@@ -159,7 +159,7 @@ fn prepare<C: Chare>(
 }
 
 /// A stock with these objects. It fails only when out of memory.
-pub(crate) fn source_of<C: Chare>(alloc: Global, objects: Vec<C>) -> Result<Stock<C>, AllocError>
+pub fn source_of<C: Chare>(alloc: Global, objects: Vec<C>) -> Result<Stock<C>, AllocError>
     ensures { IfOk result (λ stock. (kind : Kind) →
         blanks_left stock kind ≡ count_of C.state objects.items kind) }
 {
@@ -346,7 +346,7 @@ fn answer_to<D: Disk, C: Chare>(engine: &mut Engine<D, C>, desk: &mut Desk, step
 }
 
 /// The answer to what a client asks.
-fn told_answer(told: Result<Told, Refusal>) -> Answer
+pub fn told_answer(told: Result<Told, Refusal>) -> Answer
     ensures { result ≡ client_answer told }
 {
     match told {
@@ -379,7 +379,7 @@ fn supply_line<D: Disk, C: Chare, W: Write>(
 }
 
 /// How many blanks of each kind the script's lines supply.
-fn supplied_by(script: &Script) -> Wanted
+pub fn supplied_by(script: &Script) -> Wanted
     ensures { (kind : Kind) → wants.blanks_in result kind ≡ blanks_of kind script.now.lines }
 {
     Wanted {
@@ -393,7 +393,7 @@ fn supplied_by(script: &Script) -> Wanted
 }
 
 /// Whether there are at least as many objects of each kind as are wanted.
-pub(crate) fn has_enough<C: Chare>(wanted: &Wanted, objects: &[C]) -> bool
+pub fn has_enough<C: Chare>(wanted: &Wanted, objects: &[C]) -> bool
     ensures { (result ≡ true) ↔ ((kind : Kind) →
         wants.blanks_in wanted.now kind ≤ count_of C.state objects.now kind) }
 {

@@ -10,7 +10,7 @@ ghost use Rattle.charmlet_script.specs.declared.script.Line.TheVariants as lines
 ghost use Rattle.charmlet_engine.specs.Advances.{Advances};
 ghost use Rattle.charmlet_engine.specs.Engine.{view_of, world_of};
 ghost use Rattle.charmlet_cli.specs.Lines.{IsPrinted, no_names, in_lines, ledger_in};
-ghost use Rattle.charmlet_cli.specs.Shown.{IsWhole, all_kinds, counted_of, counted_texts, record_text};
+ghost use Rattle.charmlet_cli.specs.Shown.{IsWhole, all_kinds, counted_of, counted_texts, look_text, record_text};
 ghost use Rattle.charmlet_cli.specs.Writing.{Writes};
 
 use crate::writing::{write_line, write_memory_refused};
@@ -19,6 +19,7 @@ use charmlet_disk::Disk;
 use charmlet_engine::Engine;
 use charmlet_model::{Elem, Kind};
 use charmlet_script::{Counted, PendingIds, Shown, Standing};
+use charmlet_store::Look;
 use std::alloc::{AllocError, Global};
 use std::io;
 use std::io::Write;
@@ -56,6 +57,15 @@ fn shown<D: Disk, C: Chare>(
     ensures absent { (record_of (world_of engine.old) elem).state ≡ None → IsOk result }
 {
     let look = engine.look(elem)?;
+    shown_of(alloc, elem, look)
+}
+
+/// What a line shows of an element of which this is seen. It fails only when out of memory, and only
+/// if the element is there.
+pub fn shown_of(alloc: Global, elem: Elem, look: Look) -> Result<Shown, AllocError>
+    ensures ok { IfOk result (λ shown. shown_text shown ≡ look_text elem look) }
+    ensures absent { look.standing ≡ None → IsOk result }
+{
     let (sent, received) = (look.sent, look.received);
     let Some(standing) = look.standing else {
         return Ok(Shown {
@@ -137,7 +147,7 @@ fn count<D: Disk, C: Chare>(engine: &Engine<D, C>, kind: Kind) -> Counted
 }
 
 /// Writes the counts of each kind that objects were supplied of.
-fn write_counts<W: Write>(alloc: Global, writer: &mut W, counts: &[Counted]) -> io::Result<()>
+pub fn write_counts<W: Write>(alloc: Global, writer: &mut W, counts: &[Counted]) -> io::Result<()>
     ensures { Writes result (W.contents writer.old) (W.contents writer.new)
         (in_lines (flat_map counted_texts counts.now)) }
 {

@@ -36,12 +36,8 @@ pub fn write_memory_refused<W: Write>(writer: &mut W) -> io::Result<()>
     write_bytes(writer, b"refused 1 Memory\n")
 }
 
-/// Writes an answer in a line. The answer `Memory` takes none.
-pub(crate) fn write_answer<W: Write>(
-    alloc: Global,
-    writer: &mut W,
-    answer: &Answer,
-) -> io::Result<()>
+/// Writes an answer in a line. The refusal `Memory` takes none. Fails as [`write_line`] does.
+pub fn write_answer<W: Write>(alloc: Global, writer: &mut W, answer: &Answer) -> io::Result<()>
     ensures { Writes result (W.contents writer.old) (W.contents writer.new)
         (in_lines (answer_text answer.now ∷ [])) }
 {

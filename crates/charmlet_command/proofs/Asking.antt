@@ -1,7 +1,11 @@
 -- From clap's matches and faults to the run that a line asks for.
-use Rattle.std.proofs.Common.{◌≡◌, ◌∙◌, ◌∷◌, [], List, true, false, Option, Some, None, codes, refl, inl, inr, option_and_then, option_map, Result, Ok, Err, IfErr}
+use Rattle.std.proofs.Common.{◌≡◌, ◌≢◌, ◌∙◌, ◌∷◌, [], List, Bool, true, false, Option, Some, None, ap, codes, refl, sym, inl, inr, option_and_then, option_map, unwrap_or, Result, Ok, Err, IfErr}
+use Rattle.std.specs.Bool.{Decides}
+use Rattle.std.specs.Option.{option_map_or}
+use Rattle.std.proofs.lemmas.Slice.Eq.{bytes_eq-Decides}
 use Rattle.std.specs.Str.{bytes_eq}
-use Rattle.clap.specs.Matches.{first_value}
+use Rattle.std.specs.Str.Parse.{ParsesBool}
+use Rattle.clap.specs.Matches.{ReadsOne, first_value, one_text}
 use Rattle.clap.specs.Walk.{Row, Text, rows_of}
 use Rattle.std.specs.Prelude.{Box, IsErrAnd}
 use Rattle.std.specs.Box.{box_value}
@@ -16,8 +20,8 @@ use Rattle.clap.specs.declared.error.kind.ErrorKind.{ErrorKind}
 use Rattle.clap.specs.declared.error.kind.ErrorKind.TheVariants.{MissingSubcommand}
 use Rattle.clap.specs.declared.parser.matches.Found.{Found}
 use Rattle.clap.proofs.OnLiterals.{clap_on_literals}
-use Rattle.clap.proofs.WalkLemmas.{first_value-rows}
-use Rattle.charmlet_command.specs.CommandLine.{AsksNothing, IsErrorOf, Runs, Shows, Tries, asked, asked_by, charmlet_line, lab_of, run_of, show_of}
+use Rattle.clap.proofs.WalkLemmas.{first_value-rows, one_text-rows}
+use Rattle.charmlet_command.specs.CommandLine.{AsksNothing, IsErrorOf, Runs, Shows, Tries, asked, asked_by, charmlet_line, is_on, lab_of, run_of, show_of}
 use Rattle.charmlet_command.specs.declared.CommandError.{CommandError}
 use Rattle.charmlet_command.specs.declared.CommandError.TheVariants.{Memory, Line}
 
@@ -31,11 +35,37 @@ charmlet_is_simple : is_simple charmlet_line ≡ true
 unfolding clap_on_literals
 charmlet_is_simple = refl
 
--- the script and the folder, as the getters have them, make the run
-pub run_of_values : (found : Found) (script dir : Option Text)
-    → script ≡ first_value found (codes "script") → dir ≡ first_value found (codes "dir")
-    → option_map (λ script. Runs script dir) script ≡ run_of (rows_of found)
-run_of_values found script dir s d = rw (s ∙ first_value-rows found (codes "script"), d ∙ first_value-rows found (codes "dir")) refl
+-- a flag, as the getter has it, is on where its word is `true`
+flag_is : {E : Type 0} (gives : Text → Result Bool E → Type 0) → ((word : Text) (read : Result Bool E) → gives word read → ParsesBool word read)
+    → (word : Option Text) (flag : Option Bool) → (word ≡ None → flag ≡ None) → ((t : Text) → word ≡ Some t → ReadsOne gives t flag)
+    → unwrap_or flag false ≡ option_map_or (λ word. bytes_eq word (codes "true")) word false
+flag_is gives parses None flag none value = rw (none refl) refl
+flag_is gives parses (Some word) (Some true) none value =
+    let is_true : word ≡ codes "true" = parses word (Ok true) (value word refl) in
+    rw is_true refl
+flag_is gives parses (Some word) (Some false) none value =
+    let is_false : word ≡ codes "false" = parses word (Ok false) (value word refl) in
+    rw is_false refl
+flag_is gives parses (Some word) None none value =
+    let refused = value word refl in
+    let other = parses word (Err refused.0) refused.1 in
+    sym (isnt_true (bytes_eq word (codes "true")) (bytes_eq-Decides word (codes "true")) other.0)
+  where
+    isnt_true : (same : Bool) → Decides same (word ≡ codes "true") → word ≢ codes "true" → same ≡ false
+    isnt_true true decides other = absurd (other (decides.0 refl))
+    isnt_true false decides other = refl
+
+-- the flag, as the getter has it, is on where the line has it
+pub flag_of_value : {E : Type 0} (gives : Text → Result Bool E → Type 0) → ((word : Text) (read : Result Bool E) → gives word read → ParsesBool word read)
+    → (found : Found) (id : Text) (flag : Option Bool) → (one_text found id ≡ None → flag ≡ None) → ((t : Text) → one_text found id ≡ Some t → ReadsOne gives t flag)
+    → unwrap_or flag false ≡ is_on id (rows_of found)
+flag_of_value gives parses found id flag none value = flag_is gives parses (one_text found id) flag none value ∙ ap (λ word. option_map_or (λ word. bytes_eq word (codes "true")) word false) (one_text-rows found id)
+
+-- the script, the folder and the flag, as the getters have them, make the run
+pub run_of_values : (found : Found) (script dir : Option Text) (workers : Bool)
+    → script ≡ first_value found (codes "script") → dir ≡ first_value found (codes "dir") → workers ≡ is_on (codes "workers") (rows_of found)
+    → option_map (λ script. Runs script dir workers) script ≡ run_of (rows_of found)
+run_of_values found script dir workers s d w = rw (s ∙ first_value-rows found (codes "script"), d ∙ first_value-rows found (codes "dir"), w) refl
 
 -- and where there is no script, there is no run
 pub no_run_of : (found : Found) → None ≡ first_value found (codes "script") → None ≡ run_of (rows_of found)

@@ -9,7 +9,7 @@ use Rattle.clap.specs.declared.builder.value_parser.ValueParser.TheVariants as p
 use Rattle.clap.specs.declared.parser.matches.Found.{Found}
 use Rattle.clap.proofs.ValueTestLemmas.{Accepts-accepts, accepts-Accepts}
 use Rattle.clap.proofs.WalkLemmas.{first_value-rows, one_text-rows}
-use Rattle.charmlet_command.specs.CommandLine.{Asked, Restarts, restart_of, u16_in}
+use Rattle.charmlet_command.specs.CommandLine.{Asked, Restarts, is_on, restart_of, u16_in}
 
 -- what `parse` makes of a word is what it spells
 number_is : (word : Text) (n : ℕ) → (IsNumeral 10 (without_leading_plus word) × (digits_value 10 (without_leading_plus word) < 2 ^ 16)) → n ≡ digits_value 10 (without_leading_plus word)
@@ -40,19 +40,20 @@ number_of_value gives parses (Some word) None none value =
     let refused = value word refl in
     no_number word (parses word (Err refused.0) refused.1)
 
--- the restart that a folder, a script and a word for the number make
-abbrev named : Option Text → Option Text → Option Text → Option Asked
-named dir script word =
-    option_and_then (λ dir. option_and_then (λ script. option_and_then (λ word. option_and_then (λ processors. Some (Restarts dir script processors))
+-- the restart that a folder, a script, a word for the number and a flag make
+abbrev named : Option Text → Option Text → Option Text → Bool → Option Asked
+named dir script word workers =
+    option_and_then (λ dir. option_and_then (λ script. option_and_then (λ word. option_and_then (λ processors. Some (Restarts dir script processors workers))
     (u16_in word)) word) script) dir
 
-values-named : (found : Found) → restart_of (rows_of found) ≡ named (first_value found (codes "folder")) (first_value found (codes "script")) (one_text found (codes "pes"))
+values-named : (found : Found) → restart_of (rows_of found)
+    ≡ named (first_value found (codes "folder")) (first_value found (codes "script")) (one_text found (codes "pes")) (is_on (codes "workers") (rows_of found))
 values-named found = rw (first_value-rows found (codes "folder"), first_value-rows found (codes "script"), one_text-rows found (codes "pes")) refl
 
-named_is : (dir script : Text) (word : Option Text) (number : Option ℕ) → number ≡ option_and_then u16_in word
-    → option_and_then (λ processors. Some (Restarts dir script processors)) number ≡ named (Some dir) (Some script) word
-named_is dir script None number n = rw n refl
-named_is dir script (Some word) number n = rw n refl
+named_is : (dir script : Text) (word : Option Text) (number : Option ℕ) (workers : Bool) → number ≡ option_and_then u16_in word
+    → option_and_then (λ processors. Some (Restarts dir script processors workers)) number ≡ named (Some dir) (Some script) word workers
+named_is dir script None number workers n = rw n refl
+named_is dir script (Some word) number workers n = rw n refl
 
 -- where there is no folder, there is no restart
 pub no_folder : (found : Found) → None ≡ first_value found (codes "folder") → None ≡ restart_of (rows_of found)
@@ -64,7 +65,8 @@ pub no_script : (found : Found) (dir : Text) → Some dir ≡ first_value found 
 no_script found dir d s = rw (values-named found, ← d, ← s) refl
 
 -- and else the number decides
-pub restart_of_values : (found : Found) (dir script : Text) (number : Option ℕ) → Some dir ≡ first_value found (codes "folder")
+pub restart_of_values : (found : Found) (dir script : Text) (number : Option ℕ) (workers : Bool) → Some dir ≡ first_value found (codes "folder")
     → Some script ≡ first_value found (codes "script") → number ≡ option_and_then u16_in (one_text found (codes "pes"))
-    → option_and_then (λ processors. Some (Restarts dir script processors)) number ≡ restart_of (rows_of found)
-restart_of_values found dir script number d s n = rw (values-named found, ← d, ← s) (named_is dir script (one_text found (codes "pes")) number n)
+    → workers ≡ is_on (codes "workers") (rows_of found)
+    → option_and_then (λ processors. Some (Restarts dir script processors workers)) number ≡ restart_of (rows_of found)
+restart_of_values found dir script number workers d s n w = rw (values-named found, ← d, ← s, ← w) (named_is dir script (one_text found (codes "pes")) number workers n)

@@ -1,5 +1,6 @@
 -- What a command line asks for, by clap's meaning of its words.
-use Rattle.std.specs.Prelude.{◌≡◌, ◌≢◌, ℕ, Bool, List, [], ◌∷◌, Option, Some, None, codes, pos, true, if◌then◌else◌, option_and_then, option_map}
+use Rattle.std.specs.Prelude.{◌≡◌, ◌≢◌, ℕ, Bool, List, [], ◌∷◌, Option, Some, None, codes, pos, true, false, if◌then◌else◌, option_and_then, option_map}
+use Rattle.std.specs.Option.{option_map_or}
 use Rattle.std.specs.Str.{bytes_eq}
 use Rattle.std.specs.Str.Parse.{digits_value, without_leading_plus}
 use Rattle.clap.specs.Walk.{Row, Rule, Text, first_of, one_of}
@@ -8,7 +9,7 @@ use Rattle.clap.specs.Kinds.{Kinds, IsAmong, or_else}
 use Rattle.clap.specs.Faults.{fault_of}
 use Rattle.clap.specs.Values.{kind_of}
 use Rattle.clap.specs.ValueTests.{is_unsigned_in}
-use Rattle.clap.specs.declared.builder.action.ArgAction.TheVariants.{Set}
+use Rattle.clap.specs.declared.builder.action.ArgAction.TheVariants.{Set, SetTrue}
 use Rattle.clap.specs.declared.builder.value_parser.ValueParser.TheVariants as parsers
 use Rattle.clap.specs.declared.builder.command.Command.{Command as Parser}
 use Rattle.clap.specs.declared.builder.command.Command.TheViews.{out-Command}
@@ -60,17 +61,25 @@ pes_option = record (new_rule (codes "pes")) {
   defaults = codes "1" ∷ [];
 }
 
--- `run SCRIPT [--dir DIR]`
+-- `--workers`
+abbrev pub workers_flag : Rule
+workers_flag = record (new_rule (codes "workers"))
+    { long = Some (codes "workers"); action = Some SetTrue }
+
+-- `run SCRIPT [--dir DIR] [--workers]`
 abbrev pub run_line : App
-run_line = with_rule (with_rule (new_app (codes "run")) script_word) dir_option
+run_line = with_rule (with_rule (with_rule (new_app (codes "run")) script_word) dir_option)
+    workers_flag
 
 -- `show DIR`
 abbrev pub show_line : App
 show_line = with_rule (new_app (codes "show")) folder_word
 
--- `restart DIR SCRIPT [--pes N]`
+-- `restart DIR SCRIPT [--pes N] [--workers]`
 abbrev pub restart_line : App
-restart_line = with_rule (with_rule (with_rule (new_app (codes "restart")) pes_option) folder_word)
+restart_line =
+    with_rule (with_rule
+    (with_rule (with_rule (new_app (codes "restart")) pes_option) workers_flag) folder_word)
     script_word
 
 -- `lab SCRIPT`
@@ -87,17 +96,22 @@ charmlet_line =
 
 -- what is asked for: a run of a script, maybe with a folder for its store; a showing of the store
 -- in a folder; a restart of the store in a folder, on a number of processors, with a script; or a
--- trial of a script's crashes
+-- trial of a script's crashes. A run and a restart may be by workers
 pub data Asked : Type 0 where
-  Runs : (script : Text) (dir : Option Text) → Asked
+  Runs : (script : Text) (dir : Option Text) (workers : Bool) → Asked
   Shows : (dir : Text) → Asked
-  Restarts : (dir script : Text) (processors : ℕ) → Asked
+  Restarts : (dir script : Text) (processors : ℕ) (workers : Bool) → Asked
   Tries : (script : Text) → Asked
+
+-- a flag is on: its word is `true`
+abbrev pub is_on : Text → List Row → Bool
+is_on flag rows = option_map_or (λ word. bytes_eq word (codes "true")) (one_of flag rows) false
 
 -- the run that a subcommand's values name
 abbrev pub run_of : List Row → Option Asked
 run_of rows =
-    option_map (λ script. Runs script (first_of (codes "dir") rows))
+    option_map
+    (λ script. Runs script (first_of (codes "dir") rows) (is_on (codes "workers") rows))
     (first_of (codes "script") rows)
 
 -- the showing that a subcommand's values name
@@ -116,7 +130,7 @@ restart_of rows = do
   script ← first_of (codes "script") rows
   word ← one_of (codes "pes") rows
   processors ← u16_in word
-  Some (Restarts dir script processors)
+  Some (Restarts dir script processors (is_on (codes "workers") rows))
 
 -- the laboratory's script that a subcommand's values name
 abbrev pub lab_of : List Row → Option Asked
@@ -142,9 +156,10 @@ asked words = unless_faulty (fault_of charmlet_line words)
 
 -- what a command asks for
 abbrev pub asked_in : Command → Asked
-asked_in (Run script dir) = Runs script.now (option_map (λ dir. dir.now) dir)
+asked_in (Run script dir workers) = Runs script.now (option_map (λ dir. dir.now) dir) workers
 asked_in (Show dir) = Shows dir.now
-asked_in (Restart dir script processors) = Restarts dir.now script.now processors
+asked_in (Restart dir script processors workers) =
+    Restarts dir.now script.now processors workers
 asked_in (Lab script) = Tries script.now
 
 -- the words ask for the command

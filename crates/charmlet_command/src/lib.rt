@@ -5,7 +5,7 @@ ghost use Rattle.std.specs.Prelude.{◌≡◌, map, IfOk, IfErr, option_map, opt
 ghost use Rattle.clap.specs.Matches.{found_of};
 ghost use Rattle.clap.specs.Simple.{app_of, subcommand_rows_of};
 ghost use Rattle.clap.specs.Walk.{rows_of, rule_of};
-ghost use Rattle.charmlet_command.specs.CommandLine.{Asks, AsksNothing, asked_by, asked_in, charmlet_line, dir_option, folder_word, has_globals, lab_line, lab_of, needed_word, pes_option, restart_line, restart_of, run_line, run_of, script_word, show_line, show_of};
+ghost use Rattle.charmlet_command.specs.CommandLine.{Asks, AsksNothing, asked_by, asked_in, charmlet_line, dir_option, folder_word, has_globals, is_on, lab_line, lab_of, needed_word, pes_option, restart_line, restart_of, run_line, run_of, script_word, show_line, show_of, workers_flag};
 
 use clap::error::ErrorKind;
 use clap::{Arg, ArgAction, ArgMatches, value_parser};
@@ -17,22 +17,24 @@ use thiserror::Error;
 #[derive(Clone, Copy, Debug, PartialEq, Eq)]
 pub enum Command<'a> {
     /// Run the script in the file `script`, over a store in the folder `dir`, or in memory without
-    /// one.
+    /// one; with `workers`, by worker threads.
     Run {
         script: &'a str,
         dir: Option<&'a str>,
+        workers: bool,
     },
     /// Show what stands in the store in the folder `dir`.
     Show {
         dir: &'a str,
     },
     /// Restart the store in the folder `dir` on `processors` processors, and run the script in the
-    /// file `script` on it. The number is any 16-bit number: the command line doesn't check that a
-    /// store can have that many.
+    /// file `script` on it; with `workers`, by worker threads. The number is any 16-bit number: the
+    /// command line doesn't check that a store can have that many.
     Restart {
         dir: &'a str,
         script: &'a str,
         processors: u16,
+        workers: bool,
     },
     /// Try the crashes of the script in the file `script`.
     Lab {
@@ -222,6 +224,12 @@ Exit status:
 
 const PES_HELP: &str = "How many processors the store is on, 1 to 64, numbered from 0";
 
+const WORKERS_HELP: &str = "Deliver messages by worker threads, one for each processor";
+
+const WORKERS_LONG_HELP: &str = "\
+Deliver messages by worker threads, one for each processor; a 'deliver' line of the
+script is malformed then";
+
 /// A word that has to be there.
 fn needed<'a>(word: Arg<'a>) -> Arg<'a>
     ensures reads { rule_of result ≡ needed_word (rule_of word.entry) }
@@ -281,7 +289,19 @@ fn pes_arg<'a>(alloc: Global) -> Arg<'a>
         .default_value("1")
 }
 
-/// `run SCRIPT [--dir DIR]`.
+/// `--workers`.
+fn workers_arg<'a>(alloc: Global) -> Arg<'a>
+    ensures reads { rule_of result ≡ workers_flag }
+    ensures local { result.global ≡ false }
+{
+    Arg::new(alloc, "workers")
+        .long("workers")
+        .help(WORKERS_HELP)
+        .long_help(WORKERS_LONG_HELP)
+        .action(ArgAction::SetTrue)
+}
+
+/// `run SCRIPT [--dir DIR] [--workers]`.
 fn run_parser<'a>(alloc: Global) -> Result<clap::Command<'a>, AllocError>
     ensures reads { IfOk result (λ parser. app_of parser ≡ run_line) }
     ensures local { IfOk result (λ parser. has_globals parser ≡ false) }
@@ -291,7 +311,8 @@ fn run_parser<'a>(alloc: Global) -> Result<clap::Command<'a>, AllocError>
         .long_about(RUN_LONG_ABOUT)
         .after_help(RUN_STATUSES)
         .arg(script_arg(alloc))?
-        .arg(dir_arg(alloc))
+        .arg(dir_arg(alloc))?
+        .arg(workers_arg(alloc))
 }
 
 /// `show DIR`.
@@ -306,7 +327,7 @@ fn show_parser<'a>(alloc: Global) -> Result<clap::Command<'a>, AllocError>
         .arg(folder_arg(alloc))
 }
 
-/// `restart DIR SCRIPT [--pes N]`.
+/// `restart DIR SCRIPT [--pes N] [--workers]`.
 fn restart_parser<'a>(alloc: Global) -> Result<clap::Command<'a>, AllocError>
     ensures reads { IfOk result (λ parser. app_of parser ≡ restart_line) }
     ensures local { IfOk result (λ parser. has_globals parser ≡ false) }
@@ -316,6 +337,7 @@ fn restart_parser<'a>(alloc: Global) -> Result<clap::Command<'a>, AllocError>
         .long_about(RESTART_LONG_ABOUT)
         .after_help(RESTART_STATUSES)
         .arg(pes_arg(alloc))?
+        .arg(workers_arg(alloc))?
         .arg(folder_arg(alloc))?
         .arg(script_arg(alloc))
 }
@@ -347,13 +369,26 @@ fn parser<'a>(alloc: Global) -> Result<clap::Command<'a>, AllocError>
         .subcommand(lab_parser(alloc)?)
 }
 
+/// Whether a flag of a line is on. (Of other words than `true` and `false` clap's own call for it
+/// says nothing.)
+fn is_on(values: &ArgMatches<'_>, flag: &str) -> bool
+    ensures { result ≡ is_on flag.now (rows_of (found_of values.now)) }
+{
+    values.get_one::<bool>(flag).unwrap_or(false)
+}
+
 /// The run that the values of its line name.
 fn run_in<'a>(values: &ArgMatches<'a>) -> Option<Command<'a>>
     ensures { option_map asked_in result ≡ run_of (rows_of (found_of values.now)) }
 {
     let script = values.get_str("script")?;
     let dir = values.get_str("dir");
-    Some(Command::Run { script, dir })
+    let workers = is_on(values, "workers");
+    Some(Command::Run {
+        script,
+        dir,
+        workers,
+    })
 }
 
 /// The showing that the values of its line name.
@@ -371,10 +406,12 @@ fn restart_in<'a>(values: &ArgMatches<'a>) -> Option<Command<'a>>
     let dir = values.get_str("folder")?;
     let script = values.get_str("script")?;
     let processors = values.get_one::<u16>("pes")?;
+    let workers = is_on(values, "workers");
     Some(Command::Restart {
         dir,
         script,
         processors,
+        workers,
     })
 }
 
@@ -406,10 +443,10 @@ fn command_in<'a>(matches: &ArgMatches<'a>) -> Option<Command<'a>>
 }
 
 /// What the words ask for; the first is the program's name. Only `run SCRIPT`, with or without
-/// `--dir DIR`, `show DIR`, `restart DIR SCRIPT`, with or without `--pes N`, and `lab SCRIPT` are
-/// commands. N is a 16-bit number, and 1 if it isn't given. Every other line, including a call for
-/// help, is answered by `CommandError::Line`, with clap's text and a kind of error that clap finds
-/// in the words, and lack of memory by `CommandError::Memory`.
+/// `--dir DIR` and `--workers`, `show DIR`, `restart DIR SCRIPT`, with or without `--pes N` and
+/// `--workers`, and `lab SCRIPT` are commands. N is a 16-bit number, and 1 if it isn't given. Every
+/// other line, including a call for help, is answered by `CommandError::Line`, with clap's text and
+/// a kind of error that clap finds in the words, and lack of memory by `CommandError::Memory`.
 pub fn command_of<'a, S: AsStr>(alloc: Global, words: &'a [S]) -> Result<Command<'a>, CommandError>
     ensures ok { IfOk result (Asks (map S.text words.entry.now)) }
     ensures err { IfErr result (AsksNothing (map S.text words.entry.now)) }

@@ -66,8 +66,8 @@ pub struct Call<'a> {
 
 /// A store on the disk of probes, and the passes of its clients.
 pub trait Machine: Drop {
-    /// Takes a step that is no checkpoint, by the client's pass where it has one and the step is the
-    /// client's.
+    /// Takes a step that is no checkpoint, by the client's pass where it has one and the step is
+    /// the client's.
     fn step(&mut self, step: &Step) -> Result<Answer, Failed>;
 
     /// Makes all events durable in an image, which may have to wait for locks.

@@ -43,6 +43,20 @@ impl<D: Disk, C: Chare> UnnamedRuntime<D, C> {
         UnnamedRuntime { engine }
     }
 
+    /// The generation at which it opens, from 1 on.
+    pub fn generation(&self) -> u64
+        ensures { result ≡ (core_of self.now).generation }
+    {
+        self.engine.generation()
+    }
+
+    /// How many events there were before it opens.
+    pub fn event_count(&self) -> u64
+        ensures { result ≡ (core_of self.now).before }
+    {
+        self.engine.event_count()
+    }
+
     /// The runtime under the name `B`, which its caller has picked for it and for these books. It
     /// opens with the engine's world, after as many events and on as many processors, and makes no
     /// call of the disk. It fails only when out of memory; then the engine's store and its halves

@@ -25,7 +25,7 @@ use Rattle.charmlet_script.specs.declared.line.Item.{Item}
 use Rattle.charmlet_script.specs.declared.line.Item.TheVariants as items
 use Rattle.charmlet_script.specs.Script.{Contents, no_lines, pairs_of}
 use Rattle.charmlet_script.specs.Line.{◌>>=◌, is_empty, item_of}
-use Rattle.charmlet_script.specs.Reading.{has_array, describes_store, is_array, is_array_line, may_add, may_declare, with_array, with_handler, with_item, with_line, with_lines, with_processors}
+use Rattle.charmlet_script.specs.Reading.{has_array, is_array, is_array_line, may_add, may_declare, may_follow, with_array, with_handler, with_item, with_line, with_lines, with_processors}
 
 -- a kind's number names its newest version
 numbered-number : (kind : Kind) → Some (newest_of kind) ≡ numbered_edition (kind_number kind)
@@ -132,7 +132,7 @@ with_array-goes_on purpose script next line so_far e = if_added (may_add purpose
     if_added false may none = absurd (cc)
     if_added true may added =
         let same : record script { arrays = script.arrays ++ line ∷ [] } ≡ next = cc in
-        let header = both_parts (describes_store purpose) (is_empty script.lines && (nat_lt (length script.arrays) 64 && not (has_array line.array script.arrays))) may in
+        let header = both_parts purpose.describes_store (is_empty script.lines && (nat_lt (length script.arrays) 64 && not (has_array line.array script.arrays))) may in
         let parts = both_parts (is_empty script.lines) (nat_lt (length script.arrays) 64 && not (has_array line.array script.arrays)) header.1 in
         let ends = both_parts (nat_lt (length script.arrays) 64) (not (has_array line.array script.arrays)) parts.1 in
         let room : length script.arrays < 64 = grind (arith, nat_tests, ends.0) in
@@ -185,13 +185,18 @@ with_item-goes_on purpose script next items.Skipped so_far e =
 with_item-goes_on purpose script next (items.Processors processors) so_far e = with_processors-goes_on purpose script next processors so_far e
 with_item-goes_on purpose script next (items.Array line) so_far e = with_array-goes_on purpose script next line so_far e
 with_item-goes_on purpose script next (items.Handler line) so_far e = with_handler-goes_on script next line so_far e
-with_item-goes_on purpose script next (items.Line line) so_far e =
-    let same : record script { lines = script.lines ++ line ∷ [] } ≡ next = cc in
-    subst (GoesOn script (items.Line line)) same (record {
-      declared = record { entries = so_far.entries; are = so_far.are; few = so_far.few };
-      keeps = λ some. some;
-      gets = λ is. absurd (cc);
-    })
+with_item-goes_on purpose script next (items.Line line) so_far e = if_added (may_follow purpose.runner line) e
+  where
+    if_added : (may : Bool) → (if may then Some (record script { lines = script.lines ++ line ∷ [] }) else None) ≡ Some next
+        → GoesOn script (items.Line line) next
+    if_added false none = absurd (cc)
+    if_added true added =
+        let same : record script { lines = script.lines ++ line ∷ [] } ≡ next = cc in
+        subst (GoesOn script (items.Line line)) same (record {
+          declared = record { entries = so_far.entries; are = so_far.are; few = so_far.few };
+          keeps = λ some. some;
+          gets = λ is. absurd (cc);
+        })
 
 or-true : (a b : Bool) → (a || b) ≡ true → (a ≡ true) ⊎ (b ≡ true)
 or-true true b e = inl refl

@@ -1,11 +1,12 @@
 -- A whole script, of a run or of a restart, line by line, up to its first malformed line; and what
 -- its reader answers.
-use Rattle.std.specs.Prelude.{◌≡◌, ◌≢◌, ℕ, Bool, false, true, ◌+◌, ◌==◌, ◌&&◌, not, List, [], ◌∷◌, ◌++◌, length, take, is_none, Option, Some, None, Result, Ok, Err, if◌then◌else◌, nat_lt, nat_le}
+use Rattle.std.specs.Prelude.{◌≡◌, ◌≢◌, ℕ, Bool, false, true, ◌+◌, ◌==◌, ◌&&◌, not, List, [], ◌∷◌, ◌++◌, All, length, take, is_none, Option, Some, None, Result, Ok, Err, if◌then◌else◌, nat_lt, nat_le}
 use Rattle.std.specs.List.{list_any}
 use Rattle.std.specs.Option.{option_map_or}
 use Rattle.std.specs.IoError.{error_kind}
 use Rattle.std.specs.declared.io.Error.{Error}
 use Rattle.std.specs.declared.io.ErrorKind.TheVariants.{OutOfMemory, Interrupted}
+use Rattle.charmlet_model.specs.declared.step.Step.TheVariants.{Deliver}
 use Rattle.charmlet_model.specs.Texts.{Text}
 use Rattle.charmlet_script.specs.declared.error.LineFault.{LineFault}
 use Rattle.charmlet_script.specs.declared.error.LineFault.TheVariants as faults
@@ -13,8 +14,11 @@ use Rattle.charmlet_script.specs.declared.error.ReadError.{ReadError}
 use Rattle.charmlet_script.specs.declared.error.ReadError.TheVariants as errors
 use Rattle.charmlet_script.specs.declared.script.ArrayLine.{ArrayLine}
 use Rattle.charmlet_script.specs.declared.script.HandlerLine.{HandlerLine}
+use Rattle.charmlet_script.specs.declared.script.Line.{Line}
+use Rattle.charmlet_script.specs.declared.script.Line.TheVariants as lines
+use Rattle.charmlet_script.specs.declared.runner.Runner.{Runner}
+use Rattle.charmlet_script.specs.declared.runner.Runner.TheVariants.{Workers}
 use Rattle.charmlet_script.specs.declared.draft.Purpose.{Purpose}
-use Rattle.charmlet_script.specs.declared.draft.Purpose.TheVariants as purposes
 use Rattle.charmlet_script.specs.declared.line.Item.{Item}
 use Rattle.charmlet_script.specs.declared.line.Item.TheVariants as items
 use Rattle.charmlet_script.specs.Script.{Contents, RestartContents, for_restart, no_lines}
@@ -55,17 +59,11 @@ lines_of = parts_of 10
 abbrev pub has_array : ℕ → List ArrayLine → Bool
 has_array array = list_any (λ other. other.array == array)
 
--- the header of a run's script describes its store; that of a restart's doesn't, since its store is
--- there already
-abbrev pub describes_store : Purpose → Bool
-describes_store purposes.Run = true
-describes_store purposes.Restart = false
-
 -- an array line stands in the header of a run's script, before the other lines, once for an array,
 -- and at most 64 times
 abbrev pub may_add : Purpose → Contents → ArrayLine → Bool
 may_add purpose script line =
-    describes_store purpose && (is_empty script.lines
+    purpose.describes_store && (is_empty script.lines
     && (nat_lt (length script.arrays) 64 && not (has_array line.array script.arrays)))
 
 -- the script with one more array, if it may stand there
@@ -77,7 +75,7 @@ with_array purpose script line =
 -- a `pes` line, which gives the number of processors, stands in the header of a run's script,
 -- before the other lines, once
 abbrev pub may_declare : Purpose → Contents → Bool
-may_declare purpose script = describes_store purpose
+may_declare purpose script = purpose.describes_store
     && (is_empty script.lines && is_none script.declared_processors)
 
 -- the script with its number of processors, if that may stand there
@@ -91,14 +89,23 @@ unfoldable pub with_handler : Contents → HandlerLine → Option Contents
 with_handler script line = if is_empty script.lines
     then Some (record script { handlers = script.handlers ++ line ∷ [] }) else None
 
+-- a line may follow the header: where workers deliver, a `deliver` line may not
+abbrev pub may_follow : Runner → Line → Bool
+may_follow Workers (lines.Step (Deliver processor id)) = false
+may_follow runner line = true
+
+-- each line may follow the header
+abbrev pub AreFor : Runner → List Line → Type 0
+AreFor runner = All (λ line. may_follow runner line ≡ true)
+
 -- the script with what a line spells, if it may stand there
 unfoldable pub with_item : Purpose → Contents → Item → Option Contents
 with_item purpose script items.Skipped = Some script
 with_item purpose script (items.Processors processors) = with_processors purpose script processors
 with_item purpose script (items.Array line) = with_array purpose script line
 with_item purpose script (items.Handler line) = with_handler script line
-with_item purpose script (items.Line line) =
-    Some (record script { lines = script.lines ++ line ∷ [] })
+with_item purpose script (items.Line line) = if may_follow purpose.runner line
+    then Some (record script { lines = script.lines ++ line ∷ [] }) else None
 
 -- the script with the next line, unless that line is malformed
 unfoldable pub with_line : Purpose → Contents → Text → Option Contents
@@ -122,13 +129,13 @@ is_array_line line = option_map_or is_array (item_of line) false
 
 -- what the lines of a run's script spell: it, or the number of the first malformed line, which is 1
 -- where none is an array line
-unfoldable pub lines_spell : List Text → Result Contents ℕ
-lines_spell lines = if list_any is_array_line lines
-    then with_lines purposes.Run no_lines 1 lines else Err 1
+unfoldable pub lines_spell : Runner → List Text → Result Contents ℕ
+lines_spell runner lines = if list_any is_array_line lines
+    then with_lines (record { describes_store = true; runner = runner }) no_lines 1 lines else Err 1
 
 -- the script of a run that the bytes spell, or the number of the first malformed line
-abbrev pub script_of : Text → Result Contents ℕ
-script_of bytes = lines_spell (lines_of (within max_length bytes))
+abbrev pub script_of : Runner → Text → Result Contents ℕ
+script_of runner bytes = lines_spell runner (lines_of (within max_length bytes))
 
 -- what a script that was spelled holds for a restart
 abbrev pub restart_in : Result Contents ℕ → Result RestartContents ℕ
@@ -136,12 +143,13 @@ restart_in (Ok script) = Ok (for_restart script)
 restart_in (Err number) = Err number
 
 -- what the lines of a restart's script spell: it, or the number of the first malformed line
-unfoldable pub restart_lines_spell : List Text → Result RestartContents ℕ
-restart_lines_spell lines = restart_in (with_lines purposes.Restart no_lines 1 lines)
+unfoldable pub restart_lines_spell : Runner → List Text → Result RestartContents ℕ
+restart_lines_spell runner lines =
+    restart_in (with_lines (record { describes_store = false; runner = runner }) no_lines 1 lines)
 
 -- the script of a restart that the bytes spell, or the number of the first malformed line
-abbrev pub restart_script_of : Text → Result RestartContents ℕ
-restart_script_of bytes = restart_lines_spell (lines_of (within max_length bytes))
+abbrev pub restart_script_of : Runner → Text → Result RestartContents ℕ
+restart_script_of runner bytes = restart_lines_spell runner (lines_of (within max_length bytes))
 
 -- ---- what a reader of a script answers
 

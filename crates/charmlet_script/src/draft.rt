@@ -1,33 +1,19 @@
 //! Scripts that are being read.
 
 use crate::restart::RestartScript;
+use crate::runner::Runner;
 use crate::script::{ArrayLine, HandlerLine, Line, Script};
 use std::alloc::{AllocFailed, Global};
 use std::marker::Model;
 
 /// What a script is for.
 #[derive(Clone, Copy, Debug, PartialEq, Eq)]
-pub(crate) enum Purpose {
-    /// A run over a new store, which the script's header describes.
-    Run,
-    /// What comes after a restart. The header of such a script describes no store, since it is
-    /// there already.
-    Restart,
-}
-
-impl Purpose {
-    ghost use Rattle.std.specs.Prelude.{◌≡◌};
-    ghost use Rattle.charmlet_script.specs.Reading.{describes_store};
-
-    /// Whether the header of such a script describes the store.
-    pub(crate) fn describes_store(self) -> bool
-        ensures { result ≡ describes_store self }
-    {
-        match self {
-            Purpose::Run => true,
-            Purpose::Restart => false,
-        }
-    }
+pub(crate) struct Purpose {
+    /// Whether its header describes the store: that of a run over a new store does, and that of
+    /// what comes after a restart doesn't, since its store is there already.
+    pub describes_store: bool,
+    /// Who delivers its messages.
+    pub runner: Runner,
 }
 
 /// The lines of a script so far. A contract sees the number of processors, if one is declared, and

@@ -6,9 +6,9 @@
 //! lines `handler NAME A E`, in any order; in that of a restart it is lines `handler NAME A E`
 //! alone, if any. Then come any number of these: `supply K N`, `req C N A I E W..`, `call C N NAME
 //! I W..`, `status C N`, `deliver PE ID`, `drain N`, `move A I PE`, `flush`, `checkpoint`, `state A
-//! I`, `pending` and `census`. Words are parted by spaces, numbers are decimal, a NAME is 1 to 32
-//! ASCII letters, and an ID is `cC.N` for message N of client C, or `eA.I.N` for that of the
-//! element (A, I).
+//! I`, `pending` and `census`; where workers deliver, none is `deliver PE ID`. Words are parted by
+//! spaces, numbers are decimal, a NAME is 1 to 32 ASCII letters, and an ID is `cC.N` for message N
+//! of client C, or `eA.I.N` for that of the element (A, I).
 #![tactic(auto)]
 
 mod draft;
@@ -20,6 +20,7 @@ mod number;
 mod printed;
 mod reading;
 mod restart;
+mod runner;
 mod script;
 mod split;
 
@@ -29,4 +30,5 @@ pub use number::{MAX_BLANKS, MAX_DELIVERIES};
 pub use printed::{Counted, Drained, PendingIds, Shown, Standing, Supplied};
 pub use reading::{MAX_LENGTH, read_restart_script, read_script};
 pub use restart::RestartScript;
+pub use runner::Runner;
 pub use script::{ArrayLine, HandlerLine, Line, Script};

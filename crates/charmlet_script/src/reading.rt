@@ -5,15 +5,16 @@ ghost use Rattle.std.specs.IoError.{error_kind};
 ghost use Rattle.std.specs.List.{list_any};
 ghost use Rattle.std.specs.declared.io.ErrorKind.TheVariants.{Interrupted};
 ghost use Rattle.charmlet_script.specs.Script.{most_lines, no_lines};
-ghost use Rattle.charmlet_script.specs.Reading.{Answers, TellsFailure, LeavesLines, has_array, is_array_line, lines_spell, may_add, may_declare, restart_lines_spell, restart_script_of, script_of, with_array, with_handler, with_item, with_line, with_lines, with_processors, within};
+ghost use Rattle.charmlet_script.specs.Reading.{Answers, AreFor, TellsFailure, LeavesLines, has_array, is_array_line, lines_spell, may_add, may_declare, may_follow, restart_lines_spell, restart_script_of, script_of, with_array, with_handler, with_item, with_line, with_lines, with_processors, within};
 
 use crate::draft::{Draft, Purpose};
 use crate::error::{LineFault, ReadError};
 use crate::line::{Item, item_of};
 use crate::restart::RestartScript;
-use crate::script::{ArrayLine, HandlerLine, Script};
+use crate::runner::Runner;
+use crate::script::{ArrayLine, HandlerLine, Line, Script};
 use crate::split::parts;
-use charmlet_model::MAX_ARRAYS;
+use charmlet_model::{MAX_ARRAYS, Step};
 use std::alloc::{AllocError, Global};
 use std::io;
 use std::io::Read;
@@ -35,7 +36,7 @@ fn has_array(arrays: &[ArrayLine], array: u16) -> bool
 fn may_add(purpose: Purpose, script: &Draft, line: ArrayLine) -> bool
     ensures { result ≡ may_add purpose script.now line }
 {
-    if !purpose.describes_store() {
+    if !purpose.describes_store {
         return false;
     }
     let arrays = script.arrays();
@@ -61,7 +62,7 @@ fn add_array(purpose: Purpose, script: &mut Draft, line: ArrayLine) -> Result<()
 fn may_declare(purpose: Purpose, script: &Draft) -> bool
     ensures { result ≡ may_declare purpose script.now }
 {
-    purpose.describes_store() && script.lines().is_empty() && script.declared_processors().is_none()
+    purpose.describes_store && script.lines().is_empty() && script.declared_processors().is_none()
 }
 
 #[tactic(auto, unfolding(crate::specs::Reading::with_processors))]
@@ -87,6 +88,16 @@ fn add_handler(script: &mut Draft, line: HandlerLine) -> Result<(), LineFault>
     Ok(())
 }
 
+/// Whether a line may stand after the header: where workers deliver, a `deliver` line may not.
+fn may_follow(runner: Runner, line: &Line) -> bool
+    ensures { result ≡ may_follow runner line.now }
+{
+    match (runner, line) {
+        (Runner::Workers, Line::Step(Step::Deliver { .. })) => false,
+        _ => true,
+    }
+}
+
 /// Adds what a line spells, if it may stand there.
 #[tactic(auto, unfolding(crate::specs::Reading::with_item))]
 fn add_item(purpose: Purpose, script: &mut Draft, item: Item) -> Result<(), LineFault>
@@ -98,6 +109,9 @@ fn add_item(purpose: Purpose, script: &mut Draft, item: Item) -> Result<(), Line
         Item::Array(line) => add_array(purpose, script, line),
         Item::Handler(line) => add_handler(script, line),
         Item::Line(line) => {
+            if !may_follow(purpose.runner, &line) {
+                return Err(LineFault::Malformed);
+            }
             script.push_line(line)?;
             Ok(())
         }
@@ -145,6 +159,7 @@ fn has_array_line(alloc: Global, lines: &[&[u8]]) -> Result<bool, AllocError>
 fn add_lines(alloc: Global, purpose: Purpose, lines: &[&[u8]]) -> Result<Draft, ReadError>
     ensures reads { Answers result (with_lines purpose no_lines 1
         (map (λ line. line.now) lines.now)) }
+    ensures lines { IfOk result (λ script. AreFor purpose.runner script.lines) }
     ensures few { IfOk result (λ script. length script.lines ≤ length lines.now) }
     ensures failure { IfErr result TellsFailure }
 {
@@ -161,26 +176,41 @@ fn add_lines(alloc: Global, purpose: Purpose, lines: &[&[u8]]) -> Result<Draft, 
 
 /// The script of a run that lines spell.
 #[tactic(auto, unfolding(crate::specs::Reading::lines_spell))]
-fn read_lines(alloc: Global, lines: &[&[u8]]) -> Result<Script, ReadError>
+fn read_lines(alloc: Global, runner: Runner, lines: &[&[u8]]) -> Result<Script, ReadError>
     requires { length lines.now ≤ most_lines }
-    ensures reads { Answers result (lines_spell (map (λ line. line.now) lines.now)) }
+    ensures reads { Answers result (lines_spell runner (map (λ line. line.now) lines.now)) }
+    ensures lines { IfOk result (λ script. AreFor runner script.lines) }
     ensures failure { IfErr result TellsFailure }
 {
     if !has_array_line(alloc, lines)? {
         return Err(ReadError::Malformed(1));
     }
-    let script = add_lines(alloc, Purpose::Run, lines)?;
+    let purpose = Purpose {
+        describes_store: true,
+        runner,
+    };
+    let script = add_lines(alloc, purpose, lines)?;
     Ok(script.finish())
 }
 
 /// The script of a restart that lines spell.
 #[tactic(auto, unfolding(crate::specs::Reading::restart_lines_spell))]
-fn read_restart_lines(alloc: Global, lines: &[&[u8]]) -> Result<RestartScript, ReadError>
+fn read_restart_lines(
+    alloc: Global,
+    runner: Runner,
+    lines: &[&[u8]],
+) -> Result<RestartScript, ReadError>
     requires { length lines.now ≤ most_lines }
-    ensures reads { Answers result (restart_lines_spell (map (λ line. line.now) lines.now)) }
+    ensures reads { Answers result (restart_lines_spell runner
+        (map (λ line. line.now) lines.now)) }
+    ensures lines { IfOk result (λ script. AreFor runner script.lines) }
     ensures failure { IfErr result TellsFailure }
 {
-    let script = add_lines(alloc, Purpose::Restart, lines)?;
+    let purpose = Purpose {
+        describes_store: false,
+        runner,
+    };
+    let script = add_lines(alloc, purpose, lines)?;
     Ok(script.finish_restart())
 }
 
@@ -224,34 +254,44 @@ fn read_text<R: Read>(alloc: Global, reader: &mut R) -> Result<Vec<u8>, io::Erro
 /// Reads the script of a run, of at most 1,048,576 bytes, and at most one byte after these.
 ///
 /// If a line is malformed, it answers `ReadError::Malformed` with the number of the first one, or
-/// with 1 if no line spells an array; if a read fails, `ReadError::Failed`; and when out of memory,
+/// with 1 if no line spells an array. Where workers deliver, a `deliver` line is malformed wherever
+/// it stands. If a read fails, it answers `ReadError::Failed`, and when out of memory,
 /// `ReadError::Memory`. An interrupted read is tried again. After an error the reader has given any
 /// part of its bytes.
-pub fn read_script<R: Read>(alloc: Global, reader: &mut R) -> Result<Script, ReadError>
-    ensures reads { IfSome (R.remaining reader.old) (λ bytes. Answers result (script_of bytes)) }
+pub fn read_script<R: Read>(
+    alloc: Global,
+    reader: &mut R,
+    runner: Runner,
+) -> Result<Script, ReadError>
+    ensures reads { IfSome (R.remaining reader.old)
+        (λ bytes. Answers result (script_of runner bytes)) }
+    ensures lines { IfOk result (λ script. AreFor runner script.lines) }
     ensures failure { IfErr result TellsFailure }
 {
     let text = read_text(alloc, reader)?;
     let lines = parts(alloc, &text, b'\n')?;
-    read_lines(alloc, &lines)
+    read_lines(alloc, runner, &lines)
 }
 
 /// Reads the script of a restart, of at most 1,048,576 bytes, and at most one byte after these. The
 /// header of such a script is its `handler` lines, and it may have no line at all.
 ///
 /// If a line is malformed, it answers `ReadError::Malformed` with the number of the first one; an
-/// `array` line and a `pes` line are malformed wherever they stand. If a read fails, it answers
-/// `ReadError::Failed`, and when out of memory, `ReadError::Memory`. An interrupted read is tried
-/// again. After an error the reader has given any part of its bytes.
+/// `array` line and a `pes` line are malformed wherever they stand, and where workers deliver, a
+/// `deliver` line is too. If a read fails, it answers `ReadError::Failed`, and when out of memory,
+/// `ReadError::Memory`. An interrupted read is tried again. After an error the reader has given any
+/// part of its bytes.
 pub fn read_restart_script<R: Read>(
     alloc: Global,
     reader: &mut R,
+    runner: Runner,
 ) -> Result<RestartScript, ReadError>
     ensures reads { IfSome (R.remaining reader.old)
-        (λ bytes. Answers result (restart_script_of bytes)) }
+        (λ bytes. Answers result (restart_script_of runner bytes)) }
+    ensures lines { IfOk result (λ script. AreFor runner script.lines) }
     ensures failure { IfErr result TellsFailure }
 {
     let text = read_text(alloc, reader)?;
     let lines = parts(alloc, &text, b'\n')?;
-    read_restart_lines(alloc, &lines)
+    read_restart_lines(alloc, runner, &lines)
 }

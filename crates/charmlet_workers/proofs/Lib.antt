@@ -1,2 +1,3 @@
 pub mod Runtimes
 pub mod Seals
+pub mod Refusals

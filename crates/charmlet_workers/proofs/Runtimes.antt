@@ -1,6 +1,17 @@
--- What a runtime lends, and why it isn't closed.
-use Rattle.std.proofs.Common.{◌≡◌, ℕ, ◌≤◌, Bool, true, false, inl, inr, sym, ap, subst, ◌∙◌, Result, Ok, Err}
+-- What a runtime lends and shows, and why it isn't closed.
+use Rattle.std.proofs.Common.{◌≡◌, ℕ, ◌+◌, ◌≤◌, Bool, true, false, List, [], ◌∷◌, inl, inr, refl, sym, ap, subst, ◌∙◌, arith, Option, Some, None, Result, Ok, Err}
 use Rattle.std.specs.Prelude.{◌⊎◌, IfOk, if◌then◌else◌}
+use Rattle.std.specs.BTreeMap.{is_at}
+use Rattle.std.specs.Map.{lookup}
+use Rattle.std.specs.Ordering.{nat_cmp}
+use Rattle.charmlet_model.specs.declared.edition.Edition.{Edition}
+use Rattle.charmlet_model.specs.declared.event.Event.{Event}
+use Rattle.charmlet_model.specs.declared.names.Elem.{Elem}
+use Rattle.charmlet_model.specs.Core.{Core, present}
+use Rattle.charmlet_model.specs.World.{World, after, world}
+use Rattle.charmlet_model.proofs.Histories.{manifest-after}
+use Rattle.charmlet_requests.specs.declared.handlers.Handler.{Handler}
+use Rattle.charmlet_requests.specs.Handlers.{IsTarget}
 use Rattle.charmlet_model.specs.declared.refusal.Refusal.{Refusal}
 use Rattle.charmlet_model.specs.declared.refusal.Refusal.TheVariants as refusals
 use Rattle.charmlet_passes.specs.Passes.{HeldPass, lent_since}
@@ -21,3 +32,22 @@ lent_if client before last since (Err refusal) least is = tt
 pub one_of_two : (all_in : Bool) (refusal : Refusal) → refusal ≡ (if all_in then refusals.Memory else refusals.PassOut) → (refusal ≡ refusals.PassOut) ⊎ (refusal ≡ refusals.Memory)
 one_of_two true refusal is = inr is
 one_of_two false refusal is = inl is
+
+-- no event changes the arrays
+kept_arrays : (w : World) (history : List Event) → (world w history).manifest ≡ w.manifest
+kept_arrays w [] = refl
+kept_arrays w (e ∷ es) = kept_arrays (after w e) es ∙ manifest-after w e
+
+-- so a handler goes where it would have gone at the opening
+same_target : (w v : World) (index : ℕ) (handler : Option Handler) (to : Elem) (entry : ℕ) → w.manifest ≡ v.manifest → IsTarget w index handler to entry → IsTarget v index handler to entry
+same_target w v index (Some handler) to entry same target = target
+same_target w v index None to entry same target = subst (λ (m : List (ℕ × Edition)). lookup (is_at (nat_cmp to.array)) m ≡ None) same target
+
+pub target_since : (core : Core) (opening : World) (index : ℕ) (handler : Option Handler) (to : Elem) (entry : ℕ) → core.opening ≡ opening →
+    IsTarget (present core) index handler to entry → IsTarget opening index handler to entry
+target_since core opening index handler to entry is target =
+    same_target (present core) opening index handler to entry (kept_arrays core.opening core.history ∙ ap (λ (w : World). w.manifest) is) target
+
+-- what is counted on shelves is what is left
+pub within_counts : (supplied shelved in_stock retired : ℕ) → supplied ≡ shelved + in_stock + retired → in_stock + retired ≤ supplied
+within_counts supplied shelved in_stock retired all = omega (arith, all)

@@ -1,7 +1,7 @@
 -- The shelves that a checkpoint finds.
 use Rattle.std.proofs.Common.{◌≡◌, ℕ, zero, suc, ◌<◌, List, [], ◌∷◌, length, map, get_or, arith}
 use Rattle.charmlet_shelf.specs.Shelf.{View}
-use Rattle.charmlet_store.specs.Together.{AreNumbered}
+use Rattle.charmlet_migrate.specs.StoreParts.{AreNumbered}
 
 at_each : {S : Type 0} (P : ℕ → View → Type 0) (shown : S → View) (xs : List S) → ((k : ℕ) (d : S) → k < length xs → P k (shown (get_or xs k d))) → (k : ℕ) (d : View) → k < length (map shown xs) → P k (get_or (map shown xs) k d)
 at_each P shown [] each k d less = absurd (omega (arith, less))

@@ -1,5 +1,6 @@
 -- The definitions that contracts cite.
 pub mod Runtime
+pub mod Refusals
 pub mod Working
 pub mod Sealing
 pub use Rattle.charmlet_agreement.specs.Naming
@@ -10,6 +11,7 @@ pub use Rattle.charmlet_halves.specs.Halves
 pub use Rattle.charmlet_history.specs.Kept
 pub use Rattle.charmlet_journal.specs.Rest
 pub use Rattle.charmlet_stock.specs.ByKind
+pub use Rattle.charmlet_requests.specs.Handlers
 pub use Rattle.charmlet_requests.specs.Pass
 pub use Rattle.charmlet_passes.specs.Passes
 pub use Rattle.charmlet_seats.specs.Seats

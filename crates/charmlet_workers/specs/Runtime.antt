@@ -1,5 +1,5 @@
 -- What is seen of a runtime, and what it opens with.
-use Rattle.std.specs.Prelude.{◌≡◌, ℕ, ◌≤◌, false, []}
+use Rattle.std.specs.Prelude.{◌≡◌, ℕ, ◌+◌, ◌≤◌, false, []}
 use Rattle.charmlet_model.specs.Core.{Core}
 use Rattle.charmlet_model.specs.World.{World}
 use Rattle.charmlet_disk.specs.declared.disk.Disk.{Ghosts}
@@ -8,6 +8,7 @@ use Rattle.charmlet_halves.specs.Halves.{disk_of}
 use Rattle.charmlet_history.specs.Kept.{core_in}
 use Rattle.charmlet_journal.specs.Rest.{Agrees, IsCurrent, IsKept}
 use Rattle.charmlet_passes.specs.Passes.{HeldPass, lent_since}
+use Rattle.charmlet_stock.specs.declared.pile.Tally.{Tally}
 use Rattle.charmlet_stock.specs.ByKind.{for_all}
 use Rattle.charmlet_store.specs.Store.{StoreShown}
 
@@ -28,6 +29,10 @@ named opening before processors = record {
 -- that of a runtime over a store with this core
 abbrev pub shown_of : Core → RuntimeShown
 shown_of core = named core.opening core.before core.processors
+
+-- no more objects are in the stock or retired than were supplied
+abbrev pub IsWithin : Tally → Type 0
+IsWithin tally = tally.in_stock + tally.retired ≤ tally.supplied
 
 -- the pass was lent to the client after at least so many events, and was told nothing yet
 pub record IsLent (client before : ℕ) (held : HeldPass) : Type 0 where

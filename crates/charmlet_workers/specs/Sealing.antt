@@ -1,5 +1,5 @@
 -- What a checkpoint answers.
-use Rattle.std.specs.Prelude.{◌≡◌, ℕ, ◌^◌, ◌≤◌, Bool, true, false}
+use Rattle.std.specs.Prelude.{ℕ, ◌^◌, ◌≤◌, Bool, true, false}
 use Rattle.charmlet_model.specs.declared.refusal.Refusal.{Refusal}
 use Rattle.charmlet_model.specs.declared.refusal.Refusal.TheVariants as refusals
 

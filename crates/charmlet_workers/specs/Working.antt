@@ -1,7 +1,9 @@
 -- What workers commit with their seats.
-use Rattle.std.specs.Prelude.{◌≡◌, ℕ, List, [], ◌∷◌, ◌++◌, length, Option, Some, None}
+use Rattle.std.specs.Prelude.{◌≡◌, ℕ, ◌≤◌, true, List, [], ◌∷◌, ◌++◌, length, Option, Some, None, IfSome}
 use Rattle.charmlet_model.specs.declared.names.MsgId.{MsgId}
 use Rattle.charmlet_seats.specs.Seats.{HeldSeat}
+use Rattle.charmlet_workers.specs.declared.working.Worked.{Worked}
+use Rattle.charmlet_workers.specs.Refusals.{is_work_refusal}
 
 -- the seat holds one more id, if a delivery was committed with it
 abbrev pub Takes : HeldSeat → HeldSeat → Option MsgId → Type 0
@@ -13,3 +15,10 @@ pub record HasWorked (old new : HeldSeat) (count : ℕ) : Type 0 where
   pub ids : List MsgId
   pub seat : new ≡ record old { ids = old.ids ++ ids; room = new.room }
   pub counted : length ids ≡ count
+
+-- A worker took at most so many turns. As many ids as it counts are in its seat, and a refusal that
+-- ended its work is a worker's.
+pub record HasServed (old new : HeldSeat) (turns : ℕ) (worked : Worked) : Type 0 where
+  pub seat : HasWorked old new worked.count
+  pub most : worked.count ≤ turns
+  pub refusal : IfSome worked.refusal (λ refusal. is_work_refusal refusal ≡ true)

@@ -1,9 +1,10 @@
 //! What clients ask of a runtime, and the flush that makes it durable.
 
-ghost use Rattle.std.specs.Prelude.{◌≡◌, ◌≢◌, IfErr, IfOk, OnErr, OnOk, map};
-ghost use Rattle.charmlet_model.specs.declared.refusal.Refusal.TheVariants as refusals;
+ghost use Rattle.std.specs.Prelude.{◌≡◌, ◌≤◌, ℕ, true, IfErr, IfOk, OnErr, OnOk, map};
+ghost use Rattle.charmlet_requests.specs.Handlers.{IsTarget, handler_of};
 ghost use Rattle.charmlet_requests.specs.Pass.{with_accept, with_told};
 ghost use Rattle.charmlet_passes.specs.Passes.{IsAnswered, accepts_after, with_flush};
+ghost use Rattle.charmlet_workers.specs.Refusals.{is_flush_refusal, is_request_refusal, is_status_refusal};
 
 use crate::runtime::Runtime;
 use charmlet_chare::Chare;
@@ -12,6 +13,7 @@ use charmlet_history::Request;
 use charmlet_hub::PassesOf;
 use charmlet_model::{Refusal, Told};
 use charmlet_passes::ClientPass;
+use charmlet_requests::{Handler, Handlers, target};
 use charmlet_sequencer::RuntimeName;
 use std::sync::Wait;
 
@@ -31,6 +33,7 @@ impl<D: Disk, C: Chare, B: RuntimeName> Runtime<D, C, B> {
         ensures told { IfOk result (λ told. pass.new.pass
             ≡ with_accept (with_told pass.old.pass request.now.number told) request.now.number) }
         ensures accepts { OnOk result (pass.new.accepts ≡ accepts_after pass.old request.now) }
+        ensures err { IfErr result (λ refusal. is_request_refusal refusal ≡ true) }
     {
         self.hub.lock(rt).request(pass, request)
     }
@@ -47,8 +50,21 @@ impl<D: Disk, C: Chare, B: RuntimeName> Runtime<D, C, B> {
         ensures answered { IsAnswered pass.old pass.new number result }
         ensures told { IfOk result (λ told. pass.new.pass ≡ with_told pass.old.pass number told) }
         ensures accepts { pass.new.accepts ≡ pass.old.accepts }
+        ensures err { IfErr result (λ refusal. is_status_refusal refusal ≡ true) }
     {
         self.hub.lock(rt).status(pass, number)
+    }
+
+    /// The handler of a name, or one of an array that isn't there, in one hold of the hub, as
+    /// [`charmlet_requests::target`] has it.
+    pub fn target<R: Wait>(&self, rt: &R, handlers: &Handlers, name: &str) -> Handler
+        ensures { (index : ℕ) → IsTarget self.now.opening index
+            (handler_of handlers.now name.now)
+            (record { array = result.array; index = index }) result.entry }
+    {
+        let hub = self.hub.lock(rt);
+        hub.facts();
+        target(hub.history(), handlers, name)
     }
 
     /// Makes all events durable, in one hold of the hub, and answers how many there are, those
@@ -66,8 +82,11 @@ impl<D: Disk, C: Chare, B: RuntimeName> Runtime<D, C, B> {
     ) -> Result<u64, Refusal>
         ensures told { OnOk result (passes.new ≡ map with_flush passes.old) }
         ensures untold { OnErr result (passes.new ≡ passes.old) }
-        ensures memory { IfErr result (λ refusal. refusal ≢ refusals.Memory) }
+        ensures count { IfOk result (λ count. self.now.before ≤ count) }
+        ensures err { IfErr result (λ refusal. is_flush_refusal refusal ≡ true) }
     {
-        self.hub.lock(rt).flush(passes)
+        let mut hub = self.hub.lock(rt);
+        hub.facts();
+        hub.flush(passes)
     }
 }

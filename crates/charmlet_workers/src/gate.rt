@@ -15,6 +15,18 @@ pub trait Gate: Sync {
     fn committed(&self, processor: u16, id: &MsgId);
 }
 
+/// A gate that is always open.
+#[derive(Clone, Copy, Debug, Drop)]
+pub struct OpenGate;
+
+impl Gate for OpenGate {
+    fn open(&self, _processor: u16, _id: &MsgId) -> bool {
+        true
+    }
+
+    fn committed(&self, _processor: u16, _id: &MsgId) {}
+}
+
 /// Asks until the gate is open, at most [`MOST_ASKS`] times.
 pub(crate) fn wait_at<G: Gate>(gate: &G, processor: u16, id: &MsgId) {
     for _ in 0..MOST_ASKS {

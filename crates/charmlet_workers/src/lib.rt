@@ -17,7 +17,7 @@ mod sealing;
 mod working;
 
 pub use crate::closing::NotClosed;
-pub use crate::gate::{Gate, MOST_ASKS};
+pub use crate::gate::{Gate, MOST_ASKS, OpenGate};
 pub use crate::opening::{NotOpened, UnnamedBooks};
 pub use crate::runtime::Runtime;
 pub use crate::working::{Station, Worked, work_all};

@@ -1,11 +1,12 @@
 //! Moves of elements between two processors.
 
-ghost use Rattle.std.specs.Prelude.{◌≡◌, ◌≢◌, ◌<◌, false, true, Ok, IfOk, IfSome, OnErr};
+ghost use Rattle.std.specs.Prelude.{◌≡◌, ◌≢◌, ◌<◌, false, true, Ok, IfErr, IfOk, IfSome, OnErr};
 ghost use Rattle.charmlet_model.specs.Core as core;
 ghost use Rattle.charmlet_model.specs.Core.{Done};
 ghost use Rattle.charmlet_model.specs.Run.{Goes};
 ghost use Rattle.charmlet_sequencer.specs.Relocating.{Carries};
 ghost use Rattle.charmlet_hub.specs.Hub.{store_in};
+ghost use Rattle.charmlet_workers.specs.Refusals.{is_move_refusal};
 
 use crate::runtime::Runtime;
 use charmlet_chare::Chare;
@@ -23,7 +24,9 @@ impl<D: Disk, C: Chare, B: RuntimeName> Runtime<D, C, B> {
     /// The refusal is the first that applies of `Halted`, `BadPes`, `Absent`, `Uncommitted` where
     /// one of the two processors has an assigned message, `NoBlank` and `Memory`. Then nothing has
     /// moved.
-    pub fn move_to<R: Wait>(&self, rt: &R, elem: Elem, processor: u16) -> Result<(), Refusal> {
+    pub fn move_to<R: Wait>(&self, rt: &R, elem: Elem, processor: u16) -> Result<(), Refusal>
+        ensures { IfErr result (λ refusal. is_move_refusal refusal ≡ true) }
+    {
         for _ in rt.forever() {
             let source = self.source_of_move(rt, elem, processor);
             let place = match source {
@@ -47,8 +50,9 @@ impl<D: Disk, C: Chare, B: RuntimeName> Runtime<D, C, B> {
         elem: Elem,
         processor: u16,
     ) -> Result<Option<u16>, Refusal>
-        ensures { IfOk result (λ source. IfSome source (λ place. (place < B.processors)
+        ensures source { IfOk result (λ source. IfSome source (λ place. (place < B.processors)
             × (processor < B.processors) × (place ≢ processor))) }
+        ensures err { IfErr result (λ refusal. is_move_refusal refusal ≡ true) }
     {
         let hub = self.hub.lock(rt);
         hub.facts();
@@ -65,6 +69,7 @@ impl<D: Disk, C: Chare, B: RuntimeName> Runtime<D, C, B> {
         processor: u16,
     ) -> Result<bool, Refusal>
         requires { (place < B.processors) × (processor < B.processors) × (place ≢ processor) }
+        ensures { IfErr result (λ refusal. is_move_refusal refusal ≡ true) }
     {
         let first = &self.shelves[usize::from(place.min(processor))];
         let second = &self.shelves[usize::from(place.max(processor))];
@@ -84,7 +89,9 @@ impl<D: Disk, C: Chare, B: RuntimeName> Runtime<D, C, B> {
         from: &mut LockedShelf<C, B>,
         to: &mut LockedShelf<C, B>,
         elem: Elem,
-    ) -> Result<bool, Refusal> {
+    ) -> Result<bool, Refusal>
+        ensures { IfErr result (λ refusal. is_move_refusal refusal ≡ true) }
+    {
         if let Err(refusal) = self.catch_up(rt, from) {
             return Err(refusal);
         }
@@ -109,6 +116,7 @@ fn relocate_from<D: Disk, C: Chare, B: RuntimeName>(
         × (to.new ≡ to.old) }
     ensures err { OnErr result ((hub.new ≡ hub.old) × (from.new ≡ from.old)
         × (to.new ≡ to.old)) }
+    ensures refused { IfErr result (λ refusal. is_move_refusal refusal ≡ true) }
 {
     let Some(place) = hub.history().where_is(elem) else {
         return Ok(false);

@@ -1,8 +1,11 @@
 //! The locks.
 
-ghost use Rattle.std.specs.Prelude.{◌≡◌, ◌<◌, ◌≤◌, [], Err, IfErr, IfOk, OnOk};
+ghost use Rattle.std.specs.Prelude.{◌≡◌, ◌<◌, ◌≤◌, [], true, Err, IfErr, IfOk, OnOk};
 ghost use Rattle.charmlet_model.specs.declared.refusal.Refusal.TheVariants as refusals;
-ghost use Rattle.charmlet_workers.specs.Runtime.{IsLent};
+ghost use Rattle.charmlet_model.specs.declared.kind.Kind.{Kind};
+ghost use Rattle.charmlet_stock.specs.ByKind.{at};
+ghost use Rattle.charmlet_workers.specs.Refusals.{is_lending_refusal};
+ghost use Rattle.charmlet_workers.specs.Runtime.{IsLent, IsWithin};
 
 use charmlet_chare::Chare;
 use charmlet_disk::Disk;
@@ -71,15 +74,21 @@ impl<D: Disk, C: Chare, B: RuntimeName> Runtime<D, C, B> {
         self.hub.lock(rt).supply(blanks)
     }
 
-    /// How many objects of each kind were supplied, are in the stock, and were retired.
-    pub fn census<R: Wait>(&self, rt: &R) -> ByKind<Tally> {
-        self.hub.lock(rt).census()
+    /// How many objects of each kind were supplied, are in the stock, and were retired. The others
+    /// are on shelves.
+    pub fn census<R: Wait>(&self, rt: &R) -> ByKind<Tally>
+        ensures { (kind : Kind) → IsWithin (at result kind) }
+    {
+        let hub = self.hub.lock(rt);
+        hub.facts();
+        hub.census()
     }
 
     /// Lends a client its pass, which was told nothing and has no accepts yet. `PassOut` if it is
     /// out; otherwise `Memory`. When refused, nothing changes.
     pub fn client<R: Wait>(&self, rt: &R, client: u32) -> Result<ClientPass<PassesOf<B>>, Refusal>
-        ensures { IfOk result (IsLent client self.now.before) }
+        ensures lent { IfOk result (IsLent client self.now.before) }
+        ensures err { IfErr result (λ refusal. is_lending_refusal refusal ≡ true) }
     {
         let mut hub = self.hub.lock(rt);
         hub.facts();
@@ -92,10 +101,14 @@ impl<D: Disk, C: Chare, B: RuntimeName> Runtime<D, C, B> {
         ensures seat { IfOk result (λ seat. (seat.processor ≡ processor) × (seat.ids ≡ [])) }
         ensures is_there { OnOk result (processor < self.now.processors) }
         ensures bad { self.now.processors ≤ processor → result ≡ Err refusals.BadPes }
+        ensures err { IfErr result (λ refusal. processor < self.now.processors →
+            is_lending_refusal refusal ≡ true) }
     {
         if usize::from(processor) >= self.shelves.len() {
             return Err(Refusal::BadPes);
         }
-        self.hub.lock(rt).lend_seat(processor)
+        let mut hub = self.hub.lock(rt);
+        hub.facts();
+        hub.lend_seat(processor)
     }
 }

@@ -9,7 +9,7 @@ ghost use Rattle.charmlet_model.specs.Core as core;
 ghost use Rattle.charmlet_model.specs.Run.{Goes};
 ghost use Rattle.charmlet_history.specs.Kept.{counts_or_refused};
 ghost use Rattle.charmlet_migrate.specs.Moving.{IsIdle};
-ghost use Rattle.charmlet_store.specs.Together.{AreNumbered};
+ghost use Rattle.charmlet_migrate.specs.StoreParts.{AreNumbered};
 ghost use Rattle.charmlet_sequencer.specs.Sealing.{AreAllIdle};
 ghost use Rattle.charmlet_hub.specs.Hub.{store_in};
 ghost use Rattle.charmlet_workers.specs.Sealing.{IsLaterGeneration, is_sealing_refusal};

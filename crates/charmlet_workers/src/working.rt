@@ -6,7 +6,8 @@ ghost use Rattle.charmlet_history.specs.Kept.{oldest_on_in};
 ghost use Rattle.charmlet_shelf.specs.Shelf.{is_assigned};
 ghost use Rattle.charmlet_sequencer.specs.Shelf.{is_done};
 ghost use Rattle.charmlet_hub.specs.Hub.{roomless};
-ghost use Rattle.charmlet_workers.specs.Working.{HasWorked, Takes};
+ghost use Rattle.charmlet_workers.specs.Working.{HasServed, Takes};
+ghost use Rattle.charmlet_workers.specs.Refusals.{is_work_refusal};
 
 use crate::gate::{Gate, wait_at};
 use crate::runtime::Runtime;
@@ -44,8 +45,7 @@ impl<D: Disk, C: Chare, B: RuntimeName> Runtime<D, C, B> {
         gate: &G,
         turns: u64,
     ) -> Worked
-        ensures worked { HasWorked seat.old seat.new result.count }
-        ensures most { result.count ≤ turns }
+        ensures { HasServed seat.old seat.new turns result }
     {
         let mut count = 0;
         for _turn in 0..turns {
@@ -75,6 +75,7 @@ impl<D: Disk, C: Chare, B: RuntimeName> Runtime<D, C, B> {
     ) -> Result<Option<MsgId>, Refusal>
         ensures ok { IfOk result (Takes seat.old seat.new) }
         ensures err { OnErr result (Takes seat.old seat.new None) }
+        ensures refused { IfErr result (λ refusal. is_work_refusal refusal ≡ true) }
     {
         let processor = seat.processor();
         let lock = &self.shelves[usize::from(processor)];
@@ -96,6 +97,7 @@ impl<D: Disk, C: Chare, B: RuntimeName> Runtime<D, C, B> {
     ) -> Result<Option<MsgId>, Refusal>
         ensures ok { IfOk result (Takes seat.old seat.new) }
         ensures err { OnErr result (Takes seat.old seat.new None) }
+        ensures refused { IfErr result (λ refusal. is_work_refusal refusal ≡ true) }
     {
         if let Err(refusal) = self.catch_up(rt, locked) {
             return Err(refusal);
@@ -155,6 +157,7 @@ fn assign_oldest<D: Disk, C: Chare, B: RuntimeName>(
     ensures assigned { IfOk result (λ o. IfSome o (λ _. is_assigned locked.new.phase ≡ true)) }
     ensures err { OnErr result ((roomless hub.new ≡ roomless hub.old)
         × (locked.new ≡ locked.old)) }
+    ensures refused { IfErr result (λ refusal. is_work_refusal refusal ≡ true) }
 {
     assign_counted::<Brand, D, C, B>(hub, locked, Blank::new(1))
 }
@@ -172,6 +175,7 @@ fn assign_counted<L: Ledger, D: Disk, C: Chare, B: RuntimeName>(
     ensures assigned { IfOk result (λ o. IfSome o (λ _. is_assigned locked.new.phase ≡ true)) }
     ensures err { OnErr result ((roomless hub.new ≡ roomless hub.old)
         × (locked.new ≡ locked.old)) }
+    ensures refused { IfErr result (λ refusal. is_work_refusal refusal ≡ true) }
 {
     let mut ticks = Ticks::<L>::new(blank);
     let Some(id) = hub.oldest_on(locked.number(), &mut ticks) else {
@@ -199,8 +203,8 @@ pub fn work_all<D: Disk, C: Chare, B: RuntimeName + Send + Sync, G: Gate, R: Thr
     turns: u64,
 )
     ensures { (i : ℕ) (d : _) → i < length stations.old →
-        HasWorked (slice_index_or stations.old i d).seat (slice_index_or stations.new i d).seat
-        (slice_index_or stations.new i d).worked.count }
+        HasServed (slice_index_or stations.old i d).seat (slice_index_or stations.new i d).seat
+        turns (slice_index_or stations.new i d).worked }
 {
     let count = stations.len();
     if count == 0 {
@@ -211,8 +215,8 @@ pub fn work_all<D: Disk, C: Chare, B: RuntimeName + Send + Sync, G: Gate, R: Thr
         stations,
         count,
         &|_place: usize, station: &mut Station<B>|
-            ensures { HasWorked station.entry.now.seat station.exit.now.seat
-                station.exit.now.worked.count }
+            ensures { HasServed station.entry.now.seat station.exit.now.seat turns
+                station.exit.now.worked }
         { serve(rt, runtime, station, gate, turns) },
     );
 }
@@ -225,7 +229,7 @@ fn serve<D: Disk, C: Chare, B: RuntimeName, G: Gate, R: Wait>(
     gate: &G,
     turns: u64,
 )
-    ensures { HasWorked station.old.seat station.new.seat station.new.worked.count }
+    ensures { HasServed station.old.seat station.new.seat turns station.new.worked }
 {
     station.worked = runtime.work(rt, &mut station.seat, gate, turns);
 }

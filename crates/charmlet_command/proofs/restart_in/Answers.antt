@@ -1,4 +1,4 @@
-use Rattle.std.proofs.Common.{◌∙◌, ap, option_map}
+use Rattle.std.proofs.Common.{◌∙◌, ap, option_map, refl}
 use Rattle.std.specs.Str.Parse.{ExplainsUnsignedError, HasUnsignedDigitsIfOk, ParsesUnsigned}
 use Rattle.clap.specs.Matches.{found_of}
 use Rattle.charmlet_command.specs.CommandLine.{asked_in}
@@ -15,9 +15,9 @@ returns-in_err-script c =
 pub returns-in_err-processors : goal.returns-in_err-processors
 returns-in_err-processors c =
     let number = number_of_value (λ bs r. ParsesUnsigned 16 10 bs r × ExplainsUnsignedError 10 bs r × HasUnsignedDigitsIfOk bs r) (λ word read gives. gives.0) _ _ c.in_err-processors.ensures.none c.in_err-processors.ensures.value in
-    ap (option_map asked_in) c.from_residual-in_err-processors.ensures ∙ restart_of_values (found_of c.args.values.now) _ _ _ c.in_ok-dir.ensures c.in_ok-script.ensures number
+    ap (option_map asked_in) c.from_residual-in_err-processors.ensures ∙ restart_of_values (found_of c.args.values.now) _ _ _ _ c.in_ok-dir.ensures c.in_ok-script.ensures number refl
 
 pub returns : goal.returns
 returns c =
     let number = number_of_value (λ bs r. ParsesUnsigned 16 10 bs r × ExplainsUnsignedError 10 bs r × HasUnsignedDigitsIfOk bs r) (λ word read gives. gives.0) _ _ c.in_ok-processors.ensures.none c.in_ok-processors.ensures.value in
-    restart_of_values (found_of c.args.values.now) _ _ _ c.in_ok-dir.ensures c.in_ok-script.ensures number
+    restart_of_values (found_of c.args.values.now) _ _ _ _ c.in_ok-dir.ensures c.in_ok-script.ensures number c.is_on-workers.ensures

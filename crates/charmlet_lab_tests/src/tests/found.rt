@@ -4,7 +4,7 @@ use super::counters::{Counters, blank_counters};
 use super::forgetful::ForgetfulDisk;
 use charmlet_any_disk::AnyDisk;
 use charmlet_lab::{LabLine, Watch, lab_round, try_crashes};
-use charmlet_script::read_script;
+use charmlet_script::{Runner, read_script};
 use std::alloc::{AllocGlobal, Global};
 use std::test::Fail;
 
@@ -28,7 +28,7 @@ impl Watch for Told {
 fn an_honest_disk_is_found_good(rt: HostRuntime) -> Result<(), Fail> {
     let rt = &rt;
     let alloc = rt.alloc();
-    let script = read_script(alloc, &mut SCRIPT.as_bytes())?;
+    let script = read_script(alloc, &mut SCRIPT.as_bytes(), Runner::Engine)?;
     let mut told = Told { times: 0 };
     let found = try_crashes::<AnyDisk, Counters, Told>(alloc, &script, &Counters, &mut told)?;
     let good = LabLine {
@@ -46,7 +46,7 @@ fn an_honest_disk_is_found_good(rt: HostRuntime) -> Result<(), Fail> {
 fn a_disk_that_forgets_is_found_bad(rt: HostRuntime) -> Result<(), Fail> {
     let rt = &rt;
     let alloc = rt.alloc();
-    let script = read_script(alloc, &mut SCRIPT.as_bytes())?;
+    let script = read_script(alloc, &mut SCRIPT.as_bytes(), Runner::Engine)?;
     let mut told = Told { times: 0 };
     let found = try_crashes::<ForgetfulDisk, Counters, Told>(alloc, &script, &Counters, &mut told)?;
     assert_eq!(rt; (found.stops, found.outcomes), (14, 84));
@@ -57,7 +57,7 @@ fn a_disk_that_forgets_is_found_bad(rt: HostRuntime) -> Result<(), Fail> {
 // How many events were durable, as the run was told, if the disk fails after `calls` calls; `None`
 // if no store was made.
 fn durable_after(alloc: Global, calls: u64) -> Result<Option<u64>, Fail> {
-    let script = read_script(alloc, &mut SCRIPT.as_bytes())?;
+    let script = read_script(alloc, &mut SCRIPT.as_bytes(), Runner::Engine)?;
     let disk = AnyDisk::failing(alloc, calls);
     let round = lab_round(alloc, &script, blank_counters(alloc, 1)?, disk)?;
     Ok(round.durable)

@@ -5,7 +5,7 @@ use charmlet_any_disk::AnyDisk;
 use charmlet_disk::CrashChoice;
 use charmlet_lab::{Round, lab_outcome, lab_round};
 use charmlet_recover::Wanted;
-use charmlet_script::read_script;
+use charmlet_script::{Runner, read_script};
 use std::alloc::{AllocGlobal, Global};
 use std::test::Fail;
 
@@ -21,7 +21,7 @@ fn held_against(
     count: usize,
     durable: Option<u64>,
 ) -> Result<bool, Fail> {
-    let script = read_script(alloc, &mut SCRIPT.as_bytes())?;
+    let script = read_script(alloc, &mut SCRIPT.as_bytes(), Runner::Engine)?;
     let supplied = blank_counters(alloc, 1)?;
     let failing = AnyDisk::failing(alloc, calls);
     let Round { disk, events, .. } = lab_round(alloc, &script, supplied, failing)?;

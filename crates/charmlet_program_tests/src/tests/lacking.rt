@@ -5,7 +5,7 @@ use charmlet_cli::{RestartError, Restarted, RunError, find_blanks, restart_scrip
 use charmlet_disk::MemDisk;
 use charmlet_kinds::Counter;
 use charmlet_model::{Kind, Refusal};
-use charmlet_script::read_restart_script;
+use charmlet_script::{Runner, read_restart_script};
 use std::process::Abort;
 
 // A script supplies three objects, and there are two: they come back, nothing is written, and no
@@ -47,7 +47,9 @@ fn restart_with(
     text: &str,
     output: &mut Vec<u8>,
 ) -> Restarted<MemDisk, Counter> {
-    let script = read_restart_script(rt.alloc(), &mut text.as_bytes()).expect(rt, "a script");
+    let script = read_restart_script(rt.alloc(), &mut text.as_bytes(), Runner::Engine).expect(
+        rt, "a script",
+    );
     let disk = stored_counter(rt);
     let blanks = counters(rt, count);
     let supplies = counters(rt, 2);

@@ -4,14 +4,14 @@ use charmlet_chare::Chare;
 use charmlet_cli::{Ran, run_script};
 use charmlet_disk::MemDisk;
 use charmlet_kinds::Counter;
-use charmlet_script::{Script, read_script};
+use charmlet_script::{Runner, Script, read_script};
 use std::alloc::Global;
 use std::io::Write;
 use std::process::Abort;
 
 // The script of this text.
 pub(super) fn script_of(rt: &(impl AllocGlobal + Abort), text: &str) -> Script {
-    read_script(rt.alloc(), &mut text.as_bytes()).expect(rt, "a script")
+    read_script(rt.alloc(), &mut text.as_bytes(), Runner::Engine).expect(rt, "a script")
 }
 
 // `count` blank counters.

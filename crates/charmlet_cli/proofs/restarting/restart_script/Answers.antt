@@ -15,20 +15,20 @@ returns-then-not-has_enough-clause-err g c =
       refl,
       refl,
       refl,
-      is_too_few g.C.Chare.state c.supplied_by.result c.args.script.now.lines c.as_slice.result.now c.args.supplies.items c.as_slice.ensures.value c.supplied_by.ensures c.has_enough.result c.has_enough.ensures not_enough,
+      is_too_few g.C.Chare.state c.supplied_at_restart.result c.args.script.now.lines c.as_slice.result.now c.args.supplies.items c.as_slice.ensures.value c.supplied_at_restart.ensures c.has_enough.result c.has_enough.ensures not_enough,
     )
 
 pub restart_with-requires-clause-enough : goal.restart_with-requires-clause-enough
 restart_with-requires-clause-enough g c = λ _ _ kind.
     let is : c.has_enough.result ≡ true = search rules in
-    let enough = is_enough g.C.Chare.state c.supplied_by.result c.args.script.now.lines c.as_slice.result.now c.args.supplies.items c.as_slice.ensures.value c.supplied_by.ensures c.has_enough.result c.has_enough.ensures is in
+    let enough = is_enough g.C.Chare.state c.supplied_at_restart.result c.args.script.now.lines c.as_slice.result.now c.args.supplies.items c.as_slice.ensures.value c.supplied_at_restart.ensures c.has_enough.result c.has_enough.ensures is in
     subst (λ n. blanks_of kind c.args.script.now.lines ≤ n) (sym (c.in-Ok.ensures.source kind)) (enough kind)
 
 pub returns-in-Ok-clause-enough : goal.returns-in-Ok-clause-enough
 returns-in-Ok-clause-enough g c =
     let is : c.has_enough.result ≡ true = search rules in
     on_ok c.restart_with.result.result
-    (is_enough g.C.Chare.state c.supplied_by.result c.args.script.now.lines c.as_slice.result.now c.args.supplies.items c.as_slice.ensures.value c.supplied_by.ensures c.has_enough.result c.has_enough.ensures is)
+    (is_enough g.C.Chare.state c.supplied_at_restart.result c.args.script.now.lines c.as_slice.result.now c.args.supplies.items c.as_slice.ensures.value c.supplied_at_restart.ensures c.has_enough.result c.has_enough.ensures is)
 
 pub returns-in-Ok-clause-ran : goal.returns-in-Ok-clause-ran
 returns-in-Ok-clause-ran g c =
@@ -43,7 +43,7 @@ returns-in-Ok-clause-ran g c =
 pub returns-in-Ok-clause-err : goal.returns-in-Ok-clause-err
 returns-in-Ok-clause-err g c =
     let is : c.has_enough.result ≡ true = search rules in
-    let enough = is_enough g.C.Chare.state c.supplied_by.result c.args.script.now.lines c.as_slice.result.now c.args.supplies.items c.as_slice.ensures.value c.supplied_by.ensures c.has_enough.result c.has_enough.ensures is in
+    let enough = is_enough g.C.Chare.state c.supplied_at_restart.result c.args.script.now.lines c.as_slice.result.now c.args.supplies.items c.as_slice.ensures.value c.supplied_at_restart.ensures c.has_enough.result c.has_enough.ensures is in
     let prepared = c.in-Ok.prepared in
     let same : supplied_to prepared.given ≡ given_of g.C.Chare.state c.args.blanks.items = λ i kind. c.in-Ok.ensures.given kind i in
     let old = g.W.Write.contents c.args.writer.now in
@@ -56,6 +56,6 @@ pub returns-in-Err-clause-err : goal.returns-in-Err-clause-err
 returns-in-Err-clause-err g c =
     let is : c.has_enough.result ≡ true = search rules in (
       refl,
-      is_enough g.C.Chare.state c.supplied_by.result c.args.script.now.lines c.as_slice.result.now c.args.supplies.items c.as_slice.ensures.value c.supplied_by.ensures c.has_enough.result c.has_enough.ensures is,
+      is_enough g.C.Chare.state c.supplied_at_restart.result c.args.script.now.lines c.as_slice.result.now c.args.supplies.items c.as_slice.ensures.value c.supplied_at_restart.ensures c.has_enough.result c.has_enough.ensures is,
       refl,
     )

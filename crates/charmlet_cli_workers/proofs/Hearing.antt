@@ -1,0 +1,199 @@
+-- What clients' passes know, and that it stays true.
+use Rattle.std.proofs.Common.{◌≡◌, ℕ, zero, suc, ◌≤◌, List, [], ◌∷◌, ◌++◌, Bool, length, map, take, drop, inl, inr, ⊎_elim, refl, sym, ap, subst, ◌∙◌, true, false, Result, Ok, Err, le_refl, arith, take-append-drop}
+use Rattle.std.proofs.lemmas.Bool.Decides.{nat_tests}
+use Rattle.std.specs.Prelude.{IfOk, OnOk, Some, Contains, slice_get, slice_set, nat_lt, if◌then◌else◌}
+use Rattle.std.specs.List.{AllByRecursion}
+use Rattle.std.proofs.lemmas.List.{append-nil, append_assoc, take-take}
+use Rattle.std.proofs.lemmas.List.Elements.{All-contains, All-from_recursion, Contains-append_left, Contains-push}
+use Rattle.charmlet_model.specs.declared.refusal.Refusal.{Refusal}
+use Rattle.charmlet_model.specs.declared.told.Told.{Told}
+use Rattle.charmlet_model.specs.declared.told.Told.TheVariants.{Accepted}
+use Rattle.charmlet_model.specs.Core.{Core, present}
+use Rattle.charmlet_model.specs.Sound.{IsSound}
+use Rattle.charmlet_model.specs.Told.{Holds}
+use Rattle.charmlet_model.specs.World.{can_all, client_of}
+use Rattle.charmlet_model.proofs.Lasts.{holds_later}
+use Rattle.charmlet_recovery.proofs.Sealed.{can-take}
+use Rattle.charmlet_requests.specs.Pass.{Pass, with_accept, with_told}
+use Rattle.charmlet_passes.specs.Passes.{AreTrue, HeldPass, IsAnswered, IsCurrent, with_answer, with_flush}
+use Rattle.charmlet_cli_workers.specs.Heard.{AreLater, IsHeard, IsLater, IsReached, known_by}
+use Rattle.charmlet_cli_workers.specs.Said.{StaysTrue}
+use Rattle.charmlet_cli_workers.proofs.Sayings.{KnowsMore}
+
+-- ---- later passes
+
+pub same_pass : (held : HeldPass) → IsLater held held
+same_pass held = record { more = []; client = refl; last = le_refl held.pass.last; heard = sym (append-nil held.heard) }
+
+pub same_passes : (passes : List HeldPass) → AreLater passes passes
+same_passes [] = tt
+same_passes (held ∷ passes) = (same_pass held, same_passes passes)
+
+then_later : (a b c : HeldPass) → IsLater a b → IsLater b c → IsLater a c
+then_later a b c one two = record {
+  more = one.more ++ two.more;
+  client = two.client ∙ one.client;
+  last = omega (arith, one.last, two.last);
+  heard = two.heard ∙ ap (λ xs. xs ++ two.more) one.heard ∙ append_assoc a.heard one.more two.more;
+}
+
+pub later_still : (a b c : List HeldPass) → AreLater a b → AreLater b c → AreLater a c
+later_still [] b c one two = tt
+later_still (h ∷ a) [] c one two = absurd one
+later_still (h ∷ a) (k ∷ b) [] one two = absurd two
+later_still (h ∷ a) (k ∷ b) (l ∷ c) one two = (then_later h k l one.0 two.0, later_still a b c one.1 two.1)
+
+-- one more pass
+pub one_more : (passes : List HeldPass) (held : HeldPass) → AreLater passes (passes ++ held ∷ [])
+one_more [] held = tt
+one_more (h ∷ passes) held = (same_pass h, one_more passes held)
+
+-- a flush tells each of them
+flushed_pass : (held : HeldPass) → IsLater held (with_flush held)
+flushed_pass held =
+    elim (nat_lt held.pass.lent_at held.pass.last) as (λ b. IsLater held (if b then with_answer held (with_told held.pass held.pass.last Accepted) held.pass.last Accepted else held)) [
+      | true ↦ record { more = (held.pass.last, Accepted) ∷ []; client = refl; last = le_refl held.pass.last; heard = refl }
+      | false ↦ same_pass held
+    ]
+
+pub flushed_passes : (passes : List HeldPass) → AreLater passes (map with_flush passes)
+flushed_passes [] = tt
+flushed_passes (held ∷ passes) = (flushed_pass held, flushed_passes passes)
+
+-- ---- what was heard
+
+heard_by_later : (old new : HeldPass) (number : ℕ) (told : Told) → IsLater old new → Contains old.heard (number, told) → Contains new.heard (number, told)
+heard_by_later old new number told later heard =
+    subst (λ (xs : List (ℕ × Told)). Contains xs (number, told)) (sym later.heard) (Contains-append_left old.heard later.more (number, told) heard)
+
+-- it stays so
+pub still_heard : (old new : List HeldPass) (client number : ℕ) (told : Told) → AreLater old new → IsHeard old client number told → IsHeard new client number told
+still_heard [] new client number told later heard = absurd heard
+still_heard (h ∷ old) [] client number told later heard = absurd later
+still_heard (h ∷ old) (k ∷ new) client number told later heard =
+    ⊎_elim (λ here. inl (later.0.client ∙ here.0, heard_by_later h k number told later.0 here.1)) (λ there. inr (still_heard old new client number told later.1 there)) heard
+
+pub still_reached : (old new : List HeldPass) (client number : ℕ) → AreLater old new → IsReached old client number → IsReached new client number
+still_reached [] new client number later reached = absurd reached
+still_reached (h ∷ old) [] client number later reached = absurd later
+still_reached (h ∷ old) (k ∷ new) client number later reached =
+    ⊎_elim (λ here. inl (later.0.client ∙ here.0, omega (arith, here.1, later.0.last))) (λ there. inr (still_reached old new client number later.1 there)) reached
+
+-- later passes know more
+pub knows_later : (old new : List HeldPass) → AreLater old new → KnowsMore (known_by old) (known_by new)
+knows_later old new later = record {
+  told = λ client number told heard. still_heard old new client number told later heard;
+  accepted = λ client number reached. still_reached old new client number later reached;
+}
+
+-- ---- what is true
+
+-- what is true of the durable events is so of more of them
+stays_true : (core : Core) (client number : ℕ) (told : Told) → IsSound core → Holds core.opening (take core.durable core.history) client number told → StaysTrue core client number told
+stays_true core client number told sound holds kept from to =
+    let first = take core.durable core.history in
+    let kept_events = take kept core.history in
+    let split : first ++ drop core.durable kept_events ≡ kept_events =
+    ap (λ es. es ++ drop core.durable kept_events) (sym (take-take core.durable kept core.history from)) ∙ take-append-drop core.durable kept_events in
+    let can : can_all core.opening (first ++ drop core.durable kept_events) ≡ true = ap (can_all core.opening) split ∙ can-take core.opening kept core.history sound.legal.each_can in
+    subst (λ es. Holds core.opening es client number told) split (holds_later core.opening first (drop core.durable kept_events) client number told can holds)
+
+-- what is true of each answer of a list is so of one of them
+true_of : (core : Core) (client number : ℕ) (told : Told) (answers : List (ℕ × Told)) → AreTrue core client answers → Contains answers (number, told) → Holds core.opening (take core.durable core.history) client number told
+true_of core client number told answers all heard =
+    let P : ℕ × Told → Type 0 = λ answer. Holds core.opening (take core.durable core.history) client answer.0 answer.1 in
+    All-contains P answers (number, told) (All-from_recursion P answers all) heard
+
+-- what a client was told stays true, once all passes are current
+pub heard_stays_true : (core : Core) (passes : List HeldPass) (client number : ℕ) (told : Told) → IsSound core → AllByRecursion (λ (held : HeldPass). IsCurrent held core) passes → IsHeard passes client number told → StaysTrue core client number told
+heard_stays_true core [] client number told sound all heard = absurd heard
+heard_stays_true core (held ∷ passes) client number told sound all heard =
+    ⊎_elim
+    (λ here. stays_true core client number told sound (subst (λ c. Holds core.opening (take core.durable core.history) c number told) here.0 (true_of core held.pass.client number told held.heard all.0.heard here.1)))
+    (λ there. heard_stays_true core passes client number told sound all.1 there) heard
+
+-- and what was accepted is so in the present world
+accepted_at : (core : Core) (pass : Pass) (number : ℕ) → (client_of (present core) pass.client).last ≡ pass.last → number ≤ pass.last → Holds core.opening core.history pass.client number Accepted
+accepted_at core pass number up_to_date reached = omega (arith, up_to_date, reached)
+
+pub reached_is_accepted : (core : Core) (passes : List HeldPass) (client number : ℕ) → AllByRecursion (λ (held : HeldPass). IsCurrent held core) passes → IsReached passes client number → Holds core.opening core.history client number Accepted
+reached_is_accepted core [] client number all reached = absurd reached
+reached_is_accepted core (held ∷ passes) client number all reached =
+    ⊎_elim (λ here. subst (λ c. Holds core.opening core.history c number Accepted) here.0 (accepted_at core held.pass number all.0.up_to_date here.1))
+    (λ there. reached_is_accepted core passes client number all.1 there) reached
+
+-- ---- one of the passes
+
+-- a later pass in its place
+pub later_at : (passes : List HeldPass) (place : ℕ) (old new : HeldPass) → slice_get passes place ≡ Some old → IsLater old new → AreLater passes (slice_set passes place new)
+later_at [] place old new is later = tt
+later_at (h ∷ passes) zero old new is later =
+    let same : h ≡ old = cc in
+    (subst (λ (held : HeldPass). IsLater held new) (sym same) later, same_passes passes)
+later_at (h ∷ passes) (suc place) old new is later = (same_pass h, later_at passes place old new is later)
+
+-- what it heard
+pub heard_at : (passes : List HeldPass) (place : ℕ) (old new : HeldPass) (client number : ℕ) (told : Told) → slice_get passes place ≡ Some old → new.pass.client ≡ client → Contains new.heard (number, told) →
+    IsHeard (slice_set passes place new) client number told
+heard_at [] place old new client number told is its heard = let never : ⊥ = cc in absurd never
+heard_at (h ∷ passes) zero old new client number told is its heard = inl (its, heard)
+heard_at (h ∷ passes) (suc place) old new client number told is its heard = inr (heard_at passes place old new client number told is its heard)
+
+-- the last one
+pub last_pass : (passes : List HeldPass) (held : HeldPass) → slice_get (passes ++ held ∷ []) (length passes) ≡ Some held
+last_pass [] held = refl
+last_pass (h ∷ passes) held = last_pass passes held
+
+pub reached_at : (passes : List HeldPass) (place : ℕ) (old new : HeldPass) (client number : ℕ) → slice_get passes place ≡ Some old → new.pass.client ≡ client → number ≤ new.pass.last → IsReached (slice_set passes place new) client number
+reached_at [] place old new client number is its reached = let never : ⊥ = cc in absurd never
+reached_at (h ∷ passes) zero old new client number is its reached = inl (its, reached)
+reached_at (h ∷ passes) (suc place) old new client number is its reached = inr (reached_at passes place old new client number is its reached)
+
+-- ---- answers
+
+-- a pass is told one thing more
+pub told_pass : (old new : HeldPass) (number : ℕ) (told : Told) → new.pass.client ≡ old.pass.client → old.pass.last ≤ new.pass.last → new.heard ≡ old.heard ++ (number, told) ∷ [] → IsLater old new
+told_pass old new number told client last heard = record { more = (number, told) ∷ []; client = client; last = last; heard = heard }
+
+reaches : (last number : ℕ) (b : Bool) → nat_lt last number ≡ b → (last ≤ (if b then number else last)) × (number ≤ (if b then number else last))
+reaches last number true is = (grind (arith, nat_tests), le_refl number)
+reaches last number false is = (le_refl last, grind (arith, nat_tests))
+
+-- its last number once a request with this number was answered
+pub accept_reaches : (pass : Pass) (number : ℕ) → (pass.last ≤ (with_accept pass number).last) × (number ≤ (with_accept pass number).last)
+accept_reaches pass number = reaches pass.last number (nat_lt pass.last number) refl
+
+pub answer_is_heard : (old new : HeldPass) (number : ℕ) (told : Told) → new.heard ≡ old.heard ++ (number, told) ∷ [] → Contains new.heard (number, told)
+answer_is_heard old new number told is = subst (λ (xs : List (ℕ × Told)). Contains xs (number, told)) (sym is) (Contains-push old.heard (number, told))
+
+-- a request or a question by the pass at this place
+module _ (passes : List HeldPass) (place : ℕ) (old new : HeldPass) (client number : ℕ) (got : slice_get passes place ≡ Some old) (of : old.pass.client ≡ client) where
+  heard_new : (r : Result Told Refusal) → IfOk r (λ told. new.pass.client ≡ old.pass.client) → IsAnswered old new number r → IfOk r (IsHeard (slice_set passes place new) client number)
+  heard_new (Ok told) its answered = heard_at passes place old new client number told got (its ∙ of) (answer_is_heard old new number told answered.heard)
+  heard_new (Err refusal) its answered = tt
+
+  later_new : (r : Result Told Refusal) → IfOk r (λ told. (new.pass.client ≡ old.pass.client) × (old.pass.last ≤ new.pass.last)) → IsAnswered old new number r → AreLater passes (slice_set passes place new)
+  later_new (Ok told) its answered = later_at passes place old new got (told_pass old new number told its.0 its.1 answered.heard)
+  later_new (Err refusal) its answered = later_at passes place old new got (subst (λ (held : HeldPass). IsLater old held) (sym answered.err) (same_pass old))
+
+  pub asked_heard : (r : Result Told Refusal) → IfOk r (λ told. new.pass ≡ with_accept (with_told old.pass number told) number) → IsAnswered old new number r → IfOk r (IsHeard (slice_set passes place new) client number)
+  asked_heard (Ok told) is answered = heard_new (Ok told) (ap (λ (p : Pass). p.client) is) answered
+  asked_heard (Err refusal) is answered = tt
+
+  pub asked_reached : (r : Result Told Refusal) → IfOk r (λ told. new.pass ≡ with_accept (with_told old.pass number told) number) → OnOk r (IsReached (slice_set passes place new) client number)
+  asked_reached (Ok told) is = reached_at passes place old new client number got (ap (λ (p : Pass). p.client) is ∙ of) (subst (λ n. number ≤ n) (sym (ap (λ (p : Pass). p.last) is)) (accept_reaches (with_told old.pass number told) number).1)
+  asked_reached (Err refusal) is = tt
+
+  pub asked_later : (r : Result Told Refusal) → IfOk r (λ told. new.pass ≡ with_accept (with_told old.pass number told) number) → IsAnswered old new number r → AreLater passes (slice_set passes place new)
+  asked_later (Ok told) is answered =
+      later_new (Ok told) (ap (λ (p : Pass). p.client) is, subst (λ n. old.pass.last ≤ n) (sym (ap (λ (p : Pass). p.last) is)) (accept_reaches (with_told old.pass number told) number).0) answered
+  asked_later (Err refusal) is answered = later_new (Err refusal) tt answered
+
+  pub stated_heard : (r : Result Told Refusal) → IfOk r (λ told. new.pass ≡ with_told old.pass number told) → IsAnswered old new number r → IfOk r (IsHeard (slice_set passes place new) client number)
+  stated_heard (Ok told) is answered = heard_new (Ok told) (ap (λ (p : Pass). p.client) is) answered
+  stated_heard (Err refusal) is answered = tt
+
+  pub stated_later : (r : Result Told Refusal) → IfOk r (λ told. new.pass ≡ with_told old.pass number told) → IsAnswered old new number r → AreLater passes (slice_set passes place new)
+  stated_later (Ok told) is answered =
+      later_new (Ok told) (ap (λ (p : Pass). p.client) is, subst (λ n. old.pass.last ≤ n) (sym (ap (λ (p : Pass). p.last) is)) (le_refl old.pass.last)) answered
+  stated_later (Err refusal) is answered = later_new (Err refusal) tt answered

@@ -1,0 +1,37 @@
+use Rattle.std.proofs.Common.{◌≡◌, refl, sym, ap, ◌∙◌}
+use Rattle.std.specs.Prelude.{Some, length, slice_get, slice_set}
+use Rattle.std.proofs.lemmas.Option.{slice_get_read, slice_get_within}
+use Rattle.charmlet_passes.specs.Passes.{HeldPass}
+use Rattle.charmlet_cli_workers.proofs.Hearing.{asked_heard, asked_later, asked_reached, later_still}
+use Rattle.charmlet_cli_workers.proofs.clients.Clients.request.Goals as goal
+
+pub returns-in-Ok-clause-heard : goal.returns-in-Ok-clause-heard
+returns-in-Ok-clause-heard g c =
+    let passes = c.place_of.new.self.passes.items in
+    let place = c.in-Ok.place in
+    let found = c.in-Ok.ensures.place in
+    let old = c.index_mut.result.now in
+    let got : slice_get passes place ≡ Some old = slice_get_read passes (length passes) place old refl (slice_get_within passes place found.0 found.1) c.index_mut.ensures.value in
+    let of : old.pass.client ≡ c.args.client = let same : found.0 ≡ old = cc in sym (ap (λ (held : HeldPass). held.pass.client) same) ∙ found.2 in
+    asked_heard passes place old c.request.new.pass c.args.client c.args.request.now.number got of c.request.result c.request.ensures.told c.request.ensures.answered
+
+pub returns-in-Ok-clause-later : goal.returns-in-Ok-clause-later
+returns-in-Ok-clause-later g c =
+    let passes = c.place_of.new.self.passes.items in
+    let place = c.in-Ok.place in
+    let found = c.in-Ok.ensures.place in
+    let old = c.index_mut.result.now in
+    let got : slice_get passes place ≡ Some old = slice_get_read passes (length passes) place old refl (slice_get_within passes place found.0 found.1) c.index_mut.ensures.value in
+    let of : old.pass.client ≡ c.args.client = let same : found.0 ≡ old = cc in sym (ap (λ (held : HeldPass). held.pass.client) same) ∙ found.2 in
+    later_still c.args.self.now.passes.items passes (slice_set passes place c.request.new.pass) c.in-Ok.ensures.later
+    (asked_later passes place old c.request.new.pass c.args.client c.args.request.now.number got of c.request.result c.request.ensures.told c.request.ensures.answered)
+
+pub returns-in-Ok-clause-reached : goal.returns-in-Ok-clause-reached
+returns-in-Ok-clause-reached g c =
+    let passes = c.place_of.new.self.passes.items in
+    let place = c.in-Ok.place in
+    let found = c.in-Ok.ensures.place in
+    let old = c.index_mut.result.now in
+    let got : slice_get passes place ≡ Some old = slice_get_read passes (length passes) place old refl (slice_get_within passes place found.0 found.1) c.index_mut.ensures.value in
+    let of : old.pass.client ≡ c.args.client = let same : found.0 ≡ old = cc in sym (ap (λ (held : HeldPass). held.pass.client) same) ∙ found.2 in
+    asked_reached passes place old c.request.new.pass c.args.client c.args.request.now.number got of c.request.result c.request.ensures.told

@@ -1,0 +1,36 @@
+use Rattle.std.proofs.Common.{◌≤◌, refl, sym, ap, subst, ◌∙◌}
+use Rattle.std.specs.Prelude.{IfSome}
+use Rattle.charmlet_engine.specs.Engine.{EngineShown, core_of}
+use Rattle.charmlet_workers.specs.Runtime.{RuntimeShown}
+use Rattle.charmlet_model.specs.Sound.{IsSound}
+use Rattle.charmlet_history.specs.Kept.{core_in}
+use Rattle.charmlet_store.specs.Store.{StoreShown}
+use Rattle.charmlet_cli_workers.specs.Left.{IsApart}
+use Rattle.charmlet_cli_workers.proofs.Leavings.{ends_early, left_apart, left_by}
+use Rattle.charmlet_script.specs.Script.{blanks_of}
+use Rattle.charmlet_stock.specs.Stock.{blanks_in}
+use Rattle.charmlet_cli_workers.proofs.opened.run_named.Goals as goal
+
+pub run_on-ran-requires-clause-enough : goal.run_on-ran-requires-clause-enough
+run_on-ran-requires-clause-enough g c _ _ = λ kind. subst (λ s. blanks_of kind c.args.lines.now.lines.now ≤ blanks_in s kind) (sym c.new-floor.ensures.source) (c.requires.enough kind)
+
+pub returns-in-Ok-clause-left : goal.returns-in-Ok-clause-left
+returns-in-Ok-clause-left g c =
+    let core = core_of c.args.begun in
+    let passes = c.run_on-ran.new.floor.clients.passes.items in
+    let lines = c.args.lines.now in
+    let apart = subst (λ (v : RuntimeShown). IfSome c.take_apart.result.disk (IsApart g.D.Disk v.opening v.before v.processors passes)) c.in-Ok.ensures.shown c.take_apart.ensures.left in
+    left_apart g.D.Disk core.opening core.before core.processors passes c.take_apart.result.disk c.run_on-ran.result c.take_apart.result.result lines.restarted lines.lines.now (g.W.Write.contents c.args.writer.now) (g.W.Write.contents c.run_on-ran.new.writer) apart
+    c.take_apart.ensures.same c.run_on-ran.ensures.prints
+
+pub returns-in-Ok-clause-err : goal.returns-in-Ok-clause-err
+returns-in-Ok-clause-err g c =
+    ends_early c.run_on-ran.result c.take_apart.result.result c.take_apart.result.disk c.args.writer.now c.run_on-ran.new.writer c.run_on-ran.ensures.err c.take_apart.ensures.err
+
+pub returns-in-Err-clause-left : goal.returns-in-Err-clause-left
+returns-in-Err-clause-left g c =
+    let core = core_of c.args.begun in
+    let same = c.in-Err.ensures.back.0 in
+    let sound : IsSound core = subst IsSound (ap (λ (s : StoreShown). core_in s.history) c.store.view_is ∙ ap core_of same) c.facts.ensures.sound in
+    left_by g.D.Disk core.opening core.before core.processors _ core c.args.begun.disk c.into_disk.result (c.into_disk.ensures ∙ ap (λ (e : EngineShown _). e.disk) same) (record { opening_is = refl; before_is = refl; processors_are = refl }) sound
+    c.requires.keeps tt

@@ -1,0 +1,17 @@
+use Rattle.charmlet_agreement.specs.Naming.{table_of}
+use Rattle.charmlet_engine.specs.Engine.{core_of}
+use Rattle.charmlet_cli_workers.proofs.running.run_in_new_store.Given as goal
+
+-- the book of shelves that was just made
+abbrev pub ghosts-run_named-B-BookName : goal.ghosts-run_named-B-BookName
+ghosts-run_named-B-BookName g a = record { table = table_of a.books.parts }
+
+-- the other two books, and the engine's store
+abbrev pub ghosts-run_named-B-RuntimeName : goal.ghosts-run_named-B-RuntimeName
+ghosts-run_named-B-RuntimeName g a = record {
+  seats = table_of a.books.seats;
+  passes = table_of a.books.passes;
+  opening = (core_of a.begun).opening;
+  before = (core_of a.begun).before;
+  processors = (core_of a.begun).processors;
+}

@@ -1,0 +1,9 @@
+use Rattle.std.proofs.Common.{sym, subst, arith}
+use Rattle.charmlet_workers.specs.Runtime.{IsWithin}
+use Rattle.charmlet_cli_workers.proofs.showing.count.Goals as goal
+
+pub overflow_sub-result : goal.overflow_sub-result
+overflow_sub-result c = let within : IsWithin c.get-tally.result.now = subst IsWithin (sym c.get-tally.ensures) c.requires in omega arith
+
+pub overflow_sub-result-2 : goal.overflow_sub-result-2
+overflow_sub-result-2 c = let within : IsWithin c.get-tally.result.now = subst IsWithin (sym c.get-tally.ensures) c.requires in omega arith

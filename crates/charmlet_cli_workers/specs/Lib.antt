@@ -1,0 +1,29 @@
+-- The definitions that contracts cite.
+pub mod Lines
+pub mod Said
+pub mod Heard
+pub mod Left
+pub mod Ended
+pub mod Runs
+pub mod Restarts
+pub use Rattle.charmlet_model.specs.Core
+pub use Rattle.charmlet_model.specs.World
+pub use Rattle.charmlet_disk.specs.Disk
+pub use Rattle.charmlet_disk.specs.File
+pub use Rattle.charmlet_agreement.specs.Naming
+pub use Rattle.charmlet_sequencer.specs.Sequencer
+pub use Rattle.charmlet_engine.specs.Engine
+pub use Rattle.charmlet_stock.specs.Stock
+pub use Rattle.charmlet_script.specs.Script
+pub use Rattle.charmlet_cli.specs.Lines as CliLines
+pub use Rattle.charmlet_cli.specs.Run
+pub use Rattle.charmlet_cli.specs.Restarted
+pub use Rattle.charmlet_replay.specs.Unused
+pub use Rattle.charmlet_model.specs.Sound
+pub use Rattle.charmlet_model.specs.Told
+pub use Rattle.charmlet_model.specs.Texts
+pub use Rattle.charmlet_passes.specs.Passes
+pub use Rattle.charmlet_script.specs.Printed
+pub use Rattle.charmlet_workers.specs.Sealing
+pub use Rattle.charmlet_cli.specs.Shown
+pub use Rattle.charmlet_cli.specs.Writing

@@ -1,0 +1,153 @@
+//! The passes of a script's clients.
+
+use charmlet_chare::Chare;
+use charmlet_disk::Disk;
+use charmlet_history::Request;
+use charmlet_hub::PassesOf;
+use charmlet_model::{Refusal, Told};
+use charmlet_passes::ClientPass;
+use charmlet_sequencer::RuntimeName;
+use charmlet_workers::Runtime;
+use std::alloc::Global;
+use std::collections::BTreeMap;
+use std::sync::Wait;
+
+/// The passes of the clients that lines have named so far. Each is lent at its client's first line.
+#[derive(Drop)]
+pub(crate) struct Clients<B: RuntimeName> {
+    pub(crate) passes: Vec<ClientPass<PassesOf<B>>>,
+    /// Where the pass of a client stands among them. A place without the client's pass is no place.
+    places: BTreeMap<u32, usize>,
+}
+
+impl<B: RuntimeName> Clients<B> {
+    ghost use Rattle.std.specs.Prelude.{◌≡◌, [], true, map, IfOk, OnErr, OnOk};
+    ghost use Rattle.charmlet_passes.specs.Passes.{with_flush};
+    ghost use Rattle.charmlet_cli_workers.specs.Heard.{AreLater, IsHeard, IsPassOf, IsReached};
+
+    /// No client yet. It takes no memory.
+    pub(crate) fn new(alloc: Global) -> Self
+        ensures { result.passes.items ≡ [] }
+    {
+        Clients {
+            passes: Vec::new(alloc),
+            places: BTreeMap::new(alloc),
+        }
+    }
+
+    /// All passes that were lent.
+    pub(crate) fn into_passes(self) -> Vec<ClientPass<PassesOf<B>>>
+        ensures { result.items ≡ self.passes.items }
+    {
+        let Clients { passes, places } = self;
+        drop(places);
+        passes
+    }
+
+    /// A client's request, by its pass. `Memory` where there is none for a pass; otherwise the
+    /// refusals of [`Runtime::request`].
+    pub(crate) fn request<D: Disk, C: Chare, R: Wait>(
+        &mut self,
+        rt: &R,
+        runtime: &Runtime<D, C, B>,
+        client: u32,
+        request: &Request<'_>,
+    ) -> Result<Told, Refusal>
+        ensures heard { IfOk result (IsHeard self.new.passes.items client request.now.number) }
+        ensures reached { OnOk result
+            (IsReached self.new.passes.items client request.now.number) }
+        ensures later { AreLater self.old.passes.items self.new.passes.items }
+    {
+        match self.place_of(rt, runtime, client) {
+            Ok(place) => runtime.request(rt, &mut self.passes[place], request),
+            Err(refusal) => Err(refusal),
+        }
+    }
+
+    /// Tells a client by its pass what is durable of its request. `Memory` where there is none for
+    /// a pass; otherwise the refusals of [`Runtime::status`].
+    pub(crate) fn status<D: Disk, C: Chare, R: Wait>(
+        &mut self,
+        rt: &R,
+        runtime: &Runtime<D, C, B>,
+        client: u32,
+        number: u64,
+    ) -> Result<Told, Refusal>
+        ensures heard { IfOk result (IsHeard self.new.passes.items client number) }
+        ensures later { AreLater self.old.passes.items self.new.passes.items }
+    {
+        match self.place_of(rt, runtime, client) {
+            Ok(place) => runtime.status(rt, &mut self.passes[place], number),
+            Err(refusal) => Err(refusal),
+        }
+    }
+
+    /// Makes all events durable, and tells each client that the last of its requests is accepted.
+    /// The refusals are those of [`Runtime::flush`].
+    pub(crate) fn flush<D: Disk, C: Chare, R: Wait>(
+        &mut self,
+        rt: &R,
+        runtime: &Runtime<D, C, B>,
+    ) -> Result<u64, Refusal>
+        ensures told { OnOk result
+            (self.new.passes.items ≡ map with_flush self.old.passes.items) }
+        ensures untold { OnErr result (self.new.passes.items ≡ self.old.passes.items) }
+    {
+        runtime.flush(rt, self.passes.as_mut_slice())
+    }
+
+    /// The place of a client's pass, which is lent if the client has none yet. `Memory` where there
+    /// is none for it.
+    fn place_of<D: Disk, C: Chare, R: Wait>(
+        &mut self,
+        rt: &R,
+        runtime: &Runtime<D, C, B>,
+        client: u32,
+    ) -> Result<usize, Refusal>
+        ensures place { IfOk result (IsPassOf client self.new.passes.items) }
+        ensures later { AreLater self.old.passes.items self.new.passes.items }
+    {
+        let place = self.places.get(&client).copied();
+        match place {
+            Some(place) if self.is_at(place, client) => Ok(place),
+            _ => self.lend(rt, runtime, client),
+        }
+    }
+
+    /// Whether the client's pass stands at this place.
+    fn is_at(&self, place: usize, client: u32) -> bool
+        ensures { result ≡ true → IsPassOf client self.now.passes.items place }
+    {
+        match self.passes.get(place) {
+            Some(pass) => pass.client() == client,
+            None => false,
+        }
+    }
+
+    /// Lends the client its pass, which comes last. There is room for it before it is lent, so that
+    /// none is lost.
+    fn lend<D: Disk, C: Chare, R: Wait>(
+        &mut self,
+        rt: &R,
+        runtime: &Runtime<D, C, B>,
+        client: u32,
+    ) -> Result<usize, Refusal>
+        ensures place { IfOk result (IsPassOf client self.new.passes.items) }
+        ensures later { AreLater self.old.passes.items self.new.passes.items }
+    {
+        let place = self.passes.len();
+        if self.passes.reserve(1).is_err() {
+            return Err(Refusal::Memory);
+        }
+        if self.places.insert(client, place).is_err() {
+            return Err(Refusal::Memory);
+        }
+        match runtime.client(rt, client) {
+            Ok(pass) => {
+                self.passes.push_reserved(pass);
+                Ok(place)
+            }
+            Err(refusal) => Err(refusal),
+        }
+    }
+}

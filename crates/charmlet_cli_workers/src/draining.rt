@@ -1,0 +1,68 @@
+//! The running of `drain` lines.
+
+ghost use Rattle.charmlet_cli_workers.specs.Said.{IsDrainText, IsWritten};
+
+use charmlet_chare::Chare;
+use charmlet_cli::{write_answer, write_line};
+use charmlet_disk::Disk;
+use charmlet_model::{Answer, Refusal};
+use charmlet_script::Drained;
+use charmlet_sequencer::RuntimeName;
+use charmlet_workers::{OpenGate, Runtime, Station, work_all};
+use std::alloc::Global;
+use std::io;
+use std::io::Write;
+use std::sync::Wait;
+use std::thread::Threads;
+
+/// Each worker takes so many turns, in a thread of its own. Once all have ended it is written how
+/// many messages they delivered together, and how many are still pending. If a worker was refused,
+/// the refusal is written too; if more were, that of the least processor. Fails as `write_line`
+/// does, after all deliveries.
+pub(crate) fn drain_line<
+    D: Disk,
+    C: Chare,
+    B: RuntimeName + Send + Sync,
+    W: Write,
+    R: Threads + Wait + Sync,
+>(
+    rt: &R,
+    alloc: Global,
+    runtime: &Runtime<D, C, B>,
+    stations: &mut [Station<B>],
+    turns: u32,
+    writer: &mut W,
+) -> io::Result<()>
+    ensures { IsWritten result IsDrainText (W.contents writer.old)
+        (W.contents writer.new) }
+{
+    work_all(rt, runtime, stations, &OpenGate, u64::from(turns));
+    let line = Drained {
+        delivered: delivered_by(stations),
+        left: runtime.pending_count(rt) as u64,
+    };
+    write_line(alloc, writer, &line)?;
+    match first_refusal(stations) {
+        Some(refusal) => write_answer(alloc, writer, &Answer::Refused(refusal)),
+        None => Ok(()),
+    }
+}
+
+/// How many messages the workers delivered together, or 2^32-1 if there are more.
+fn delivered_by<B: RuntimeName>(stations: &[Station<B>]) -> u32 {
+    let mut total: u64 = 0;
+    for station in stations {
+        total = total.saturating_add(station.worked.count);
+    }
+    u32::try_from(total).unwrap_or(u32::MAX)
+}
+
+/// The refusal that ended the work of the first of these workers that was refused.
+fn first_refusal<B: RuntimeName>(stations: &[Station<B>]) -> Option<Refusal> {
+    for station in stations {
+        if let Some(refusal) = station.worked.refusal {
+            return Some(refusal);
+        }
+    }
+    None
+}

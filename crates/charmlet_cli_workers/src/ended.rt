@@ -1,0 +1,60 @@
+//! How a run by workers ends.
+
+use charmlet_cli::Stop;
+use charmlet_disk::Disk;
+use charmlet_model::Refusal;
+use std::io;
+
+/// Why a script wasn't run to its last line by workers. `T` is what was handed in as objects.
+#[derive(Drop)]
+pub enum WorkersError<T: Drop> {
+    /// A line of the script is `deliver`, which names what one thread delivers next. All objects
+    /// come back, and nothing was written.
+    Delivers(T),
+    /// There are fewer objects of a kind than the script supplies. All objects come back, and
+    /// nothing was written.
+    TooFewBlanks(T),
+    /// Out of memory before there was to be a store. Nothing was written.
+    Memory,
+    /// The store wasn't created, for this reason. Only its line was written, and no line was run.
+    NotCreated(Refusal),
+    /// No store came back, for this reason. Only its line was written, and no line was run.
+    NotRestarted(Refusal),
+    /// There is a store, and it is out of memory for the locks of a runtime or for the seats of its
+    /// workers. Nothing was written, and no line was run.
+    NotOpened,
+    /// A line couldn't be written: the output failed, or there was no memory for its text. A
+    /// beginning of what is printed was written.
+    Output(io::Error),
+    /// Each line was run and written, and it is out of memory for taking the runtime apart. So the
+    /// disk doesn't come back.
+    NotClosed,
+}
+
+/// How a script was run by workers: the disk, and whether each line was run. The disk comes back
+/// unless there is no memory for taking the runtime apart.
+#[derive(Drop)]
+pub struct RanByWorkers<D: Disk, T: Drop> {
+    pub disk: Option<D>,
+    pub result: Result<(), WorkersError<T>>,
+}
+
+impl<T: Drop> From<WorkersError<T>> for Stop {
+    ghost use Rattle.std.specs.Prelude.{◌≡◌};
+    ghost use Rattle.charmlet_cli_workers.specs.Ended.{stop_after};
+
+    ghost from_gives = { λ error stop. stop ≡ stop_after error };
+
+    fn from(error: WorkersError<T>) -> Stop {
+        match error {
+            WorkersError::NotCreated(refusal) => Stop::NotCreated(refusal),
+            WorkersError::NotRestarted(refusal) => Stop::NotRestarted(refusal),
+            WorkersError::Delivers(_)
+            | WorkersError::TooFewBlanks(_)
+            | WorkersError::Memory
+            | WorkersError::NotOpened
+            | WorkersError::Output(_)
+            | WorkersError::NotClosed => Stop::CannotGoOn,
+        }
+    }
+}

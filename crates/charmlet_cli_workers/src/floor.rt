@@ -1,0 +1,119 @@
+//! What a script's lines go by, beside the runtime.
+
+use crate::clients::Clients;
+use charmlet_chare::Chare;
+use charmlet_disk::Disk;
+use charmlet_hub::{PassesOf, SeatsOf};
+use charmlet_model::Refusal;
+use charmlet_passes::ClientPass;
+use charmlet_requests::Handlers;
+use charmlet_seats::Seat;
+use charmlet_sequencer::RuntimeName;
+use charmlet_stock::Stock;
+use charmlet_workers::{Runtime, Station, Worked};
+use std::alloc::{AllocError, Global};
+use std::sync::Wait;
+
+/// The seats of the workers, by rising processor, the passes of the clients, the handlers, and the
+/// objects that the lines supply.
+pub(crate) struct Floor<C: Chare, B: RuntimeName> {
+    pub(crate) stations: Vec<Station<B>>,
+    pub(crate) clients: Clients<B>,
+    pub(crate) handlers: Handlers,
+    pub(crate) source: Stock<C>,
+}
+
+// Written by hand, so that dropping all that it has is proved once.
+impl<C: Chare, B: RuntimeName> Drop for Floor<C, B> {
+    fn drop(self) {
+        let Floor {
+            stations,
+            clients,
+            handlers,
+            source,
+        } = self;
+        drop(stations);
+        drop(clients);
+        drop(handlers);
+        drop(source);
+    }
+}
+
+impl<C: Chare, B: RuntimeName> Floor<C, B> {
+    ghost use Rattle.std.specs.Prelude.{◌≡◌, []};
+
+    /// Without a seat and without a pass. It takes no memory.
+    pub(crate) fn new(alloc: Global, handlers: Handlers, source: Stock<C>) -> Self
+        ensures source { result.source ≡ source }
+        ensures passes { result.clients.passes.items ≡ [] }
+    {
+        Floor {
+            stations: Vec::new(alloc),
+            clients: Clients::new(alloc),
+            handlers,
+            source,
+        }
+    }
+
+    /// What was lent, for the end.
+    pub(crate) fn into_lent(self) -> Lent<B>
+        ensures { result.passes.items ≡ self.clients.passes.items }
+    {
+        let Floor {
+            stations,
+            clients,
+            handlers,
+            source,
+        } = self;
+        drop(handlers);
+        drop(source);
+        Lent {
+            stations,
+            passes: clients.into_passes(),
+        }
+    }
+}
+
+/// The seats and the passes that a runtime lent.
+#[derive(Drop)]
+pub(crate) struct Lent<B: RuntimeName> {
+    pub(crate) stations: Vec<Station<B>>,
+    pub(crate) passes: Vec<ClientPass<PassesOf<B>>>,
+}
+
+/// Takes the seats of so many processors, by rising number. `Memory` where there is none for one of
+/// them; those before it are taken then.
+pub(crate) fn take_seats<D: Disk, C: Chare, B: RuntimeName, R: Wait>(
+    rt: &R,
+    runtime: &Runtime<D, C, B>,
+    stations: &mut Vec<Station<B>>,
+    processors: u16,
+) -> Result<(), Refusal> {
+    for processor in 0..processors {
+        if stations.reserve(1).is_err() {
+            return Err(Refusal::Memory);
+        }
+        let seat = match runtime.seat(rt, processor) {
+            Ok(seat) => seat,
+            Err(refusal) => return Err(refusal),
+        };
+        let worked = Worked {
+            count: 0,
+            refusal: None,
+        };
+        stations.push_reserved(Station { seat, worked });
+    }
+    Ok(())
+}
+
+/// The seats of workers. It fails only when out of memory.
+pub(crate) fn seats_of<B: RuntimeName>(
+    alloc: Global,
+    stations: Vec<Station<B>>,
+) -> Result<Vec<Seat<SeatsOf<B>>>, AllocError> {
+    let mut seats = Vec::with_capacity(alloc, stations.len())?;
+    for Station { seat, worked: _ } in stations {
+        seats.push(seat)?;
+    }
+    Ok(seats)
+}

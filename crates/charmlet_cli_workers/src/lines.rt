@@ -1,0 +1,207 @@
+//! The running of lines.
+
+ghost use Rattle.std.specs.Prelude.{◌≡◌, ◌+◌, ◌≤◌, ◌∷◌, [], false, IfOk, OnErr, OnOk};
+ghost use Rattle.charmlet_model.specs.declared.kind.Kind as kinds;
+ghost use Rattle.charmlet_stock.specs.Stock.{blanks_in};
+ghost use Rattle.charmlet_script.specs.Script.{blanks_of};
+ghost use Rattle.charmlet_script.specs.Script.{blanks_in as supplied_by};
+ghost use Rattle.charmlet_script.specs.declared.script.Line.TheVariants as lines;
+ghost use Rattle.charmlet_cli_workers.specs.Heard.{AreLater, IsHeard, IsReached, known_by};
+ghost use Rattle.charmlet_cli_workers.specs.Lines.{has_delivery, is_delivery};
+ghost use Rattle.charmlet_cli_workers.specs.Said.{Answers, AreCutOff, AreSaid, IsWritten, Says};
+
+use crate::clients::Clients;
+use crate::draining::drain_line;
+use crate::floor::Floor;
+use crate::showing::{census_line, pending_line, state_line};
+use crate::supplying::supply_line;
+use charmlet_chare::Chare;
+use charmlet_cli::{Call, told_answer, write_answer};
+use charmlet_disk::Disk;
+use charmlet_history::Request;
+use charmlet_model::{Answer, Elem, Refusal, Step, Told};
+use charmlet_requests::Handlers;
+use charmlet_script::Line;
+use charmlet_sequencer::RuntimeName;
+use charmlet_workers::Runtime;
+use std::alloc::Global;
+use std::io;
+use std::io::Write;
+use std::sync::Wait;
+use std::thread::Threads;
+
+/// Whether one of the lines is `deliver`.
+pub(crate) fn has_delivery(lines: &[Line]) -> bool
+    ensures { result ≡ has_delivery lines.now }
+{
+    lines.iter().any(|line| is_delivery(line))
+}
+
+/// Whether the line is `deliver`.
+fn is_delivery(line: &Line) -> bool
+    ensures { result ≡ is_delivery line.now }
+{
+    matches!(line, Line::Step(Step::Deliver { .. }))
+}
+
+/// Runs lines one after another.
+pub(crate) fn run_lines<
+    D: Disk,
+    C: Chare,
+    B: RuntimeName + Send + Sync,
+    W: Write,
+    R: Threads + Wait + Sync,
+>(
+    rt: &R,
+    alloc: Global,
+    runtime: &Runtime<D, C, B>,
+    floor: &mut Floor<C, B>,
+    lines: &[Line],
+    writer: &mut W,
+) -> io::Result<()>
+    requires no_delivery { has_delivery lines.now ≡ false }
+    requires enough { (kind : kinds.Kind) → blanks_of kind lines.now
+        ≤ blanks_in floor.old.source kind }
+    ensures said { OnOk result (AreSaid (known_by floor.new.clients.passes.items) lines.now
+        (W.contents writer.old) (W.contents writer.new)) }
+    ensures cut_off { OnErr result (AreCutOff (known_by floor.new.clients.passes.items) lines.now
+        (W.contents writer.old) (W.contents writer.new)) }
+{
+    for line in lines {
+        run_line(rt, alloc, runtime, floor, line, writer)?;
+    }
+    Ok(())
+}
+
+/// Runs one line, and writes its answers.
+fn run_line<D: Disk, C: Chare, B: RuntimeName + Send + Sync, W: Write, R: Threads + Wait + Sync>(
+    rt: &R,
+    alloc: Global,
+    runtime: &Runtime<D, C, B>,
+    floor: &mut Floor<C, B>,
+    line: &Line,
+    writer: &mut W,
+) -> io::Result<()>
+    requires no_delivery { is_delivery line.now ≡ false }
+    requires enough { (kind : kinds.Kind) → supplied_by kind line.now
+        ≤ blanks_in floor.old.source kind }
+    ensures left { (kind : kinds.Kind) → blanks_in floor.old.source kind
+        ≤ blanks_in floor.new.source kind + supplied_by kind line.now }
+    ensures said { IsWritten result (Says (known_by floor.new.clients.passes.items) line.now)
+        (W.contents writer.old) (W.contents writer.new) }
+    ensures later { AreLater floor.old.clients.passes.items floor.new.clients.passes.items }
+{
+    match line {
+        Line::Supply { kind, count } => {
+            let source = &mut floor.source;
+            supply_line(rt, alloc, runtime, source, *kind, *count, writer)
+        }
+        Line::Drain { count } => {
+            let stations = floor.stations.as_mut_slice();
+            drain_line(rt, alloc, runtime, stations, *count, writer)
+        }
+        Line::State(elem) => state_line(rt, alloc, runtime, *elem, writer),
+        Line::Pending => pending_line(rt, alloc, runtime, writer),
+        Line::Census => census_line(rt, alloc, runtime, writer),
+        Line::Call {
+            client,
+            number,
+            name,
+            index,
+            words,
+        } => {
+            let call = Call {
+                client: *client,
+                number: *number,
+                name: name.as_str(),
+                index: *index,
+                words: words.as_slice(),
+            };
+            let handlers = &floor.handlers;
+            let told = call_handler(rt, runtime, handlers, &mut floor.clients, &call);
+            write_answer(alloc, writer, &told_answer(told))
+        }
+        Line::Step(step) => {
+            let answer = answer_to(rt, alloc, runtime, &mut floor.clients, step);
+            write_answer(alloc, writer, &answer)
+        }
+    }
+}
+
+/// Takes a client's request to a named handler, by its pass. A repeat is answered before the name
+/// is looked up.
+fn call_handler<D: Disk, C: Chare, B: RuntimeName, R: Wait>(
+    rt: &R,
+    runtime: &Runtime<D, C, B>,
+    handlers: &Handlers,
+    clients: &mut Clients<B>,
+    call: &Call<'_>,
+) -> Result<Told, Refusal>
+    ensures heard { IfOk result
+        (IsHeard clients.new.passes.items call.now.client call.now.number) }
+    ensures reached { OnOk result
+        (IsReached clients.new.passes.items call.now.client call.now.number) }
+    ensures later { AreLater clients.old.passes.items clients.new.passes.items }
+{
+    let handler = runtime.target(rt, handlers, call.name);
+    let request = Request {
+        number: call.number,
+        to: Elem {
+            array: handler.array,
+            index: call.index,
+        },
+        entry: handler.entry,
+        words: call.words,
+    };
+    clients.request(rt, runtime, call.client, &request)
+}
+
+/// Runs one step, which isn't a delivery. What clients ask goes by their passes.
+fn answer_to<D: Disk, C: Chare, B: RuntimeName, R: Wait>(
+    rt: &R,
+    alloc: Global,
+    runtime: &Runtime<D, C, B>,
+    clients: &mut Clients<B>,
+    step: &Step,
+) -> Answer
+    requires { is_delivery (lines.Step step.now) ≡ false }
+    ensures answers { Answers (known_by clients.new.passes.items) result step.now }
+    ensures later { AreLater clients.old.passes.items clients.new.passes.items }
+{
+    match step {
+        Step::Request {
+            client,
+            number,
+            to,
+            entry,
+            words,
+        } => {
+            let request = Request {
+                number: *number,
+                to: *to,
+                entry: *entry,
+                words: words.as_slice(),
+            };
+            told_answer(clients.request(rt, runtime, *client, &request))
+        }
+        Step::Status { client, number } => {
+            told_answer(clients.status(rt, runtime, *client, *number))
+        }
+        Step::Deliver { .. } => unreachable!(),
+        Step::Move { elem, processor } => match runtime.move_to(rt, *elem, *processor) {
+            Ok(()) => Answer::Moved {
+                elem: *elem,
+                processor: *processor,
+            },
+            Err(refusal) => Answer::Refused(refusal),
+        },
+        Step::Flush => match clients.flush(rt, runtime) {
+            Ok(durable) => Answer::Flushed(durable),
+            Err(refusal) => Answer::Refused(refusal),
+        },
+        Step::Checkpoint => match runtime.checkpoint(rt, alloc) {
+            Ok(generation) => Answer::Checkpointed(generation),
+            Err(refusal) => Answer::Refused(refusal),
+        },
+    }
+}

@@ -1,0 +1,199 @@
+//! Runtimes that are opened for a script, and taken apart after it.
+
+ghost use Rattle.std.specs.Prelude.{◌≡◌, ◌≤◌, None, false, IfErr, IfSome, IsErr, IsSome, OnOk};
+ghost use Rattle.charmlet_model.specs.declared.kind.Kind.{Kind};
+ghost use Rattle.charmlet_script.specs.Script.{blanks_of};
+ghost use Rattle.charmlet_stock.specs.Stock.{blanks_in};
+ghost use Rattle.charmlet_agreement.specs.Naming.{table_of};
+ghost use Rattle.charmlet_sequencer.specs.Sequencer.{IsOf};
+ghost use Rattle.charmlet_engine.specs.Engine.{core_of};
+ghost use Rattle.charmlet_cli_workers.specs.Heard.{known_by};
+ghost use Rattle.charmlet_cli_workers.specs.Left.{EndsApart, EndsEarly, IsApart, IsEarly, IsLeft, KeepsDurable, Prints};
+ghost use Rattle.charmlet_cli_workers.specs.Lines.{has_delivery};
+ghost use Rattle.charmlet_cli_workers.specs.Said.{known_in, opening_texts};
+ghost use Rattle.charmlet_cli.specs.Lines.{in_lines};
+ghost use Rattle.charmlet_cli.specs.Writing.{Writes};
+
+use crate::ended::{RanByWorkers, WorkersError};
+use crate::floor::{Floor, Lent, seats_of, take_seats};
+use crate::lines::run_lines;
+use charmlet_chare::Chare;
+use charmlet_cli::{RestartedLine, write_line};
+use charmlet_disk::Disk;
+use charmlet_hub::Closed;
+use charmlet_requests::Handlers;
+use charmlet_runtime::UnnamedRuntime;
+use charmlet_script::Line;
+use charmlet_sequencer::RuntimeName;
+use charmlet_stock::Stock;
+use charmlet_workers::{NotOpened, Runtime, UnnamedBooks};
+use std::alloc::Global;
+use std::io;
+use std::io::Write;
+use std::sync::Wait;
+use std::thread::Threads;
+
+/// The lines of a script, for so many processors, and the line of a store that came back, which is
+/// written before them.
+#[derive(Clone, Copy)]
+pub(crate) struct Lines<'a> {
+    pub(crate) processors: u16,
+    pub(crate) restarted: Option<RestartedLine>,
+    pub(crate) lines: &'a [Line],
+}
+
+/// The handlers of a script, and the objects that its lines supply.
+#[derive(Drop)]
+pub(crate) struct Given<C: Chare> {
+    pub(crate) handlers: Handlers,
+    pub(crate) source: Stock<C>,
+}
+
+/// Runs lines over a store that has no name yet, under the name `B` of its own, and takes it apart.
+pub(crate) fn run_named<
+    D: Disk,
+    C: Chare,
+    T: Drop,
+    B: RuntimeName + Send + Sync,
+    W: Write,
+    R: Threads + Wait + Sync,
+>(
+    rt: &R,
+    alloc: Global,
+    begun: UnnamedRuntime<D, C>,
+    books: UnnamedBooks,
+    given: Given<C>,
+    lines: &Lines<'_>,
+    writer: &mut W,
+) -> RanByWorkers<D, T>
+    requires named { IsOf B.opening B.before B.processors (core_of begun) }
+    requires parts { table_of books.parts ≡ B.table }
+    requires seats { table_of books.seats ≡ B.seats }
+    requires passes { table_of books.passes ≡ B.passes }
+    requires keeps { KeepsDurable D.Disk (core_of begun) begun.disk }
+    requires no_delivery { has_delivery lines.now.lines.now ≡ false }
+    requires enough { (kind : Kind) → blanks_of kind lines.now.lines.now
+        ≤ blanks_in given.source kind }
+    ensures left { IfSome result.disk (IsLeft D.Disk (core_of begun).opening (core_of begun).before
+        (core_of begun).processors (λ last. Prints result.result lines.now.restarted
+        (known_in last) lines.now.lines.now (W.contents writer.old) (W.contents writer.new))) }
+    ensures back { OnOk result.result (IsSome result.disk) }
+    ensures err { IfErr result.result (EndsEarly result.disk writer.old writer.new) }
+{
+    let Given { handlers, source } = given;
+    let mut floor = Floor::new(alloc, handlers, source);
+    match begun.open::<B>(books) {
+        Ok(runtime) => {
+            let ran = run_on(rt, alloc, &runtime, &mut floor, lines, writer);
+            take_apart(alloc, runtime, floor, ran)
+        }
+        Err(NotOpened { store, halves }) => {
+            store.history.facts();
+            RanByWorkers {
+                disk: Some(halves.into_disk()),
+                result: Err(WorkersError::NotOpened),
+            }
+        }
+    }
+}
+
+/// Takes the seats of the workers, and runs lines.
+fn run_on<
+    D: Disk,
+    C: Chare,
+    T: Drop,
+    B: RuntimeName + Send + Sync,
+    W: Write,
+    R: Threads + Wait + Sync,
+>(
+    rt: &R,
+    alloc: Global,
+    runtime: &Runtime<D, C, B>,
+    floor: &mut Floor<C, B>,
+    lines: &Lines<'_>,
+    writer: &mut W,
+) -> Result<(), WorkersError<T>>
+    requires no_delivery { has_delivery lines.now.lines.now ≡ false }
+    requires enough { (kind : Kind) → blanks_of kind lines.now.lines.now
+        ≤ blanks_in floor.old.source kind }
+    ensures err { IfErr result (IsEarly writer.old writer.new) }
+    ensures prints { Prints result lines.now.restarted
+        (known_by floor.new.clients.passes.items) lines.now.lines.now (W.contents writer.old)
+        (W.contents writer.new) }
+{
+    if take_seats(rt, runtime, &mut floor.stations, lines.processors).is_err() {
+        return Err(WorkersError::NotOpened);
+    }
+    if let Err(error) = write_opening(alloc, lines.restarted, writer) {
+        return Err(WorkersError::Output(error));
+    }
+    match run_lines(rt, alloc, runtime, floor, lines.lines, writer) {
+        Ok(()) => Ok(()),
+        Err(error) => Err(WorkersError::Output(error)),
+    }
+}
+
+/// Writes the line of a store that came back, if one did. Fails as `write_line` does.
+fn write_opening<W: Write>(
+    alloc: Global,
+    restarted: Option<RestartedLine>,
+    writer: &mut W,
+) -> io::Result<()>
+    ensures { Writes result (W.contents writer.old) (W.contents writer.new)
+        (in_lines (opening_texts restarted)) }
+{
+    match restarted {
+        Some(line) => write_line(alloc, writer, &line),
+        None => Ok(()),
+    }
+}
+
+/// Takes the runtime apart, with all seats and passes that were lent. The disk comes back, unless
+/// it is out of memory.
+fn take_apart<D: Disk, C: Chare, T: Drop, B: RuntimeName>(
+    alloc: Global,
+    runtime: Runtime<D, C, B>,
+    floor: Floor<C, B>,
+    ran: Result<(), WorkersError<T>>,
+) -> RanByWorkers<D, T>
+    ensures left { IfSome result.disk (IsApart D.Disk runtime.opening runtime.before
+        runtime.processors floor.clients.passes.items) }
+    ensures same { IsSome result.disk → result.result ≡ ran }
+    ensures back { OnOk result.result (IsSome result.disk) }
+    ensures err { IfErr result.result (EndsApart ran result.disk) }
+{
+    let Lent { stations, passes } = floor.into_lent();
+    let Ok(seats) = seats_of(alloc, stations) else {
+        return not_closed(ran);
+    };
+    match runtime.close(seats, passes) {
+        Ok(Closed { store, halves, own }) => {
+            store.history.facts();
+            drop(store);
+            drop(own);
+            RanByWorkers {
+                disk: Some(halves.into_disk()),
+                result: ran,
+            }
+        }
+        Err(_) => not_closed(ran),
+    }
+}
+
+/// What is told where the disk doesn't come back: that, unless a line couldn't be written before.
+fn not_closed<D: Disk, T: Drop>(ran: Result<(), WorkersError<T>>) -> RanByWorkers<D, T>
+    ensures disk { result.disk ≡ None }
+    ensures err { IfErr result.result (EndsApart ran result.disk) }
+    ensures ends { IsErr result.result }
+{
+    match ran {
+        Ok(()) => RanByWorkers {
+            disk: None,
+            result: Err(WorkersError::NotClosed),
+        },
+        Err(error) => RanByWorkers {
+            disk: None,
+            result: Err(error),
+        },
+    }
+}

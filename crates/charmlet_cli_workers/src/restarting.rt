@@ -1,0 +1,172 @@
+//! Scripts over runtimes that come back.
+
+ghost use Rattle.std.specs.Prelude.{◌≡◌, ◌≤◌, Some, false, IfErr, IfOk, IsSome, OnOk};
+ghost use Rattle.charmlet_model.specs.declared.kind.Kind.{Kind};
+ghost use Rattle.charmlet_script.specs.Script.{blanks_of};
+ghost use Rattle.charmlet_stock.specs.Stock.{blanks_in, supplied_to};
+ghost use Rattle.charmlet_replay.specs.Unused.{IsUnused};
+ghost use Rattle.charmlet_cli.specs.Restarted.{given_of};
+ghost use Rattle.charmlet_cli_workers.specs.Lines.{has_delivery};
+ghost use Rattle.charmlet_cli_workers.specs.Said.{ArePrinted, known_in};
+ghost use Rattle.charmlet_cli_workers.specs.Restarts.{EndsBack, EndsRestart, IsBackByWorkers, line_of};
+ghost use Rattle.charmlet_cli_workers.specs.Runs.{IsFit};
+
+use crate::ended::{RanByWorkers, WorkersError};
+use crate::lines::has_delivery;
+use crate::opened::{Given, Lines, run_named};
+use charmlet_chare::Chare;
+use charmlet_cli::{
+    RestartedLine, handlers_of, has_enough, source_of, supplied_at_restart, write_answer,
+};
+use charmlet_disk::Disk;
+use charmlet_model::{Answer, Refusal};
+use charmlet_recover::{NotRestarted, stock_of};
+use charmlet_runtime::UnnamedRuntime;
+use charmlet_script::RestartScript;
+use charmlet_stock::Stock;
+use charmlet_workers::UnnamedBooks;
+use std::alloc::{AllocError, Global};
+use std::io::Write;
+use std::marker::Brand;
+use std::sync::Wait;
+use std::thread::Threads;
+
+/// Goes on with the store on a disk, as [`charmlet_cli::restart_script`] does, and runs a script's
+/// lines there over a runtime with threads, as [`crate::run_workers`] does. First it writes the
+/// generation that the store goes on at, how many events came back, and the number of processors.
+/// `blanks` are the objects that the store's elements are made from, as many as
+/// [`charmlet_cli::find_blanks`] says; `supplies` are those that the script's lines supply.
+pub fn restart_workers<D: Disk, C: Chare, W: Write, R: Threads + Wait + Sync>(
+    rt: &R,
+    alloc: Global,
+    disk: D,
+    processors: u16,
+    script: &RestartScript,
+    blanks: Vec<C>,
+    supplies: Vec<C>,
+    writer: &mut W,
+) -> RanByWorkers<D, (Vec<C>, Vec<C>)>
+    ensures fit { OnOk result.result (IsFit C.state supplies.items script.now.lines) }
+    ensures ran { OnOk result.result (IsBackByWorkers D.Disk processors
+        (given_of C.state blanks.items) disk result.disk (λ back last.
+        ArePrinted (Some (line_of back)) (known_in last) script.now.lines
+        (W.contents writer.old) (W.contents writer.new))) }
+    ensures back { OnOk result.result (IsSome result.disk) }
+    ensures err { IfErr result.result (EndsRestart D.Disk C.state W.contents processors
+        disk result.disk blanks.items supplies.items script.now.lines writer.old writer.new) }
+{
+    if has_delivery(script.lines()) {
+        return RanByWorkers {
+            disk: Some(disk),
+            result: Err(WorkersError::Delivers((blanks, supplies))),
+        };
+    }
+    if !has_enough(&supplied_at_restart(script), supplies.as_slice()) {
+        return RanByWorkers {
+            disk: Some(disk),
+            result: Err(WorkersError::TooFewBlanks((blanks, supplies))),
+        };
+    }
+    match prepare(alloc, script, blanks, supplies) {
+        Ok(prepared) => restart_with(rt, alloc, disk, processors, script, prepared, writer),
+        Err(AllocError) => RanByWorkers {
+            disk: Some(disk),
+            result: Err(WorkersError::Memory),
+        },
+    }
+}
+
+/// What a restart for a script begins with: the objects that the store's elements are made from,
+/// the books of its runtime, the script's handlers, and the objects that its lines supply.
+#[derive(Drop)]
+struct Prepared<C: Chare> {
+    blanks: Stock<C>,
+    books: UnnamedBooks,
+    given: Given<C>,
+}
+
+/// Stocks with these objects, the books of a runtime, and the script's handlers. It fails only when
+/// out of memory.
+fn prepare<C: Chare>(
+    alloc: Global,
+    script: &RestartScript,
+    blanks: Vec<C>,
+    supplies: Vec<C>,
+) -> Result<Prepared<C>, AllocError>
+    ensures unused { IfOk result (λ prepared. IsUnused prepared.blanks) }
+    ensures given { IfOk result (λ prepared. (kind : Kind) →
+        supplied_to prepared.blanks kind ≡ given_of C.state blanks.items kind) }
+    ensures source { IfOk result (λ prepared. (kind : Kind) →
+        blanks_in prepared.given.source kind ≡ given_of C.state supplies.items kind) }
+{
+    let Ok(blanks) = stock_of(alloc, blanks) else {
+        return Err(AllocError);
+    };
+    let books = UnnamedBooks::new(alloc)?;
+    let source = source_of(alloc, supplies)?;
+    let handlers = handlers_of(alloc, script.handlers())?;
+    Ok(Prepared {
+        blanks,
+        books,
+        given: Given { handlers, source },
+    })
+}
+
+/// Brings the store back and runs lines over it, or writes why none came back.
+fn restart_with<D: Disk, C: Chare, W: Write, R: Threads + Wait + Sync>(
+    rt: &R,
+    alloc: Global,
+    disk: D,
+    processors: u16,
+    script: &RestartScript,
+    prepared: Prepared<C>,
+    writer: &mut W,
+) -> RanByWorkers<D, (Vec<C>, Vec<C>)>
+    requires unused { IsUnused prepared.blanks }
+    requires no_delivery { has_delivery script.now.lines ≡ false }
+    requires enough { (kind : Kind) → blanks_of kind script.now.lines
+        ≤ blanks_in prepared.given.source kind }
+    ensures ran { OnOk result.result (IsBackByWorkers D.Disk processors
+        (supplied_to prepared.blanks) disk result.disk (λ back last.
+        ArePrinted (Some (line_of back)) (known_in last) script.now.lines
+        (W.contents writer.old) (W.contents writer.new))) }
+    ensures back { OnOk result.result (IsSome result.disk) }
+    ensures err { IfErr result.result (EndsBack D.Disk W.contents processors
+        (supplied_to prepared.blanks) disk result.disk script.now.lines writer.old
+        writer.new) }
+{
+    let Prepared {
+        blanks,
+        books,
+        given,
+    } = prepared;
+    match UnnamedRuntime::restart(alloc, disk, blanks, processors) {
+        Ok(begun) => {
+            let line = RestartedLine {
+                generation: begun.generation(),
+                events: begun.event_count(),
+                processors,
+            };
+            let lines = Lines {
+                processors,
+                restarted: Some(line),
+                lines: script.lines(),
+            };
+            run_named::<D, C, (Vec<C>, Vec<C>), Brand, W, R>(
+                rt, alloc, begun, books, given, &lines, writer,
+            )
+        }
+        Err(NotRestarted { refusal, disk, .. }) => {
+            match write_answer(alloc, writer, &Answer::Refused(refusal)) {
+                Ok(()) => RanByWorkers {
+                    disk: Some(disk),
+                    result: Err(WorkersError::NotRestarted(refusal)),
+                },
+                Err(error) => RanByWorkers {
+                    disk: Some(disk),
+                    result: Err(WorkersError::Output(error)),
+                },
+            }
+        }
+    }
+}

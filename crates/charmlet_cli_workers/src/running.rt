@@ -1,0 +1,181 @@
+//! Scripts over new runtimes.
+
+ghost use Rattle.std.specs.Prelude.{◌≡◌, ◌≤◌, None, Some, false, IfErr, IfOk, IsSome, OnOk};
+ghost use Rattle.charmlet_model.specs.declared.kind.Kind.{Kind};
+ghost use Rattle.charmlet_model.specs.Shelves.{count_of};
+ghost use Rattle.charmlet_stock.specs.Stock.{blanks_in};
+ghost use Rattle.charmlet_model.specs.Edition.{AreNewest};
+ghost use Rattle.charmlet_model.specs.Manifest.{manifest_of};
+ghost use Rattle.charmlet_disk.specs.Disk.{IsSettled};
+ghost use Rattle.charmlet_script.specs.Script.{blanks_of, pairs_of};
+ghost use Rattle.charmlet_cli_workers.specs.Lines.{has_delivery};
+ghost use Rattle.charmlet_cli_workers.specs.Said.{ArePrinted, known_in};
+ghost use Rattle.charmlet_cli_workers.specs.Runs.{EndsMade, EndsRun, IsFit, IsMade, Lacks};
+
+use crate::ended::{RanByWorkers, WorkersError};
+use crate::lines::has_delivery;
+use crate::opened::{Given, Lines, run_named};
+use charmlet_chare::Chare;
+use charmlet_cli::{handlers_of, has_enough, source_of, supplied_by, write_answer};
+use charmlet_disk::Disk;
+use charmlet_halves::Refused;
+use charmlet_model::{Answer, Manifest, Refusal};
+use charmlet_runtime::UnnamedRuntime;
+use charmlet_script::Script;
+use charmlet_workers::UnnamedBooks;
+use std::alloc::{AllocError, Global};
+use std::io::Write;
+use std::marker::Brand;
+use std::sync::Wait;
+use std::thread::Threads;
+
+/// Makes the script's store on a disk, as [`charmlet_cli::run_script`] does, and runs its lines
+/// there over a runtime with threads, a worker for each processor.
+///
+/// A `drain N` line starts a thread for each processor, in which its worker takes N turns, and ends
+/// once all of them have: it prints how many messages they delivered together and how many are
+/// still pending, and then, if a worker was refused, that refusal; if more were, that of the least
+/// processor. All other lines are run by the calling thread, and print what they print over an
+/// engine. What clients ask goes by their passes: each is lent at its client's first line, and
+/// all of them are told of each flush.
+///
+/// The disk that comes back has a store that went on from the new one. Each line has printed an
+/// answer of its own form, or a refusal. What it told a client is true of that store whichever
+/// events a crash leaves, all durable ones among them; and a request that wasn't refused is
+/// accepted in it.
+pub fn run_workers<D: Disk, C: Chare, W: Write, R: Threads + Wait + Sync>(
+    rt: &R,
+    alloc: Global,
+    disk: D,
+    script: &Script,
+    blanks: Vec<C>,
+    writer: &mut W,
+) -> RanByWorkers<D, Vec<C>>
+    requires settled { D.honest disk → IsSettled (D.file disk) }
+    ensures fit { OnOk result.result (IsFit C.state blanks.items script.now.lines) }
+    ensures ran { OnOk result.result (IsMade D.Disk disk result.disk script.now
+        (λ last. ArePrinted None (known_in last) script.now.lines (W.contents writer.old)
+        (W.contents writer.new))) }
+    ensures back { OnOk result.result (IsSome result.disk) }
+    ensures err { IfErr result.result (EndsRun D.Disk C.state W.contents disk result.disk
+        blanks.items script.now writer.old writer.new) }
+{
+    match prepare(alloc, script, blanks) {
+        Ok(prepared) => run_in_new_store(rt, alloc, disk, script, prepared, writer),
+        Err(error) => RanByWorkers {
+            disk: Some(disk),
+            result: Err(error),
+        },
+    }
+}
+
+/// What a run of a script by workers begins with: the arrays of its store, the books of its
+/// runtime, its handlers, and the blanks that it supplies.
+#[derive(Drop)]
+struct Prepared<C: Chare> {
+    manifest: Manifest,
+    books: UnnamedBooks,
+    given: Given<C>,
+}
+
+/// The arrays of a script's store, the books of its runtime, its handlers, and a stock of the
+/// objects that its lines supply. `Delivers` if a line is `deliver`; then `TooFewBlanks` if there
+/// are fewer objects; otherwise `Memory`.
+fn prepare<C: Chare>(
+    alloc: Global,
+    script: &Script,
+    blanks: Vec<C>,
+) -> Result<Prepared<C>, WorkersError<Vec<C>>>
+    ensures fit { OnOk result (IsFit C.state blanks.items script.now.lines) }
+    ensures manifest { IfOk result (λ prepared. manifest_of (pairs_of script.now.arrays)
+        ≡ Some prepared.manifest) }
+    ensures newest { IfOk result (λ prepared. AreNewest prepared.manifest) }
+    ensures source { IfOk result (λ prepared. (kind : Kind) →
+        blanks_in prepared.given.source kind ≡ count_of C.state blanks.items kind) }
+    ensures err { IfErr result (Lacks C.state blanks.items script.now.lines) }
+{
+    if has_delivery(script.lines()) {
+        return Err(WorkersError::Delivers(blanks));
+    }
+    if !has_enough(&supplied_by(script), blanks.as_slice()) {
+        return Err(WorkersError::TooFewBlanks(blanks));
+    }
+    match prepared_with(alloc, script, blanks) {
+        Ok(prepared) => Ok(prepared),
+        Err(_) => Err(WorkersError::Memory),
+    }
+}
+
+/// The same with enough objects. It fails only when out of memory.
+fn prepared_with<C: Chare>(
+    alloc: Global,
+    script: &Script,
+    blanks: Vec<C>,
+) -> Result<Prepared<C>, AllocError>
+    ensures manifest { IfOk result (λ prepared. manifest_of (pairs_of script.now.arrays)
+        ≡ Some prepared.manifest) }
+    ensures newest { IfOk result (λ prepared. AreNewest prepared.manifest) }
+    ensures source { IfOk result (λ prepared. (kind : Kind) →
+        blanks_in prepared.given.source kind ≡ count_of C.state blanks.items kind) }
+{
+    let manifest = script.manifest(alloc)?;
+    let books = UnnamedBooks::new(alloc)?;
+    let handlers = handlers_of(alloc, script.handlers())?;
+    let source = source_of(alloc, blanks)?;
+    Ok(Prepared {
+        manifest,
+        books,
+        given: Given { handlers, source },
+    })
+}
+
+/// Creates the script's store and runs its lines there, or writes why there is no store.
+fn run_in_new_store<D: Disk, C: Chare, W: Write, R: Threads + Wait + Sync>(
+    rt: &R,
+    alloc: Global,
+    disk: D,
+    script: &Script,
+    prepared: Prepared<C>,
+    writer: &mut W,
+) -> RanByWorkers<D, Vec<C>>
+    requires settled { D.honest disk → IsSettled (D.file disk) }
+    requires manifest { manifest_of (pairs_of script.now.arrays) ≡ Some prepared.manifest }
+    requires newest { AreNewest prepared.manifest }
+    requires no_delivery { has_delivery script.now.lines ≡ false }
+    requires enough { (kind : Kind) → blanks_of kind script.now.lines
+        ≤ blanks_in prepared.given.source kind }
+    ensures ran { OnOk result.result (IsMade D.Disk disk result.disk script.now
+        (λ last. ArePrinted None (known_in last) script.now.lines (W.contents writer.old)
+        (W.contents writer.new))) }
+    ensures back { OnOk result.result (IsSome result.disk) }
+    ensures err { IfErr result.result (EndsMade D.Disk W.contents disk result.disk script.now
+        writer.old writer.new) }
+{
+    let Prepared {
+        manifest,
+        books,
+        given,
+    } = prepared;
+    match UnnamedRuntime::create(alloc, disk, manifest, script.processors()) {
+        Ok(begun) => {
+            let lines = Lines {
+                processors: script.processors(),
+                restarted: None,
+                lines: script.lines(),
+            };
+            run_named::<D, C, Vec<C>, Brand, W, R>(rt, alloc, begun, books, given, &lines, writer)
+        }
+        Err(Refused { refusal, disk }) => {
+            match write_answer(alloc, writer, &Answer::Refused(refusal)) {
+                Ok(()) => RanByWorkers {
+                    disk: Some(disk),
+                    result: Err(WorkersError::NotCreated(refusal)),
+                },
+                Err(error) => RanByWorkers {
+                    disk: Some(disk),
+                    result: Err(WorkersError::Output(error)),
+                },
+            }
+        }
+    }
+}
