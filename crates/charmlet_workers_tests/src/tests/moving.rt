@@ -18,7 +18,7 @@ use charmlet_runtime::UnnamedRuntime;
 use charmlet_seats::Seat;
 use charmlet_sequencer::RuntimeName;
 use charmlet_store::Look;
-use charmlet_workers::{Gate, Runtime, UnnamedBooks};
+use charmlet_workers::{NotClosed, OpenGate, Runtime, UnnamedBooks};
 use std::alloc::AllocGlobal;
 use std::marker::Brand;
 use std::process::Abort;
@@ -31,18 +31,6 @@ const ELEM: Elem = Elem { array: 0, index: 0 };
 
 // A counter that has 9, and never had more.
 const NINE: [u8; 16] = [9, 0, 0, 0, 0, 0, 0, 0, 9, 0, 0, 0, 0, 0, 0, 0];
-
-// A gate that is always open.
-#[derive(Drop)]
-struct Open;
-
-impl Gate for Open {
-    fn open(&self, _processor: u16, _id: &MsgId) -> bool {
-        true
-    }
-
-    fn committed(&self, _processor: u16, _id: &MsgId) {}
-}
 
 // One more blank counter is there.
 fn give<B: RuntimeName, R: Wait + AllocGlobal + Abort>(
@@ -89,7 +77,7 @@ fn work<B: RuntimeName, R: Wait + Abort>(
     assert!(rt; !runtime.quiet(rt));
     for seat in seats.iter_mut() {
         let is_here = seat.processor() == processor;
-        let worked = runtime.work(rt, seat, &Open, 2);
+        let worked = runtime.work(rt, seat, &OpenGate, 2);
         assert_eq!(rt; worked.count, u64::from(is_here));
         assert_eq!(rt; worked.refusal, None);
     }
@@ -104,6 +92,15 @@ fn go<B: RuntimeName, R: Wait + Abort>(
     refusal: Option<Refusal>,
 ) {
     assert_eq!(rt; runtime.move_to(rt, ELEM, processor).err(), refusal);
+}
+
+// A flush needs no pass.
+fn flush<B: RuntimeName, R: Wait + AllocGlobal + Abort>(
+    rt: &R,
+    runtime: &Runtime<ProbeDisk, Object, B>,
+) {
+    let mut none = Vec::new(rt.alloc());
+    assert_eq!(rt; runtime.flush(rt, none.as_mut_slice()), Ok(2));
 }
 
 // The counter is made on processor 0, and goes to 1, back to 0, and to 1 again. What is asked of it
@@ -121,6 +118,7 @@ fn roam<B: RuntimeName, R: Wait + AllocGlobal + Abort>(
     give(rt, runtime, tally);
     ask(rt, runtime, pass, 1, CONSTRUCT, 5);
     work(rt, runtime, seats, 0);
+    flush(rt, runtime);
     go(rt, runtime, 0, None);
     go(rt, runtime, 1, Some(Refusal::NoBlank(Kind::Counter)));
     for (number, word, processor) in &[(2, 3, 1), (3, 1, 0)] {
@@ -157,7 +155,7 @@ fn seal<B: RuntimeName, R: Wait + AllocGlobal + Abort>(
     switches: &Switches,
     pass: &mut ClientPass<PassesOf<B>>,
 ) {
-    assert_eq!(rt; runtime.durable(rt), 0);
+    assert_eq!(rt; runtime.durable(rt), 2);
     assert_eq!(rt; runtime.checkpoint(rt, rt.alloc()), Ok(2));
     is_durable(rt, runtime, pass);
     switches.fuse.store(0, Ordering::SeqCst);
@@ -187,14 +185,38 @@ fn is_seen<B: RuntimeName, R: Wait + Abort>(
     assert!(rt; stands(&look, processor));
 }
 
+// A close without the pass that is out is refused, and all comes back.
+fn stay_open<B: RuntimeName>(
+    rt: &(impl AllocGlobal + Abort),
+    runtime: Runtime<ProbeDisk, Object, B>,
+    seats: Vec<Seat<SeatsOf<B>>>,
+) -> (Runtime<ProbeDisk, Object, B>, Vec<Seat<SeatsOf<B>>>) {
+    match runtime.close(seats, Vec::new(rt.alloc())) {
+        Ok(_) => panic!(rt; "a pass is out"),
+        Err(
+            NotClosed {
+                refusal,
+                runtime,
+                seats,
+                passes,
+            },
+        ) => {
+            assert_eq!(rt; refusal, Refusal::PassOut);
+            assert_eq!(rt; [seats.len(), passes.len()], [2, 0]);
+            (runtime, seats)
+        }
+    }
+}
+
 // The runtime is closed, and the counter's object stands on the processor.
 fn end<B: RuntimeName>(
-    rt: &impl Abort,
+    rt: &(impl AllocGlobal + Abort),
     runtime: Runtime<ProbeDisk, Object, B>,
     seats: Vec<Seat<SeatsOf<B>>>,
     passes: Vec<ClientPass<PassesOf<B>>>,
     processor: u16,
 ) -> ProbeDisk {
+    let (runtime, seats) = stay_open(rt, runtime, seats);
     let Closed {
         mut store,
         halves,
