@@ -82,6 +82,10 @@ turn_on ring behind place le fits =
 pub turn_back : (ring : List ℕ) (behind place len : ℕ) → len ≡ length ring → place < behind → behind ≤ length ring → turned (len - (behind - place)) ring ≡ turned place (in_order behind ring)
 turn_back ring behind place len is lt fits = sym (twice ring place (length ring - behind) (len - (behind - place)) (omega (arith, is, lt, fits)) (omega (arith, is)))
 
+-- where the cursor is already, nothing turns
+pub unturned : (ring : List ℕ) (place : ℕ) → place ≤ length ring → ring ≡ turned place (in_order place ring)
+unturned ring place fits = sym (twice ring place (length ring - place) (length ring) (omega (arith, fits)) (omega arith) ∙ whole_turn ring (length ring) refl)
+
 -- of a list that is turned to a place, the rest of the turn leads back to the list
 pub turned_back : (xs : List ℕ) (place : ℕ) → place ≤ length xs → in_order place (turned place xs) ≡ xs
 turned_back xs place fits =

@@ -85,6 +85,9 @@ fn turn_to(ring: &mut VecDeque<u64>, behind: usize, place: usize)
     ensures items { ring.new.items ≡ turned place (in_order behind ring.old.items) }
     ensures capacity { deque_capacity ring.new ≡ deque_capacity ring.old }
 {
+    if behind == place {
+        return;
+    }
     if behind <= place {
         ring.rotate_left(place - behind);
     } else {

@@ -16,9 +16,11 @@ pub mod Standing
 pub mod Cleared
 pub mod Results
 pub mod OnShelf
+pub mod Reacted
 pub mod Entries
 pub mod AtHome
 pub mod Received
+pub mod ReactedAtHome
 pub mod Redelivered
 pub mod Caught
 pub mod Whole

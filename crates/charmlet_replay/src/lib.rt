@@ -15,5 +15,7 @@ mod replaying;
 mod restored;
 mod waiting;
 
+pub use crate::events::Stopped;
 pub use crate::reopening::{NotReplayed, take_back};
 pub use crate::replaying::{Replayed, replay};
+pub use crate::restored::Restored;

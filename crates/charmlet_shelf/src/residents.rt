@@ -11,6 +11,7 @@ use charmlet_model::{Elem, Resident};
 use indexmap::IndexMap;
 
 /// Where an element stands, if it is there.
+#[inline(never)]
 pub(crate) fn index_of<C: Chare>(
     residents: &IndexMap<Elem, Resident<C>>,
     elem: Elem,
@@ -22,7 +23,8 @@ pub(crate) fn index_of<C: Chare>(
     residents.get_index_of(&elem)
 }
 
-/// Where an element stands, if it is there. If that is `index`, one comparison finds it.
+/// Where an element stands, if it is there. If that is `index` or the one after it, a comparison or
+/// two find it: elements that came one after another are often asked one after another.
 pub(crate) fn index_from<C: Chare>(
     residents: &IndexMap<Elem, Resident<C>>,
     index: usize,
@@ -34,6 +36,10 @@ pub(crate) fn index_from<C: Chare>(
 {
     if stands_at(residents, index, elem) {
         return Some(index);
+    }
+    let after = index.saturating_add(1);
+    if stands_at(residents, after, elem) {
+        return Some(after);
     }
     index_of(residents, elem)
 }

@@ -1,3 +1,4 @@
+pub mod Behind
 pub mod Holes
 pub mod Ids
 pub mod Indices

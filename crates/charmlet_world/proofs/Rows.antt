@@ -5,7 +5,7 @@ use Rattle.std.proofs.lemmas.Bool.{ltb-true}
 use Rattle.std.specs.Prelude.{Option, Some, None, IfSome, position, unwrap_or, is_some}
 use Rattle.std.specs.List.{AllByRecursion, IsDistinct, position_or_len}
 use Rattle.std.specs.Map.{keys_of, lookup}
-use Rattle.indexmap.specs.IndexMap.{set_value_at}
+use Rattle.indexmap.specs.IndexMap.{insert_entry, set_value_at}
 use Rattle.charmlet_model.specs.declared.names.Elem.{Elem}
 use Rattle.charmlet_model.specs.Names.{same_elem}
 use Rattle.charmlet_model.proofs.Maps.{same_from_test}
@@ -62,6 +62,9 @@ none_found (Some e) h = absurd (let no : ⊥ = cc in no)
 pub with_new_row : (x : Elem) (es : Rows) → lookup (same_elem x) es ≡ None → es ++ (x, no_element) ∷ [] ≡ with_row es x
 with_new_row x es none = rw none refl
 
+pub with_same_row : (x : Elem) (es : Rows) → is_some (lookup (same_elem x) es) ≡ true → es ≡ with_row es x
+with_same_row x es there = rw there refl
+
 pub new_row : (x : Elem) (es : Rows) → lookup (same_elem x) es ≡ None → slice_get (es ++ (x, no_element) ∷ []) (length es) ≡ Some (x, element_in es x)
 new_row x es none = rw none (last_row es (x, no_element))
 
@@ -102,3 +105,36 @@ pub changed_element : (x y : Elem) (e w : Element) (es : Rows) (i : ℕ) → IsD
 changed_element x y e w es i h at =
     ap (λ o. unwrap_or o no_element) (changed x y e w es i h at)
     ∙ (elim (same_elem x y) as (λ b. unwrap_or (if b then Some w else lookup (same_elem y) es) no_element ≡ (if b then w else element_in es y)) [ true ↦ refl | false ↦ refl ])
+
+-- ---- what is inserted by its element
+
+module _ {V : Type 0} (x : Elem) (v : V) where
+  -- it stands where the element stood, or comes
+  pub inserted_at : (es : List (Elem × V)) → slice_get (insert_entry same_elem es x v) (position_or_len (same_elem x) (keys_of es)) ≡ Some (x, v)
+  inserted_at [] = refl
+  inserted_at (e ∷ es) =
+      let p = position_or_len (same_elem x) (keys_of es) in
+      elim (same_elem x e.0) as (λ b. same_elem x e.0 ≡ b → slice_get (if b then (e.0, v) ∷ es else e ∷ insert_entry same_elem es x v) (cond (not b) (1 + p) 0) ≡ Some (x, v)) [
+        | true ↦ λ same. let key = same_from_test x e.0 same in λ j. Some (sym key j, v)
+        | false ↦ λ _. let step : suc p ≡ 1 + p = omega arith in subst (λ k. slice_get (e ∷ insert_entry same_elem es x v) k ≡ Some (x, v)) step (inserted_at es)
+      ] refl
+
+  -- what the element had is there
+  pub stood_at : (w : V) (es : List (Elem × V)) → lookup (same_elem x) es ≡ Some w → slice_get es (position_or_len (same_elem x) (keys_of es)) ≡ Some (x, w)
+  stood_at w [] h = cc
+  stood_at w (e ∷ es) h =
+      let p = position_or_len (same_elem x) (keys_of es) in
+      elim (same_elem x e.0) as (λ b. same_elem x e.0 ≡ b → (if b then Some e.1 else lookup (same_elem x) es) ≡ Some w → slice_get (e ∷ es) (cond (not b) (1 + p) 0) ≡ Some (x, w)) [
+        | true ↦ λ same here. let key = same_from_test x e.0 same in let is : e.1 ≡ w = cc in λ j. Some (sym key j, is j)
+        | false ↦ λ _ later. let step : suc p ≡ 1 + p = omega arith in subst (λ k. slice_get (e ∷ es) k ≡ Some (x, w)) step (stood_at w es later)
+      ] refl h
+
+  -- and once it comes back, all is as before
+  pub put_back : (w : V) (es : List (Elem × V)) → lookup (same_elem x) es ≡ Some w → set_value_at (insert_entry same_elem es x v) (position_or_len (same_elem x) (keys_of es)) w ≡ es
+  put_back w [] h = cc
+  put_back w (e ∷ es) h =
+      let p = position_or_len (same_elem x) (keys_of es) in
+      elim (same_elem x e.0) as (λ b. (if b then Some e.1 else lookup (same_elem x) es) ≡ Some w → set_value_at (if b then (e.0, v) ∷ es else e ∷ insert_entry same_elem es x v) (cond (not b) (1 + p) 0) w ≡ e ∷ es) [
+        | true ↦ λ here. let is : e.1 ≡ w = cc in ap (λ u. (e.0, u) ∷ es) (sym is)
+        | false ↦ λ later. let step : suc p ≡ 1 + p = omega arith in subst (λ k. set_value_at (e ∷ insert_entry same_elem es x v) k w ≡ e ∷ es) step (ap (λ fs. e ∷ fs) (put_back w es later))
+      ] h

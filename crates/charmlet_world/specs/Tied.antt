@@ -21,14 +21,18 @@ use Rattle.charmlet_world.specs.Waiting.{Waiting}
 
 -- ---- stands
 
--- how an element stands, of which this is kept
-abbrev pub stand_of : ℕ → Elem → Element → Stand
-stand_of processors x e = record {
-  on = unwrap_or e.place (home x processors);
-  home = home x processors;
+-- how an element stands that has this home, and of which this is kept
+abbrev pub stand_at : ℕ → Element → Stand
+stand_at at_home e = record {
+  on = unwrap_or e.place at_home;
+  home = at_home;
   is_there = is_some e.place;
   has_room = nat_le (e.received + 1) greatest && nat_le (e.sent + 16) greatest;
 }
+
+-- how an element stands, of which this is kept
+abbrev pub stand_of : ℕ → Elem → Element → Stand
+stand_of processors x e = stand_at (home x processors) e
 
 -- how each element stands by its row
 abbrev pub stand_by : ℕ → List (Elem × Element) → Elem → Stand

@@ -16,7 +16,7 @@ ghost use Rattle.charmlet_model.specs.declared.names.Elem.{Elem as AnElem};
 ghost use Rattle.charmlet_world.specs.Changed.{counted, with_entry};
 ghost use Rattle.charmlet_world.specs.Seen.{IsSlot, Seen, element_at, next_due, oldest, oldest_on};
 ghost use Rattle.charmlet_world.specs.Standing.{risen};
-ghost use Rattle.charmlet_world.specs.Tied.{ArePlacedBy, DiffersAt, IsCalled, IsIndexed, Takes, calls_down, stand_of};
+ghost use Rattle.charmlet_world.specs.Tied.{ArePlacedBy, DiffersAt, IsCalled, IsIndexed, Takes, calls_down, stand_at, stand_of};
 ghost use Rattle.charmlet_world.specs.declared.element.Element.{Element as AnElement};
 
 use crate::element::Element;
@@ -36,6 +36,13 @@ use std::sync::ledger::Ledger;
 pub(crate) struct Delivered {
     pub(crate) message: Message,
     pub(crate) sent: u64,
+}
+
+/// A message that is taken out, and the home of its receiver.
+#[derive(Drop)]
+struct Removed {
+    message: Message,
+    at_home: u16,
 }
 
 /// The pending messages, what is kept of each element, and an index of both: the births of the
@@ -167,10 +174,12 @@ impl Dispatch {
         ensures pending { self.new.pending ≡ self.old.pending ++ message ∷ [] }
         ensures room { self.old.room ≤ self.new.room + 1 }
     {
-        let element = self.elements.element(message.to);
+        let element = self.elements.expect(message.to);
         let stand = stand_of(self.processors, message.to, &element);
         let born = self.index.push(stand.place(message.entry == CONSTRUCT));
-        self.pending.push(message, born);
+        // Messages to an element are mostly counted at the place at which its row stands.
+        self.pending
+            .push_to(message, born, self.elements.expected());
     }
 
     /// Where an element is kept, from now on if it wasn't. Where memory is refused, nothing
@@ -218,14 +227,23 @@ impl Dispatch {
         ensures pending { self.new.pending ≡ without id self.old.pending }
         ensures room { self.old.room ≤ self.new.room }
     {
-        let message = self.take(slot, id);
-        let sent = self.advance(slot, message.to, sends, is_destroyed);
+        let Removed { message, at_home } = self.take(slot, id);
+        let sent = self.advance(slot, message.to, at_home, sends, is_destroyed);
         Delivered { message, sent }
     }
 
-    /// An element that is kept there received one more message, by which it sends so many, and is
-    /// destroyed or not. Says how many it had sent before. It takes no memory.
-    fn advance(&mut self, slot: Slot, elem: Elem, sends: u64, is_destroyed: bool) -> u64
+    /// An element that is kept there, and has this home, received one more message, by which it
+    /// sends so many, and is destroyed or not. Says how many it had sent before. It takes no
+    /// memory.
+    fn advance(
+        &mut self,
+        slot: Slot,
+        elem: Elem,
+        at_home: u16,
+        sends: u64,
+        is_destroyed: bool,
+    ) -> u64
+        requires home { at_home ≡ home elem self.old.processors }
         requires room { 0 < self.old.room }
         requires takes { Takes self.old.rows slot sends elem }
         ensures sent { result ≡ (element_at (risen self.old.rows) elem).sent }
@@ -241,22 +259,24 @@ impl Dispatch {
         ensures room { self.new.room ≡ self.old.room }
     {
         let element = self.elements.at(slot);
-        let place = place_after(self.processors, elem, &element, is_destroyed);
+        let place = place_after(at_home, &element, is_destroyed);
         let mut advanced = element;
         advanced.advance(place, sends);
-        let old = stand_of(self.processors, elem, &element);
-        let new = stand_of(self.processors, elem, &advanced);
+        let old = stand_at(at_home, &element);
+        let new = stand_at(at_home, &advanced);
         restand(&self.pending, &mut self.index, elem, old, new);
         self.elements.set(slot, advanced);
         element.sent
     }
 
-    /// Takes a pending message out, whose receiver is kept there. It takes no memory.
-    fn take(&mut self, slot: Slot, id: MsgId) -> Message
+    /// Takes a pending message out, whose receiver is kept there, and says where that has its home.
+    /// It takes no memory.
+    fn take(&mut self, slot: Slot, id: MsgId) -> Removed
         requires pending { IsSome (message_among id self.old.pending) }
         requires receiver { IfSome (message_among id self.old.pending)
             (λ m. IsSlot self.old.rows slot m.to) }
-        ensures message { message_among id self.old.pending ≡ Some result }
+        ensures message { message_among id self.old.pending ≡ Some result.message }
+        ensures home { result.at_home ≡ home result.message.to self.old.processors }
         ensures rows { self.new.rows ≡ self.old.rows }
         ensures processors { self.new.processors ≡ self.old.processors }
         ensures pending { self.new.pending ≡ without id self.old.pending }
@@ -267,10 +287,11 @@ impl Dispatch {
         };
         let Taken { born, message } = taken;
         let element = self.elements.at(slot);
-        let stand = stand_of(self.processors, message.to, &element);
+        let at_home = home_of(self.processors, message.to);
+        let stand = stand_at(at_home, &element);
         self.index
             .take(born, stand.place(message.entry == CONSTRUCT));
-        message
+        Removed { message, at_home }
     }
 
     /// An element that is there stands on the processor from now on. It takes no memory where no
@@ -397,6 +418,10 @@ fn restand(pending: &Pending, index: &mut Index, to: Elem, old: Stand, new: Stan
     if is_same_stand(&old, &new) {
         return;
     }
+    let count = pending.count_to(to);
+    if count == 0 {
+        return;
+    }
     let mut calls = pending.calls(to);
     index.restand(&mut calls, old, new);
 }
@@ -440,14 +465,20 @@ fn stand_of(processors: u16, elem: Elem, element: &Element) -> Stand
     requires { is_processor_count processors ≡ true }
     ensures { result ≡ stand_of processors elem element.now }
 {
-    let home = home_of(processors, elem);
+    stand_at(home_of(processors, elem), element)
+}
+
+/// How an element stands that has this home, and of which this is kept.
+fn stand_at(at_home: u16, element: &Element) -> Stand
+    ensures { result ≡ stand_at at_home element.now }
+{
     let on = match element.place {
         Some(place) => place,
-        None => home,
+        None => at_home,
     };
     Stand {
         on: on as usize,
-        home: home as usize,
+        home: at_home as usize,
         is_there: element.place.is_some(),
         has_room: element.has_room(),
     }
@@ -485,15 +516,14 @@ pub(crate) fn place_in(processors: u16, elem: Elem, place: Option<u16>) -> u16
     }
 }
 
-/// Where an element stands after a delivery, given what was kept of it before: nowhere, if that
-/// destroyed it.
-fn place_after(processors: u16, elem: Elem, element: &Element, is_destroyed: bool) -> Option<u16>
-    requires { is_processor_count processors ≡ true }
+/// Where an element that has this home stands after a delivery, given what was kept of it before:
+/// nowhere, if that destroyed it.
+fn place_after(at_home: u16, element: &Element, is_destroyed: bool) -> Option<u16>
     ensures { result ≡ (if is_destroyed then None
-        else Some (unwrap_or element.now.place (home elem processors))) }
+        else Some (unwrap_or element.now.place at_home)) }
 {
     if is_destroyed {
         return None;
     }
-    Some(place_in(processors, elem, element.place))
+    Some(element.place.unwrap_or(at_home))
 }

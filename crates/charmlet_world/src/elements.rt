@@ -105,14 +105,35 @@ impl Elements {
         }
     }
 
-    /// Looks up the row of this element, so that from now on one comparison finds it. Nothing that
-    /// is kept changes.
-    pub(crate) fn expect(&mut self, elem: Elem)
-        ensures { self.new ≡ self.old }
+    /// The same. The row after the expected one is tried too before it is looked for among all.
+    fn slot_near(&self, elem: Elem) -> Option<Slot>
+        ensures found { IfSome result (λ slot. slice_get self.now.entries slot
+            ≡ Some (elem, element_in self.now.entries elem)) }
+        ensures which { is_some result ≡ is_some (lookup (same_elem elem) self.now.entries) }
     {
-        if let Some(slot) = self.slot_of(elem) {
-            self.expected = slot.index;
+        match index_near(&self.rows, self.expected, elem) {
+            Some(index) => Some(Slot { index }),
+            None => None,
         }
+    }
+
+    /// What is kept of an element, as `element` says it. If it has a row, one comparison finds that
+    /// from now on. Nothing that is kept changes.
+    #[inline(always)]
+    pub(crate) fn expect(&mut self, elem: Elem) -> Element
+        ensures same { self.new ≡ self.old }
+        ensures element { result ≡ element_in self.old.entries elem }
+    {
+        let Some(slot) = self.slot_near(elem) else {
+            return Element::new();
+        };
+        self.expected = slot.index;
+        self.at(slot)
+    }
+
+    /// The index at which a row is looked for first.
+    pub(crate) fn expected(&self) -> usize {
+        self.expected
     }
 
     /// What is kept of an element. One that was never constructed stands nowhere, and its counts
@@ -182,12 +203,18 @@ impl Elements {
         ensures succeeds { 0 < self.old.room → IsOk result }
         ensures there { is_some (lookup (same_elem elem) self.old.entries) ≡ true → IsOk result }
     {
-        if let Some(slot) = self.slot_of(elem) {
-            return Ok(slot);
+        if let Some(index) = near(&self.rows, self.expected, elem) {
+            return Ok(Slot { index });
         }
-        let index = self.rows.len();
-        self.rows.insert(elem, Element::new())?;
-        Ok(Slot { index })
+        let (index, was) = self.rows.insert_full(elem, Element::new())?;
+        self.expected = index;
+        let slot = Slot { index };
+        let Some(element) = was else {
+            return Ok(slot);
+        };
+        // It had a row, to which its value comes back.
+        self.set(slot, element);
+        Ok(slot)
     }
 }
 
@@ -197,14 +224,65 @@ fn index_of(rows: &IndexMap<Elem, Element>, expected: usize, elem: Elem) -> Opti
         ≡ Some (elem, element_in rows.now.entries elem)) }
     ensures which { is_some result ≡ is_some (lookup (same_elem elem) rows.now.entries) }
 {
+    if stands_at(rows, expected, elem) {
+        return Some(expected);
+    }
+    search(rows, elem)
+}
+
+/// The same. The row after the expected one is tried too before it is looked for among all.
+fn index_near(rows: &IndexMap<Elem, Element>, expected: usize, elem: Elem) -> Option<usize>
+    ensures found { IfSome result (λ i. slice_get rows.now.entries i
+        ≡ Some (elem, element_in rows.now.entries elem)) }
+    ensures which { is_some result ≡ is_some (lookup (same_elem elem) rows.now.entries) }
+{
+    if let Some(index) = near(rows, expected, elem) {
+        return Some(index);
+    }
+    search(rows, elem)
+}
+
+/// The index of the element's row, if it is this one or the one after it: elements that came one
+/// after another are often sent to one after another.
+fn near(rows: &IndexMap<Elem, Element>, index: usize, elem: Elem) -> Option<usize>
+    ensures found { IfSome result (λ i. slice_get rows.now.entries i
+        ≡ Some (elem, element_in rows.now.entries elem)) }
+    ensures which { IfSome result (λ _.
+        is_some (lookup (same_elem elem) rows.now.entries) ≡ true) }
+{
+    if stands_at(rows, index, elem) {
+        return Some(index);
+    }
+    let after = index.saturating_add(1);
+    if stands_at(rows, after, elem) {
+        return Some(after);
+    }
+    None
+}
+
+/// The index of the element's row, if it has one, which is looked for among all. It is no part of
+/// the code around its calls, since it is seldom called.
+#[inline(never)]
+fn search(rows: &IndexMap<Elem, Element>, elem: Elem) -> Option<usize>
+    ensures found { IfSome result (λ i. slice_get rows.now.entries i
+        ≡ Some (elem, element_in rows.now.entries elem)) }
+    ensures which { is_some result ≡ is_some (lookup (same_elem elem) rows.now.entries) }
+{
+    rows.get_index_of(&elem)
+}
+
+/// Whether the element's row is there.
+fn stands_at(rows: &IndexMap<Elem, Element>, index: usize, elem: Elem) -> bool
+    ensures found { result ≡ true → slice_get rows.now.entries index
+        ≡ Some (elem, element_in rows.now.entries elem) }
+    ensures which { result ≡ true → is_some (lookup (same_elem elem) rows.now.entries) ≡ true }
+{
     // The length is what tells that the elements are distinct.
     let _len = rows.len();
-    if let Some((here, _element)) = rows.get_index(expected) {
-        if *here == elem {
-            return Some(expected);
-        }
+    match rows.get_index(index) {
+        Some((here, _element)) => *here == elem,
+        None => false,
     }
-    rows.get_index_of(&elem)
 }
 
 /// These rows in rising order of their elements, as a checkpoint needs them.

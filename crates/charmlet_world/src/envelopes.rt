@@ -9,14 +9,21 @@ use crate::envelope::Envelope;
 use charmlet_model::MsgId;
 use indexmap::IndexMap;
 
-/// The envelope of this birth. It is looked for first where it stands if none of the younger ones
-/// has left a gap, and then where it stands if none of the older ones has.
-pub(crate) fn envelope_of(envelopes: &IndexMap<MsgId, Envelope>, number: u64) -> Option<usize>
+/// The envelope of this birth. It is looked for near this place first, then where it stands if none
+/// of the younger ones has left a gap, and then where it stands if none of the older ones has.
+pub(crate) fn envelope_of(
+    envelopes: &IndexMap<MsgId, Envelope>,
+    near: usize,
+    number: u64,
+) -> Option<usize>
     requires { Climbs (borns envelopes.now.entries) }
     ensures found { IfSome result (λ i. slice_get (borns envelopes.now.entries) i ≡ Some number) }
     ensures nowhere { result ≡ None → holds number (borns envelopes.now.entries) ≡ false }
 {
     let len = envelopes.len();
+    if near < len && born_at(envelopes, near) == number {
+        return Some(near);
+    }
     if len == 0 {
         return None;
     }

@@ -165,6 +165,7 @@ impl PresentWorld {
     }
 
     /// What is kept of the pending message of this id.
+    #[inline(always)]
     pub fn find(&self, id: MsgId) -> Option<&Letter>
         ensures { option_map (λ letter. message_of id letter.now) result
             ≡ message_among id self.now.pending }

@@ -1,13 +1,13 @@
 //! How many messages to each element are pending.
 
-ghost use Rattle.std.specs.Prelude.{◌≡◌, ◌+◌, ◌≤◌, ◌<◌, [], length, slice_get, Some, false, is_some, IfSome, IsOk, OnOk, if◌then◌else◌};
+ghost use Rattle.std.specs.Prelude.{◌≡◌, ◌+◌, ◌≤◌, ◌<◌, [], length, slice_get, Some, false, true, is_some, IfSome, IsOk, OnOk, if◌then◌else◌};
 ghost use Rattle.std.specs.Map.{lookup, values_of};
 ghost use Rattle.charmlet_model.specs.Names.{same_elem};
 ghost use Rattle.charmlet_model.specs.Reaction.{greatest};
 ghost use Rattle.charmlet_model.specs.declared.names.Elem.{Elem as AnElem};
 ghost use Rattle.charmlet_world.specs.Envelopes.{no_receiver, receiver_in};
 ghost use Rattle.charmlet_world.specs.declared.receivers.Receiver.{Receiver as AReceiver};
-ghost use Rattle.indexmap.specs.IndexMap.{spare};
+ghost use Rattle.indexmap.specs.IndexMap.{set_value_at, spare};
 
 use charmlet_model::Elem;
 use indexmap::IndexMap;
@@ -38,6 +38,9 @@ impl Receiver {
 #[derive(Drop)]
 pub(crate) struct Receivers {
     table: IndexMap<Elem, Receiver>,
+    /// The index at which an element is looked for first: where the last message that left was
+    /// counted.
+    expected: usize,
 }
 
 impl Model for Receivers {
@@ -56,6 +59,7 @@ impl Receivers {
     {
         Receivers {
             table: IndexMap::new(alloc),
+            expected: 0,
         }
     }
 
@@ -73,15 +77,15 @@ impl Receivers {
     pub(crate) fn receiver(&self, elem: Elem) -> Receiver
         ensures { result ≡ receiver_in self.now.entries elem }
     {
-        match index_of(&self.table, self.table.len(), elem) {
+        match index_of(&self.table, self.expected, elem) {
             Some(index) => self.table[index],
             None => Receiver::new(),
         }
     }
 
-    /// Counts a message that comes to an element, and says where that is counted. It takes no
-    /// memory.
-    pub(crate) fn count_in(&mut self, elem: Elem, born: u64) -> usize
+    /// Counts a message that comes to an element, which is looked for at this place first, and says
+    /// where that is counted. It takes no memory.
+    pub(crate) fn count_in(&mut self, elem: Elem, born: u64, expected: usize) -> usize
         requires room { 0 < self.old.room }
         requires few { (receiver_in self.old.entries elem).count < greatest }
         ensures count { (receiver_in self.new.entries elem).count
@@ -91,7 +95,7 @@ impl Receivers {
             receiver_in self.new.entries y ≡ receiver_in self.old.entries y }
         ensures room { self.old.room ≤ self.new.room + 1 }
     {
-        let index = index_for(&mut self.table, elem);
+        let index = index_for(&mut self.table, expected, elem);
         let receiver = at(&self.table, index);
         let count = receiver.count + 1;
         set(
@@ -123,6 +127,7 @@ impl Receivers {
         let count = receiver.count - 1;
         let youngest = receiver.youngest;
         set(&mut self.table, index, Receiver { count, youngest });
+        self.expected = index;
     }
 }
 
@@ -132,18 +137,40 @@ fn index_of(table: &IndexMap<Elem, Receiver>, expected: usize, elem: Elem) -> Op
         ≡ Some (elem, receiver_in table.now.entries elem)) }
     ensures which { is_some result ≡ is_some (lookup (same_elem elem) table.now.entries) }
 {
-    // The length is what says that the elements are distinct.
-    let _len = table.len();
-    if let Some((here, _receiver)) = table.get_index(expected) {
-        if *here == elem {
-            return Some(expected);
-        }
+    if stands_at(table, expected, elem) {
+        return Some(expected);
     }
+    search(table, elem)
+}
+
+/// The index of the element's entry, if it has one, which is looked for among all. It is no part of
+/// the code around its calls, since it is seldom called.
+#[inline(never)]
+fn search(table: &IndexMap<Elem, Receiver>, elem: Elem) -> Option<usize>
+    ensures found { IfSome result (λ i. slice_get table.now.entries i
+        ≡ Some (elem, receiver_in table.now.entries elem)) }
+    ensures which { is_some result ≡ is_some (lookup (same_elem elem) table.now.entries) }
+{
     table.get_index_of(&elem)
 }
 
-/// The index of the element's entry, which it gets if it had none. It takes no memory.
-fn index_for(table: &mut IndexMap<Elem, Receiver>, elem: Elem) -> usize
+/// Whether the element's entry is there.
+fn stands_at(table: &IndexMap<Elem, Receiver>, index: usize, elem: Elem) -> bool
+    ensures found { result ≡ true → slice_get table.now.entries index
+        ≡ Some (elem, receiver_in table.now.entries elem) }
+    ensures which { result ≡ true → is_some (lookup (same_elem elem) table.now.entries) ≡ true }
+{
+    // The length is what says that the elements are distinct.
+    let _len = table.len();
+    match table.get_index(index) {
+        Some((here, _receiver)) => *here == elem,
+        None => false,
+    }
+}
+
+/// The index of the element's entry, which it gets if it had none. It is looked for where it is
+/// expected first. It takes no memory.
+fn index_for(table: &mut IndexMap<Elem, Receiver>, expected: usize, elem: Elem) -> usize
     requires { 0 < spare table.old }
     ensures found { slice_get table.new.entries result
         ≡ Some (elem, receiver_in table.old.entries elem) }
@@ -151,13 +178,17 @@ fn index_for(table: &mut IndexMap<Elem, Receiver>, elem: Elem) -> usize
         receiver_in table.new.entries y ≡ receiver_in table.old.entries y }
     ensures room { spare table.old ≤ spare table.new + 1 }
 {
-    if let Some(index) = index_of(table, table.len(), elem) {
-        return index;
+    if stands_at(table, expected, elem) {
+        return expected;
     }
-    let index = table.len();
-    let Ok(_was) = table.insert(elem, Receiver::new()) else {
+    let Ok((index, was)) = table.insert_full(elem, Receiver::new()) else {
         unreachable!()
     };
+    let Some(receiver) = was else {
+        return index;
+    };
+    // It had an entry, to which its value comes back.
+    set(table, index, receiver);
     index
 }
 
@@ -172,6 +203,7 @@ fn at(table: &IndexMap<Elem, Receiver>, index: usize) -> Receiver
 /// Keeps this there.
 fn set(table: &mut IndexMap<Elem, Receiver>, index: usize, receiver: Receiver)
     requires { index < length table.old.entries }
+    ensures entries { table.new.entries ≡ set_value_at table.old.entries index receiver }
     ensures changed { (x y : AnElem) (r : AReceiver) →
         slice_get table.old.entries index ≡ Some (x, r) → receiver_in table.new.entries y
         ≡ (if same_elem x y then receiver else receiver_in table.old.entries y) }

@@ -1,10 +1,13 @@
-use Rattle.std.proofs.Common.{refl, sym, ap, subst, length}
+use Rattle.std.proofs.Common.{refl, sym, ap, subst, ◌∙◌, length}
 use Rattle.charmlet_index.specs.Index.{HaveRoom}
-use Rattle.charmlet_world.proofs.Tying.{called_apart, called_held, indexed_moved, indexed_same}
+use Rattle.charmlet_world.proofs.Tying.{called_apart, called_held, indexed_moved, indexed_none, indexed_same}
 use Rattle.charmlet_world.proofs.dispatch.restand.Goals as goal
 
 pub returns-then-is_same_stand-clause-index : goal.returns-then-is_same_stand-clause-index
 returns-then-is_same_stand-clause-index c = indexed_same c.args.to c.args.old c.args.new c.args.pending.now.births c.args.pending.now.messages c.args.index.now.lists (c.if-is_same_stand.ensures refl)
+
+pub returns-then-count-eq0-clause-index : goal.returns-then-count-eq0-clause-index
+returns-then-count-eq0-clause-index c = indexed_none c.args.to c.args.old c.args.new c.args.pending.now.births c.args.pending.now.messages c.args.index.now.lists (sym c.count_to-count.ensures ∙ c.if-count-eq0.true)
 
 pub restand-requires-clause-apart : goal.restand-requires-clause-apart
 restand-requires-clause-apart c = called_apart c.args.to c.args.old c.args.new c.args.pending.now.births c.args.pending.now.messages c.args.index.now.lists c.calls-calls.result c.calls-calls.ensures c.requires.called

@@ -9,7 +9,7 @@ use Rattle.charmlet_world.specs.declared.element.Element.{Element}
 use Rattle.charmlet_world.specs.Changed.{counted}
 use Rattle.charmlet_world.specs.Seen.{element_at}
 use Rattle.charmlet_world.specs.Standing.{element_in, risen}
-use Rattle.charmlet_world.specs.Tied.{Dispatched, Takes, calls_down, stand_by, stand_of}
+use Rattle.charmlet_world.specs.Tied.{Dispatched, Takes, calls_down, stand_at, stand_by, stand_of}
 use Rattle.charmlet_world.proofs.Showing.{element_is, element_risen, slot_inside}
 use Rattle.charmlet_world.proofs.Ties.{stands_else, stands_here}
 use Rattle.charmlet_world.proofs.Tying.{delivered_rooms, delivered_within, home_within, smaller_second, tied_called, tied_otherwise}
@@ -36,6 +36,8 @@ advance-requires-clause-received c =
 
 pub restand-requires-clause-old_on : goal.restand-requires-clause-old_on
 restand-requires-clause-old_on c =
+    let here : c.args.at_home ≡ home c.args.elem c.self.inside.processors = c.requires.home ∙ ap (λ (d : Dispatched). home c.args.elem d.processors) (sym c.self.view_is) in
+    let old_is : c.stand_at-old.result ≡ stand_of c.self.inside.processors c.args.elem c.at-element.result = c.stand_at-old.ensures ∙ ap (λ h. stand_at h c.at-element.result) here in
     let own = c.self.inside in
     let p = own.processors in
     let rows = own.elements.entries in
@@ -44,11 +46,14 @@ restand-requires-clause-old_on c =
     let room = subst (λ (d : Dispatched). 0 < d.room) (sym c.self.view_is) c.requires.room in
     let head = smaller_second own.pending.room own.index.headroom in
     let len = c.self.invariant.opened (omega (arith, room, head)) in
-    let old : c.stand_of-old.result ≡ stand_by p rows x = c.stand_of-old.ensures ∙ ap (stand_of p x) (element_is rows c.args.slot x c.at-element.result takes.receiver c.at-element.ensures ∙ sym (element_risen x rows)) in
-    subst (λ n. c.stand_of-old.result.on < n) (sym len) (subst (λ (s : Stand). s.on < p) (sym old) (c.self.invariant.within x))
+    let old : c.stand_at-old.result ≡ stand_by p rows x = old_is ∙ ap (stand_of p x) (element_is rows c.args.slot x c.at-element.result takes.receiver c.at-element.ensures ∙ sym (element_risen x rows)) in
+    subst (λ n. c.stand_at-old.result.on < n) (sym len) (subst (λ (s : Stand). s.on < p) (sym old) (c.self.invariant.within x))
 
 pub restand-requires-clause-new_on : goal.restand-requires-clause-new_on
 restand-requires-clause-new_on c =
+    let here : c.args.at_home ≡ home c.args.elem c.self.inside.processors = c.requires.home ∙ ap (λ (d : Dispatched). home c.args.elem d.processors) (sym c.self.view_is) in
+    let new_is : c.stand_at-new.result ≡ stand_of c.self.inside.processors c.args.elem c.advance.new.self = c.stand_at-new.ensures ∙ ap (λ h. stand_at h c.advance.new.self) here in
+    let place_is : c.place_after-place.result ≡ (if c.args.is_destroyed then None else Some (unwrap_or c.at-element.result.place (home c.args.elem c.self.inside.processors))) = c.place_after-place.ensures ∙ ap (λ h. if c.args.is_destroyed then None else Some (unwrap_or c.at-element.result.place h)) here in
     let own = c.self.inside in
     let p = own.processors in
     let rows = own.elements.entries in
@@ -59,47 +64,57 @@ restand-requires-clause-new_on c =
     let len = c.self.invariant.opened (omega (arith, room, head)) in
     let is = element_is rows c.args.slot x c.at-element.result takes.receiver c.at-element.ensures ∙ sym (element_risen x rows) in
     let was : (stand_of p x c.at-element.result).on < p = subst (λ (e : Element). (stand_of p x e).on < p) (sym is) (c.self.invariant.within x) in
-    let place = ap (λ (e : Element). e.place) c.advance.ensures ∙ c.place_after-place.ensures in
-    subst (λ n. c.stand_of-new.result.on < n) (sym len) (subst (λ (s : Stand). s.on < p) (sym c.stand_of-new.ensures)
+    let place = ap (λ (e : Element). e.place) c.advance.ensures ∙ place_is in
+    subst (λ n. c.stand_at-new.result.on < n) (sym len) (subst (λ (s : Stand). s.on < p) (sym new_is)
     (delivered_within p c.self.invariant.some_processors x c.at-element.result c.advance.new.self c.args.is_destroyed was place))
 
 pub restand-requires-clause-old_home : goal.restand-requires-clause-old_home
 restand-requires-clause-old_home c =
+    let here : c.args.at_home ≡ home c.args.elem c.self.inside.processors = c.requires.home ∙ ap (λ (d : Dispatched). home c.args.elem d.processors) (sym c.self.view_is) in
+    let old_is : c.stand_at-old.result ≡ stand_of c.self.inside.processors c.args.elem c.at-element.result = c.stand_at-old.ensures ∙ ap (λ h. stand_at h c.at-element.result) here in
     let own = c.self.inside in
     let p = own.processors in
     let room = subst (λ (d : Dispatched). 0 < d.room) (sym c.self.view_is) c.requires.room in
     let head = smaller_second own.pending.room own.index.headroom in
     let len = c.self.invariant.opened (omega (arith, room, head)) in
-    subst (λ n. c.stand_of-old.result.home < n) (sym len) (subst (λ (s : Stand). s.home < p) (sym c.stand_of-old.ensures) (home_within p c.self.invariant.some_processors c.args.elem))
+    subst (λ n. c.stand_at-old.result.home < n) (sym len) (subst (λ (s : Stand). s.home < p) (sym old_is) (home_within p c.self.invariant.some_processors c.args.elem))
 
 pub restand-requires-clause-new_home : goal.restand-requires-clause-new_home
 restand-requires-clause-new_home c =
+    let here : c.args.at_home ≡ home c.args.elem c.self.inside.processors = c.requires.home ∙ ap (λ (d : Dispatched). home c.args.elem d.processors) (sym c.self.view_is) in
+    let new_is : c.stand_at-new.result ≡ stand_of c.self.inside.processors c.args.elem c.advance.new.self = c.stand_at-new.ensures ∙ ap (λ h. stand_at h c.advance.new.self) here in
     let own = c.self.inside in
     let p = own.processors in
     let room = subst (λ (d : Dispatched). 0 < d.room) (sym c.self.view_is) c.requires.room in
     let head = smaller_second own.pending.room own.index.headroom in
     let len = c.self.invariant.opened (omega (arith, room, head)) in
-    subst (λ n. c.stand_of-new.result.home < n) (sym len) (subst (λ (s : Stand). s.home < p) (sym c.stand_of-new.ensures) (home_within p c.self.invariant.some_processors c.args.elem))
+    subst (λ n. c.stand_at-new.result.home < n) (sym len) (subst (λ (s : Stand). s.home < p) (sym new_is) (home_within p c.self.invariant.some_processors c.args.elem))
 
 pub restand-requires-clause-called : goal.restand-requires-clause-called
 restand-requires-clause-called c =
+    let here : c.args.at_home ≡ home c.args.elem c.self.inside.processors = c.requires.home ∙ ap (λ (d : Dispatched). home c.args.elem d.processors) (sym c.self.view_is) in
+    let old_is : c.stand_at-old.result ≡ stand_of c.self.inside.processors c.args.elem c.at-element.result = c.stand_at-old.ensures ∙ ap (λ h. stand_at h c.at-element.result) here in
     let own = c.self.inside in
     let p = own.processors in
     let rows = own.elements.entries in
     let x = c.args.elem in
     let takes = subst (λ (d : Dispatched). Takes d.rows c.args.slot c.args.sends x) (sym c.self.view_is) c.requires.takes in
-    let old : c.stand_of-old.result ≡ stand_by p rows x = c.stand_of-old.ensures ∙ ap (stand_of p x) (element_is rows c.args.slot x c.at-element.result takes.receiver c.at-element.ensures ∙ sym (element_risen x rows)) in
-    tied_called p rows own.pending own.index x c.stand_of-old.result c.self.invariant (sym old)
+    let old : c.stand_at-old.result ≡ stand_by p rows x = old_is ∙ ap (stand_of p x) (element_is rows c.args.slot x c.at-element.result takes.receiver c.at-element.ensures ∙ sym (element_risen x rows)) in
+    tied_called p rows own.pending own.index x c.stand_at-old.result c.self.invariant (sym old)
 
 pub restand-requires-clause-room : goal.restand-requires-clause-room
 restand-requires-clause-room c =
+    let here : c.args.at_home ≡ home c.args.elem c.self.inside.processors = c.requires.home ∙ ap (λ (d : Dispatched). home c.args.elem d.processors) (sym c.self.view_is) in
+    let old_is : c.stand_at-old.result ≡ stand_of c.self.inside.processors c.args.elem c.at-element.result = c.stand_at-old.ensures ∙ ap (λ h. stand_at h c.at-element.result) here in
+    let new_is : c.stand_at-new.result ≡ stand_of c.self.inside.processors c.args.elem c.advance.new.self = c.stand_at-new.ensures ∙ ap (λ h. stand_at h c.advance.new.self) here in
+    let place_is : c.place_after-place.result ≡ (if c.args.is_destroyed then None else Some (unwrap_or c.at-element.result.place (home c.args.elem c.self.inside.processors))) = c.place_after-place.ensures ∙ ap (λ h. if c.args.is_destroyed then None else Some (unwrap_or c.at-element.result.place h)) here in
     let own = c.self.inside in
     let p = own.processors in
     let x = c.args.elem in
     let n = length (calls_down x own.pending.births own.pending.messages) in
-    let place = ap (λ (e : Element). e.place) c.advance.ensures ∙ c.place_after-place.ensures in
-    subst (λ (s : Stand). HaveRoom own.index.headroom s c.stand_of-new.result n own.index.lists) (sym c.stand_of-old.ensures)
-    (subst (λ (s : Stand). HaveRoom own.index.headroom (stand_of p x c.at-element.result) s n own.index.lists) (sym c.stand_of-new.ensures)
+    let place = ap (λ (e : Element). e.place) c.advance.ensures ∙ place_is in
+    subst (λ (s : Stand). HaveRoom own.index.headroom s c.stand_at-new.result n own.index.lists) (sym old_is)
+    (subst (λ (s : Stand). HaveRoom own.index.headroom (stand_of p x c.at-element.result) s n own.index.lists) (sym new_is)
     (delivered_rooms own.index.headroom p x c.at-element.result c.advance.new.self c.args.is_destroyed n own.index.lists place))
 
 pub set-requires : goal.set-requires
@@ -109,6 +124,10 @@ set-requires c =
 
 pub invariant_of-self : goal.invariant_of-self
 invariant_of-self c =
+    let here : c.args.at_home ≡ home c.args.elem c.self.inside.processors = c.requires.home ∙ ap (λ (d : Dispatched). home c.args.elem d.processors) (sym c.self.view_is) in
+    let old_is : c.stand_at-old.result ≡ stand_of c.self.inside.processors c.args.elem c.at-element.result = c.stand_at-old.ensures ∙ ap (λ h. stand_at h c.at-element.result) here in
+    let new_is : c.stand_at-new.result ≡ stand_of c.self.inside.processors c.args.elem c.advance.new.self = c.stand_at-new.ensures ∙ ap (λ h. stand_at h c.advance.new.self) here in
+    let place_is : c.place_after-place.result ≡ (if c.args.is_destroyed then None else Some (unwrap_or c.at-element.result.place (home c.args.elem c.self.inside.processors))) = c.place_after-place.ensures ∙ ap (λ h. if c.args.is_destroyed then None else Some (unwrap_or c.at-element.result.place h)) here in
     let own = c.self.inside in
     let p = own.processors in
     let rows = own.elements.entries in
@@ -119,10 +138,10 @@ invariant_of-self c =
     let takes = subst (λ (d : Dispatched). Takes d.rows c.args.slot c.args.sends x) (sym c.self.view_is) c.requires.takes in
     let is = element_is rows c.args.slot x c.at-element.result takes.receiver c.at-element.ensures ∙ sym (element_risen x rows) in
     let was : (stand_of p x c.at-element.result).on < p = subst (λ (f : Element). (stand_of p x f).on < p) (sym is) (h.within x) in
-    let place = ap (λ (f : Element). f.place) c.advance.ensures ∙ c.place_after-place.ensures in
+    let place = ap (λ (f : Element). f.place) c.advance.ensures ∙ place_is in
     let put : risen fs ≡ insert_entry elem_cmp (risen rows) x e = c.set.ensures.risen x (element_in rows x) takes.receiver in
-    let old : stand_by p rows x ≡ c.stand_of-old.result = sym (c.stand_of-old.ensures ∙ ap (stand_of p x) is) in
-    let new : stand_by p fs x ≡ c.stand_of-new.result = stands_here p rows fs x e put ∙ sym c.stand_of-new.ensures in
+    let old : stand_by p rows x ≡ c.stand_at-old.result = sym (old_is ∙ ap (stand_of p x) is) in
+    let new : stand_by p fs x ≡ c.stand_at-new.result = stands_here p rows fs x e put ∙ sym new_is in
     tied_otherwise p rows fs own.pending own.index c.restand.new.index x e h put
     (delivered_within p h.some_processors x c.at-element.result e c.args.is_destroyed was place)
     (c.restand.ensures.index h.place (stand_by p rows) (stand_by p fs) h.are h.index h.climbs old new (stands_else p rows fs x e put))
@@ -138,12 +157,14 @@ returns-clause-sent c =
 
 pub returns-clause-risen : goal.returns-clause-risen
 returns-clause-risen c =
+    let here : c.args.at_home ≡ home c.args.elem c.self.inside.processors = c.requires.home ∙ ap (λ (d : Dispatched). home c.args.elem d.processors) (sym c.self.view_is) in
+    let place_is : c.place_after-place.result ≡ (if c.args.is_destroyed then None else Some (unwrap_or c.at-element.result.place (home c.args.elem c.self.inside.processors))) = c.place_after-place.ensures ∙ ap (λ h. if c.args.is_destroyed then None else Some (unwrap_or c.at-element.result.place h)) here in
     let own = c.self.inside in
     let rows = own.elements.entries in
     let x = c.args.elem in
     let takes = subst (λ (d : Dispatched). Takes d.rows c.args.slot c.args.sends x) (sym c.self.view_is) c.requires.takes in
     let is : c.at-element.result ≡ element_at (risen rows) x = element_is rows c.args.slot x c.at-element.result takes.receiver c.at-element.ensures ∙ sym (element_risen x rows) in
     c.set.ensures.risen x (element_in rows x) takes.receiver
-    ∙ ap (insert_entry elem_cmp (risen rows) x) (c.advance.ensures ∙ ap (λ o. counted c.at-element.result o c.args.sends) c.place_after-place.ensures
+    ∙ ap (insert_entry elem_cmp (risen rows) x) (c.advance.ensures ∙ ap (λ o. counted c.at-element.result o c.args.sends) place_is
     ∙ ap (λ (e : Element). counted e (if c.args.is_destroyed then None else Some (unwrap_or e.place (home x own.processors))) c.args.sends) is)
     ∙ ap (λ (d : Dispatched). insert_entry elem_cmp (risen d.rows) x (counted (element_at (risen d.rows) x) (if c.args.is_destroyed then None else Some (unwrap_or (element_at (risen d.rows) x).place (home x d.processors))) c.args.sends)) c.self.view_is

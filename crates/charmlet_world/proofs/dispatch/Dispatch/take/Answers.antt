@@ -7,7 +7,7 @@ use Rattle.charmlet_index.specs.declared.place.Place.{Place}
 use Rattle.charmlet_index.specs.declared.place.Stand.{Stand}
 use Rattle.charmlet_index.specs.Index.{place_by}
 use Rattle.charmlet_world.specs.Seen.{IsSlot}
-use Rattle.charmlet_world.specs.Tied.{stand_by, stand_of}
+use Rattle.charmlet_world.specs.Tied.{stand_at, stand_by, stand_of}
 use Rattle.charmlet_world.proofs.Showing.{element_is, element_risen}
 use Rattle.charmlet_world.proofs.Ties.{born_holds, born_placed}
 use Rattle.charmlet_world.proofs.Tying.{from_given, home_within, tied_left, tied_some}
@@ -15,25 +15,28 @@ use Rattle.charmlet_world.proofs.dispatch.Dispatch.take.Goals as goal
 
 pub take-requires-2-clause-on : goal.take-requires-2-clause-on
 take-requires-2-clause-on c =
+    let stood : c.stand_at-stand.result ≡ stand_of c.self.inside.processors c.in-Some.taken.message.to c.at-element.result = c.stand_at-stand.ensures ∙ ap (λ h. stand_at h c.at-element.result) c.home_of-at_home.ensures in
     let own = c.self.inside in
     let p = own.processors in
     let rows = own.elements.entries in
     let m = c.in-Some.taken.message in
     let slot = from_given c.args.self.now _ c.self.view_is c.args.id m c.in-Some.ensures.taken (λ d m. IsSlot d.rows c.args.slot m.to) c.requires.receiver in
-    let stand : c.stand_of-stand.result ≡ stand_by p rows m.to = c.stand_of-stand.ensures ∙ ap (stand_of p m.to) (element_is rows c.args.slot m.to c.at-element.result slot c.at-element.ensures ∙ sym (element_risen m.to rows)) in
+    let stand : c.stand_at-stand.result ≡ stand_by p rows m.to = stood ∙ ap (stand_of p m.to) (element_is rows c.args.slot m.to c.at-element.result slot c.at-element.ensures ∙ sym (element_risen m.to rows)) in
     let len = tied_some p rows own.pending own.index c.in-Some.taken.born m c.self.invariant c.in-Some.ensures.born in
     subst (λ n. c.place.result.on < n) (sym len) (subst (λ (a : Place). a.on < p) (sym c.place.ensures) (subst (λ (s : Stand). s.on < p) (sym stand) (c.self.invariant.within m.to)))
 
 pub take-requires-2-clause-home : goal.take-requires-2-clause-home
 take-requires-2-clause-home c =
+    let stood : c.stand_at-stand.result ≡ stand_of c.self.inside.processors c.in-Some.taken.message.to c.at-element.result = c.stand_at-stand.ensures ∙ ap (λ h. stand_at h c.at-element.result) c.home_of-at_home.ensures in
     let own = c.self.inside in
     let p = own.processors in
     let m = c.in-Some.taken.message in
     let len = tied_some p own.elements.entries own.pending own.index c.in-Some.taken.born m c.self.invariant c.in-Some.ensures.born in
-    subst (λ n. c.place.result.home < n) (sym len) (subst (λ (a : Place). a.home < p) (sym c.place.ensures) (subst (λ (s : Stand). s.home < p) (sym c.stand_of-stand.ensures) (home_within p c.self.invariant.some_processors m.to)))
+    subst (λ n. c.place.result.home < n) (sym len) (subst (λ (a : Place). a.home < p) (sym c.place.ensures) (subst (λ (s : Stand). s.home < p) (sym stood) (home_within p c.self.invariant.some_processors m.to)))
 
 pub take-requires-2-clause-held : goal.take-requires-2-clause-held
 take-requires-2-clause-held c =
+    let stood : c.stand_at-stand.result ≡ stand_of c.self.inside.processors c.in-Some.taken.message.to c.at-element.result = c.stand_at-stand.ensures ∙ ap (λ h. stand_at h c.at-element.result) c.home_of-at_home.ensures in
     let own = c.self.inside in
     let p = own.processors in
     let rows = own.elements.entries in
@@ -42,12 +45,13 @@ take-requires-2-clause-held c =
     let m = c.in-Some.taken.message in
     let n = c.in-Some.taken.born in
     let slot = from_given c.args.self.now _ c.self.view_is c.args.id m c.in-Some.ensures.taken (λ d m. IsSlot d.rows c.args.slot m.to) c.requires.receiver in
-    let stand : c.stand_of-stand.result ≡ stand_by p rows m.to = c.stand_of-stand.ensures ∙ ap (stand_of p m.to) (element_is rows c.args.slot m.to c.at-element.result slot c.at-element.ensures ∙ sym (element_risen m.to rows)) in
+    let stand : c.stand_at-stand.result ≡ stand_by p rows m.to = stood ∙ ap (stand_of p m.to) (element_is rows c.args.slot m.to c.at-element.result slot c.at-element.ensures ∙ sym (element_risen m.to rows)) in
     let at : c.place.result ≡ place_by (stand_by p rows m.to) (m.entry == CONSTRUCT) = c.place.ensures ∙ ap (λ (s : Stand). place_by s (m.entry == CONSTRUCT)) stand in
     (w.births, h.place, h.index, h.climbs, born_holds n w.births w.messages m c.in-Some.ensures.born, born_placed (stand_by p rows) h.place n w.births w.messages m h.are c.in-Some.ensures.born ∙ sym at)
 
 pub invariant_of-self : goal.invariant_of-self
 invariant_of-self c =
+    let stood : c.stand_at-stand.result ≡ stand_of c.self.inside.processors c.in-Some.taken.message.to c.at-element.result = c.stand_at-stand.ensures ∙ ap (λ h. stand_at h c.at-element.result) c.home_of-at_home.ensures in
     let own = c.self.inside in
     let p = own.processors in
     let rows = own.elements.entries in
@@ -56,7 +60,7 @@ invariant_of-self c =
     let n = c.in-Some.taken.born in
     let e = c.in-Some.ensures in
     let slot = from_given c.args.self.now _ c.self.view_is c.args.id m e.taken (λ d m. IsSlot d.rows c.args.slot m.to) c.requires.receiver in
-    let stand : c.stand_of-stand.result ≡ stand_by p rows m.to = c.stand_of-stand.ensures ∙ ap (stand_of p m.to) (element_is rows c.args.slot m.to c.at-element.result slot c.at-element.ensures ∙ sym (element_risen m.to rows)) in
+    let stand : c.stand_at-stand.result ≡ stand_by p rows m.to = stood ∙ ap (stand_of p m.to) (element_is rows c.args.slot m.to c.at-element.result slot c.at-element.ensures ∙ sym (element_risen m.to rows)) in
     let at : c.place.result ≡ place_by (stand_by p rows m.to) (m.entry == CONSTRUCT) = c.place.ensures ∙ ap (λ (s : Stand). place_by s (m.entry == CONSTRUCT)) stand in
     tied_left p rows w c.take.new.self own.index c.take-2.new.self n m c.self.invariant e.distinct e.born e.births
     (e.left ∙ ap (λ id. without id w.messages) (found-id c.args.id w.messages m (sym e.taken)))

@@ -1,0 +1,33 @@
+-- The blank that a task is dealt.
+use Rattle.std.specs.Prelude.{◌≡◌, ◌+◌, ◌++◌, true, List}
+use Rattle.charmlet_model.specs.declared.kind.Kind.{Kind}
+use Rattle.charmlet_model.specs.declared.logged.Effect.TheVariants.{Constructed}
+use Rattle.charmlet_chare.specs.declared.chare.Chare.{Ghosts}
+use Rattle.charmlet_record.specs.Reading.{Kinds}
+use Rattle.charmlet_recovery.specs.Blanks.{array_is}
+use Rattle.charmlet_stock.specs.declared.stock.Stock.{Stock}
+use Rattle.charmlet_stock.specs.Stock.{blanks_in}
+use Rattle.charmlet_partition.specs.declared.task.Task.{Task}
+use Rattle.charmlet_replay.specs.Restored.{IsHeld}
+use Rattle.charmlet_lots.specs.Tasks.{taken_by_all}
+use Rattle.charmlet_lots.specs.declared.lot.Lot.{Lot}
+
+-- The lot has some more tasks, and the blanks that these take; else it is as it was.
+pub record HasMore {C : Type 0} {G : Ghosts C} (manifest : Kinds) (more : List Task)
+    (old new : Lot C G) : Type 0 where
+  pub tasks : new.tasks.items ≡ old.tasks.items ++ more
+  pub blanks : (kind : Kind) → blanks_in new.restored.stock kind
+      ≡ blanks_in old.restored.stock kind + taken_by_all manifest more kind
+  pub rest : new.restored ≡ record old.restored { stock = new.restored.stock }
+  pub held : IsHeld old.restored → IsHeld new.restored
+
+-- these blanks went out of the stock
+abbrev pub HasGivenOut : {C : Type 0} {G : Ghosts C} → Kinds → List Task → Stock C G →
+    Stock C G → Type 0
+HasGivenOut manifest tasks old new = (kind : Kind) →
+    blanks_in new kind + taken_by_all manifest tasks kind ≡ blanks_in old kind
+
+-- it is written that the task constructs its receiver, and there is no blank for that
+abbrev pub LacksBlank : {C : Type 0} {G : Ghosts C} → Kinds → Task → Stock C G → Type 0
+LacksBlank manifest t stock = (kind : Kind) × (t.effect ≡ Constructed)
+    × (array_is manifest kind t.message.to.array ≡ true) × (blanks_in stock kind ≡ 0)
