@@ -1,3 +1,5 @@
 -- The definitions that contracts cite.
 pub mod Blank
+pub mod Dealt
+pub mod Keeping
 pub mod Sharing

@@ -11,6 +11,7 @@ ghost use Rattle.charmlet_replay.specs.Restored.{IsHeld};
 ghost use Rattle.charmlet_stock.specs.Stock.{blanks_in, keeping_of, part_of, supplied_to};
 ghost use Rattle.charmlet_lots.specs.Tasks.{taken_by};
 ghost use Rattle.charmlet_dealing.specs.Blank.{LacksBlank};
+ghost use Rattle.charmlet_dealing.specs.Keeping.{IsDrawnFrom};
 
 use charmlet_chare::Chare;
 use charmlet_model::{Effect, Kind, Manifest};
@@ -46,6 +47,9 @@ pub fn deal_blank<C: Chare>(
     ensures supplied { (kind : kinds.Kind) →
         supplied_to stock.new kind ≡ supplied_to stock.old kind }
     ensures keeping { keeping_of stock.new ≡ keeping_of stock.old }
+    ensures drawn { IsDrawnFrom stock.old stock.new }
+    ensures same { IfOk result (λ done. done ≡ false →
+        (stock.new ≡ stock.old) × (restored.new ≡ restored.old)) }
 {
     let Some(kind) = kind_wanted(manifest, task) else {
         return Ok(true);

@@ -1,10 +1,15 @@
-//! Dealing: a worker is given its tasks, and a blank for each construction that is written.
+//! Dealing: a pass over a log gives each worker its tasks, and a blank for each construction that is
+//! written.
 #![tactic(auto)]
 
 mod blank;
+mod dealing;
 mod giving;
+mod reached;
 mod worker;
 
 pub use crate::blank::deal_blank;
+pub use crate::dealing::deal_log;
 pub use crate::giving::give_task;
+pub use crate::reached::Reached;
 pub use crate::worker::worker_of;

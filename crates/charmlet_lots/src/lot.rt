@@ -5,6 +5,7 @@ use charmlet_model::CaughtUp;
 use charmlet_partition::Task;
 use charmlet_record::{Placed, ReadError};
 use charmlet_replay::Restored;
+use charmlet_replies::Reply;
 use std::alloc::Global;
 
 /// What a worker has of a recovery: its elements, with a shelf for each processor and a stock of
@@ -15,5 +16,6 @@ pub struct Lot<C: Chare> {
     pub restored: Restored<C>,
     pub deliveries: Vec<Placed<CaughtUp>>,
     pub tasks: Vec<Task>,
+    pub replies: Vec<Reply>,
     pub stopped: Option<ReadError>,
 }

@@ -77,6 +77,10 @@ pub written_sends : (edition : Edition) (effect : Effect) (sends : List Outgoing
 unfolding written_reaction
 written_sends edition effect sends = refl
 
+pub written_reply : (edition : Edition) (effect : Effect) (sends : List Outgoing) → (written_reaction edition effect sends).reply ≡ []
+unfolding written_reaction
+written_reply edition effect sends = refl
+
 outgoing : (manifest : Kinds) (me : Elem) (sends : List Outgoing) → AllByRecursion (IsSend manifest) sends → stay_in me.array sends ≡ true → AllByRecursion (IsOutgoing me) sends
 outgoing manifest me [] each stay = tt
 outgoing manifest me (s ∷ ss) each stay =

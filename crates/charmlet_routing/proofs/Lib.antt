@@ -6,3 +6,4 @@ pub mod Suits
 pub mod Passing
 pub mod Following
 pub mod Committing
+pub mod WithWords

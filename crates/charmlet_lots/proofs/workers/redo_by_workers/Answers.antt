@@ -4,7 +4,7 @@ use Rattle.charmlet_lots.specs.Tasks.{HasTaken, IsDoneLot}
 use Rattle.charmlet_lots.specs.Workers.{IsWhole}
 use Rattle.charmlet_lots.proofs.LotStops.{go-on, zip-map}
 use Rattle.charmlet_replay.proofs.Results.{ok_then}
-use Rattle.charmlet_lots.proofs.TasksByWorkers.{begins, fault-is, parts-are, passes}
+use Rattle.charmlet_lots.proofs.TasksByWorkers.{begins, fault-is, parts-are, passes, replies-are}
 use Rattle.charmlet_lots.proofs.workers.redo_by_workers.Goals as goal
 
 pub returns-clause-ok : goal.returns-clause-ok
@@ -15,6 +15,13 @@ returns-clause-ok g c = λ worker w before pass log same dealt.
     ok_then _ _ c.stop_of_lots.result
     (λ found. (passes worker w before pass log olds news dealt zip found.1 found.0, begins worker w before pass log olds news dealt zip found.1 found.0, parts-are worker w before pass log olds news dealt zip found.1 found.0))
     c.stop_of_lots.ensures.ok
+
+pub returns-clause-replies : goal.returns-clause-replies
+returns-clause-replies g c = λ worker w before pass log same dealt.
+    let olds = c.args.lots.now in
+    let news = c.lend_tasks.new.lots in
+    let zip : AllZip (IsDoneLot w.manifest) olds news = subst (λ kinds. AllZip (IsDoneLot kinds) olds news) (sym same) c.lend_tasks.ensures in
+    ok_then _ _ c.stop_of_lots.result (λ found. replies-are worker w before pass log olds news dealt zip found.1 found.0) c.stop_of_lots.ensures.ok
 
 pub returns-clause-fault : goal.returns-clause-fault
 returns-clause-fault g c = λ worker w before pass log same dealt fault is.

@@ -1,0 +1,5 @@
+-- The definitions that contracts cite.
+pub mod Taken
+pub mod Joined
+pub mod Merged
+pub mod Rows

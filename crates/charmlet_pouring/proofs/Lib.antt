@@ -1,0 +1,2 @@
+-- Objects that go over one by one.
+pub mod GoneOver

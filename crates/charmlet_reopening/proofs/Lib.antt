@@ -1,0 +1,4 @@
+-- What workers have who have done all tasks.
+pub mod AllDone
+-- What a half gives.
+pub mod Repeated

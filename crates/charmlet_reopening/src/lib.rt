@@ -1,0 +1,11 @@
+//! Reopening: a half that several workers brought back becomes a store, which goes on in the newest
+//! versions of its kinds.
+#![tactic(auto)]
+
+mod going_on;
+mod joined;
+pub mod laws;
+mod opening;
+
+pub use crate::going_on::go_on;
+pub use crate::joined::{Unjoined, join};

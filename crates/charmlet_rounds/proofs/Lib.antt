@@ -1,0 +1,3 @@
+-- Lemmas on rounds by several workers.
+pub mod LogPlaces
+pub mod Rounds

@@ -1,0 +1,3 @@
+-- Sums over workers.
+pub mod Sums
+pub mod AddUp

@@ -1,0 +1,4 @@
+//! Shares: what each of several workers needs of blanks, and what that is together.
+#![tactic(auto)]
+
+pub mod laws;
