@@ -9,6 +9,8 @@ mod pending;
 mod records;
 mod taking;
 
+pub use crate::clients::append_clients;
 pub use crate::holding::HoldsShelf;
-pub use crate::image::image_of;
+pub use crate::image::{append_arrays, count_of, fill_header, image_of};
+pub use crate::pending::append_pending;
 pub use crate::taking::{checkpoint, checkpoint_with};

@@ -12,7 +12,7 @@ use charmlet_world::{Letter, Messages};
 use std::alloc::{AllocError, Global};
 
 /// Appends how many messages there are, and each of them. It fails only when out of memory.
-pub(crate) fn append_pending(
+pub fn append_pending(
     alloc: Global,
     out: &mut Vec<u8>,
     count: u32,

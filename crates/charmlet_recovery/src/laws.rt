@@ -2,7 +2,7 @@
 
 ghost use Rattle.charmlet_recovery.specs.Laws.{AppendedEventsRecover, DeliveriesGrow, FaultlessIsSound, HistoriesRecover, MomentsOfShelves, SealsRecover};
 ghost use Rattle.charmlet_recovery.specs.FileLaws.{BatchesAreSaved, ClosedIsNothing, FilesOfHistoriesRecover, HistoriesAreSaved, KeptIsLawful, LawfulGrows, LawfulIsKept, LawfulJoins, LawfulParts, NothingIsClosed, OpenedIsLawful, RecoveredIsFit, SealedImagesAreWritten, SpelledIsSuperseded, RecoveredIsTaken, RecoveredWasStored, StoredIsOne, StoredIsRecovered, StoredIsTaken, TakenWasStored, ToldIsRecovered};
-ghost use Rattle.charmlet_recovery.specs.WritingLaws.{BatchesLengthen, BatchesStand, CheckpointsAreStored, CreationsAreStored, FlushesAreStored, HalvesHaveSize, ImagesHaveSize, ImagesStand, LawfulLacksBlanksAlone, LegalHistoriesJoin, LegalHistoriesPart, NewStoresStand, NothingIsRefused, StandingIsStored, StoredIsStanding};
+ghost use Rattle.charmlet_recovery.specs.WritingLaws.{BatchesLengthen, BatchesStand, CheckpointsAreStored, CreationsAreStored, FlushesAreStored, HalvesHaveSize, ImagesHaveSize, ImagesStand, LawfulLacksBlanksAlone, LegalHistoriesJoin, LegalHistoriesPart, NewStoresStand, NewestHalvesGoOn, NextHalvesAreStored, NextHalvesStand, NothingIsRefused, StandingIsStored, StoredIsStanding, TakenImagesAreSaved};
 ghost use Rattle.charmlet_recovery.specs.RestartLaws.{FaultsStandThere, FoundLacksBlanksAlone, LeastShortIsFound, OffsetsRise, RestartsAreRefusedForCause, RestartsAreTaken};
 ghost use Rattle.charmlet_recovery.specs.FaultLaws.{CatchUpGoesOn, EventsGoOn, FaultsArePlaces, FaultsStay, PendingGoesOn, RoundsEnd};
 ghost use Rattle.charmlet_recovery.specs.BlankLaws.{BlanksAreThoseMade, BlanksSuffice, BlanksSufficeNext};
@@ -169,4 +169,14 @@ pub fn written_worlds_are_stored()
 pub fn lawful_outcomes_restart()
     ensures nothing { NothingIsRefused }
     ensures lawful { LawfulLacksBlanksAlone }
+{}
+
+/// An image that was taken while events came can be written into a half, which means the world
+/// after them. While it takes the place of the half that it supersedes, the files store the world
+/// of one of the two.
+pub fn taken_images_are_stored()
+    ensures saved { TakenImagesAreSaved }
+    ensures newest { NewestHalvesGoOn }
+    ensures stands { NextHalvesStand }
+    ensures stored { NextHalvesAreStored }
 {}

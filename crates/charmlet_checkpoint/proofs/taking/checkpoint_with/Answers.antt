@@ -1,8 +1,8 @@
-use Rattle.std.proofs.Common.{◌∙◌}
+use Rattle.std.proofs.Common.{subst, sym}
 use Rattle.charmlet_disk.proofs.Moments.{started}
 use Rattle.charmlet_halves.specs.Halves.{disk_of}
 use Rattle.charmlet_history.specs.Kept.{core_in}
-use Rattle.charmlet_journal.specs.Rest.{HasOldOrSealed, keeps_durable}
+use Rattle.charmlet_journal.specs.Rest.{HasOldOrSealed, IsSealing, keeps_durable}
 use Rattle.charmlet_journal.proofs.Turning.{rests_sealed}
 use Rattle.charmlet_checkpoint.proofs.SealedBytes.{sealed}
 use Rattle.charmlet_checkpoint.proofs.taking.checkpoint_with.Goals as goal
@@ -24,4 +24,6 @@ returns-in_err-bytes-clause-stored g c = λ honest going.
     (λ o left. rests_sealed {G = g.D.Disk} core sound.legal sound.durable halves honest (c.requires.agrees going).going ((c.requires.kept honest).rest going) o (laws.only_now disk o honest left))
 
 pub seal-requires-clause-image : goal.seal-requires-clause-image
-seal-requires-clause-image g c κs within = c.as_slice.ensures.value ∙ sealed (core_in c.args.history.now) c.in_ok-bytes.bytes.items c.in_ok-bytes.ensures.bytes
+seal-requires-clause-image g c κs within =
+    subst (IsSealing (core_in c.args.history.now)) (sym c.as_slice.ensures.value)
+    (sealed (core_in c.args.history.now) c.in_ok-bytes.bytes.items c.facts.ensures.sound c.in_ok-bytes.ensures.within c.in_ok-bytes.ensures.bytes)
