@@ -133,3 +133,8 @@ none_left P end is = subst (λ e. IfSome e P) (sym is) tt
 pub not_ok : {T E : Type 0} (P : Type 0) (r : Result T E) → IsErr r → OnOk r P
 not_ok P (Ok x) fails = let never : ⊥ = cc in absurd never
 not_ok P (Err e) fails = tt
+
+-- what holds of the disk that comes back holds more widely
+pub some_on : {D : Type 0} (P Q : D → Type 0) (end : Option D) → ((disk : D) → P disk → Q disk) → IfSome end P → IfSome end Q
+some_on P Q None f holds = tt
+some_on P Q (Some disk) f holds = f disk holds

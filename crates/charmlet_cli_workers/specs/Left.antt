@@ -57,8 +57,8 @@ Prints (Err (Output error)) restarted clients lines before after =
     IsBrokenOff restarted clients lines before after
 Prints (Err error) restarted clients lines before after = Unit {0}
 
--- A runtime is taken apart after a run that ended early for this reason; or it isn't, for want of
--- memory, after all lines, and then the disk doesn't come back.
+-- A runtime is taken apart after a run that ended early for this reason; or it isn't, after all
+-- lines, and then the disk doesn't come back.
 abbrev pub EndsApart : {D T X : Type 0} → Result X (WorkersError T) → (end : Option D) →
     WorkersError T → Type 0
 EndsApart ran end error = (ran ≡ Err error) ⊎ ((error ≡ NotClosed) × (end ≡ None))

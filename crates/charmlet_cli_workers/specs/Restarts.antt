@@ -31,8 +31,8 @@ line_of back = record {
 
 module _ {D : Type 0} (G : Ghosts D) where
   -- There are 1 to 64 processors, and a store came back from the first disk, as an engine's does.
-  -- The disk at the end, if it comes back, has a store that went on from that one; and this was
-  -- printed.
+  -- The disk at the end, if it comes back, is honest if the first one was, and has a store that went
+  -- on from that one; and this was printed.
   pub record IsBackByWorkers (processors : ℕ) (given : Blanks) (first : D) (end : Option D)
       (printed : (back last : Core) → Type 0) : Type 0 where
     pub counted : IsTrue (is_processor_count processors)
@@ -40,6 +40,7 @@ module _ {D : Type 0} (G : Ghosts D) where
     pub is_back : IsBack G processors given first back
     pub left : IfSome end (IsLeft G back.store.core.opening back.store.core.before processors
         (printed back.store.core))
+    pub honest : IfSome end (λ last. G.honest first → G.honest last)
 
   -- no store came back, for this reason, and the disk does
   abbrev pub IsNotBack : (processors : ℕ) → Blanks → (first : D) → (end : Option D) → Refusal →

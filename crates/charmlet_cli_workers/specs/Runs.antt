@@ -24,14 +24,15 @@ module _ {D : Type 0} (G : Ghosts D) where
   IsAsHonest first last = (G.honest first → G.honest last) × (G.honest last → G.honest first)
 
   -- There are 1 to 64 processors, and a new store with the script's arrays was made on the first
-  -- disk. The disk at the end, if it comes back, has a store that went on from that one; and this
-  -- was printed.
+  -- disk. The disk at the end, if it comes back, is honest if that one was, and has a store that
+  -- went on from the new one; and this was printed.
   pub record IsMade (first : D) (end : Option D) (script : Contents) (printed : Core → Type 0)
       : Type 0 where
     pub processors : IsTrue (is_processor_count (processors_of script))
     pub made : D
     pub created : IsCreated G (kinds_of script) first made
     pub left : IfSome end (IsLeft G (new_world (kinds_of script)) 0 (processors_of script) printed)
+    pub honest : IfSome end (λ last. G.honest first → G.honest last)
 
   -- no store was made, for this reason, and the disk comes back
   abbrev pub IsNotMade : (first : D) → (end : Option D) → Contents → Refusal → Type 0

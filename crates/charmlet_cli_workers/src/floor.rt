@@ -14,10 +14,12 @@ use charmlet_workers::{Runtime, Station, Worked};
 use std::alloc::{AllocError, Global};
 use std::sync::Wait;
 
-/// The seats of the workers, by rising processor, the passes of the clients, the handlers, and the
-/// objects that the lines supply.
+/// The seats of the workers, by rising processor, an empty list with room for them, the passes of
+/// the clients, the handlers, and the objects that the lines supply.
 pub(crate) struct Floor<C: Chare, B: RuntimeName> {
     pub(crate) stations: Vec<Station<B>>,
+    /// For the end, which so takes no memory.
+    pub(crate) seats: Vec<Seat<SeatsOf<B>>>,
     pub(crate) clients: Clients<B>,
     pub(crate) handlers: Handlers,
     pub(crate) source: Stock<C>,
@@ -28,11 +30,13 @@ impl<C: Chare, B: RuntimeName> Drop for Floor<C, B> {
     fn drop(self) {
         let Floor {
             stations,
+            seats,
             clients,
             handlers,
             source,
         } = self;
         drop(stations);
+        drop(seats);
         drop(clients);
         drop(handlers);
         drop(source);
@@ -49,6 +53,7 @@ impl<C: Chare, B: RuntimeName> Floor<C, B> {
     {
         Floor {
             stations: Vec::new(alloc),
+            seats: Vec::new(alloc),
             clients: Clients::new(alloc),
             handlers,
             source,
@@ -61,6 +66,7 @@ impl<C: Chare, B: RuntimeName> Floor<C, B> {
     {
         let Floor {
             stations,
+            seats,
             clients,
             handlers,
             source,
@@ -69,26 +75,32 @@ impl<C: Chare, B: RuntimeName> Floor<C, B> {
         drop(source);
         Lent {
             stations,
+            seats,
             passes: clients.into_passes(),
         }
     }
 }
 
-/// The seats and the passes that a runtime lent.
+/// The seats and the passes that a runtime lent, and an empty list with room for the seats.
 #[derive(Drop)]
 pub(crate) struct Lent<B: RuntimeName> {
     pub(crate) stations: Vec<Station<B>>,
+    pub(crate) seats: Vec<Seat<SeatsOf<B>>>,
     pub(crate) passes: Vec<ClientPass<PassesOf<B>>>,
 }
 
-/// Takes the seats of so many processors, by rising number. `Memory` where there is none for one of
-/// them; those before it are taken then.
+/// Takes the seats of so many processors, by rising number, and makes room for them in the list for
+/// the end. `Memory` where there is none for one of them; those before it are taken then.
 pub(crate) fn take_seats<D: Disk, C: Chare, B: RuntimeName, R: Wait>(
     rt: &R,
     runtime: &Runtime<D, C, B>,
     stations: &mut Vec<Station<B>>,
+    seats: &mut Vec<Seat<SeatsOf<B>>>,
     processors: u16,
 ) -> Result<(), Refusal> {
+    if seats.reserve(usize::from(processors)).is_err() {
+        return Err(Refusal::Memory);
+    }
     for processor in 0..processors {
         if stations.reserve(1).is_err() {
             return Err(Refusal::Memory);
@@ -106,14 +118,13 @@ pub(crate) fn take_seats<D: Disk, C: Chare, B: RuntimeName, R: Wait>(
     Ok(())
 }
 
-/// The seats of workers. It fails only when out of memory.
-pub(crate) fn seats_of<B: RuntimeName>(
-    alloc: Global,
+/// Puts the seats of workers into a list, which takes no memory where that has room for them.
+pub(crate) fn give_up<B: RuntimeName>(
     stations: Vec<Station<B>>,
-) -> Result<Vec<Seat<SeatsOf<B>>>, AllocError> {
-    let mut seats = Vec::with_capacity(alloc, stations.len())?;
+    seats: &mut Vec<Seat<SeatsOf<B>>>,
+) -> Result<(), AllocError> {
     for Station { seat, worked: _ } in stations {
         seats.push(seat)?;
     }
-    Ok(seats)
+    Ok(())
 }

@@ -15,7 +15,7 @@ ghost use Rattle.charmlet_cli.specs.Lines.{in_lines};
 ghost use Rattle.charmlet_cli.specs.Writing.{Writes};
 
 use crate::ended::{RanByWorkers, WorkersError};
-use crate::floor::{Floor, Lent, seats_of, take_seats};
+use crate::floor::{Floor, Lent, give_up, take_seats};
 use crate::lines::run_lines;
 use charmlet_chare::Chare;
 use charmlet_cli::{RestartedLine, write_line};
@@ -71,12 +71,15 @@ pub(crate) fn run_named<
     requires seats { table_of books.seats ≡ B.seats }
     requires passes { table_of books.passes ≡ B.passes }
     requires keeps { KeepsDurable D.Disk (core_of begun) begun.disk }
+    requires honest { B.honest → D.honest begun.disk }
+    requires only_honest { D.honest begun.disk → B.honest }
     requires no_delivery { has_delivery lines.now.lines.now ≡ false }
     requires enough { (kind : Kind) → blanks_of kind lines.now.lines.now
         ≤ blanks_in given.source kind }
     ensures left { IfSome result.disk (IsLeft D.Disk (core_of begun).opening (core_of begun).before
         (core_of begun).processors (λ last. Prints result.result lines.now.restarted
         (known_in last) lines.now.lines.now (W.contents writer.old) (W.contents writer.new))) }
+    ensures honest { IfSome result.disk (λ disk. D.honest begun.disk → D.honest disk) }
     ensures back { OnOk result.result (IsSome result.disk) }
     ensures err { IfErr result.result (EndsEarly result.disk writer.old writer.new) }
 {
@@ -85,7 +88,7 @@ pub(crate) fn run_named<
     match begun.open::<B>(books) {
         Ok(runtime) => {
             let ran = run_on(rt, alloc, &runtime, &mut floor, lines, writer);
-            take_apart(alloc, runtime, floor, ran)
+            take_apart(runtime, floor, ran)
         }
         Err(NotOpened { store, halves }) => {
             store.history.facts();
@@ -121,7 +124,9 @@ fn run_on<
         (known_by floor.new.clients.passes.items) lines.now.lines.now (W.contents writer.old)
         (W.contents writer.new) }
 {
-    if take_seats(rt, runtime, &mut floor.stations, lines.processors).is_err() {
+    let stations = &mut floor.stations;
+    let seats = &mut floor.seats;
+    if take_seats(rt, runtime, stations, seats, lines.processors).is_err() {
         return Err(WorkersError::NotOpened);
     }
     if let Err(error) = write_opening(alloc, lines.restarted, writer) {
@@ -148,24 +153,29 @@ fn write_opening<W: Write>(
     }
 }
 
-/// Takes the runtime apart, with all seats and passes that were lent. The disk comes back, unless
-/// it is out of memory.
+/// Takes the runtime apart, with all seats and passes that were lent, and takes no memory where the
+/// list of seats has room for all of them. The disk comes back, unless one that was lent isn't
+/// there.
 fn take_apart<D: Disk, C: Chare, T: Drop, B: RuntimeName>(
-    alloc: Global,
     runtime: Runtime<D, C, B>,
     floor: Floor<C, B>,
     ran: Result<(), WorkersError<T>>,
 ) -> RanByWorkers<D, T>
     ensures left { IfSome result.disk (IsApart D.Disk runtime.opening runtime.before
         runtime.processors floor.clients.passes.items) }
+    ensures honest { IfSome result.disk (λ disk. B.honest → D.honest disk) }
     ensures same { IsSome result.disk → result.result ≡ ran }
     ensures back { OnOk result.result (IsSome result.disk) }
     ensures err { IfErr result.result (EndsApart ran result.disk) }
 {
-    let Lent { stations, passes } = floor.into_lent();
-    let Ok(seats) = seats_of(alloc, stations) else {
+    let Lent {
+        stations,
+        mut seats,
+        passes,
+    } = floor.into_lent();
+    if give_up(stations, &mut seats).is_err() {
         return not_closed(ran);
-    };
+    }
     match runtime.close(seats, passes) {
         Ok(Closed { store, halves, own }) => {
             store.history.facts();

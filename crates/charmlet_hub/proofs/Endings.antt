@@ -1,8 +1,7 @@
 -- What is under way on one shelf after another ends.
-use Rattle.std.proofs.Common.{◌≡◌, ◌==◌, ℕ, zero, suc, ◌+◌, ◌<◌, ◌≤◌, true, List, [], ◌∷◌, ◌++◌, get_or, length, map, take, drop, refl, sym, ap, subst, ◌∙◌, arith}
-use Rattle.std.specs.Prelude.{◌&&◌, Some, slice_get, slice_set}
+use Rattle.std.proofs.Common.{◌≡◌, ℕ, zero, suc, ◌+◌, ◌<◌, ◌≤◌, List, [], ◌∷◌, ◌++◌, get_or, length, map, take, drop, refl, sym, ap, subst, ◌∙◌, arith}
+use Rattle.std.specs.Prelude.{Some, slice_get, slice_set}
 use Rattle.std.specs.List.{All, AllByRecursion}
-use Rattle.std.specs.Cmp.{nat_eq_equiv}
 use Rattle.std.proofs.lemmas.List.{append-nil, drop_all, take_all}
 use Rattle.std.proofs.lemmas.List.Elements.{All-from_recursion}
 use Rattle.charmlet_sequencer.specs.Moving.{IsIdle}
@@ -12,7 +11,7 @@ use Rattle.charmlet_shelf.specs.declared.phase.Phase.TheVariants as phases
 use Rattle.charmlet_passes.proofs.Places.{found, next-changed}
 use Rattle.charmlet_seats.specs.Seats.{Seats}
 use Rattle.charmlet_hub.specs.Hub.{HubShown}
-use Rattle.charmlet_hub.specs.Settling.{SettleAll, Settles, SettlesIn, are_all_in, ended}
+use Rattle.charmlet_hub.specs.Settling.{SettleAll, Settles, SettlesIn, ended}
 
 -- the next one is the first that is left
 pub next_left : {A : Type 0} (f : A → A) (xs : List A) (i : ℕ) (x : A) → slice_get (map f (take i xs) ++ drop i xs) i ≡ Some x → drop i xs ≡ x ∷ drop (suc i) xs
@@ -74,9 +73,3 @@ module _ {D : Type 0} where
 
       pub shelves_idle : All IsIdle now
       shelves_idle = All-from_recursion IsIdle now (subst (AllByRecursion IsIdle) (sym shelves_ended) (all_ended xs))
-
-  -- as many seats and passes as are out are all
-  pub are_in : (hub : HubShown D) (seats passes : ℕ) → seats ≡ length hub.seats.out → passes ≡ length hub.passes.out → are_all_in hub seats passes ≡ true
-  are_in hub seats passes s p =
-      (λ i. (s i == length hub.seats.out) && (p i == length hub.passes.out))
-      ∙ (λ i. nat_eq_equiv.refl (length hub.seats.out) i && nat_eq_equiv.refl (length hub.passes.out) i)

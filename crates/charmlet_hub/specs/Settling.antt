@@ -1,7 +1,5 @@
 -- How what is under way on a shelf ends.
-use Rattle.std.specs.Prelude.{◌≡◌, ℕ, ◌==◌, ◌&&◌, Bool, List, [], ◌∷◌, ◌++◌, length, if◌then◌else◌}
-use Rattle.charmlet_model.specs.declared.refusal.Refusal.{Refusal}
-use Rattle.charmlet_model.specs.declared.refusal.Refusal.TheVariants as refusals
+use Rattle.std.specs.Prelude.{◌≡◌, ℕ, ◌==◌, ◌&&◌, Bool, List, [], ◌∷◌, ◌++◌, length}
 use Rattle.charmlet_model.specs.Core.{Done as IsDone, Finish, Release}
 use Rattle.charmlet_model.specs.Run.{Goes}
 use Rattle.charmlet_shelf.specs.Shelf.{View, settled}
@@ -33,11 +31,6 @@ module _ {D : Type 0} where
   -- so many seats and passes are all that are out
   abbrev pub are_all_in : HubShown D → ℕ → ℕ → Bool
   are_all_in hub seats passes = (seats == length hub.seats.out) && (passes == length hub.passes.out)
-
-  -- why a hub isn't closed
-  abbrev pub closing_refusal : HubShown D → ℕ → ℕ → Refusal
-  closing_refusal hub seats passes = if are_all_in hub seats passes then refusals.Memory
-      else refusals.PassOut
 
 -- the shelf once what was under way has ended
 abbrev pub ended : View → View

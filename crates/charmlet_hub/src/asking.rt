@@ -19,7 +19,7 @@ use crate::names::PassesOf;
 use charmlet_chare::Chare;
 use charmlet_disk::Disk;
 use charmlet_history::Request;
-use charmlet_model::{Refusal, Told};
+use charmlet_model::{MsgId, Origin, Refusal, Told};
 use charmlet_passes::ClientPass;
 use charmlet_sequencer::RuntimeName;
 
@@ -28,8 +28,40 @@ impl<D: Disk, C: Chare, B: RuntimeName> Hub<D, C, B> {
     /// tells the client what is durable of it. The refusals are those of
     /// [`charmlet_history::History::request`], in their order. If it isn't refused, the pass
     /// records that it was accepted, and what was told about it. What is told is no less than the
-    /// pass knew, and no other words. A refusal changes nothing.
+    /// pass knew, and no other words. A refusal changes nothing. The processor that is to deliver
+    /// the request has a ticket for it.
     pub fn request(
+        &mut self,
+        pass: &mut ClientPass<PassesOf<B>>,
+        request: &Request<'_>,
+    ) -> Result<Told, Refusal>
+        ensures goes { Goes (store_in self.old) (core.Request pass.old.pass.client
+            request.now.number request.now.to request.now.entry request.now.words.now)
+            (told_or_refused result) (store_in self.new) }
+        ensures holds { IfOk result (λ told. Holds self.old.core.opening
+            (take self.old.core.durable self.old.core.history) pass.old.pass.client
+            request.now.number told) }
+        ensures answered { IsAnswered pass.old pass.new request.now.number result }
+        ensures told { IfOk result (λ told. pass.new.pass
+            ≡ with_accept (with_told pass.old.pass request.now.number told) request.now.number) }
+        ensures accepts { OnOk result (pass.new.accepts ≡ accepts_after pass.old request.now) }
+        ensures kept { IsKept self.old.passes self.new.passes pass.old pass.new }
+        ensures rest { self.new
+            ≡ record self.old { core = self.new.core; passes = self.new.passes } }
+        ensures err { OnErr result (self.new ≡ self.old) }
+    {
+        let told = self.accept(pass, request);
+        if told.is_ok() {
+            self.hint(MsgId {
+                origin: Origin::Client(pass.client()),
+                number: request.number,
+            });
+        }
+        told
+    }
+
+    /// The same, without a ticket.
+    fn accept(
         &mut self,
         pass: &mut ClientPass<PassesOf<B>>,
         request: &Request<'_>,

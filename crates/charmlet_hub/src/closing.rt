@@ -1,6 +1,6 @@
 //! The end of a hub and its shelves.
 
-ghost use Rattle.std.specs.Prelude.{◌≡◌, ◌∷◌, false, true, IfErr, IfOk, OnOk, map, vec_len};
+ghost use Rattle.std.specs.Prelude.{◌≡◌, ◌∷◌, false, true, IfErr, IfOk, OnErr, OnOk, map, vec_len};
 ghost use Rattle.std.specs.List.{AllByRecursion};
 ghost use Rattle.charmlet_model.specs.declared.refusal.Refusal.TheVariants as refusals;
 ghost use Rattle.charmlet_disk.specs.File.{CrashBytes, MayLeave};
@@ -8,12 +8,13 @@ ghost use Rattle.charmlet_halves.specs.Halves.{disk_of};
 ghost use Rattle.charmlet_history.specs.Kept.{core_in};
 ghost use Rattle.charmlet_sequencer.specs.Rest.{Agrees};
 ghost use Rattle.charmlet_stock.specs.ByKind.{for_all};
+ghost use Rattle.charmlet_store.specs.Store.{AreEmpty};
 ghost use Rattle.charmlet_passes.specs.Passes.{AreAll, HeldPass, IsCurrent};
 ghost use Rattle.charmlet_seats.specs.Seats.{HeldSeat};
 ghost use Rattle.charmlet_seats.specs.Woven.{IsWoven};
 ghost use Rattle.charmlet_sequencer.specs.Sequencer.{IsOf, is_lawful};
 ghost use Rattle.charmlet_hub.specs.Hub.{HubShown, deliveries_in};
-ghost use Rattle.charmlet_hub.specs.Settling.{SettleAll, are_all_in, closing_refusal};
+ghost use Rattle.charmlet_hub.specs.Settling.{SettleAll, are_all_in};
 
 use crate::hub::{Hub, HubParts};
 use crate::names::{PassesOf, SeatsOf};
@@ -24,7 +25,8 @@ use charmlet_model::Refusal;
 use charmlet_passes::ClientPass;
 use charmlet_seats::{DeliveryIds, Seat};
 use charmlet_sequencer::{LockedShelf, RuntimeName};
-use charmlet_store::{Store, empty_shelves};
+use charmlet_shelf::Shelf;
+use charmlet_store::Store;
 
 /// What a closed hub was made of: a store, in which no delivery is under way, and the halves of its
 /// disk; and the ids of the deliveries that were committed without a seat.
@@ -41,6 +43,7 @@ pub struct NotClosed<D: Disk, C: Chare, B: RuntimeName> {
     pub refusal: Refusal,
     pub hub: Hub<D, C, B>,
     pub shelves: Vec<LockedShelf<C, B>>,
+    pub empty: Vec<Shelf<C>>,
     pub seats: Vec<Seat<SeatsOf<B>>>,
     pub passes: Vec<ClientPass<PassesOf<B>>>,
 }
@@ -51,17 +54,21 @@ impl<D: Disk, C: Chare, B: RuntimeName> Hub<D, C, B> {
     /// it. The objects show the world after the history. The ids that the seats hold and those of
     /// the commits without a seat are all deliveries of the history: each stands in one of these
     /// lists, in the history's order. Each pass has exactly its client's accepts since it was lent,
-    /// and all that it knows of its client's requests is true of the durable events.
+    /// and all that it knows of its client's requests is true of the durable events. It takes no
+    /// memory: an empty shelf for each processor, in whose place the store has its shelf, is handed
+    /// in too.
     ///
-    /// `PassOut` if a seat or a pass that is out isn't handed in; otherwise `Memory`. Then all
+    /// The only refusal is `PassOut`, if a seat or a pass that is out isn't handed in. Then all
     /// comes back as it was.
     pub fn close(
         self,
         shelves: Vec<LockedShelf<C, B>>,
+        empty: Vec<Shelf<C>>,
         seats: Vec<Seat<SeatsOf<B>>>,
         passes: Vec<ClientPass<PassesOf<B>>>,
     ) -> Result<Closed<D, C>, NotClosed<D, C, B>>
-        requires { vec_len shelves ≡ B.processors }
+        requires count { vec_len shelves ≡ B.processors }
+        requires empty { AreEmpty B.processors empty.items }
         ensures of { IfOk result (λ closed. IsOf B.opening B.before B.processors
             (core_in closed.store.history)) }
         ensures settles { IfOk result (λ closed. (last : HubShown D)
@@ -84,30 +91,21 @@ impl<D: Disk, C: Chare, B: RuntimeName> Hub<D, C, B> {
             (λ (held : HeldPass). IsCurrent held (core_in closed.store.history)) passes.items) }
         ensures all { OnOk result (AreAll self.passes.held passes.items) }
         ensures all_in { OnOk result (are_all_in self (vec_len seats) (vec_len passes) ≡ true) }
-        ensures err { IfErr result (λ back. back.refusal
-            ≡ closing_refusal self (vec_len seats) (vec_len passes)) }
+        ensures err { IfErr result (λ back. back.refusal ≡ refusals.PassOut) }
+        ensures out { OnErr result (are_all_in self (vec_len seats) (vec_len passes) ≡ false) }
         ensures back { IfErr result (λ back. (back.hub ≡ self) × (back.shelves ≡ shelves)
-            × (back.seats ≡ seats) × (back.passes ≡ passes)) }
+            × (back.empty ≡ empty) × (back.seats ≡ seats) × (back.passes ≡ passes)) }
     {
         if seats.len() != self.seats.seat_count() || passes.len() != self.passes.pass_count() {
             return Err(NotClosed {
                 refusal: Refusal::PassOut,
                 hub: self,
                 shelves,
+                empty,
                 seats,
                 passes,
             });
         }
-        self.facts();
-        let Ok(empty) = empty_shelves(self.alloc, self.processors) else {
-            return Err(NotClosed {
-                refusal: Refusal::Memory,
-                hub: self,
-                shelves,
-                seats,
-                passes,
-            });
-        };
         let mut hub = self;
         let mut shelves = shelves;
         for i in 0..shelves.len() {

@@ -76,9 +76,54 @@ impl<D: Disk, C: Chare, B: RuntimeName> Hub<D, C, B> {
 
     /// Adds the delivery that the receiver on the shelf has made to the history, and its id to
     /// those that the seat holds, which has to have room for it. It answers the id. An object that
-    /// is destroyed by the delivery is retired. It takes no memory. The only refusal is `Halted`:
-    /// then all is as before, and the delivery can still be [finished](Self::finish).
+    /// is destroyed by the delivery is retired. The processors that are to deliver what the receiver
+    /// sent have tickets for it. It takes no memory. The only refusal is `Halted`: then all is as
+    /// before, and the delivery can still be [finished](Self::finish).
     pub fn commit(
+        &mut self,
+        locked: &mut LockedShelf<C, B>,
+        seat: &mut Seat<SeatsOf<B>>,
+    ) -> Result<MsgId, Refusal>
+        requires done { is_done locked.old.phase ≡ true }
+        requires room { 0 < seat.old.room }
+        ensures goes { Goes (store_in self.old) (core.Commit locked.old.number)
+            (done_or_refused result) (store_in self.new) }
+        ensures id { IfOk result (λ id. (delivery_in locked.old.phase ≡ Some id)
+            × (assigned_to self.old.core locked.old.number ≡ Some id)) }
+        ensures seat { IfOk result (λ id. seat.new ≡ record seat.old {
+          ids = seat.old.ids ++ id ∷ [];
+          room = seat.new.room;
+        }) }
+        ensures room { OnOk result (seat.new.room + 1 ≡ seat.old.room) }
+        ensures shelf { OnOk result (locked.new ≡ settled locked.old) }
+        ensures objects { KeepsObjects (sequencer_in self.old) (sequencer_in self.new)
+            locked.old locked.new }
+        ensures own { self.new.seats.own ≡ self.old.seats.own }
+        ensures out { self.new.seats.out ≡ self.old.seats.out }
+        ensures had { OnOk result (slice_get self.old.seats.lists seat.old.place
+            ≡ Some (Some seat.old.ids)) }
+        ensures has { OnOk result (self.new.seats.lists
+            ≡ slice_set self.old.seats.lists seat.old.place (Some seat.new.ids)) }
+        ensures rest { self.new ≡ record self.old {
+          core = self.new.core;
+          census = self.new.census;
+          seats = self.new.seats;
+        } }
+        ensures err { IfErr result (λ refusal. refusal ≡ refusals.Halted) }
+        ensures same { OnErr result ((self.new ≡ self.old) × (locked.new ≡ locked.old)
+            × (seat.new ≡ seat.old)) }
+        ensures runs { self.old.core.halted ≡ false → IsOk result }
+    {
+        let sent = locked.sent();
+        let committed = self.commit_quietly(locked, seat);
+        if committed.is_ok() {
+            self.hint_sent(sent);
+        }
+        committed
+    }
+
+    /// The same, without tickets.
+    fn commit_quietly(
         &mut self,
         locked: &mut LockedShelf<C, B>,
         seat: &mut Seat<SeatsOf<B>>,
@@ -129,6 +174,37 @@ impl<D: Disk, C: Chare, B: RuntimeName> Hub<D, C, B> {
     /// own list. So whoever takes the lock of a shelf on which a delivery was made can commit it.
     /// It takes no memory. The only refusal is `Halted`: then all is as before.
     pub fn commit_own(&mut self, locked: &mut LockedShelf<C, B>) -> Result<MsgId, Refusal>
+        requires { is_done locked.old.phase ≡ true }
+        ensures goes { Goes (store_in self.old) (core.Commit locked.old.number)
+            (done_or_refused result) (store_in self.new) }
+        ensures id { IfOk result (λ id. (delivery_in locked.old.phase ≡ Some id)
+            × (assigned_to self.old.core locked.old.number ≡ Some id)) }
+        ensures own { IfOk result (λ id. self.new.seats.own.items
+            ≡ self.old.seats.own.items ++ id ∷ []) }
+        ensures shelf { OnOk result (locked.new ≡ settled locked.old) }
+        ensures objects { KeepsObjects (sequencer_in self.old) (sequencer_in self.new)
+            locked.old locked.new }
+        ensures seats { self.new.seats
+            ≡ record self.old.seats { own = self.new.seats.own } }
+        ensures rest { self.new ≡ record self.old {
+          core = self.new.core;
+          census = self.new.census;
+          seats = self.new.seats;
+        } }
+        ensures err { IfErr result (λ refusal. refusal ≡ refusals.Halted) }
+        ensures same { OnErr result ((self.new ≡ self.old) × (locked.new ≡ locked.old)) }
+        ensures runs { self.old.core.halted ≡ false → IsOk result }
+    {
+        let sent = locked.sent();
+        let committed = self.commit_own_quietly(locked);
+        if committed.is_ok() {
+            self.hint_sent(sent);
+        }
+        committed
+    }
+
+    /// The same, without tickets.
+    fn commit_own_quietly(&mut self, locked: &mut LockedShelf<C, B>) -> Result<MsgId, Refusal>
         requires { is_done locked.old.phase ≡ true }
         ensures goes { Goes (store_in self.old) (core.Commit locked.old.number)
             (done_or_refused result) (store_in self.new) }

@@ -62,7 +62,8 @@ impl<D: Disk, C: Chare, B: RuntimeName> Model for Hub<D, C, B> {
     ghost view = { λ h. shown_by h.sequencer h.seats h.passes };
 
     ghost invariant = { λ h. IsHub (shown_by h.sequencer h.seats h.passes)
-        × (h.processors ≡ B.processors) };
+        × (h.processors ≡ B.processors)
+        × (B.honest → D.honest h.sequencer.disk) };
 }
 
 /// What a hub is made of.
@@ -124,6 +125,7 @@ impl<D: Disk, C: Chare, B: RuntimeName> Hub<D, C, B> {
         requires processors { processors ≡ B.processors }
         requires seats { seats ≡ [] }
         requires passes { passes ≡ [] }
+        requires honest { B.honest → D.honest sequencer.disk }
         ensures sequencer { sequencer_in result ≡ sequencer }
         ensures seats { result.seats.out ≡ [] }
         ensures own { result.seats.own.items ≡ [] }
@@ -143,7 +145,7 @@ impl<D: Disk, C: Chare, B: RuntimeName> Hub<D, C, B> {
     /// that is assigned there, and of each kind all objects that were supplied are on the shelves,
     /// in the stock, or retired; on an honest disk a crash now leaves the world after some of the
     /// history, with all durable events among it; all deliveries are held by the seats or by the
-    /// hub itself; and all passes are current.
+    /// hub itself; all passes are current; and the disk is honest if the first one was.
     pub fn facts(&self)
         ensures of { IsOf B.opening B.before B.processors self.now.core }
         ensures sound { IsSound self.now.core }
@@ -152,6 +154,7 @@ impl<D: Disk, C: Chare, B: RuntimeName> Hub<D, C, B> {
         ensures lawful { D.honest self.now.disk → (outcome : CrashBytes) →
             MayLeave (D.file self.now.disk) outcome → is_lawful self.now.core outcome }
         ensures hub { IsHub self.now }
+        ensures honest { B.honest → D.honest self.now.disk }
     {
         self.sequencer.facts();
     }

@@ -9,6 +9,7 @@
 mod asking;
 mod closing;
 mod delivering;
+mod hinting;
 mod hub;
 mod moving;
 mod names;

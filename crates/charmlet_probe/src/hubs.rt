@@ -45,6 +45,7 @@ fn live_as<B: RuntimeName, W: Write, R: Wait>(
     requires parts { table_of books.parts ≡ B.table }
     requires seats { table_of books.seats ≡ B.seats }
     requires passes { table_of books.passes ≡ B.passes }
+    requires honest { B.honest → ⊥ }
 {
     match HubMachine::<B>::open(alloc, store, books) {
         Ok(machine) => {

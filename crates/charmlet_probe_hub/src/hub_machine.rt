@@ -15,6 +15,7 @@ use charmlet_probe_objects::Object;
 use charmlet_probe_store::{Ended, ProbeStore, Without};
 use charmlet_seats::{Seat, SeenIds};
 use charmlet_sequencer::{LockedShelf, Opened, RuntimeName, SeenPart, open_store};
+use charmlet_store::empty_shelves;
 use std::alloc::{AllocError, Global};
 use std::collections::BTreeMap;
 
@@ -82,6 +83,7 @@ impl<B: RuntimeName> HubMachine<B> {
         requires parts { table_of books.parts ≡ B.table }
         requires seats { table_of books.seats ≡ B.seats }
         requires passes { table_of books.passes ≡ B.passes }
+        requires honest { B.honest → ⊥ }
     {
         let processors = store.processors();
         match Vec::with_capacity(alloc, usize::from(processors)) {
@@ -103,6 +105,7 @@ impl<B: RuntimeName> HubMachine<B> {
         requires parts { table_of books.parts ≡ B.table }
         requires seats { table_of books.seats ≡ B.seats }
         requires passes { table_of books.passes ≡ B.passes }
+        requires honest { B.honest → ⊥ }
         requires none { vec_len shelves ≡ 0 }
         requires room { B.processors ≤ vec_capacity shelves }
     {
@@ -130,6 +133,9 @@ impl<B: RuntimeName> HubMachine<B> {
         if self.shelves.len() != usize::from(self.hub.processors()) {
             return Err((Refusal::Strayed, self));
         }
+        let Ok(empty) = empty_shelves(self.alloc, self.hub.processors()) else {
+            return Err((Refusal::Memory, self));
+        };
         let HubMachine {
             alloc,
             hub,
@@ -140,7 +146,7 @@ impl<B: RuntimeName> HubMachine<B> {
         } = self;
         let seat = take_seat(&mut seats, without);
         let pass = take_pass(&mut passes, without);
-        match hub.close(shelves, seats, passes) {
+        match hub.close(shelves, empty, seats, passes) {
             Ok(
                 Closed {
                     store,
@@ -153,6 +159,7 @@ impl<B: RuntimeName> HubMachine<B> {
                     refusal,
                     hub,
                     shelves,
+                    empty: _,
                     mut seats,
                     mut passes,
                 } = back;

@@ -72,6 +72,7 @@ impl<D: Disk, C: Chare> UnnamedRuntime<D, C> {
         requires parts { table_of books.parts ≡ B.table }
         requires seats { table_of books.seats ≡ B.seats }
         requires passes { table_of books.passes ≡ B.passes }
+        requires honest { B.honest → D.honest self.disk }
         ensures shown { IfOk result (λ runtime. runtime ≡ shown_of (core_of self)) }
         ensures back { IfErr result (λ back. (shown_by back.store back.halves ≡ self)
             × AreTied back.store back.halves) }

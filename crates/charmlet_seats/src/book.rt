@@ -9,16 +9,20 @@ use crate::ids::DeliveryIds;
 use crate::seat::{Seat, SeatBookName, SeenIds};
 use charmlet_agreement::{Book, GhostValue, Share};
 use charmlet_model::{MsgId, Refusal};
+use charmlet_tickets::TicketQueue;
 use std::alloc::{AllocError, Global};
 use std::marker::{Brand, Model};
 
 /// Which seats are out, what each of them holds, and the ids of the deliveries that were committed
-/// without a seat. A contract sees all three.
+/// without a seat. A contract sees all three. Beside them the book has a handle on the queue of
+/// tickets of each processor whose seat is out.
 #[derive(Drop)]
 pub struct SeatBook<B: SeatBookName> {
     alloc: Global,
     /// The processors of the seats that are out, in the order in which these were lent.
     out: Vec<u16>,
+    /// The queues of these processors.
+    queues: Vec<TicketQueue>,
     own: DeliveryIds,
     book: Book<SeenIds, B>,
 }
@@ -55,6 +59,7 @@ impl<B: SeatBookName> SeatBook<B> {
         SeatBook {
             alloc,
             out: Vec::new(alloc),
+            queues: Vec::new(alloc),
             own: DeliveryIds::new(alloc),
             book,
         }
@@ -81,8 +86,8 @@ impl<B: SeatBookName> SeatBook<B> {
         self.own.as_slice()
     }
 
-    /// Lends a processor's seat, which has no ids yet. `PassOut` if it is out; otherwise `Memory`.
-    /// When refused, nothing changes.
+    /// Lends a processor's seat, which has no ids yet, with a new queue of tickets. `PassOut` if it
+    /// is out; otherwise `Memory`. When refused, nothing changes.
     pub fn lend(&mut self, processor: u16) -> Result<Seat<B>, Refusal>
         requires { processor < B.processors }
         ensures seat { IfOk result (λ seat. (seat.processor ≡ processor) × (seat.ids ≡ [])) }
@@ -99,6 +104,7 @@ impl<B: SeatBookName> SeatBook<B> {
         }
         let place = self.out.len();
         self.out.reserve(1)?;
+        let queue = add_queue(self.alloc, &mut self.queues, processor)?;
         self.out.push_reserved(processor);
         let share = self.book.issue(&SeenIds);
         Ok(Seat {
@@ -106,7 +112,29 @@ impl<B: SeatBookName> SeatBook<B> {
             processor,
             ids: DeliveryIds::new(self.alloc),
             share,
+            queue,
         })
+    }
+
+    /// Puts a ticket for the message into the queue of the processor, if its seat is out and the
+    /// queue isn't full. Nothing else changes. It doesn't wait, and takes no memory.
+    pub fn hint(&mut self, processor: u16, id: MsgId)
+        ensures { self.new ≡ self.old }
+    {
+        let queues = self.queues.as_mut_slice();
+        // Mostly the seats are lent by rising processor.
+        if let Some(queue) = queues.get_mut(usize::from(processor)) {
+            if queue.processor() == processor {
+                queue.push(id);
+                return;
+            }
+        }
+        for queue in queues.iter_mut() {
+            if queue.processor() == processor {
+                queue.push(id);
+                return;
+            }
+        }
     }
 
     /// Adds the id of a delivery that is committed with a seat, which has to have room for it. Both
@@ -177,6 +205,22 @@ impl<B: SeatBookName> SeatBook<B> {
         take_all(book, seats);
         Ok(own)
     }
+}
+
+/// Adds a new queue of a processor, and answers another handle on it. It fails only when out of
+/// memory, and then adds none.
+fn add_queue(
+    alloc: Global,
+    queues: &mut Vec<TicketQueue>,
+    processor: u16,
+) -> Result<TicketQueue, AllocError>
+    ensures { IfOk result (λ queue. queue ≡ processor) }
+{
+    queues.reserve(1)?;
+    let mut queue = TicketQueue::new(alloc, processor)?;
+    let same = queue.try_clone()?;
+    queues.push_reserved(queue);
+    Ok(same)
 }
 
 /// Writes the ids that a seat holds into the book and its share, which had the same before.

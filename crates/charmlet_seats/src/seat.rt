@@ -3,6 +3,7 @@
 use crate::ids::DeliveryIds;
 use charmlet_agreement::{BookName, GhostValue, Share};
 use charmlet_model::MsgId;
+use charmlet_tickets::{Ticket, TicketQueue};
 use std::alloc::AllocError;
 use std::marker::{Brand, Model};
 
@@ -38,14 +39,15 @@ impl GhostValue<SeenIds> for Brand {
 }
 
 /// The right to work for a processor. It holds the ids of the deliveries that were committed with
-/// it, in order. A contract sees them beside the seat's place in its book, its processor, and the
-/// room for more ids.
+/// it, in order, and a handle on its processor's queue of tickets. A contract sees the ids beside
+/// the seat's place in its book, its processor, and the room for more ids.
 #[derive(Drop)]
 pub struct Seat<B: SeatBookName> {
     pub(crate) place: usize,
     pub(crate) processor: u16,
     pub(crate) ids: DeliveryIds,
     pub(crate) share: Share<SeenIds, B>,
+    pub(crate) queue: TicketQueue,
 }
 
 impl<B: SeatBookName> Model for Seat<B> {
@@ -62,11 +64,12 @@ impl<B: SeatBookName> Model for Seat<B> {
     } };
 
     ghost invariant = { λ s. (s.share ≡ (s.place, Some s.ids.items))
-        × (s.processor < B.processors) };
+        × (s.processor < B.processors)
+        × (s.queue ≡ s.processor) };
 }
 
 impl<B: SeatBookName> Seat<B> {
-    ghost use Rattle.std.specs.Prelude.{◌≡◌, ◌<◌, ◌≤◌, IsOk, OnOk};
+    ghost use Rattle.std.specs.Prelude.{◌≡◌, ◌<◌, ◌≤◌, IfSome, IsOk, OnOk};
 
     /// The processor, one of those that the runtime has.
     pub fn processor(&self) -> u16
@@ -81,6 +84,14 @@ impl<B: SeatBookName> Seat<B> {
         ensures { result.now ≡ self.now.ids }
     {
         self.ids.as_slice()
+    }
+
+    /// Takes the foremost ticket of its processor's queue, if there is one. It doesn't wait.
+    pub fn next_ticket(&mut self) -> Option<Ticket>
+        ensures seat { self.new ≡ self.old }
+        ensures ticket { IfSome result (λ ticket. ticket.processor ≡ self.old.processor) }
+    {
+        self.queue.pop()
     }
 
     /// For how many more commits there is room.

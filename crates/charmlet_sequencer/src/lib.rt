@@ -22,4 +22,4 @@ pub use crate::opening::{Opened, open_new};
 pub use crate::part::SeenPart;
 pub use crate::reopening::open_store;
 pub use crate::sequencer::Sequencer;
-pub use crate::shelf::LockedShelf;
+pub use crate::shelf::{LockedShelf, SentBy};

@@ -25,6 +25,9 @@ pub trait RuntimeName: BookName {
 
     /// How many processors there are.
     ghost processors: { ℕ };
+
+    /// That the disk with which it opened is honest.
+    ghost honest: { Type 0 };
 }
 
 impl RuntimeName for Brand {
@@ -41,4 +44,6 @@ impl RuntimeName for Brand {
     ghost before = { 0 };
 
     ghost processors = { 0 };
+
+    ghost honest = { ⊥ };
 }

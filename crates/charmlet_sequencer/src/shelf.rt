@@ -8,6 +8,15 @@ use charmlet_shelf::{Image, Shelf};
 use std::alloc::AllocError;
 use std::marker::Model;
 
+/// Messages that an element has sent by one delivery: so many, and the last of them is its message
+/// of this number.
+#[derive(Clone, Copy, Debug)]
+pub struct SentBy {
+    pub elem: Elem,
+    pub last: u64,
+    pub count: u64,
+}
+
 /// A shelf, and its share of the sequencer's book, which has the records of its elements before the
 /// delivery that is under way there, and that delivery. A contract sees the shelf. Its objects show
 /// these records; once the receiver has reacted, its object is ahead by exactly that delivery.
@@ -52,7 +61,7 @@ impl<C: Chare, B: BookName> LockedShelf<C, B> {
     ghost use Rattle.charmlet_shelf.specs.Shelf.{is_assigned, is_idle};
     ghost use Rattle.charmlet_checkpoint.specs.Imaging.{AnswersImage};
     ghost use Rattle.charmlet_sequencer.specs.Part.{HasPart, part_on};
-    ghost use Rattle.charmlet_sequencer.specs.Shelf.{delivery_in, entered, is_done};
+    ghost use Rattle.charmlet_sequencer.specs.Shelf.{delivery_in, entered, is_done, sent_in};
 
     /// The shelf, and its share of the book.
     pub(crate) fn into_parts(self) -> (Shelf<C>, Share<SeenPart, B>)
@@ -108,6 +117,21 @@ impl<C: Chare, B: BookName> LockedShelf<C, B> {
             Some(outcome) => Some(outcome.delivery().message().id),
             None => None,
         }
+    }
+
+    /// The messages that the receiver has sent by the delivery that it has made, until it is
+    /// committed.
+    pub fn sent(&self) -> Option<SentBy>
+        ensures { result ≡ sent_in self.now.phase }
+    {
+        let outcome = self.shelf.outcome()?;
+        let output = self.output.as_ref()?;
+        let (last, _received) = outcome.counts();
+        Some(SentBy {
+            elem: outcome.delivery().message().to,
+            last,
+            count: output.sends.as_slice().len() as u64,
+        })
     }
 
     /// Has the receiver of the assigned message react to it. It needs no sequencer. It fails only

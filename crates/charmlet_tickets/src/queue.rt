@@ -6,7 +6,7 @@ use crate::rule::{Named, OfProcessor, ProcessorName, Queue, Same, Ticket, Token}
 use charmlet_model::MsgId;
 use std::alloc::{AllocError, Global};
 use std::marker::{Brand, Model};
-use std::sync::{Arc, Wait};
+use std::sync::Arc;
 
 /// How many tickets a queue has room for.
 pub const CAPACITY: usize = 1024;
@@ -76,23 +76,25 @@ impl TicketQueue {
         })
     }
 
-    /// Puts a ticket for the message behind the others. Where the queue is full, it is lost.
-    pub fn push<R: Wait>(&mut self, rt: &R, id: MsgId)
+    /// Puts a ticket for the message behind the others. It doesn't wait: where the queue is full, or
+    /// another push is under way, the ticket is lost.
+    pub fn push(&mut self, id: MsgId)
         ensures { self.new ≡ self.old }
     {
         let processor = self.processor;
         let ticket = Ticket { processor, id };
         let _ = self
             .queue
-            .push_as::<OfProcessor, R>(rt, &mut self.token, ticket);
+            .try_push_as::<OfProcessor>(&mut self.token, ticket);
     }
 
-    /// Takes the foremost ticket, if there is one. It names the queue's processor.
-    pub fn pop<R: Wait>(&mut self, rt: &R) -> Option<Ticket>
+    /// Takes the foremost ticket, if there is one. It names the queue's processor. It doesn't wait:
+    /// where a push or another pop is under way, there may seem to be none.
+    pub fn pop(&mut self) -> Option<Ticket>
         ensures same { self.new ≡ self.old }
         ensures ticket { IfSome result (λ ticket. ticket.processor ≡ self.old) }
     {
-        self.queue.pop_as::<OfProcessor, R>(rt, &mut self.token)
+        self.queue.try_pop_as::<OfProcessor>(&mut self.token)
     }
 }
 

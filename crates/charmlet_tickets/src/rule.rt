@@ -1,7 +1,7 @@
 //! The rule of a queue of tickets, and its steps.
 
 use charmlet_model::MsgId;
-use crossbeam_queue::protocol::{Lesson, Outcome, Protocol, Split};
+use crossbeam_queue::protocol::{Outcome, Protocol, Split};
 use crossbeam_queue::{Pass, RuledArrayQueue};
 use std::marker::{Brand, PhantomData};
 
@@ -65,10 +65,6 @@ impl Outcome<Ticket, Option<u64>> for OfProcessor {
     ghost use Rattle.std.specs.Prelude.{◌≡◌, Some};
 
     ghost then = { λ v ticket w. (w ≡ v) × (v ≡ Some ticket.processor) };
-}
-
-impl Lesson<Ticket, Option<u64>> for OfProcessor {
-    ghost fact = { λ v tickets. Unit {0} };
 }
 
 pub(crate) type Queue = RuledArrayQueue<Ticket, Option<u64>, OneProcessor>;

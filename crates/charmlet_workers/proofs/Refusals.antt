@@ -1,6 +1,6 @@
 -- Which refusals a step's checks allow.
 use Rattle.std.proofs.Common.{◌≡◌, ℕ, ◌≤◌, ◌≢◌, ◌+◌, List, [], ◌∷◌, ◌++◌, length, inl, inr, refl, sym, ap, subst, ◌∙◌, true, false, Bool, Option, Some, None, Result, Ok, Err, arith}
-use Rattle.std.specs.Prelude.{IfErr, IfOk, IfSome, if◌then◌else◌, ◌||◌, ◌==◌, ◌^◌, nat_le, not}
+use Rattle.std.specs.Prelude.{IfErr, IfOk, IfSome, OnOk, if◌then◌else◌, ◌||◌, ◌==◌, ◌^◌, nat_le, not}
 use Rattle.charmlet_model.specs.declared.edition.Edition.{Edition}
 use Rattle.charmlet_model.specs.declared.kind.Kind.{Kind}
 use Rattle.charmlet_model.specs.declared.names.Elem.{Elem}
@@ -188,6 +188,17 @@ pub seat_refused : {T : Type 0} (is_there is_out : Bool) (r : Result T Refusal) 
     IfErr r (λ refusal. P → is_lending_refusal refusal ≡ true)
 seat_refused is_there is_out (Ok x) P there is = tt
 seat_refused is_there is_out (Err refusal) P there is = λ within. seat_one is_there is_out refusal is (there within)
+
+-- there is no such processor
+pub seat_bad : {T : Type 0} (is_there is_out : Bool) (r : Result T Refusal) (P : Type 0) → (P → is_there ≡ false) → OnOk r (is_there ≡ true) →
+    IfErr r (λ refusal. refusal ≡ (if is_there then (if is_out then refusals.PassOut else refusals.Memory) else refusals.BadPes)) → P → r ≡ Err refusals.BadPes
+seat_bad is_there is_out (Ok x) P none there is = λ beyond. let same : false ≡ true = sym (none beyond) ∙ there in let never : ⊥ = cc in absurd never
+seat_bad is_there is_out (Err refusal) P none there is = λ beyond. ap Err (is ∙ ap (λ b. if b then (if is_out then refusals.PassOut else refusals.Memory) else refusals.BadPes) (none beyond))
+
+-- there is one whose seat is lent
+pub seat_there : {T : Type 0} (P Q : Type 0) (r : Result T Refusal) → (P → Q) → OnOk r P → OnOk r Q
+seat_there P Q (Ok x) f holds = f holds
+seat_there P Q (Err refusal) f holds = tt
 
 -- ---- what a flush counts
 

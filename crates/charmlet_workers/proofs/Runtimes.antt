@@ -1,4 +1,4 @@
--- What a runtime lends and shows, and why it isn't closed.
+-- What a runtime lends and shows.
 use Rattle.std.proofs.Common.{◌≡◌, ℕ, ◌+◌, ◌≤◌, Bool, true, false, List, [], ◌∷◌, inl, inr, refl, sym, ap, subst, ◌∙◌, arith, Option, Some, None, Result, Ok, Err}
 use Rattle.std.specs.Prelude.{◌⊎◌, IfOk, if◌then◌else◌}
 use Rattle.std.specs.BTreeMap.{is_at}
@@ -27,11 +27,6 @@ lent_if client before last since (Ok pass) least is =
       since = subst (λ n. before ≤ n) (sym same) least;
     }
 lent_if client before last since (Err refusal) least is = tt
-
--- one of the two reasons
-pub one_of_two : (all_in : Bool) (refusal : Refusal) → refusal ≡ (if all_in then refusals.Memory else refusals.PassOut) → (refusal ≡ refusals.PassOut) ⊎ (refusal ≡ refusals.Memory)
-one_of_two true refusal is = inr is
-one_of_two false refusal is = inl is
 
 -- no event changes the arrays
 kept_arrays : (w : World) (history : List Event) → (world w history).manifest ≡ w.manifest

@@ -1,6 +1,6 @@
 //! The end of a runtime.
 
-ghost use Rattle.std.specs.Prelude.{◌≡◌, ◌⊎◌, ◌∷◌, ◌+◌, ◌≤◌, false, IfErr, IfOk, map, vec_len};
+ghost use Rattle.std.specs.Prelude.{◌≡◌, ◌∷◌, ◌≤◌, false, IfErr, IfOk, map, vec_len};
 ghost use Rattle.std.specs.List.{AllByRecursion};
 ghost use Rattle.std.specs.Vec.{vec_capacity};
 ghost use Rattle.charmlet_model.specs.declared.refusal.Refusal.TheVariants as refusals;
@@ -16,7 +16,7 @@ ghost use Rattle.charmlet_sequencer.specs.Sequencer.{IsOf, is_lawful};
 ghost use Rattle.charmlet_hub.specs.Hub.{deliveries_in};
 
 use crate::opening::lock_all;
-use crate::runtime::{Runtime, SpareList};
+use crate::runtime::{Runtime, Spare};
 use charmlet_chare::Chare;
 use charmlet_disk::Disk;
 use charmlet_hub::{Closed, PassesOf, SeatsOf};
@@ -42,11 +42,11 @@ impl<D: Disk, C: Chare, B: RuntimeName> Runtime<D, C, B> {
     /// hold and those of the commits without a seat are all deliveries of the history: each stands
     /// in one of these lists, in the history's order. Each pass has exactly its client's accepts
     /// since it was lent, and all that it knows of its client's requests is true of the durable
-    /// events. On an honest disk a crash leaves the world after some of the history, with all
-    /// durable events among it.
+    /// events. The disk is honest if the first one was; and then a crash leaves the world after some
+    /// of the history, with all durable events among it.
     ///
-    /// `PassOut` if a seat or a pass that is out isn't handed in; otherwise `Memory`. Then the
-    /// runtime, the seats and the passes come back.
+    /// It takes no memory. The only refusal is `PassOut`, if a seat or a pass that is out isn't handed
+    /// in. Then the runtime, the seats and the passes come back.
     pub fn close(
         self,
         seats: Vec<Seat<SeatsOf<B>>>,
@@ -60,13 +60,13 @@ impl<D: Disk, C: Chare, B: RuntimeName> Runtime<D, C, B> {
         ensures lawful { IfOk result (λ closed. D.honest (disk_of closed.halves) →
             (outcome : CrashBytes) → MayLeave (D.file (disk_of closed.halves)) outcome →
             is_lawful (core_in closed.store.history) outcome) }
+        ensures honest { IfOk result (λ closed. B.honest → D.honest (disk_of closed.halves)) }
         ensures woven { IfOk result (λ closed. IsWoven
             (closed.own.items ∷ map (λ (seat : HeldSeat). seat.ids) seats.items)
             (deliveries_in (core_in closed.store.history).history)) }
         ensures current { IfOk result (λ closed. AllByRecursion
             (λ (held : HeldPass). IsCurrent held (core_in closed.store.history)) passes.items) }
-        ensures err { IfErr result (λ back. (back.refusal ≡ refusals.PassOut)
-            ⊎ (back.refusal ≡ refusals.Memory)) }
+        ensures err { IfErr result (λ back. back.refusal ≡ refusals.PassOut) }
         ensures back { IfErr result (λ back. (back.runtime ≡ self) × (back.seats ≡ seats)
             × (back.passes ≡ passes)) }
     {
@@ -75,12 +75,15 @@ impl<D: Disk, C: Chare, B: RuntimeName> Runtime<D, C, B> {
             hub,
             spare,
         } = self;
-        let shelves = unlock_all(&mut locks, spare.into_inner());
-        match hub.into_inner().close(shelves, seats, passes) {
+        let Spare { shelves, empty } = spare.into_inner();
+        let shelves = unlock_all(&mut locks, shelves);
+        let hub = hub.into_inner();
+        hub.facts();
+        match hub.close(shelves, empty, seats, passes) {
             Ok(closed) => Ok(closed),
             Err(back) => Err(NotClosed {
                 refusal: back.refusal,
-                runtime: lock_all(back.shelves, locks, back.hub),
+                runtime: lock_all(back.shelves, locks, back.hub, back.empty),
                 seats: back.seats,
                 passes: back.passes,
             }),
@@ -88,17 +91,20 @@ impl<D: Disk, C: Chare, B: RuntimeName> Runtime<D, C, B> {
     }
 }
 
-/// Takes the shelves out of their locks, last first. The list of locks keeps its room.
+/// Takes the shelves out of their locks, last first, into a list that has room for them. The list
+/// of locks keeps its room.
 fn unlock_all<C: Chare, B: RuntimeName>(
     locks: &mut Vec<Mutex<LockedShelf<C, B>>>,
-    spare: SpareList<C, B>,
+    spare: Vec<LockedShelf<C, B>>,
 ) -> Vec<LockedShelf<C, B>>
-    requires { vec_len locks.old ≡ B.processors }
+    requires locks { vec_len locks.old ≡ B.processors }
+    requires none { vec_len spare ≡ 0 }
+    requires room { B.processors ≤ vec_capacity spare }
     ensures shelves { vec_len result ≡ B.processors }
     ensures none { vec_len locks.new ≡ 0 }
     ensures room { B.processors ≤ vec_capacity locks.new }
 {
-    let SpareList { mut shelves } = spare;
+    let mut shelves = spare;
     while let Some(lock) = locks.pop() {
         shelves.push_reserved(lock.into_inner());
     }

@@ -20,4 +20,4 @@ pub use crate::closing::NotClosed;
 pub use crate::gate::{Gate, MOST_ASKS, OpenGate};
 pub use crate::opening::{NotOpened, UnnamedBooks};
 pub use crate::runtime::Runtime;
-pub use crate::working::{Station, Worked, work_all};
+pub use crate::working::{IDLE_TURNS, Station, Worked, work_all};

@@ -19,11 +19,11 @@ use std::sync::Wait;
 impl<D: Disk, C: Chare, B: RuntimeName> Runtime<D, C, B> {
     /// Moves an element to a processor. It is done if the element is there already. Else both
     /// shelves are locked, by rising number, and then the hub; where the element has moved
-    /// meanwhile, it is looked for again.
+    /// meanwhile, it is looked for again. What is under way on a shelf ends first: a delivery that
+    /// was made is committed, and a message that is only assigned is released.
     ///
-    /// The refusal is the first that applies of `Halted`, `BadPes`, `Absent`, `Uncommitted` where
-    /// one of the two processors has an assigned message, `NoBlank` and `Memory`. Then nothing has
-    /// moved.
+    /// The refusal is the first that applies of `Halted`, `BadPes`, `Absent`, `NoBlank` and
+    /// `Memory`. Then nothing has moved.
     pub fn move_to<R: Wait>(&self, rt: &R, elem: Elem, processor: u16) -> Result<(), Refusal>
         ensures { IfErr result (λ refusal. is_move_refusal refusal ≡ true) }
     {
@@ -92,10 +92,10 @@ impl<D: Disk, C: Chare, B: RuntimeName> Runtime<D, C, B> {
     ) -> Result<bool, Refusal>
         ensures { IfErr result (λ refusal. is_move_refusal refusal ≡ true) }
     {
-        if let Err(refusal) = self.catch_up(rt, from) {
+        if let Err(refusal) = self.settle(rt, from) {
             return Err(refusal);
         }
-        if let Err(refusal) = self.catch_up(rt, to) {
+        if let Err(refusal) = self.settle(rt, to) {
             return Err(refusal);
         }
         relocate_from(&mut self.hub.lock(rt), from, to, elem)

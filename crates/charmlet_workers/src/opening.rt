@@ -3,11 +3,13 @@
 ghost use Rattle.std.specs.Prelude.{◌≡◌, ◌≤◌, IfErr, IfOk, vec_len};
 ghost use Rattle.std.specs.Vec.{vec_capacity};
 ghost use Rattle.charmlet_agreement.specs.Naming.{table_of};
+ghost use Rattle.charmlet_halves.specs.Halves.{disk_of};
 ghost use Rattle.charmlet_history.specs.Kept.{core_in};
 ghost use Rattle.charmlet_sequencer.specs.Sequencer.{IsOf};
+ghost use Rattle.charmlet_store.specs.Store.{AreEmpty};
 ghost use Rattle.charmlet_workers.specs.Runtime.{IsReady, named, shown_of};
 
-use crate::runtime::{Runtime, SpareList};
+use crate::runtime::{Runtime, Spare};
 use charmlet_agreement::Unnamed;
 use charmlet_chare::Chare;
 use charmlet_disk::Disk;
@@ -16,7 +18,8 @@ use charmlet_hub::Hub;
 use charmlet_passes::SeenPass;
 use charmlet_seats::SeenIds;
 use charmlet_sequencer::{LockedShelf, Opened, RuntimeName, SeenPart, open_store};
-use charmlet_store::Store;
+use charmlet_shelf::Shelf;
+use charmlet_store::{Store, empty_shelves};
 use std::alloc::{AllocError, Global};
 use std::sync::Mutex;
 
@@ -66,9 +69,11 @@ impl<D: Disk, C: Chare, B: RuntimeName> Runtime<D, C, B> {
         requires parts { table_of books.parts ≡ B.table }
         requires seats { table_of books.seats ≡ B.seats }
         requires passes { table_of books.passes ≡ B.passes }
+        requires honest { B.honest → D.honest (disk_of halves) }
         ensures shown { IfOk result (λ runtime. runtime ≡ shown_of (core_in store.history)) }
         ensures back { IfErr result (λ back. (back.store ≡ store) × (back.halves ≡ halves)) }
     {
+        store.history.facts();
         let count = store.shelves.len();
         let Ok(shelves) = Vec::with_capacity(store.alloc, count) else {
             return Err(NotOpened { store, halves });
@@ -76,27 +81,34 @@ impl<D: Disk, C: Chare, B: RuntimeName> Runtime<D, C, B> {
         let Ok(locks) = Vec::with_capacity(store.alloc, count) else {
             return Err(NotOpened { store, halves });
         };
-        Ok(open_reserved(store, halves, books, shelves, locks))
+        let Ok(empty) = empty_shelves(store.alloc, count as u16) else {
+            return Err(NotOpened { store, halves });
+        };
+        Ok(open_reserved(store, halves, books, shelves, locks, empty))
     }
 }
 
-/// The same, with room for the shelves and for their locks. It takes no memory.
+/// The same, with room for the shelves and for their locks, and with empty shelves for the end. It
+/// takes no memory.
 fn open_reserved<D: Disk, C: Chare, B: RuntimeName>(
     store: Store<C>,
     halves: Halves<D>,
     books: UnnamedBooks,
     shelves: Vec<LockedShelf<C, B>>,
     locks: Vec<Mutex<LockedShelf<C, B>>>,
+    empty: Vec<Shelf<C>>,
 ) -> Runtime<D, C, B>
     requires ready { IsReady store halves }
     requires named { IsOf B.opening B.before B.processors (core_in store.history) }
     requires parts { table_of books.parts ≡ B.table }
     requires seats { table_of books.seats ≡ B.seats }
     requires passes { table_of books.passes ≡ B.passes }
+    requires honest { B.honest → D.honest (disk_of halves) }
     requires no_shelves { vec_len shelves ≡ 0 }
     requires room { B.processors ≤ vec_capacity shelves }
     requires no_locks { vec_len locks ≡ 0 }
     requires room_of_locks { B.processors ≤ vec_capacity locks }
+    requires empty { AreEmpty B.processors empty.items }
 {
     let alloc = store.alloc;
     let UnnamedBooks {
@@ -111,19 +123,21 @@ fn open_reserved<D: Disk, C: Chare, B: RuntimeName>(
     let mut shelves = shelves;
     // The last one is locked first.
     shelves.as_mut_slice().reverse();
-    lock_all(shelves, locks, hub)
+    lock_all(shelves, locks, hub, empty)
 }
 
 /// Puts each shelf and the hub under its lock. The shelves are handed in last first, and there is
-/// room for their locks.
+/// room for their locks. The empty ones are for the end.
 pub(crate) fn lock_all<D: Disk, C: Chare, B: RuntimeName>(
     shelves: Vec<LockedShelf<C, B>>,
     locks: Vec<Mutex<LockedShelf<C, B>>>,
     hub: Hub<D, C, B>,
+    empty: Vec<Shelf<C>>,
 ) -> Runtime<D, C, B>
     requires shelves { vec_len shelves ≡ B.processors }
     requires none { vec_len locks ≡ 0 }
     requires room { B.processors ≤ vec_capacity locks }
+    requires empty { AreEmpty B.processors empty.items }
     ensures { result ≡ named B.opening B.before B.processors }
 {
     let mut shelves = shelves;
@@ -134,6 +148,6 @@ pub(crate) fn lock_all<D: Disk, C: Chare, B: RuntimeName>(
     Runtime {
         shelves: locks,
         hub: Mutex::new(hub),
-        spare: Mutex::new(SpareList { shelves }),
+        spare: Mutex::new(Spare { shelves, empty }),
     }
 }

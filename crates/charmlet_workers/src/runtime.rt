@@ -14,6 +14,7 @@ use charmlet_model::Refusal;
 use charmlet_passes::ClientPass;
 use charmlet_seats::Seat;
 use charmlet_sequencer::{LockedShelf, RuntimeName};
+use charmlet_shelf::Shelf;
 use charmlet_stock::{ByKind, Tally};
 use std::marker::Model;
 use std::sync::{Mutex, Wait};
@@ -31,7 +32,7 @@ pub struct Runtime<D: Disk, C: Chare, B: RuntimeName> {
     pub(crate) hub: Mutex<Hub<D, C, B>>,
     /// For the end. No call takes this lock, which lets threads share objects that they don't look
     /// at.
-    pub(crate) spare: Mutex<SpareList<C, B>>,
+    pub(crate) spare: Mutex<Spare<C, B>>,
 }
 
 impl<D: Disk, C: Chare, B: RuntimeName> Model for Runtime<D, C, B> {
@@ -46,23 +47,26 @@ impl<D: Disk, C: Chare, B: RuntimeName> Model for Runtime<D, C, B> {
     ghost invariant = { λ r. vec_len r.shelves ≡ B.processors };
 }
 
-/// An empty list with room for all shelves, so that a runtime that is closed can take them out of
-/// their locks without memory.
+/// What it takes to close a runtime without memory: an empty list with room for all shelves, so
+/// that they can be taken out of their locks, and an empty shelf for each processor.
 #[derive(Drop)]
-pub(crate) struct SpareList<C: Chare, B: RuntimeName> {
+pub(crate) struct Spare<C: Chare, B: RuntimeName> {
     pub(crate) shelves: Vec<LockedShelf<C, B>>,
+    pub(crate) empty: Vec<Shelf<C>>,
 }
 
-impl<C: Chare, B: RuntimeName> Model for SpareList<C, B> {
+impl<C: Chare, B: RuntimeName> Model for Spare<C, B> {
     ghost use Rattle.std.specs.Prelude.{◌≡◌, ◌≤◌};
     ghost use Rattle.std.specs.Vec.{vec_capacity, vec_len};
+    ghost use Rattle.charmlet_store.specs.Store.{AreEmpty};
 
     ghost Value = { Unit {0} };
 
     ghost view = { λ _. tt };
 
     ghost invariant = { λ s. (vec_len s.shelves ≡ 0)
-        × (B.processors ≤ vec_capacity s.shelves) };
+        × (B.processors ≤ vec_capacity s.shelves)
+        × AreEmpty B.processors s.empty.items };
 }
 
 impl<D: Disk, C: Chare, B: RuntimeName> Runtime<D, C, B> {
@@ -104,9 +108,6 @@ impl<D: Disk, C: Chare, B: RuntimeName> Runtime<D, C, B> {
         ensures err { IfErr result (λ refusal. processor < self.now.processors →
             is_lending_refusal refusal ≡ true) }
     {
-        if usize::from(processor) >= self.shelves.len() {
-            return Err(Refusal::BadPes);
-        }
         let mut hub = self.hub.lock(rt);
         hub.facts();
         hub.lend_seat(processor)

@@ -1,6 +1,6 @@
 //! What workers do.
 
-ghost use Rattle.std.specs.Prelude.{◌≡◌, ℕ, ◌<◌, ◌≤◌, None, false, true, IfErr, IfOk, IfSome, OnErr, OnOk, length, slice_index_or};
+ghost use Rattle.std.specs.Prelude.{◌≡◌, ℕ, ◌<◌, ◌≤◌, None, Some, false, true, IfErr, IfOk, IfSome, OnErr, OnOk, length, slice_index_or};
 ghost use Rattle.charmlet_model.specs.declared.refusal.Refusal.TheVariants as refusals;
 ghost use Rattle.charmlet_history.specs.Kept.{oldest_on_in};
 ghost use Rattle.charmlet_shelf.specs.Shelf.{is_assigned};
@@ -18,11 +18,12 @@ use charmlet_hub::{Hub, SeatsOf};
 use charmlet_model::{MsgId, Refusal};
 use charmlet_seats::Seat;
 use charmlet_sequencer::{LockedShelf, RuntimeName};
+use charmlet_tickets::CAPACITY;
 use std::marker::Brand;
-use std::sync::Wait;
 use std::sync::ledger::{Blank, Ledger};
-use std::thread;
+use std::sync::{MutexGuard, Wait};
 use std::thread::Threads;
+use std::{hint, thread};
 
 /// What a worker did: how many deliveries were committed with its seat, and the refusal that ended
 /// its work, if one did.
@@ -32,12 +33,46 @@ pub struct Worked {
     pub refusal: Option<Refusal>,
 }
 
+/// In how many turns that find no ticket the hub is asked once.
+pub const IDLE_TURNS: u64 = 16;
+
+/// How often the hub's lock is tried before a thread waits for it.
+const MOST_TRIES: u32 = 100;
+
+/// How a worker's turns go on.
+#[derive(Clone, Copy, Debug, Drop)]
+struct Pace {
+    /// The message that was assigned for the next turn.
+    ahead: Option<MsgId>,
+    /// How many turns have found nothing since one found something.
+    idle: u64,
+    /// Whether there is one more turn.
+    goes_on: bool,
+}
+
+impl Pace {
+    /// That of a worker that begins.
+    fn new() -> Self {
+        Pace {
+            ahead: None,
+            idle: 0,
+            goes_on: false,
+        }
+    }
+}
+
 impl<D: Disk, C: Chare, B: RuntimeName> Runtime<D, C, B> {
     /// Delivers messages on the seat's processor, in at most `turns` turns. In each turn it is
     /// given the oldest message that can be delivered there, if there is one, asks the gate, lets
     /// the receiver react, commits, and tells the gate. The seat holds the ids of what was
     /// committed. The first refusal ends the work: what is assigned then is released, and a
     /// delivery that can't be committed, since the store is halted, stays on its shelf.
+    ///
+    /// The message of the next turn is assigned in the hold of the hub in which a delivery is
+    /// committed. Between two turns the shelf is free, and who takes its lock then may release that
+    /// message. After a turn that found nothing the hub is asked again once there is a ticket in
+    /// the queue of the processor; without one, which may be lost, it is asked in one of
+    /// [`IDLE_TURNS`] turns, and the others let other threads run.
     pub fn work<G: Gate, R: Wait>(
         &self,
         rt: &R,
@@ -47,9 +82,11 @@ impl<D: Disk, C: Chare, B: RuntimeName> Runtime<D, C, B> {
     ) -> Worked
         ensures { HasServed seat.old seat.new turns result }
     {
+        let mut pace = Pace::new();
         let mut count = 0;
-        for _turn in 0..turns {
-            match self.turn(rt, seat, gate) {
+        for turn in 0..turns {
+            pace.goes_on = turn + 1 < turns;
+            match self.turn(rt, seat, gate, &mut pace) {
                 Ok(Some(_id)) => count += 1,
                 Ok(None) => {}
                 Err(refusal) => {
@@ -72,14 +109,19 @@ impl<D: Disk, C: Chare, B: RuntimeName> Runtime<D, C, B> {
         rt: &R,
         seat: &mut Seat<SeatsOf<B>>,
         gate: &G,
+        pace: &mut Pace,
     ) -> Result<Option<MsgId>, Refusal>
         ensures ok { IfOk result (Takes seat.old seat.new) }
         ensures err { OnErr result (Takes seat.old seat.new None) }
         ensures refused { IfErr result (λ refusal. is_work_refusal refusal ≡ true) }
     {
+        if !is_called(seat, pace) {
+            thread::yield_now();
+            return Ok(None);
+        }
         let processor = seat.processor();
         let lock = &self.shelves[usize::from(processor)];
-        let delivered = self.deliver(rt, &mut lock.lock(rt), seat, gate);
+        let delivered = self.deliver(rt, &mut lock.lock(rt), seat, gate, pace);
         if let Ok(Some(id)) = &delivered {
             gate.committed(processor, id);
         }
@@ -94,35 +136,69 @@ impl<D: Disk, C: Chare, B: RuntimeName> Runtime<D, C, B> {
         locked: &mut LockedShelf<C, B>,
         seat: &mut Seat<SeatsOf<B>>,
         gate: &G,
+        pace: &mut Pace,
     ) -> Result<Option<MsgId>, Refusal>
         ensures ok { IfOk result (Takes seat.old seat.new) }
         ensures err { OnErr result (Takes seat.old seat.new None) }
         ensures refused { IfErr result (λ refusal. is_work_refusal refusal ≡ true) }
     {
-        if let Err(refusal) = self.catch_up(rt, locked) {
-            return Err(refusal);
-        }
-        // A ticket of the processor's queue is to be tried here first.
-        let assigned = assign_oldest(&mut self.hub.lock(rt), locked);
-        let id = match assigned {
+        let id = match self.next_on(rt, locked, pace.ahead) {
             Ok(Some(id)) => id,
-            Ok(None) => return Ok(None),
+            Ok(None) => {
+                pace.idle = pace.idle.saturating_add(1);
+                return Ok(None);
+            }
             Err(refusal) => return Err(refusal),
         };
+        pace.ahead = None;
+        pace.idle = 0;
         if seat.reserve(1).is_err() {
-            self.hub.lock(rt).release(locked);
+            self.lock_hub(rt).release(locked);
             return Err(Refusal::Memory);
         }
         wait_at(gate, seat.processor(), &id);
         if locked.enter().is_err() {
-            self.hub.lock(rt).release(locked);
+            self.lock_hub(rt).release(locked);
             return Err(Refusal::Memory);
         }
-        let committed = self.hub.lock(rt).commit(locked, seat);
+        let committed = commit_and_go_on(&mut self.lock_hub(rt), locked, seat, pace);
         match committed {
             Ok(id) => Ok(Some(id)),
             Err(refusal) => Err(refusal),
         }
+    }
+
+    /// The message that is assigned on a locked shelf. If that isn't done yet, it is the oldest
+    /// that can be delivered there, if there is one.
+    fn next_on<R: Wait>(
+        &self,
+        rt: &R,
+        locked: &mut LockedShelf<C, B>,
+        ahead: Option<MsgId>,
+    ) -> Result<Option<MsgId>, Refusal>
+        ensures assigned { IfOk result (λ o. IfSome o (λ _. is_assigned locked.new.phase ≡ true)) }
+        ensures refused { IfErr result (λ refusal. is_work_refusal refusal ≡ true) }
+    {
+        if let Some(id) = ahead {
+            if locked.is_assigned() {
+                return Ok(Some(id));
+            }
+        }
+        if let Err(refusal) = self.settle(rt, locked) {
+            return Err(refusal);
+        }
+        assign_oldest(&mut self.lock_hub(rt), locked)
+    }
+
+    /// The hub, under its lock. It is tried for a while before the thread waits.
+    fn lock_hub<R: Wait>(&self, rt: &R) -> MutexGuard<'_, Hub<D, C, B>> {
+        for _ in 0..MOST_TRIES {
+            if let Some(guard) = self.hub.try_lock() {
+                return guard;
+            }
+            hint::spin_loop();
+        }
+        self.hub.lock(rt)
     }
 
     /// Commits the delivery that was made on a locked shelf and couldn't be committed, without a
@@ -144,6 +220,59 @@ impl<D: Disk, C: Chare, B: RuntimeName> Runtime<D, C, B> {
             Err(refusal) => Err(refusal),
         }
     }
+}
+
+/// Whether the hub is to be asked in this turn. All tickets of the processor's queue are taken,
+/// unless the message of the turn is assigned already.
+fn is_called<B: RuntimeName>(seat: &mut Seat<SeatsOf<B>>, pace: &mut Pace) -> bool
+    ensures { seat.new ≡ seat.old }
+{
+    if pace.ahead.is_some() || pace.idle == 0 {
+        return true;
+    }
+    if takes_tickets(seat) || pace.idle % IDLE_TURNS == 0 {
+        return true;
+    }
+    pace.idle = pace.idle.saturating_add(1);
+    false
+}
+
+/// Takes all tickets of the processor's queue, and says whether there was one.
+fn takes_tickets<B: RuntimeName>(seat: &mut Seat<SeatsOf<B>>) -> bool
+    ensures { seat.new ≡ seat.old }
+{
+    let mut any = false;
+    for _ticket in 0..CAPACITY {
+        if seat.next_ticket().is_none() {
+            return any;
+        }
+        any = true;
+    }
+    any
+}
+
+/// Commits the delivery that was made on the shelf. If it is committed and there is one more turn,
+/// the message of that turn is assigned: the oldest that can be delivered there, if there is one
+/// and it isn't refused.
+fn commit_and_go_on<D: Disk, C: Chare, B: RuntimeName>(
+    hub: &mut Hub<D, C, B>,
+    locked: &mut LockedShelf<C, B>,
+    seat: &mut Seat<SeatsOf<B>>,
+    pace: &mut Pace,
+) -> Result<MsgId, Refusal>
+    requires done { is_done locked.old.phase ≡ true }
+    requires room { 0 < seat.old.room }
+    ensures seat { IfOk result (λ id. Takes seat.old seat.new (Some id)) }
+    ensures same { OnErr result (seat.new ≡ seat.old) }
+    ensures err { IfErr result (λ refusal. refusal ≡ refusals.Halted) }
+{
+    let committed = hub.commit(locked, seat);
+    if committed.is_ok() && pace.goes_on {
+        if let Ok(ahead) = assign_oldest(hub, locked) {
+            pace.ahead = ahead;
+        }
+    }
+    committed
 }
 
 /// Assigns the oldest message that can be delivered on the shelf's processor, if there is one. The

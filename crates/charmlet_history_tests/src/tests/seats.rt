@@ -74,6 +74,22 @@ fn lend<B: SeatBookName>(rt: &impl Abort, book: &mut SeatBook<B>, processor: u16
     book.lend(processor).expect(rt, "it isn't out")
 }
 
+// A ticket for processor 1 comes to its seat, and one for a processor without a seat is lost.
+fn hint<B: SeatBookName>(
+    rt: &impl Abort,
+    book: &mut SeatBook<B>,
+    first: &mut Seat<B>,
+    second: &mut Seat<B>,
+) {
+    book.hint(1, id(5));
+    book.hint(2, id(6));
+    assert!(rt; first.next_ticket().is_none());
+    let ticket = second.next_ticket().expect(rt, "a ticket is there");
+    assert_eq!(rt; ticket.processor, 1);
+    assert_eq!(rt; ticket.id, id(5));
+    assert!(rt; second.next_ticket().is_none());
+}
+
 // One seat alone is handed in, and then both.
 fn close<B: SeatBookName>(
     rt: &(impl AllocGlobal + Abort),
@@ -106,6 +122,7 @@ fn work<B: SeatBookName, R: AllocGlobal + Abort>(rt: &R, unnamed: Unnamed<SeenId
     holds(rt, &second, 1, &[id(2)]);
     is_shown(rt, &book);
     lends_no_second(rt, &mut book);
+    hint(rt, &mut book, &mut first, &mut second);
     close(rt, book, first, second)
 }
 

@@ -203,6 +203,7 @@ fn cross_named<B: RuntimeName + Send + Sync, R: Threads + Wait + Sync + AllocGlo
     requires parts { table_of start.books.parts ≡ B.table }
     requires seats { table_of start.books.seats ≡ B.seats }
     requires passes { table_of start.books.passes ≡ B.passes }
+    requires honest { B.honest → ⊥ }
 {
     let Start {
         store,

@@ -80,6 +80,8 @@ fn work<B: RuntimeName, R: Wait + Abort>(
         let worked = runtime.work(rt, seat, &OpenGate, 2);
         assert_eq!(rt; worked.count, u64::from(is_here));
         assert_eq!(rt; worked.refusal, None);
+        // There was a ticket for it, which the worker didn't need.
+        assert_eq!(rt; seat.next_ticket().is_some(), is_here);
     }
     assert!(rt; runtime.quiet(rt));
 }
@@ -269,6 +271,7 @@ fn live_named<B: RuntimeName, R: Wait + AllocGlobal + Abort>(
     requires parts { table_of books.parts ≡ B.table }
     requires seats { table_of books.seats ≡ B.seats }
     requires passes { table_of books.passes ≡ B.passes }
+    requires honest { B.honest → ⊥ }
 {
     match begun.open::<B>(books) {
         Ok(runtime) => live(rt, runtime, tally, first),

@@ -6,7 +6,7 @@ use Rattle.charmlet_model.specs.Sound.{IsSound}
 use Rattle.charmlet_history.specs.Kept.{core_in}
 use Rattle.charmlet_store.specs.Store.{StoreShown}
 use Rattle.charmlet_cli_workers.specs.Left.{IsApart}
-use Rattle.charmlet_cli_workers.proofs.Leavings.{ends_early, left_apart, left_by}
+use Rattle.charmlet_cli_workers.proofs.Leavings.{ends_early, left_apart, left_by, some_on}
 use Rattle.charmlet_script.specs.Script.{blanks_of}
 use Rattle.charmlet_stock.specs.Stock.{blanks_in}
 use Rattle.charmlet_cli_workers.proofs.opened.run_named.Goals as goal
@@ -23,6 +23,10 @@ returns-in-Ok-clause-left g c =
     left_apart g.D.Disk core.opening core.before core.processors passes c.take_apart.result.disk c.run_on-ran.result c.take_apart.result.result lines.restarted lines.lines.now (g.W.Write.contents c.args.writer.now) (g.W.Write.contents c.run_on-ran.new.writer) apart
     c.take_apart.ensures.same c.run_on-ran.ensures.prints
 
+pub returns-in-Ok-clause-honest : goal.returns-in-Ok-clause-honest
+returns-in-Ok-clause-honest g c =
+    some_on (λ disk. g.B.RuntimeName.honest → g.D.Disk.honest disk) (λ disk. g.D.Disk.honest c.args.begun.disk → g.D.Disk.honest disk) c.take_apart.result.disk (λ disk still honest. still (c.requires.only_honest honest)) c.take_apart.ensures.honest
+
 pub returns-in-Ok-clause-err : goal.returns-in-Ok-clause-err
 returns-in-Ok-clause-err g c =
     ends_early c.run_on-ran.result c.take_apart.result.result c.take_apart.result.disk c.args.writer.now c.run_on-ran.new.writer c.run_on-ran.ensures.err c.take_apart.ensures.err
@@ -34,3 +38,6 @@ returns-in-Err-clause-left g c =
     let sound : IsSound core = subst IsSound (ap (λ (s : StoreShown). core_in s.history) c.store.view_is ∙ ap core_of same) c.facts.ensures.sound in
     left_by g.D.Disk core.opening core.before core.processors _ core c.args.begun.disk c.into_disk.result (c.into_disk.ensures ∙ ap (λ (e : EngineShown _). e.disk) same) (record { opening_is = refl; before_is = refl; processors_are = refl }) sound
     c.requires.keeps tt
+
+pub returns-in-Err-clause-honest : goal.returns-in-Err-clause-honest
+returns-in-Err-clause-honest g c = λ honest. subst g.D.Disk.honest (sym (c.into_disk.ensures ∙ ap (λ (e : EngineShown _). e.disk) c.in-Err.ensures.back.0)) honest

@@ -12,7 +12,7 @@ use Rattle.charmlet_cli.proofs.Restarts.{all_given, counted_processors, is_back,
 use Rattle.charmlet_cli_workers.specs.Left.{IsLeft}
 use Rattle.charmlet_cli.specs.declared.restarting.RestartedLine.{RestartedLine}
 use Rattle.charmlet_cli_workers.specs.Restarts.{IsBackByWorkers, line_of}
-use Rattle.charmlet_cli_workers.proofs.Leavings.{left_of_lines}
+use Rattle.charmlet_cli_workers.proofs.Leavings.{left_of_lines, some_on}
 use Rattle.charmlet_cli_workers.proofs.Returnings.{back_early, back_ok, left_back}
 use Rattle.charmlet_cli_workers.proofs.restarting.restart_with.Goals as goal
 
@@ -33,6 +33,7 @@ returns-in-Ok-clause-ran g c =
       is_back = is_back g.D.Disk c.args.processors (supplied_to blanks) first begun made.ok.opens (λ honest. (made.files honest).found) taken made.ok.supplied_are made.remembers made.disk.counted made.disk.honest
           (λ honest. (made.leaves honest).settled refl) (λ honest. (made.files honest).now) (λ honest. (made.leaves honest).still) (λ honest. (made.leaves honest).any_moment);
       left = left_back g.D.Disk c.args.processors (core_of begun) c.run_named.result.disk made.ok.opens (P (core_of begun)) left;
+      honest = some_on (λ last. g.D.Disk.honest begun.disk → g.D.Disk.honest last) (λ last. g.D.Disk.honest first → g.D.Disk.honest last) c.run_named.result.disk (λ last still honest. still (made.disk.honest.0 honest)) c.run_named.ensures.honest;
     } in
     let line : RestartedLine = record { generation = c.generation.result; events = c.event_count.result; processors = c.args.processors } in
     let counted : c.args.processors ≡ (core_of begun).processors = sym (ap (λ (c : Core). c.processors) made.ok.opens) in
@@ -54,6 +55,7 @@ returns-in-Ok-clause-err g c =
       is_back = is_back g.D.Disk c.args.processors (supplied_to blanks) first begun made.ok.opens (λ honest. (made.files honest).found) taken made.ok.supplied_are made.remembers made.disk.counted made.disk.honest
           (λ honest. (made.leaves honest).settled refl) (λ honest. (made.files honest).now) (λ honest. (made.leaves honest).still) (λ honest. (made.leaves honest).any_moment);
       left = left_back g.D.Disk c.args.processors (core_of begun) c.run_named.result.disk made.ok.opens (P (core_of begun)) left;
+      honest = some_on (λ last. g.D.Disk.honest begun.disk → g.D.Disk.honest last) (λ last. g.D.Disk.honest first → g.D.Disk.honest last) c.run_named.result.disk (λ last still honest. still (made.disk.honest.0 honest)) c.run_named.ensures.honest;
     } in
     let line : RestartedLine = record { generation = c.generation.result; events = c.event_count.result; processors = c.args.processors } in
     let counted : c.args.processors ≡ (core_of begun).processors = sym (ap (λ (c : Core). c.processors) made.ok.opens) in

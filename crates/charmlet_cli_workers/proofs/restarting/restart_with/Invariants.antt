@@ -6,7 +6,7 @@ use Rattle.charmlet_cli_workers.proofs.restarting.restart_with.Given as goal
 abbrev pub ghosts-run_named-B-BookName : goal.ghosts-run_named-B-BookName
 ghosts-run_named-B-BookName g a = record { table = table_of a.books.parts }
 
--- the other two books, and the engine's store
+-- the other two books, the engine's store, and that its disk is honest
 abbrev pub ghosts-run_named-B-RuntimeName : goal.ghosts-run_named-B-RuntimeName
 ghosts-run_named-B-RuntimeName g a = record {
   seats = table_of a.books.seats;
@@ -14,4 +14,5 @@ ghosts-run_named-B-RuntimeName g a = record {
   opening = (core_of a.begun).opening;
   before = (core_of a.begun).before;
   processors = (core_of a.begun).processors;
+  honest = g.D.Disk.honest a.begun.disk;
 }

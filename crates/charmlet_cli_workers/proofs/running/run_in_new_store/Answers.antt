@@ -8,7 +8,7 @@ use Rattle.charmlet_cli.proofs.Standings.{created, handed_back}
 use Rattle.charmlet_cli_workers.specs.Left.{IsLeft}
 use Rattle.charmlet_cli_workers.specs.Runs.{IsMade}
 use Rattle.charmlet_cli_workers.proofs.Beginnings.{left_new, made_early, made_ok}
-use Rattle.charmlet_cli_workers.proofs.Leavings.{left_of_lines}
+use Rattle.charmlet_cli_workers.proofs.Leavings.{left_of_lines, some_on}
 use Rattle.charmlet_cli_workers.proofs.running.run_in_new_store.Goals as goal
 
 pub run_named-requires-clause-keeps : goal.run_named-requires-clause-keeps
@@ -27,6 +27,7 @@ returns-in-Ok-clause-ran g c =
       made = begun.disk;
       created = created g.D.Disk first begun.disk script manifest c.requires.manifest (λ honest. (let closed = (new.files honest).closed in (closed.zero, closed.one))) new.disk.counted new.disk.honest leaves;
       left = left_new g.D.Disk script manifest c.processors.result (core_of begun) c.run_named.result.disk c.requires.manifest c.processors.ensures new.ok.opens P left;
+      honest = some_on (λ last. g.D.Disk.honest begun.disk → g.D.Disk.honest last) (λ last. g.D.Disk.honest first → g.D.Disk.honest last) c.run_named.result.disk (λ last still honest. still (new.disk.honest.0 honest)) c.run_named.ensures.honest;
     } in
     made_ok g.D.Disk first c.run_named.result.disk script (core_of begun) make (g.W.Write.contents c.args.writer.now) (g.W.Write.contents c.run_named.new.writer) c.run_named.result.result
     (left_of_lines g.D.Disk (core_of begun).opening (core_of begun).before (core_of begun).processors c.run_named.result.disk c.run_named.result.result None None c.lines.result.now script.lines (g.W.Write.contents c.args.writer.now) (g.W.Write.contents c.run_named.new.writer) refl c.lines.ensures c.run_named.ensures.left)
@@ -44,6 +45,7 @@ returns-in-Ok-clause-err g c =
       made = begun.disk;
       created = created g.D.Disk first begun.disk script manifest c.requires.manifest (λ honest. (let closed = (new.files honest).closed in (closed.zero, closed.one))) new.disk.counted new.disk.honest leaves;
       left = left_new g.D.Disk script manifest c.processors.result (core_of begun) c.run_named.result.disk c.requires.manifest c.processors.ensures new.ok.opens P left;
+      honest = some_on (λ last. g.D.Disk.honest begun.disk → g.D.Disk.honest last) (λ last. g.D.Disk.honest first → g.D.Disk.honest last) c.run_named.result.disk (λ last still honest. still (new.disk.honest.0 honest)) c.run_named.ensures.honest;
     } in
     made_early g.D.Disk first c.run_named.result.disk script (core_of begun) make g.W.Write.contents c.args.writer.now c.run_named.new.writer c.run_named.result.result
     (left_of_lines g.D.Disk (core_of begun).opening (core_of begun).before (core_of begun).processors c.run_named.result.disk c.run_named.result.result None None c.lines.result.now script.lines (g.W.Write.contents c.args.writer.now) (g.W.Write.contents c.run_named.new.writer) refl c.lines.ensures c.run_named.ensures.left) c.run_named.ensures.err

@@ -13,4 +13,5 @@ ghosts-live_as-B-RuntimeName g a = record {
   opening = a.store.opening;
   before = a.store.before;
   processors = a.store.processors;
+  honest = ⊥;
 }

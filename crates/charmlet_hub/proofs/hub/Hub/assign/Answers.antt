@@ -20,6 +20,7 @@ invariant_of-self-2 g c =
       hub_assigned h.sequencer new h.seats h.passes c.self.invariant.0 more (store_of h.sequencer).blanks (store_of new).blanks c.args.locked.now.number c.args.id (done_or_refused c.assign.result)
           c.facts.ensures.sound c.assign.ensures.goes c.reserve_own.ensures.all (omega arith),
       named,
+      λ honest. subst g.D.Disk.honest (sym c.assign.ensures.disk) (c.self.invariant.2 honest),
     )
 
 pub returns-clause-goes : goal.returns-clause-goes

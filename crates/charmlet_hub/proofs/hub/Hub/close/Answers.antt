@@ -1,14 +1,13 @@
 use Rattle.std.proofs.Common.{◌≡◌, ◌≤◌, ◌<◌, true, false, ◌∷◌, length, map, vec_len, sym, ap, subst, ◌∙◌, rules}
-use Rattle.std.specs.Prelude.{◌==◌, if◌then◌else◌}
+use Rattle.std.specs.Prelude.{◌==◌}
 use Rattle.std.specs.Cmp.{nat_eq_equiv}
 use Rattle.std.specs.List.{AllByRecursion}
-use Rattle.charmlet_model.specs.declared.refusal.Refusal.TheVariants as refusals
 use Rattle.charmlet_model.specs.Core.{Core}
 use Rattle.charmlet_passes.specs.Passes.{HeldPass, IsCurrent}
 use Rattle.charmlet_seats.specs.Seats.{HeldSeat, IdList}
 use Rattle.charmlet_seats.specs.Woven.{IsWoven}
 use Rattle.charmlet_hub.specs.Hub.{HubShown, deliveries_in}
-use Rattle.charmlet_hub.proofs.Endings.{all_settled, are_in, one_settled, shelves_idle}
+use Rattle.charmlet_hub.proofs.Endings.{all_settled, one_settled, shelves_idle}
 use Rattle.charmlet_hub.proofs.hub.Hub.close.Goals as goal
 
 pub loop-i-preserved : goal.loop-i-preserved
@@ -22,14 +21,6 @@ take_apart-apart-requires-clause-idle g c κs within =
     let all : length c.args.shelves.items ≤ c.loop-i.i = search rules in
     shelves_idle c.args.self c.loop-i.hub c.args.shelves.items c.loop-i.shelves.items c.loop-i.i c.loop-i.invariant all
 
--- ---- where memory is refused
-
-pub returns-in_default-clause-err : goal.returns-in_default-clause-err
-returns-in_default-clause-err g c =
-    let seats = sym c.len.ensures ∙ c.if-len-seat_count.false ∙ c.seat_count.ensures ∙ ap (λ (v : HubShown _). length v.seats.out) c.self.view_is in
-    let passes = sym c.len-else-len-seat_count.ensures ∙ c.if-len-pass_count.false ∙ c.pass_count.ensures ∙ ap (λ (v : HubShown _). length v.passes.out) c.self.view_is in
-    ap (λ b. if b then refusals.Memory else refusals.PassOut) (sym (are_in c.args.self (vec_len c.args.seats) (vec_len c.args.passes) seats passes))
-
 -- ---- where all is taken apart
 
 pub unreachable-requires : goal.unreachable-requires
@@ -37,7 +28,7 @@ unreachable-requires g c =
     let seats = sym c.len.ensures ∙ c.if-len-seat_count.false ∙ c.seat_count.ensures ∙ ap (λ (v : HubShown _). length v.seats.out) c.self.view_is in
     let out = length c.into_parts-sequencer.result.seats.out in
     let same : vec_len c.args.seats ≡ out = seats ∙ sym (ap length (ap (λ (v : HubShown _). v.seats.out) c.into_parts-sequencer.ensures.shown ∙ c.loop-i.invariant.out)) in
-    let never : false ≡ true = (c.in_default-close.ensures {u = tt}).which ∙ ap (λ n. n == out) same ∙ nat_eq_equiv.refl out in
+    let never : false ≡ true = (c.in_default.ensures {u = tt}).which ∙ ap (λ n. n == out) same ∙ nat_eq_equiv.refl out in
     let contra : ⊥ = cc in contra
 
 pub returns-clause-settles : goal.returns-clause-settles
@@ -49,7 +40,7 @@ returns-clause-settles g c =
       apart.core ∙ ap (λ (v : HubShown _). v.core) c.into_parts-sequencer.ensures.shown,
       apart.census ∙ ap (λ (v : HubShown _). v.census) c.into_parts-sequencer.ensures.shown,
       apart.disk ∙ ap (λ (v : HubShown _). v.disk) c.into_parts-sequencer.ensures.shown,
-      c.in-Ok-close.ensures.own ∙ ap (λ (v : HubShown _). v.seats.own) c.into_parts-sequencer.ensures.shown,
+      c.in-Ok.ensures.own ∙ ap (λ (v : HubShown _). v.seats.own) c.into_parts-sequencer.ensures.shown,
     )
 
 pub returns-clause-lawful : goal.returns-clause-lawful
@@ -60,11 +51,11 @@ returns-clause-lawful g c = λ honest.
 pub returns-clause-woven : goal.returns-clause-woven
 returns-clause-woven g c =
     let h = c.into_parts-sequencer.result in
-    subst (λ (x : IdList × Core). IsWoven (x.0.items ∷ map (λ (seat : HeldSeat). seat.ids) c.args.seats.items) (deliveries_in x.1.history)) (λ i. (sym c.in-Ok-close.ensures.own i, sym c.take_apart-apart.ensures.core i))
-    (c.in-Ok-close.ensures.woven (deliveries_in h.sequencer.core.history) c.into_parts-sequencer.ensures.hub.seats)
+    subst (λ (x : IdList × Core). IsWoven (x.0.items ∷ map (λ (seat : HeldSeat). seat.ids) c.args.seats.items) (deliveries_in x.1.history)) (λ i. (sym c.in-Ok.ensures.own i, sym c.take_apart-apart.ensures.core i))
+    (c.in-Ok.ensures.woven (deliveries_in h.sequencer.core.history) c.into_parts-sequencer.ensures.hub.seats)
 
 pub returns-clause-current : goal.returns-clause-current
 returns-clause-current g c =
     let h = c.into_parts-sequencer.result in
     subst (λ core. AllByRecursion (λ (held : HeldPass). IsCurrent held core) c.args.passes.items) (sym c.take_apart-apart.ensures.core)
-    (c.in-Ok-close-2.ensures.current h.sequencer.core c.into_parts-sequencer.ensures.hub.passes)
+    (c.in-Ok-close.ensures.current h.sequencer.core c.into_parts-sequencer.ensures.hub.passes)

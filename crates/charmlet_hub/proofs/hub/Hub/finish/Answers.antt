@@ -1,4 +1,4 @@
-use Rattle.std.proofs.Common.{◌≡◌, ◌+◌, ◌≤◌, Some, subst, arith}
+use Rattle.std.proofs.Common.{ap, ◌∙◌, sym, ◌≡◌, ◌+◌, ◌≤◌, Some, subst, arith}
 use Rattle.charmlet_model.specs.Core.{Finish, Done, assigned_to}
 use Rattle.charmlet_model.specs.Run.{Goes}
 use Rattle.charmlet_shelf.specs.Shelf.{View}
@@ -22,6 +22,7 @@ invariant_of-self g c =
       hub_delivered h.sequencer new h.seats h.passes c.self.invariant.0 more (store_of h.sequencer).blanks (store_of new).blanks (Finish c.args.locked.now.number) c.in-Some.id c.facts.ensures.sound tt tt goes
           (finished_delivers h.sequencer.core new.core (store_of h.sequencer).blanks (store_of new).blanks c.args.locked.now.number c.in-Some.id has goes) c.commit_own.ensures.all room,
       c.self.invariant.1,
+      λ named. subst g.D.Disk.honest (sym (c.finish.ensures.disk ∙ ap (λ (v : SequencerShown _). v.disk) c.agree.ensures.sequencer)) (c.self.invariant.2 named),
     )
 
 pub returns-clause-goes : goal.returns-clause-goes

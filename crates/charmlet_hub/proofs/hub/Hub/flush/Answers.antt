@@ -16,6 +16,7 @@ invariant_of-self g c =
       hub_stepped h.sequencer new h.seats h.passes c.self.invariant.0 (store_of h.sequencer).blanks (store_of new).blanks Flush
           (counts_or_refused c.flush.result) c.facts.ensures.sound tt tt tt c.flush.ensures.goes,
       c.self.invariant.1,
+      λ named. c.flush.ensures.disk.honest.0 (c.self.invariant.2 named),
     )
 
 pub tell-requires-clause-current : goal.tell-requires-clause-current

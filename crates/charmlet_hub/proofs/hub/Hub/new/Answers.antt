@@ -12,4 +12,5 @@ invariant_of-result g c = (
     room = let none = ap length c.requires.assigned in omega arith;
   },
   c.requires.processors,
+  c.requires.honest,
 )

@@ -1,4 +1,4 @@
-use Rattle.std.proofs.Common.{subst}
+use Rattle.std.proofs.Common.{sym, subst}
 use Rattle.charmlet_model.specs.Core.{Done, Release}
 use Rattle.charmlet_model.specs.Run.{Goes}
 use Rattle.charmlet_sequencer.specs.Sequencer.{KeepsObjects, store_of}
@@ -12,6 +12,7 @@ invariant_of-self g c =
     let new = c.release.new.self in (
       hub_stepped h.sequencer new h.seats h.passes c.self.invariant.0 (store_of h.sequencer).blanks (store_of new).blanks (Release c.args.locked.now.number) Done c.facts.ensures.sound tt tt tt c.release.ensures.goes,
       c.self.invariant.1,
+      λ named. subst g.D.Disk.honest (sym c.release.ensures.disk) (c.self.invariant.2 named),
     )
 
 pub returns-clause-goes : goal.returns-clause-goes

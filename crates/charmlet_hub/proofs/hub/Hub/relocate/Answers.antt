@@ -1,4 +1,4 @@
-use Rattle.std.proofs.Common.{subst}
+use Rattle.std.proofs.Common.{sym, subst}
 use Rattle.charmlet_model.specs.Core.{Move}
 use Rattle.charmlet_model.specs.Run.{Goes}
 use Rattle.charmlet_delivery.specs.Workplace.{done_or_refused}
@@ -14,6 +14,7 @@ invariant_of-self g c =
     let new = c.relocate.new.self in (
       hub_stepped h.sequencer new h.seats h.passes c.self.invariant.0 (store_of h.sequencer).blanks (store_of new).blanks (Move c.args.elem c.args.to.now.number) (done_or_refused c.relocate.result) c.facts.ensures.sound tt tt tt c.relocate.ensures.goes,
       c.self.invariant.1,
+      λ named. subst g.D.Disk.honest (sym c.relocate.ensures.disk) (c.self.invariant.2 named),
     )
 
 pub returns-clause-goes : goal.returns-clause-goes

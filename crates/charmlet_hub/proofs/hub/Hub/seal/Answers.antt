@@ -14,6 +14,7 @@ invariant_of-self g c =
       hub_stepped h.sequencer new h.seats h.passes c.self.invariant.0 (store_of h.sequencer).blanks (store_of new).blanks Checkpoint
           (counts_or_refused c.seal.result) c.facts.ensures.sound tt tt tt c.seal.ensures.goes,
       c.self.invariant.1,
+      λ named. c.seal.ensures.disk.honest.0 (c.self.invariant.2 named),
     )
 
 pub returns-clause-goes : goal.returns-clause-goes

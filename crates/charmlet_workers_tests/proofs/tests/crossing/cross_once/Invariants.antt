@@ -14,4 +14,5 @@ ghosts-cross_named-B-RuntimeName g a = record {
   opening = (core_in a.start.store.history).opening;
   before = (core_in a.start.store.history).before;
   processors = (core_in a.start.store.history).processors;
+  honest = ⊥;
 }

@@ -14,4 +14,5 @@ ghosts-live_named-B-RuntimeName g a = record {
   opening = (core_of a.begun).opening;
   before = (core_of a.begun).before;
   processors = (core_of a.begun).processors;
+  honest = ⊥;
 }

@@ -1,4 +1,4 @@
-use Rattle.std.proofs.Common.{◌≡◌, ◌+◌, ◌≤◌, Some, ap, subst, arith}
+use Rattle.std.proofs.Common.{◌∙◌, sym, ◌≡◌, ◌+◌, ◌≤◌, Some, ap, subst, arith}
 use Rattle.charmlet_model.specs.Core.{Commit, Done, assigned_to}
 use Rattle.charmlet_model.specs.Run.{Goes}
 use Rattle.charmlet_seats.specs.Seats.{IdList}
@@ -8,7 +8,7 @@ use Rattle.charmlet_sequencer.specs.Shelf.{delivery_in}
 use Rattle.charmlet_hub.specs.Hub.{HubShown, sequencer_in, store_in}
 use Rattle.charmlet_hub.proofs.Hubs.{hub_delivered}
 use Rattle.charmlet_hub.proofs.Steps.{committed_delivers, delivery_assigned, made_before}
-use Rattle.charmlet_hub.proofs.hub.Hub.commit.Goals as goal
+use Rattle.charmlet_hub.proofs.hub.Hub.commit_quietly.Goals as goal
 
 pub invariant_of-self-2 : goal.invariant_of-self-2
 invariant_of-self-2 g c =
@@ -23,6 +23,7 @@ invariant_of-self-2 g c =
       hub_delivered h.sequencer new h.seats h.passes c.self.invariant.0 more (store_of h.sequencer).blanks (store_of new).blanks (Commit c.args.locked.now.number) c.in-Some.id c.facts.ensures.sound tt tt goes
           (committed_delivers h.sequencer.core new.core (store_of h.sequencer).blanks (store_of new).blanks c.args.locked.now.number c.in-Some.id has goes) c.commit-2.ensures.all room,
       c.self.invariant.1,
+      λ named. subst g.D.Disk.honest (sym (c.in_default-commit.ensures.disk ∙ ap (λ (v : SequencerShown _). v.disk) c.agree.ensures.sequencer)) (c.self.invariant.2 named),
     )
 
 pub returns-clause-goes : goal.returns-clause-goes

@@ -1,4 +1,4 @@
-use Rattle.std.proofs.Common.{◌≡◌, subst}
+use Rattle.std.proofs.Common.{sym, ◌≡◌, subst}
 use Rattle.std.specs.Prelude.{OnErr}
 use Rattle.charmlet_model.specs.Core.{Request}
 use Rattle.charmlet_model.specs.Run.{Goes}
@@ -7,7 +7,7 @@ use Rattle.charmlet_sequencer.specs.Sequencer.{store_of}
 use Rattle.charmlet_hub.specs.Hub.{HubShown, shown_by, store_in}
 use Rattle.charmlet_hub.proofs.Hubs.{hub_aside, refused_same}
 use Rattle.charmlet_hub.proofs.Steps.{step_aside}
-use Rattle.charmlet_hub.proofs.hub.Hub.request.Goals as goal
+use Rattle.charmlet_hub.proofs.hub.Hub.accept.Goals as goal
 
 pub invariant_of-self : goal.invariant_of-self
 invariant_of-self g c =
@@ -19,6 +19,7 @@ invariant_of-self g c =
           (step_aside h.sequencer.core (store_of h.sequencer).blanks step (record { answer = told_or_refused done.result; core = done.new.self.core; blanks = (store_of done.new.self).blanks }) tt done.ensures.goes)
           done.ensures.current,
       c.self.invariant.1,
+      λ named. subst g.D.Disk.honest (sym c.request_by.ensures.disk) (c.self.invariant.2 named),
     )
 
 pub returns-clause-err : goal.returns-clause-err
