@@ -83,17 +83,33 @@ tree_file() { echo "$top/out/proved"; }
 # The copy of the tree in which it is proved.
 copy_of_tree() { echo "$top/out/tree"; }
 
-# Proves all crates and their tests from nothing, and builds and runs the programs and the tests, by `rt ci`, in a copy of the
-# tree. The copy has no edits, since edits.py tries those together, and is the top of a repository for rt. What was built goes
-# into the crates' out/; it stays in the copy too, for what reads it there.
+# The crates of tests that are run and not proved: all but that of the pup routines, which shows what such a routine of one's own
+# has to prove.
+crates_of_tests() { sed -n 's/^\(charmlet_[a-z]*_tests\):.*/\1/p' "$top/crates.txt" | grep -vx charmlet_pup_tests; }
+
+# Copies the crates into an empty folder, without their edits and without those of tests that are run, so that it is the top of a
+# repository for rt.
+copy_crates() {
+  local crate excluded=(--exclude=out --exclude='must-fail*') lines=()
+  for crate in $(crates_of_tests); do
+    excluded+=(--exclude="crates/$crate")
+    lines+=(-e "^$crate:")
+  done
+  mkdir -p "$1/.git"
+  tar -C "$top" -cf - "${excluded[@]}" HANDLES crates | tar -C "$1" -xf - && grep -v "${lines[@]}" "$top/crates.txt" >"$1/crates.txt"
+}
+
+# Proves all crates from nothing, and builds and runs the programs, by `rt ci`, in a copy of the tree, which has no edits since
+# edits.py tries those together. What was built goes into the crates' out/; it stays in the copy too, for what reads it there.
+# As many crates are proved at once as there are processors, or RT_JOBS: by itself rt reckons with several times the memory
+# that these take, and leaves processors free.
 prove_tree() {
   local tree sum crate out
   tree=$(copy_of_tree)
   sum=$(sum_of_tree)
   rm -rf "$tree" "$(tree_file)"
-  mkdir -p "$tree/.git"
-  tar -C "$top" -cf - --exclude=out --exclude='must-fail*' HANDLES crates crates.txt | tar -C "$tree" -xf - || return
-  (cd "$tree" && rt ci) || return
+  copy_crates "$tree" || return
+  (cd "$tree" && RT_JOBS=${RT_JOBS:-$(nproc)} rt ci) || return
   for crate in "$tree"/crates/*; do
     out=$top/crates/$(basename "$crate")/out
     rm -rf "$out"

@@ -1,9 +1,8 @@
 //! Workers whose objects go back.
 
-ghost use Rattle.std.specs.Prelude.{◌≡◌, ◌+◌, ◌≤◌, [], true};
+ghost use Rattle.std.specs.Prelude.{◌≡◌, ◌+◌, ◌≤◌, true};
 ghost use Rattle.std.specs.List.{All, AllByRecursion};
 ghost use Rattle.charmlet_model.specs.declared.kind.Kind as kinds;
-ghost use Rattle.charmlet_delivery.specs.Workplace.{IsWithin, held_in};
 ghost use Rattle.charmlet_migrate.specs.Moving.{IsCountedAmong, IsIdle};
 ghost use Rattle.charmlet_stock.specs.ByKind.{for_all};
 ghost use Rattle.charmlet_stock.specs.Stock.{blanks_in, keeping_of, supplied_to};
@@ -15,7 +14,7 @@ ghost use Rattle.charmlet_joining.specs.Joined.{drawn_by_lots};
 use charmlet_chare::Chare;
 use charmlet_lots::Lot;
 use charmlet_pouring::pour;
-use charmlet_replay::Restored;
+use charmlet_replay::{Restored, clear_shelf};
 use charmlet_shelf::Shelf;
 use charmlet_stock::Stock;
 
@@ -75,19 +74,4 @@ fn gather<C: Chare>(shelves: Vec<Shelf<C>>, mut stock: Stock<C>) -> Stock<C>
         clear_shelf(&mut shelf, &mut stock);
     }
     stock
-}
-
-/// Puts all objects of a shelf, on which no delivery is under way, into the stock, so that none is
-/// left there. It takes no memory.
-fn clear_shelf<C: Chare>(shelf: &mut Shelf<C>, stock: &mut Stock<C>)
-    requires idle { IsIdle shelf.old }
-    requires supply { IsWithin shelf.old stock.old }
-    ensures shelf { shelf.new ≡ record shelf.old { records = [] } }
-    ensures held { held_in shelf.new stock.new ≡ held_in shelf.old stock.old }
-    ensures supplied { supplied_to stock.new ≡ supplied_to stock.old }
-    ensures keeping { keeping_of stock.new ≡ keeping_of stock.old }
-{
-    'objects: while let Some((_, resident)) = shelf.lift_any() {
-        stock.give_back(resident.object);
-    }
 }

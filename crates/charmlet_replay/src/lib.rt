@@ -15,7 +15,11 @@ mod replaying;
 mod restored;
 mod waiting;
 
+pub use crate::beginning::begin;
+pub use crate::dismissing::clear_shelf;
 pub use crate::events::Stopped;
+pub use crate::opening::open_store;
 pub use crate::reopening::{NotReplayed, take_back};
 pub use crate::replaying::{Replayed, replay};
 pub use crate::restored::Restored;
+pub use crate::waiting::{Waiting, waiting_of};

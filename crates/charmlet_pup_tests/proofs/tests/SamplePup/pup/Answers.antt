@@ -1,5 +1,5 @@
 use Rattle.charmlet_pup.proofs.Visits.{visits, handed_on}
-use Rattle.charmlet_object_tests.proofs.tests.pup.SamplePup.pup.Goals as goal
+use Rattle.charmlet_pup_tests.proofs.tests.SamplePup.pup.Goals as goal
 
 pub returns : goal.returns
 returns c = search (visits, c.in_ok-u8.ensures, c.in_ok-u16.ensures, c.in_ok-u32.ensures, c.in_ok-u64.ensures, c.in_ok-flag.ensures, c.in_ok-words.ensures, c.bytes.ensures) depth 9
