@@ -1,6 +1,7 @@
 //! Blank objects of all kinds, and the tasks that need them.
 
 ghost use Rattle.std.specs.Prelude.{◌≡◌, true, IfErr, IfOk};
+ghost use Rattle.std.specs.Thread.{IsSync};
 ghost use Rattle.charmlet_model.specs.Core.{Blanks};
 ghost use Rattle.charmlet_model.specs.Sound.{new_world};
 ghost use Rattle.charmlet_model.specs.World.{IsLegal};
@@ -23,6 +24,7 @@ use charmlet_model::{Event, Kind, Refusal};
 use charmlet_recover::Wanted;
 use charmlet_script::Script;
 use std::alloc::{AllocError, Global};
+use std::thread::Threads;
 
 /// An object of any kind.
 pub(crate) type Object = Box<dyn Chare + Send>;
@@ -113,7 +115,8 @@ fn run_with<C: Chare>(
 }
 
 /// Whether a restart after a run's crash is bad, with these blanks.
-fn restart_with<C: Chare>(
+fn restart_with<R: Threads + Sync, C: Chare>(
+    threads: &R,
     alloc: Global,
     script: &Script,
     disk: AnyDisk,
@@ -128,14 +131,21 @@ fn restart_with<C: Chare>(
     ensures err { IfErr result (λ refusal. (given : Blanks)
         × IsNotTried ⟦<AnyDisk as Disk>⟧ script.now given (blanks_in wanted.now) disk refusal) }
 {
-    lab_outcome(alloc, script, disk, wanted, blanks, events, durable)
+    lab_outcome(
+        threads, alloc, script, disk, wanted, blanks, events, durable,
+    )
 }
 
-/// Objects of all kinds, for the runs and the restarts of the laboratory.
+/// Objects of all kinds, for the runs and the restarts of the laboratory, which replay in threads
+/// of `threads`.
 #[derive(Drop)]
-pub(crate) struct AllKinds;
+pub(crate) struct AllKinds<'a, R: Threads + Sync> {
+    pub(crate) threads: &'a R,
+}
 
-impl Supplier<AnyDisk> for AllKinds {
+impl<R: Threads + Sync> Supplier<AnyDisk> for AllKinds<'_, R> {
+    ghost may_restart = { λ _. IsSync R.row };
+
     fn run(&self, alloc: Global, script: &Script, disk: AnyDisk) -> Result<Round<AnyDisk>, Refusal>
         requires settled { is_honest disk → IsSettled (files_of disk) }
         ensures ok { IfOk result (IsRound ⟦<AnyDisk as Disk>⟧ (arrays_of script.now) disk) }
@@ -168,6 +178,7 @@ impl Supplier<AnyDisk> for AllKinds {
         events: &[Event],
         durable: Option<u64>,
     ) -> Result<bool, Refusal>
+        requires may { IsSync R.row }
         requires legal { IsLegal (new_world (arrays_of script.now)) 0 events.now }
         ensures ok { IfOk result (λ bad. (given : Blanks) × IsEnough given (blanks_in wanted.now)
             × IsJudged ⟦<AnyDisk as Disk>⟧ script.now given disk events.now durable bad) }
@@ -185,6 +196,15 @@ impl Supplier<AnyDisk> for AllKinds {
                 }
             }
         }
-        restart_with(alloc, script, disk, wanted, blanks, events, durable)
+        restart_with(
+            self.threads,
+            alloc,
+            script,
+            disk,
+            wanted,
+            blanks,
+            events,
+            durable,
+        )
     }
 }

@@ -9,6 +9,7 @@ use charmlet_model::{Answer, Refusal};
 use charmlet_script::Runner;
 use std::io;
 use std::io::{BufWriter, IsTerminal, Write};
+use std::thread::Threads;
 use std::time::Instant;
 
 /// The laboratory's progress: on standard error, if that is a terminal, once a second.
@@ -81,14 +82,16 @@ fn tell_found(rt: HostRuntime, found: Result<LabLine, Refusal>) -> Result<(), St
     end
 }
 
-/// Tries the crashes of a script, and writes what was found on standard output.
-pub(crate) fn lab(rt: HostRuntime, path: &str) -> Result<(), Stop> {
+/// Tries the crashes of a script, and writes what was found on standard output. Restarts replay in
+/// threads of `threads`.
+pub(crate) fn lab<R: Threads + Sync>(rt: HostRuntime, threads: &R, path: &str) -> Result<(), Stop> {
     let script = script_in(rt, path, Runner::Engine)?;
     let mut progress = Progress::new(rt);
-    let found = try_crashes::<AnyDisk, AllKinds, Progress>(
+    let kinds = AllKinds { threads };
+    let found = try_crashes::<AnyDisk, AllKinds<'_, R>, Progress>(
         rt.alloc(),
         &script,
-        &AllKinds,
+        &kinds,
         &mut progress,
     );
     progress.clear();

@@ -4,6 +4,7 @@
 
 mod blanks;
 mod lab;
+mod output;
 mod runs;
 mod scripts;
 mod workers;
@@ -23,11 +24,11 @@ use std::{env, io};
 /// Shows the store in the two files of a folder on standard output.
 fn show(rt: HostRuntime, dir: &str) -> Result<(), Stop> {
     let alloc = rt.alloc();
-    let mut writer = BufWriter::new(alloc, io::writer(&rt))?;
     let mut disk = AnyDisk::folder(rt, dir)?;
-    show_store(alloc, &mut disk, &mut writer)?;
+    let mut writer = BufWriter::new(alloc, io::writer(&rt))?;
+    let shown = show_store(alloc, &mut disk, &mut writer);
     writer.flush()?;
-    Ok(())
+    Ok(shown?)
 }
 
 /// The words of the command line, the first of which is the program's name.
@@ -51,14 +52,14 @@ fn charmlet<R: Threads + Wait + Sync>(rt: HostRuntime, threads: &R) -> Result<()
             script,
             processors,
             workers: false,
-        } => restart(rt, dir, script, processors)?,
+        } => restart(rt, threads, dir, script, processors)?,
         Command::Restart {
             dir,
             script,
             processors,
             ..
         } => restart_by_workers(rt, threads, dir, script, processors)?,
-        Command::Lab { script } => lab(rt, script)?,
+        Command::Lab { script } => lab(rt, threads, script)?,
     }
     Ok(())
 }

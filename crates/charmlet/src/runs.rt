@@ -1,9 +1,11 @@
 //! Runs of scripts over a store, a new one or one that comes back.
 
+ghost use Rattle.std.specs.Thread.{IsSync};
 ghost use Rattle.charmlet_any_disk.specs.AnyDisk.{files_of, is_honest};
 ghost use Rattle.charmlet_disk.specs.Disk.{IsSettled};
 
 use crate::blanks::{Object, Task, with_blanks};
+use crate::output::block;
 use crate::scripts::{restart_script_in, script_in};
 use charmlet_any_disk::AnyDisk;
 use charmlet_cli::{
@@ -15,6 +17,7 @@ use charmlet_script::{RestartScript, Runner, Script};
 use std::alloc::Global;
 use std::io;
 use std::io::{BufWriter, Write};
+use std::thread::Threads;
 
 /// A run of a script over a new store on this disk, with its lines written.
 #[derive(Drop)]
@@ -50,12 +53,14 @@ impl<W: Write> Task for ScriptRun<'_, W> {
     }
 }
 
-/// Reads a script, and then runs it over a new store in the two files of a folder, or in memory
-/// without one.
-pub(crate) fn run(rt: HostRuntime, path: &str, dir: Option<&str>) -> Result<(), Stop> {
+/// Runs a script over a new store in the two files of a folder, or in memory without one.
+fn run_in<W: Write>(
+    rt: HostRuntime,
+    script: &Script,
+    dir: Option<&str>,
+    writer: &mut W,
+) -> Result<(), Stop> {
     let alloc = rt.alloc();
-    let script = script_in(rt, path, Runner::Engine)?;
-    let mut writer = BufWriter::new(alloc, io::writer(&rt))?;
     let disk = match dir {
         Some(dir) => AnyDisk::folder(rt, dir)?,
         None => AnyDisk::memory(alloc),
@@ -63,18 +68,27 @@ pub(crate) fn run(rt: HostRuntime, path: &str, dir: Option<&str>) -> Result<(), 
     let run = ScriptRun {
         alloc,
         disk,
-        script: &script,
-        writer: &mut writer,
+        script,
+        writer,
     };
-    with_blanks(alloc, run)??;
+    with_blanks(alloc, run)?
+}
+
+/// Reads a script, and then runs it over a new store in the two files of a folder, or in memory
+/// without one.
+pub(crate) fn run(rt: HostRuntime, path: &str, dir: Option<&str>) -> Result<(), Stop> {
+    let script = script_in(rt, path, Runner::Engine)?;
+    let mut writer = BufWriter::with_capacity(rt.alloc(), block(rt), io::writer(&rt))?;
+    let ran = run_in(rt, &script, dir, &mut writer);
     writer.flush()?;
-    Ok(())
+    ran
 }
 
 /// A run of a script over the store on this disk, which comes back on this number of processors,
-/// with the blanks that the restart wants.
+/// with the blanks that the restart wants, in threads of `threads`.
 #[derive(Drop)]
-struct ScriptRestart<'a, W: Write> {
+struct ScriptRestart<'a, R: Threads + Sync, W: Write> {
+    threads: &'a R,
     alloc: Global,
     disk: AnyDisk,
     processors: u16,
@@ -83,10 +97,10 @@ struct ScriptRestart<'a, W: Write> {
     writer: &'a mut W,
 }
 
-impl<W: Write> Task for ScriptRestart<'_, W> {
+impl<R: Threads + Sync, W: Write> Task for ScriptRestart<'_, R, W> {
     type Answer = Result<(), Stop>;
 
-    ghost may_begin = { λ _. Unit {0} };
+    ghost may_begin = { λ _. IsSync R.row };
 
     fn blanks(&self, kind: Kind) -> u64 {
         self.wanted.of(kind)
@@ -98,6 +112,7 @@ impl<W: Write> Task for ScriptRestart<'_, W> {
 
     fn begin(self, blanks: Vec<Object>, supplies: Vec<Object>) -> Result<(), Stop> {
         let ScriptRestart {
+            threads,
             alloc,
             disk,
             processors,
@@ -106,29 +121,49 @@ impl<W: Write> Task for ScriptRestart<'_, W> {
             ..
         } = self;
         let Restarted { result, .. } = restart_script(
-            alloc, disk, processors, script, blanks, supplies, writer,
+            threads, alloc, disk, processors, script, blanks, supplies, writer,
         );
         Ok(result?)
     }
 }
 
-/// Reads a script, and then runs it over the store in the two files of a folder, which comes back
-/// on `processors` processors.
-pub(crate) fn restart(rt: HostRuntime, dir: &str, path: &str, processors: u16) -> Result<(), Stop> {
+/// Runs a script over the store in the two files of a folder, which comes back on `processors`
+/// processors, by as many workers in threads of `threads`.
+fn restart_in<R: Threads + Sync, W: Write>(
+    rt: HostRuntime,
+    threads: &R,
+    dir: &str,
+    script: &RestartScript,
+    processors: u16,
+    writer: &mut W,
+) -> Result<(), Stop> {
     let alloc = rt.alloc();
-    let script = restart_script_in(rt, path, Runner::Engine)?;
-    let mut writer = BufWriter::new(alloc, io::writer(&rt))?;
     let mut disk = AnyDisk::folder(rt, dir)?;
-    let wanted = find_blanks(alloc, &mut disk, processors, &mut writer)?;
+    let wanted = find_blanks(alloc, &mut disk, processors, writer)?;
     let restart = ScriptRestart {
+        threads,
         alloc,
         disk,
         processors,
-        script: &script,
+        script,
         wanted,
-        writer: &mut writer,
+        writer,
     };
-    with_blanks(alloc, restart)??;
+    with_blanks(alloc, restart)?
+}
+
+/// Reads a script, and then runs it over the store in the two files of a folder, which comes back
+/// on `processors` processors, by as many workers in threads of `threads`.
+pub(crate) fn restart<R: Threads + Sync>(
+    rt: HostRuntime,
+    threads: &R,
+    dir: &str,
+    path: &str,
+    processors: u16,
+) -> Result<(), Stop> {
+    let script = restart_script_in(rt, path, Runner::Engine)?;
+    let mut writer = BufWriter::with_capacity(rt.alloc(), block(rt), io::writer(&rt))?;
+    let ran = restart_in(rt, threads, dir, &script, processors, &mut writer);
     writer.flush()?;
-    Ok(())
+    ran
 }

@@ -4,6 +4,7 @@ ghost use Rattle.charmlet_any_disk.specs.AnyDisk.{files_of, is_honest};
 ghost use Rattle.charmlet_disk.specs.Disk.{IsSettled};
 
 use crate::blanks::{Object, blank, boxed};
+use crate::output::block;
 use crate::scripts::{restart_script_in, script_in};
 use charmlet_any_disk::AnyDisk;
 use charmlet_chare::Chare;
@@ -70,14 +71,14 @@ pub(crate) fn run_by_workers<R: Threads + Wait + Sync>(
 ) -> Result<(), Stop> {
     let alloc = rt.alloc();
     let script = script_in(rt, path, Runner::Workers)?;
-    let mut writer = BufWriter::new(alloc, io::writer(&rt))?;
     let disk = match dir {
         Some(dir) => AnyDisk::folder(rt, dir)?,
         None => AnyDisk::memory(alloc),
     };
-    run_on(rt, threads, disk, &script, &mut writer)?;
+    let mut writer = BufWriter::with_capacity(alloc, block(rt), io::writer(&rt))?;
+    let ran = run_on(rt, threads, disk, &script, &mut writer);
     writer.flush()?;
-    Ok(())
+    ran
 }
 
 /// A run of a script by workers over the store on this disk, which comes back on this number of
@@ -141,6 +142,21 @@ fn restart_on<W: Write, R: Threads + Wait + Sync>(
     )
 }
 
+/// Runs a script by workers over the store in the two files of a folder, which comes back on
+/// `processors` processors.
+fn restart_in<W: Write, R: Threads + Wait + Sync>(
+    rt: HostRuntime,
+    threads: &R,
+    dir: &str,
+    script: &RestartScript,
+    processors: u16,
+    writer: &mut W,
+) -> Result<(), Stop> {
+    let mut disk = AnyDisk::folder(rt, dir)?;
+    let wanted = find_blanks(rt.alloc(), &mut disk, processors, writer)?;
+    restart_on(rt, threads, disk, processors, script, &wanted, writer)
+}
+
 /// Reads a script, and then runs it by workers over the store in the two files of a folder, which
 /// comes back on `processors` processors.
 pub(crate) fn restart_by_workers<R: Threads + Wait + Sync>(
@@ -150,12 +166,9 @@ pub(crate) fn restart_by_workers<R: Threads + Wait + Sync>(
     path: &str,
     processors: u16,
 ) -> Result<(), Stop> {
-    let alloc = rt.alloc();
     let script = restart_script_in(rt, path, Runner::Workers)?;
-    let mut writer = BufWriter::new(alloc, io::writer(&rt))?;
-    let mut disk = AnyDisk::folder(rt, dir)?;
-    let wanted = find_blanks(alloc, &mut disk, processors, &mut writer)?;
-    restart_on(rt, threads, disk, processors, &script, &wanted, &mut writer)?;
+    let mut writer = BufWriter::with_capacity(rt.alloc(), block(rt), io::writer(&rt))?;
+    let ran = restart_in(rt, threads, dir, &script, processors, &mut writer);
     writer.flush()?;
-    Ok(())
+    ran
 }

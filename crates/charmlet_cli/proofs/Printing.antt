@@ -28,7 +28,17 @@ appends_kept (Some a) None c xs h k = absurd h
 appends_kept (Some a) (Some b) None xs h k = absurd k
 appends_kept (Some a) (Some b) (Some c) xs h k = k ∙ h
 
+pub kept_appends : (a b c : Option (List ℕ)) (xs : List ℕ) → Keeps a b → Appends b c xs → Appends a c xs
+kept_appends None b c xs k h = tt
+kept_appends (Some a) None c xs k h = absurd k
+kept_appends (Some a) (Some b) None xs k h = absurd h
+kept_appends (Some a) (Some b) (Some c) xs k h = h ∙ ap (λ ys. ys ++ xs) k
+
 -- ---- what is written where a call may fail
+
+-- what was there before stays, and a beginning comes after it
+pub kept_begins : (a b c : Option Text) (text : Text) → Keeps a b → AppendsBeginning b c text → AppendsBeginning a c text
+kept_begins a b c text k h = (h.0, h.1, h.2, kept_appends a b c h.0 k h.3)
 
 -- all is written, whatever a last flush answers
 pub all_written : {T E : Type 0} (r : Result T E) (a b : Option Text) (text : Text) → Appends a b text → Writes r a b text

@@ -19,7 +19,8 @@ use std::io::Write;
 
 /// Delivers the oldest message that can be delivered, up to `most` times, and then writes how many
 /// it delivered and how many are still pending. A refused delivery ends it, and is written too.
-/// Fails as `write_line` does, after all deliveries.
+/// Fails as `write_line` does, after all deliveries. The writer is flushed before, since deliveries
+/// may take long; where that fails the next flush tells it.
 pub fn drain_line<D: Disk, C: Chare, W: Write>(
     alloc: Global,
     engine: &mut Engine<D, C>,
@@ -30,6 +31,7 @@ pub fn drain_line<D: Disk, C: Chare, W: Write>(
     ensures prints { IsPrinted D.Disk no_names result (ledger_in engine.old) (lines.Drain most)
         (ledger_in engine.new) (W.contents writer.old) (W.contents writer.new) }
 {
+    let _ = writer.flush();
     let (delivered, refusal) = drain(engine, most);
     let left = engine.pending_count() as u64;
     write_line(alloc, writer, &Drained { delivered, left })?;

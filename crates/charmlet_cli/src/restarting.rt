@@ -33,6 +33,7 @@ use charmlet_script::RestartScript;
 use charmlet_stock::Stock;
 use std::alloc::{AllocError, Global};
 use std::io::Write;
+use std::thread::Threads;
 use std::{fmt, io};
 
 /// Why it isn't known which blanks a restart needs.
@@ -158,7 +159,8 @@ pub fn find_blanks<D: Disk, W: Write>(
 ///
 /// The disk's count of failures grows by one for each `Device` answer, and for nothing else. The
 /// disk is as honest as before. `RestartError` says what each error means.
-pub fn restart_script<D: Disk, C: Chare, W: Write>(
+pub fn restart_script<R: Threads + Sync, D: Disk, C: Chare, W: Write>(
+    rt: &R,
     alloc: Global,
     disk: D,
     processors: u16,
@@ -181,7 +183,7 @@ pub fn restart_script<D: Disk, C: Chare, W: Write>(
         return Restarted { disk, result };
     }
     match prepare(alloc, script, blanks, supplies) {
-        Ok(prepared) => restart_with(alloc, disk, processors, script, prepared, writer),
+        Ok(prepared) => restart_with(rt, alloc, disk, processors, script, prepared, writer),
         Err(AllocError) => {
             let result = Err(RestartError::Memory);
             Restarted { disk, result }
@@ -240,7 +242,8 @@ fn prepare<C: Chare>(
 }
 
 /// Brings the store back and runs lines over it, or writes why none came back.
-fn restart_with<D: Disk, C: Chare, W: Write>(
+fn restart_with<R: Threads + Sync, D: Disk, C: Chare, W: Write>(
+    rt: &R,
     alloc: Global,
     disk: D,
     processors: u16,
@@ -267,7 +270,7 @@ fn restart_with<D: Disk, C: Chare, W: Write>(
         mut source,
         mut desk,
     } = prepared;
-    match Engine::restart(alloc, disk, given, processors) {
+    match Engine::restart(rt, alloc, disk, given, processors) {
         Ok(mut engine) => {
             let ran = run_restarted(
                 alloc,

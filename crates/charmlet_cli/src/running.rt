@@ -23,7 +23,7 @@ ghost use Rattle.charmlet_cli.specs.declared.running.RunError.TheVariants as err
 use crate::desk::{Call, Desk};
 use crate::draining::drain_line;
 use crate::showing::{census_line, pending_line, state_line};
-use crate::writing::{write_answer, write_line, write_memory_refused};
+use crate::writing::{write_answer, write_line, write_memory_refused, write_step_answer};
 use charmlet_chare::Chare;
 use charmlet_disk::Disk;
 use charmlet_engine::Engine;
@@ -76,9 +76,10 @@ pub struct Ran<D: Disk, C: Chare> {
 }
 
 /// Makes the script's store on a disk, runs its lines there, and writes what they print: all that a
-/// line prints is written before the next line is run. `blanks` are the objects that the script's
-/// lines supply; any more are dropped at the end. A refusal is an answer, and the run goes on. The
-/// disk has to be settled, and comes back in any case.
+/// line prints is written before the next line is run. The writer is flushed after each flush and
+/// each checkpoint, and before each drain, and not at the end. `blanks` are the objects that the
+/// script's lines supply; any more are dropped at the end. A refusal is an answer, and the run goes
+/// on. The disk has to be settled, and comes back in any case.
 ///
 /// No store is made if the script's number of processors is outside 1 to 64, `BadPes`; a half of
 /// the disk is open, `AlreadyHere`; it is out of memory, `Memory`; or the device fails, `Device`.
@@ -296,7 +297,10 @@ fn run_line<D: Disk, C: Chare, W: Write>(
             };
             write_answer(alloc, writer, &answer_to_call(engine, desk, &call))
         }
-        Line::Step(step) => write_answer(alloc, writer, &answer_to(engine, desk, step)),
+        Line::Step(step) => {
+            let answer = answer_to(engine, desk, step);
+            write_step_answer(alloc, writer, step, &answer)
+        }
     }
 }
 

@@ -60,8 +60,8 @@ fn shown<D: Disk, C: Chare>(
     shown_of(alloc, elem, look)
 }
 
-/// What a line shows of an element of which this is seen. It fails only when out of memory, and only
-/// if the element is there.
+/// What a line shows of an element of which this is seen. It fails only when out of memory, and
+/// only if the element is there.
 pub fn shown_of(alloc: Global, elem: Elem, look: Look) -> Result<Shown, AllocError>
     ensures ok { IfOk result (λ shown. shown_text shown ≡ look_text elem look) }
     ensures absent { look.standing ≡ None → IsOk result }

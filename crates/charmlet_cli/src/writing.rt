@@ -5,12 +5,12 @@ ghost use Rattle.charmlet_model.specs.Texts.{answer_text};
 ghost use Rattle.charmlet_cli.specs.Lines.{in_lines, memory_text};
 ghost use Rattle.charmlet_cli.specs.Writing.{Writes};
 
-use charmlet_model::{Answer, Refusal};
+use charmlet_model::{Answer, Refusal, Step};
 use std::alloc::Global;
 use std::io::{ErrorKind, Write};
 use std::{fmt, io};
 
-/// Writes a line and its line feed, and flushes, so that a reader of the output has it at once.
+/// Writes a line and its line feed.
 ///
 /// An error is the writer's, after a beginning of the line; or it is `OutOfMemory`, if there is no
 /// memory for the line's text, and nothing of it is written.
@@ -47,15 +47,34 @@ pub fn write_answer<W: Write>(alloc: Global, writer: &mut W, answer: &Answer) ->
     }
 }
 
-/// Writes these bytes, and flushes. An interrupted write is tried again. An error is the writer's,
-/// after a beginning of the bytes.
+/// Writes the answer to a step. After that of a flush or a checkpoint, which says what is durable,
+/// the writer is flushed, so that a reader of the output has it at once. Fails as [`write_line`]
+/// does, or where the flush fails, after the whole line.
+pub fn write_step_answer<W: Write>(
+    alloc: Global,
+    writer: &mut W,
+    step: &Step,
+    answer: &Answer,
+) -> io::Result<()>
+    ensures { Writes result (W.contents writer.old) (W.contents writer.new)
+        (in_lines (answer_text answer.now ∷ [])) }
+{
+    write_answer(alloc, writer, answer)?;
+    match step {
+        Step::Flush | Step::Checkpoint => writer.flush(),
+        _ => Ok(()),
+    }
+}
+
+/// Writes these bytes. An interrupted write is tried again. An error is the writer's, after a
+/// beginning of the bytes.
 fn write_bytes<W: Write>(writer: &mut W, bytes: &[u8]) -> io::Result<()>
     ensures { Writes result (W.contents writer.old) (W.contents writer.new) bytes.now }
 {
     let mut rest = bytes;
     for _ in 0..u64::MAX {
         if rest.is_empty() {
-            return writer.flush();
+            return Ok(());
         }
         match writer.write(rest) {
             Ok(0) => return Err(io::Error::from(ErrorKind::WriteZero)),

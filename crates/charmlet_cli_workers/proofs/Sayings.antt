@@ -1,6 +1,6 @@
 -- What lines print, one after another.
-use Rattle.std.proofs.Common.{ℕ, List, [], ◌∷◌, ◌++◌, refl, sym, ap, ◌∙◌, append_assoc, Result, Ok, Err}
-use Rattle.std.specs.Prelude.{IfOk, OnOk}
+use Rattle.std.proofs.Common.{◌≡◌, ◌||◌, ℕ, Bool, true, false, List, [], ◌∷◌, ◌++◌, refl, sym, ap, ◌∙◌, append_assoc, Result, Ok, Err}
+use Rattle.std.specs.Prelude.{IfErr, IfOk, OnOk}
 use Rattle.std.proofs.lemmas.List.{append-nil}
 use Rattle.charmlet_model.specs.declared.names.Elem.{Elem}
 use Rattle.charmlet_model.specs.declared.refusal.Refusal.{Refusal}
@@ -14,6 +14,7 @@ use Rattle.charmlet_model.specs.Texts.{Text}
 use Rattle.charmlet_engine.specs.Engine.{client_answer}
 use Rattle.charmlet_script.specs.declared.script.Line.{Line}
 use Rattle.charmlet_script.specs.declared.script.Line.TheVariants as lines
+use Rattle.charmlet_workers.specs.Refusals.{is_lending_refusal, is_request_refusal}
 use Rattle.charmlet_cli_workers.specs.Said.{Answers, Clients, SayInTurn, Says, SaysStep}
 
 -- all that is known of clients here is known there
@@ -23,7 +24,7 @@ pub record KnowsMore (here there : Clients) : Type 0 where
 
 module _ (here there : Clients) (more : KnowsMore here there) where
   answers_on : (answer : Answer) (step : Step) → Answers here answer step → Answers there answer step
-  answers_on (answers.Refused refusal) step is = tt
+  answers_on (answers.Refused refusal) step is = is
   answers_on (answers.Told told) (steps.Request client number to entry words) is = (more.told client number told is.0, more.accepted client number is.1)
   answers_on (answers.Told told) (steps.Status client number) is = more.told client number told is
   answers_on (answers.Told told) (steps.Deliver processor id) is = absurd is
@@ -72,8 +73,26 @@ said_more clients [] line texts printed all said = (printed, [], said, refl, ap 
 said_more clients (l ∷ lines) line texts printed all said =
     (all.0, all.1 ++ printed, all.2, said_more clients lines line all.1 printed all.3 said, ap (λ ts. ts ++ printed) all.4 ∙ append_assoc all.0 all.1 printed)
 
+-- ---- refusals
+
+-- one or another
+or_left : (a b : Bool) → a ≡ true → (a || b) ≡ true
+or_left true b is = refl
+or_left false b is = let never : ⊥ = cc in absurd never
+
+or_right : (a b : Bool) → b ≡ true → (a || b) ≡ true
+or_right true b is = refl
+or_right false b is = is
+
+pub refused_one : {T : Type 0} (p q : Refusal → Bool) (r : Result T Refusal) → IfErr r (λ refusal. p refusal ≡ true) → IfErr r (λ refusal. (p refusal || q refusal) ≡ true)
+refused_one p q (Ok x) is = tt
+refused_one p q (Err refusal) is = or_left (p refusal) (q refusal) is
+
+pub refused_other : (p q : Refusal → Bool) (refusal : Refusal) → q refusal ≡ true → (p refusal || q refusal) ≡ true
+refused_other p q refusal is = or_right (p refusal) (q refusal) is
+
 -- what a request was answered
 pub told_answers : (clients : Clients) (client number : ℕ) (to : Elem) (entry : ℕ) (words : Words) (r : Result Told Refusal) → IfOk r (clients.told client number) → OnOk r (clients.accepted client number) →
-    Answers clients (client_answer r) (steps.Request client number to entry words)
-told_answers clients client number to entry words (Ok told) heard reached = (heard, reached)
-told_answers clients client number to entry words (Err refusal) heard reached = tt
+    IfErr r (λ refusal. (is_request_refusal refusal || is_lending_refusal refusal) ≡ true) → Answers clients (client_answer r) (steps.Request client number to entry words)
+told_answers clients client number to entry words (Ok told) heard reached refused = (heard, reached)
+told_answers clients client number to entry words (Err refusal) heard reached refused = refused

@@ -23,7 +23,7 @@ module _ {D : Type 0} (G : Ghosts D) where
       is_lawful core outcome
 
   -- The disk has a store that opened with this world, after so many events, on so many processors,
-  -- and went on since, by steps of a store; and this was printed.
+  -- and went on since, with a legal history; and this was printed.
   pub record IsLeft (opening : World) (before processors : ℕ) (printed : Core → Type 0) (disk : D)
       : Type 0 where
     pub last : Core

@@ -1,11 +1,12 @@
 -- What lines of a run by workers print.
-use Rattle.std.specs.Prelude.{◌≡◌, ◌⊎◌, ℕ, ◌≤◌, List, [], ◌∷◌, ◌++◌, length, take, Option, Some, None, Result}
+use Rattle.std.specs.Prelude.{◌≡◌, ◌⊎◌, ℕ, ◌≤◌, Bool, true, false, ◌||◌, List, [], ◌∷◌, ◌++◌, length, take, Option, Some, None, IfSome, Result}
 use Rattle.std.specs.Io.KnownBytes.{Appends}
 use Rattle.std.specs.List.{flat_map}
 use Rattle.charmlet_model.specs.declared.kind.Kind.{Kind}
 use Rattle.charmlet_model.specs.declared.names.Elem.{Elem}
 use Rattle.charmlet_model.specs.declared.names.MsgId.{MsgId}
 use Rattle.charmlet_model.specs.declared.refusal.Refusal.{Refusal}
+use Rattle.charmlet_model.specs.declared.refusal.Refusal.TheVariants as refusals
 use Rattle.charmlet_model.specs.declared.step.Answer.{Answer}
 use Rattle.charmlet_model.specs.declared.step.Answer.TheVariants as answers
 use Rattle.charmlet_model.specs.declared.step.Step.{Step}
@@ -21,7 +22,8 @@ use Rattle.charmlet_script.specs.declared.script.Line.{Line}
 use Rattle.charmlet_script.specs.declared.script.Line.TheVariants as lines
 use Rattle.charmlet_script.specs.Printed.{drained_text, pending_text, supplied_text}
 use Rattle.charmlet_store.specs.declared.look.Look.{Look}
-use Rattle.charmlet_workers.specs.Sealing.{IsLaterGeneration}
+use Rattle.charmlet_workers.specs.Refusals.{is_flush_refusal, is_lending_refusal, is_move_refusal, is_request_refusal, is_status_refusal, is_work_refusal}
+use Rattle.charmlet_workers.specs.Sealing.{IsLaterGeneration, is_sealing_refusal}
 use Rattle.charmlet_cli.specs.declared.restarting.RestartedLine.{RestartedLine}
 use Rattle.charmlet_cli.specs.Lines.{in_lines, memory_text}
 use Rattle.charmlet_cli.specs.Restarted.{restarted_line_text}
@@ -47,10 +49,21 @@ known_in core = record {
   accepted = λ client number. Holds core.opening core.history client number Accepted;
 }
 
--- An answer of a step's own form, or a refusal. A client was told what it says, and a request that
--- isn't refused was accepted.
+-- the step can be refused so, and one of a client also because there is no pass for the client
+abbrev pub is_refusal_of : Step → Refusal → Bool
+is_refusal_of (steps.Request client number to entry words) refusal =
+    is_request_refusal refusal || is_lending_refusal refusal
+is_refusal_of (steps.Status client number) refusal =
+    is_status_refusal refusal || is_lending_refusal refusal
+is_refusal_of (steps.Move elem processor) refusal = is_move_refusal refusal
+is_refusal_of steps.Flush refusal = is_flush_refusal refusal
+is_refusal_of steps.Checkpoint refusal = is_sealing_refusal refusal
+is_refusal_of (steps.Deliver processor id) refusal = false
+
+-- An answer of a step's own form, or one of its refusals. A client was told what it says, and a
+-- request that isn't refused was accepted.
 abbrev pub Answers : Clients → Answer → Step → Type 0
-Answers clients (answers.Refused refusal) step = Unit {0}
+Answers clients (answers.Refused refusal) step = is_refusal_of step refusal ≡ true
 Answers clients (answers.Told told) (steps.Request client number to entry words) =
     clients.told client number told × clients.accepted client number
 Answers clients (answers.Told told) (steps.Status client number) = clients.told client number told
@@ -76,15 +89,17 @@ IsSupplyText kind count texts =
     (texts ≡ supplied_text (record { kind = kind; count = count }) ∷ [])
     ⊎ (texts ≡ memory_text ∷ [])
 
--- what a drain prints: how many messages were delivered and are left, and maybe a refusal
+-- what a drain prints: how many messages were delivered and are left, and maybe a worker's refusal
 abbrev pub IsDrainText : List Text → Type 0
 IsDrainText texts = (drained : Drained) × (refusal : Option Refusal)
+    × IfSome refusal (λ refusal. is_work_refusal refusal ≡ true)
     × (texts ≡ drained_text drained ∷ refused_texts refusal)
 
 -- what a line prints that shows an element, or why it can't be seen
 abbrev pub IsStateText : Elem → List Text → Type 0
 IsStateText elem texts = ((look : Look) × (texts ≡ look_text elem look ∷ []))
-    ⊎ ((refusal : Refusal) × (texts ≡ answer_text (answers.Refused refusal) ∷ []))
+    ⊎ ((refusal : Refusal) × ((refusal ≡ refusals.Halted) ⊎ (refusal ≡ refusals.Memory))
+    × (texts ≡ answer_text (answers.Refused refusal) ∷ []))
 
 -- what a line prints that shows the pending messages, or is out of memory
 abbrev pub IsPendingText : List Text → Type 0

@@ -21,8 +21,9 @@ pub(crate) struct Clients<B: RuntimeName> {
 }
 
 impl<B: RuntimeName> Clients<B> {
-    ghost use Rattle.std.specs.Prelude.{◌≡◌, [], true, map, IfOk, OnErr, OnOk};
+    ghost use Rattle.std.specs.Prelude.{◌≡◌, ◌||◌, [], true, map, IfErr, IfOk, OnErr, OnOk};
     ghost use Rattle.charmlet_passes.specs.Passes.{with_flush};
+    ghost use Rattle.charmlet_workers.specs.Refusals.{is_flush_refusal, is_lending_refusal, is_request_refusal, is_status_refusal};
     ghost use Rattle.charmlet_cli_workers.specs.Heard.{AreLater, IsHeard, IsPassOf, IsReached};
 
     /// No client yet. It takes no memory.
@@ -57,6 +58,8 @@ impl<B: RuntimeName> Clients<B> {
         ensures reached { OnOk result
             (IsReached self.new.passes.items client request.now.number) }
         ensures later { AreLater self.old.passes.items self.new.passes.items }
+        ensures err { IfErr result (λ refusal.
+            (is_request_refusal refusal || is_lending_refusal refusal) ≡ true) }
     {
         match self.place_of(rt, runtime, client) {
             Ok(place) => runtime.request(rt, &mut self.passes[place], request),
@@ -75,6 +78,8 @@ impl<B: RuntimeName> Clients<B> {
     ) -> Result<Told, Refusal>
         ensures heard { IfOk result (IsHeard self.new.passes.items client number) }
         ensures later { AreLater self.old.passes.items self.new.passes.items }
+        ensures err { IfErr result (λ refusal.
+            (is_status_refusal refusal || is_lending_refusal refusal) ≡ true) }
     {
         match self.place_of(rt, runtime, client) {
             Ok(place) => runtime.status(rt, &mut self.passes[place], number),
@@ -92,6 +97,7 @@ impl<B: RuntimeName> Clients<B> {
         ensures told { OnOk result
             (self.new.passes.items ≡ map with_flush self.old.passes.items) }
         ensures untold { OnErr result (self.new.passes.items ≡ self.old.passes.items) }
+        ensures err { IfErr result (λ refusal. is_flush_refusal refusal ≡ true) }
     {
         runtime.flush(rt, self.passes.as_mut_slice())
     }
@@ -106,6 +112,7 @@ impl<B: RuntimeName> Clients<B> {
     ) -> Result<usize, Refusal>
         ensures place { IfOk result (IsPassOf client self.new.passes.items) }
         ensures later { AreLater self.old.passes.items self.new.passes.items }
+        ensures err { IfErr result (λ refusal. is_lending_refusal refusal ≡ true) }
     {
         let place = self.places.get(&client).copied();
         match place {
@@ -134,6 +141,7 @@ impl<B: RuntimeName> Clients<B> {
     ) -> Result<usize, Refusal>
         ensures place { IfOk result (IsPassOf client self.new.passes.items) }
         ensures later { AreLater self.old.passes.items self.new.passes.items }
+        ensures err { IfErr result (λ refusal. is_lending_refusal refusal ≡ true) }
     {
         let place = self.passes.len();
         if self.passes.reserve(1).is_err() {

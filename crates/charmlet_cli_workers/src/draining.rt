@@ -1,5 +1,7 @@
 //! The running of `drain` lines.
 
+ghost use Rattle.std.specs.Prelude.{◌≡◌, ℕ, ◌<◌, true, IfSome, length, slice_index_or};
+ghost use Rattle.charmlet_workers.specs.Refusals.{is_work_refusal};
 ghost use Rattle.charmlet_cli_workers.specs.Said.{IsDrainText, IsWritten};
 
 use charmlet_chare::Chare;
@@ -18,7 +20,8 @@ use std::thread::Threads;
 /// Each worker takes so many turns, in a thread of its own. Once all have ended it is written how
 /// many messages they delivered together, and how many are still pending. If a worker was refused,
 /// the refusal is written too; if more were, that of the least processor. Fails as `write_line`
-/// does, after all deliveries.
+/// does, after all deliveries. The writer is flushed before, since deliveries may take long; where
+/// that fails the next flush tells it.
 pub(crate) fn drain_line<
     D: Disk,
     C: Chare,
@@ -36,6 +39,7 @@ pub(crate) fn drain_line<
     ensures { IsWritten result IsDrainText (W.contents writer.old)
         (W.contents writer.new) }
 {
+    let _ = writer.flush();
     work_all(rt, runtime, stations, &OpenGate, u64::from(turns));
     let line = Drained {
         delivered: delivered_by(stations),
@@ -58,7 +62,12 @@ fn delivered_by<B: RuntimeName>(stations: &[Station<B>]) -> u32 {
 }
 
 /// The refusal that ended the work of the first of these workers that was refused.
-fn first_refusal<B: RuntimeName>(stations: &[Station<B>]) -> Option<Refusal> {
+fn first_refusal<B: RuntimeName>(stations: &[Station<B>]) -> Option<Refusal>
+    ensures { ((i : ℕ) (d : _) → i < length stations.now →
+        IfSome (slice_index_or stations.now i d).worked.refusal
+        (λ refusal. is_work_refusal refusal ≡ true)) →
+        IfSome result (λ refusal. is_work_refusal refusal ≡ true) }
+{
     for station in stations {
         if let Some(refusal) = station.worked.refusal {
             return Some(refusal);

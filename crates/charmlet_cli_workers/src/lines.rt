@@ -1,11 +1,12 @@
 //! The running of lines.
 
-ghost use Rattle.std.specs.Prelude.{◌≡◌, ◌+◌, ◌≤◌, ◌∷◌, [], false, IfOk, OnErr, OnOk};
+ghost use Rattle.std.specs.Prelude.{◌≡◌, ◌+◌, ◌≤◌, ◌||◌, ◌∷◌, [], false, true, IfErr, IfOk, OnErr, OnOk};
 ghost use Rattle.charmlet_model.specs.declared.kind.Kind as kinds;
 ghost use Rattle.charmlet_stock.specs.Stock.{blanks_in};
 ghost use Rattle.charmlet_script.specs.Script.{blanks_of};
 ghost use Rattle.charmlet_script.specs.Script.{blanks_in as supplied_by};
 ghost use Rattle.charmlet_script.specs.declared.script.Line.TheVariants as lines;
+ghost use Rattle.charmlet_workers.specs.Refusals.{is_lending_refusal, is_request_refusal};
 ghost use Rattle.charmlet_cli_workers.specs.Heard.{AreLater, IsHeard, IsReached, known_by};
 ghost use Rattle.charmlet_cli_workers.specs.Lines.{has_delivery, is_delivery};
 ghost use Rattle.charmlet_cli_workers.specs.Said.{Answers, AreCutOff, AreSaid, IsWritten, Says};
@@ -16,7 +17,7 @@ use crate::floor::Floor;
 use crate::showing::{census_line, pending_line, state_line};
 use crate::supplying::supply_line;
 use charmlet_chare::Chare;
-use charmlet_cli::{Call, told_answer, write_answer};
+use charmlet_cli::{Call, told_answer, write_answer, write_step_answer};
 use charmlet_disk::Disk;
 use charmlet_history::Request;
 use charmlet_model::{Answer, Elem, Refusal, Step, Told};
@@ -123,7 +124,7 @@ fn run_line<D: Disk, C: Chare, B: RuntimeName + Send + Sync, W: Write, R: Thread
         }
         Line::Step(step) => {
             let answer = answer_to(rt, alloc, runtime, &mut floor.clients, step);
-            write_answer(alloc, writer, &answer)
+            write_step_answer(alloc, writer, step, &answer)
         }
     }
 }
@@ -142,6 +143,8 @@ fn call_handler<D: Disk, C: Chare, B: RuntimeName, R: Wait>(
     ensures reached { OnOk result
         (IsReached clients.new.passes.items call.now.client call.now.number) }
     ensures later { AreLater clients.old.passes.items clients.new.passes.items }
+    ensures err { IfErr result (λ refusal.
+        (is_request_refusal refusal || is_lending_refusal refusal) ≡ true) }
 {
     let handler = runtime.target(rt, handlers, call.name);
     let request = Request {
@@ -199,7 +202,7 @@ fn answer_to<D: Disk, C: Chare, B: RuntimeName, R: Wait>(
             Ok(durable) => Answer::Flushed(durable),
             Err(refusal) => Answer::Refused(refusal),
         },
-        Step::Checkpoint => match runtime.checkpoint(rt, alloc) {
+        Step::Checkpoint => match runtime.checkpoint(rt) {
             Ok(generation) => Answer::Checkpointed(generation),
             Err(refusal) => Answer::Refused(refusal),
         },

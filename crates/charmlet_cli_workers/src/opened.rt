@@ -70,6 +70,7 @@ pub(crate) fn run_named<
     requires parts { table_of books.parts ≡ B.table }
     requires seats { table_of books.seats ≡ B.seats }
     requires passes { table_of books.passes ≡ B.passes }
+    requires checkpoints { table_of books.checkpoints ≡ B.checkpoints }
     requires keeps { KeepsDurable D.Disk (core_of begun) begun.disk }
     requires honest { B.honest → D.honest begun.disk }
     requires only_honest { D.honest begun.disk → B.honest }

@@ -140,7 +140,7 @@ fn restart_with<D: Disk, C: Chare, W: Write, R: Threads + Wait + Sync>(
         books,
         given,
     } = prepared;
-    match UnnamedRuntime::restart(alloc, disk, blanks, processors) {
+    match UnnamedRuntime::restart(rt, alloc, disk, blanks, processors) {
         Ok(begun) => {
             let line = RestartedLine {
                 generation: begun.generation(),

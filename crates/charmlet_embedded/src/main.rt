@@ -12,9 +12,11 @@ use charmlet_model::{CONSTRUCT, Elem, Kind, Manifest, Step};
 use charmlet_recover::{manifest, stock_of};
 use charmlet_requests::{Passes, Request};
 use noisy::{ADD, blanks};
+use std::thread::Threads;
 
-/// Client 7 makes a counter with 5 and adds 3, and asks again after a restart from the disk.
-fn live_twice<D: Disk>(rt: HostRuntime, disk: D) -> Result<()>
+/// Client 7 makes a counter with 5 and adds 3, and asks again after a restart from the disk, which
+/// replays in threads of `threads`.
+fn live_twice<R: Threads + Sync, D: Disk>(rt: HostRuntime, threads: &R, disk: D) -> Result<()>
     requires { D.honest disk → IsSettled (D.file disk) }
 {
     let alloc = rt.alloc();
@@ -55,7 +57,7 @@ fn live_twice<D: Disk>(rt: HostRuntime, disk: D) -> Result<()>
     let Ok(stock) = stock_of(alloc, blanks(rt, wanted)?) else {
         bail!("no memory");
     };
-    match Engine::restart(alloc, disk, stock, 1) {
+    match Engine::restart(threads, alloc, disk, stock, 1) {
         Ok(mut engine) => println!(rt; "request 2, restarted: {}", engine.tell(7, 2)?)?,
         Err(refused) => bail!("no store comes back: {}", refused.refusal),
     }
@@ -65,8 +67,8 @@ fn live_twice<D: Disk>(rt: HostRuntime, disk: D) -> Result<()>
 fn main(rt: HostRuntime) -> Result<()> {
     let words: Vec<String> = std::env::args(&rt)?.collect(rt.alloc())?;
     match words.as_slice() {
-        [_] => live_twice(rt, MemDisk::new(rt.alloc())),
-        [_, folder] => live_twice(rt, FileDisk::new(rt, folder.as_str())?),
+        [_] => live_twice(rt, &rt, MemDisk::new(rt.alloc())),
+        [_, folder] => live_twice(rt, &rt, FileDisk::new(rt, folder.as_str())?),
         _ => bail!("name one folder, or none"),
     }
 }

@@ -25,13 +25,15 @@ use charmlet_disk::Disk;
 use charmlet_recover::{NotRestarted, Recovered, restart};
 use charmlet_stock::Stock;
 use std::alloc::Global;
+use std::thread::Threads;
 
 impl<D: Disk, C: Chare> Engine<D, C> {
     /// Goes on with the store that stands on a disk, whatever a crash left there, on this number of
     /// processors: each element is on its home, nothing has happened since, and each event is
     /// durable. Its objects are made of these blanks, of which none may have been used yet; those
     /// that it doesn't need are its stock, which drops what is retired. Both halves are synced
-    /// before they are read.
+    /// before they are read. The log is replayed by as many workers as there are processors, in
+    /// threads.
     ///
     /// Where the half that is taken has its kinds in their newest versions alone, nothing is
     /// written. Else the store goes on in the newest versions: an image of it, of the next
@@ -50,7 +52,8 @@ impl<D: Disk, C: Chare> Engine<D, C> {
     /// bytes, and `Device`. Each hands the disk and all blanks back, these in whatever state, so
     /// that the caller may try again. At each but `Device` nothing is written. After a crash of an
     /// earlier engine the files alone are never the cause, except of `ImageFull`.
-    pub fn restart(
+    pub fn restart<R: Threads + Sync>(
+        rt: &R,
         alloc: Global,
         disk: D,
         blanks: Stock<C>,
@@ -77,7 +80,7 @@ impl<D: Disk, C: Chare> Engine<D, C> {
         ensures disk { AfterCall D.Disk disk (disk_after result)
             (is_no_failure (core_or_refusal result)) }
     {
-        match restart(alloc, disk, blanks, processors) {
+        match restart(rt, alloc, disk, blanks, processors) {
             Ok(
                 Recovered {
                     store,

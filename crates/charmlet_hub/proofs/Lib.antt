@@ -1,3 +1,5 @@
 pub mod Steps
 pub mod Hubs
 pub mod Endings
+pub mod Busy
+pub mod Checkpoints

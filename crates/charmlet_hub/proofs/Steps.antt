@@ -69,7 +69,7 @@ no_longer test (e ∷ es) = elim (test e.0) as (λ b. length (cond b es (e ∷ r
   | false ↦ let rest = no_longer test es in omega arith
 ]
 
-next_aside : (core : Core) (step : CoreStep) → IsAside step → StaysAside core (next_core core step)
+pub next_aside : (core : Core) (step : CoreStep) → IsAside step → StaysAside core (next_core core step)
 next_aside core (Request client number to entry words) aside = aside_either core (record core { history = core.history ++ Accept client number to entry words ∷ [] }) (is_repeat core client number) (accepted_aside core client number to entry words)
 next_aside core (Status client number) aside = same_aside core core refl refl
 next_aside core (Assign processor id) aside = absurd aside
@@ -116,6 +116,9 @@ commit_delivers core processor id has = record {
   delivered = deliveries_in-append core.history (Deliver id ∷ []);
   one_fewer = length-removed (is_at (nat_cmp processor)) core.assigned (ap is_some has);
 }
+
+pub some_assigned : (core : Core) (processor : ℕ) (id : MsgId) → assigned_to core processor ≡ Some id → 1 ≤ length core.assigned
+some_assigned core processor id has = let fewer = (commit_delivers core processor id has).one_fewer in omega arith
 
 pub committed_delivers : (core next : Core) (blanks blanks' : Blanks) (processor : ℕ) (id : MsgId) → assigned_to core processor ≡ Some id → Steps core blanks (Commit processor) (record { answer = Done; core = next; blanks = blanks' }) → Delivers core next id
 committed_delivers core next blanks blanks' processor id has steps =

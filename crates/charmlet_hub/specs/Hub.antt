@@ -1,5 +1,5 @@
 -- What is seen of a hub, and what always holds of it.
-use Rattle.std.specs.Prelude.{ℕ, ◌≤◌, List, [], ◌∷◌, length, if◌then◌else◌}
+use Rattle.std.specs.Prelude.{ℕ, ◌≤◌, Bool, List, [], ◌∷◌, length, if◌then◌else◌}
 use Rattle.charmlet_model.specs.declared.event.Event.{Event}
 use Rattle.charmlet_model.specs.declared.event.Event.TheVariants.{Accept, Deliver}
 use Rattle.charmlet_model.specs.declared.names.MsgId.{MsgId}
@@ -19,19 +19,26 @@ deliveries_in [] = []
 deliveries_in (Accept client number to entry words ∷ events) = deliveries_in events
 deliveries_in (Deliver id ∷ events) = id ∷ deliveries_in events
 
--- the core, the census of its stock, the disk, and the books of seats and of passes
+-- The core, but for whether a checkpoint runs, and that beside it; the census of its stock, the
+-- disk, and the books of seats and of passes.
 pub record HubShown (D : Type 0) : Type 0 where
   pub core : Core
+  pub busy : Bool
   pub census : ByKind Tally
   pub disk : D
   pub seats : Seats
   pub passes : LentPasses
 
+-- the store, while a checkpoint runs or none does
+abbrev pub while_busy : Bool → StoreView → StoreView
+while_busy busy store = record store { core = record store.core { busy = busy } }
+
 module _ {D : Type 0} where
-  -- a sequencer with these books
-  abbrev pub shown_by : SequencerShown D → Seats → LentPasses → HubShown D
-  shown_by sequencer seats passes = record {
+  -- a sequencer with these books, while a checkpoint runs or none does
+  abbrev pub shown_by : SequencerShown D → Bool → Seats → LentPasses → HubShown D
+  shown_by sequencer busy seats passes = record {
     core = sequencer.core;
+    busy = busy;
     census = sequencer.census;
     disk = sequencer.disk;
     seats = seats;
@@ -44,7 +51,7 @@ module _ {D : Type 0} where
 
   -- the hub as a core and the blanks of its stock
   abbrev pub store_in : HubShown D → StoreView
-  store_in hub = store_of (sequencer_in hub)
+  store_in hub = while_busy hub.busy (store_of (sequencer_in hub))
 
   -- the hub without the room in its own list
   abbrev pub roomless : HubShown D → HubShown D

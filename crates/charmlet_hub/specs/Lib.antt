@@ -1,6 +1,7 @@
 -- The definitions that contracts cite.
 pub mod Hub
 pub mod Settling
+pub mod Checkpoint
 pub use Rattle.charmlet_agreement.specs.Naming
 pub use Rattle.charmlet_model.specs.Core
 pub use Rattle.charmlet_model.specs.Run
@@ -31,3 +32,8 @@ pub use Rattle.charmlet_sequencer.specs.Book
 pub use Rattle.charmlet_sequencer.specs.Part
 pub use Rattle.charmlet_sequencer.specs.Relocating
 pub use Rattle.charmlet_sequencer.specs.Rest
+pub use Rattle.charmlet_shelf.specs.Image
+pub use Rattle.charmlet_running.specs.Laws
+pub use Rattle.charmlet_running.specs.Running
+pub use Rattle.charmlet_running.specs.Sealing as EndOfRunning
+pub use Rattle.charmlet_sequencer.specs.Checkpointing

@@ -1,6 +1,6 @@
 //! Deliveries by a hub and a shelf that is lent to it.
 
-ghost use Rattle.std.specs.Prelude.{◌≡◌, ◌+◌, ◌<◌, ◌++◌, ◌∷◌, [], Some, false, true, IfErr, IfOk, IsOk, OnErr, OnOk, slice_get, slice_set};
+ghost use Rattle.std.specs.Prelude.{◌≡◌, ◌+◌, ◌<◌, ◌++◌, ◌∷◌, [], Some, false, true, is_some, IfErr, IfOk, IfSome, IsOk, OnErr, OnOk, slice_get, slice_set};
 ghost use Rattle.charmlet_model.specs.declared.refusal.Refusal.TheVariants as refusals;
 ghost use Rattle.charmlet_model.specs.Core as core;
 ghost use Rattle.charmlet_model.specs.Core.{Done, Refuses, assigned_to};
@@ -10,8 +10,9 @@ ghost use Rattle.charmlet_shelf.specs.declared.phase.Phase.TheVariants as phases
 ghost use Rattle.charmlet_delivery.specs.UnderWay.{due_in};
 ghost use Rattle.charmlet_delivery.specs.Workplace.{done_or_refused};
 ghost use Rattle.charmlet_sequencer.specs.Book.{IsDueOn};
-ghost use Rattle.charmlet_sequencer.specs.Sequencer.{KeepsObjects};
+ghost use Rattle.charmlet_sequencer.specs.Sequencer.{KeepsObjects, store_of};
 ghost use Rattle.charmlet_sequencer.specs.Shelf.{delivery_in, is_done};
+ghost use Rattle.charmlet_hub.specs.Checkpoint.{HasRoom, IsNoted, roomier};
 ghost use Rattle.charmlet_hub.specs.Hub.{roomless, sequencer_in, store_in};
 ghost use Rattle.charmlet_hub.specs.Settling.{Settles, ended};
 
@@ -20,13 +21,15 @@ use crate::names::SeatsOf;
 use charmlet_chare::Chare;
 use charmlet_disk::Disk;
 use charmlet_model::{MsgId, Refusal};
+use charmlet_running::Running;
 use charmlet_seats::Seat;
-use charmlet_sequencer::{LockedShelf, RuntimeName};
+use charmlet_sequencer::{LockedShelf, RuntimeName, Sequencer};
+use std::alloc::AllocError;
 
 impl<D: Disk, C: Chare, B: RuntimeName> Hub<D, C, B> {
     /// Assigns a pending message to the shelf's processor. One that constructs its receiver takes a
-    /// blank from the stock. It makes room for the delivery, in the hub's own list too, whatever is
-    /// delivered elsewhere before it.
+    /// blank from the stock. It makes room for the delivery, in the hub's own list too and in a
+    /// checkpoint that runs, whatever is delivered elsewhere before it.
     ///
     /// The refusal is the first that applies of `Halted`, `BadPes`, `Uncommitted`, `NoMessage`,
     /// `Absent`, `Elsewhere`, `HistoryFull`, `NoBlank` and `Memory`. Then all is as before, beside
@@ -50,6 +53,9 @@ impl<D: Disk, C: Chare, B: RuntimeName> Hub<D, C, B> {
         self.sequencer.facts();
         let most = usize::from(self.processors);
         if self.seats.reserve_own(most).is_err() {
+            return Err(self.assign_refusal(locked.number(), id));
+        }
+        if reserve(&mut self.running, most).is_err() {
             return Err(self.assign_refusal(locked.number(), id));
         }
         self.sequencer.assign(locked, id)
@@ -163,7 +169,7 @@ impl<D: Disk, C: Chare, B: RuntimeName> Hub<D, C, B> {
         let Some(id) = locked.delivery() else {
             unreachable!()
         };
-        if let Err(refusal) = self.sequencer.commit(locked) {
+        if let Err(refusal) = commit_noted(&mut self.sequencer, &mut self.running, locked) {
             return Err(refusal);
         }
         self.seats.commit(seat, id);
@@ -231,7 +237,7 @@ impl<D: Disk, C: Chare, B: RuntimeName> Hub<D, C, B> {
         let Some(id) = locked.delivery() else {
             unreachable!()
         };
-        if let Err(refusal) = self.sequencer.commit(locked) {
+        if let Err(refusal) = commit_noted(&mut self.sequencer, &mut self.running, locked) {
             return Err(refusal);
         }
         self.seats.commit_own(id);
@@ -264,6 +270,7 @@ impl<D: Disk, C: Chare, B: RuntimeName> Hub<D, C, B> {
         let Some(id) = locked.delivery() else {
             unreachable!()
         };
+        note(&mut self.sequencer, &mut self.running, locked);
         self.sequencer.finish(locked);
         self.seats.commit_own(id);
         id
@@ -304,5 +311,84 @@ impl<D: Disk, C: Chare, B: RuntimeName> Hub<D, C, B> {
         } else if locked.is_assigned() {
             self.release(locked);
         }
+    }
+}
+
+/// Makes room in a checkpoint that runs for so many deliveries. It fails only when out of memory,
+/// and then the room is as before.
+fn reserve(running: &mut Option<Running>, deliveries: usize) -> Result<(), AllocError>
+    ensures ok { OnOk result (running.new ≡ roomier deliveries running.old) }
+    ensures err { OnErr result (running.new ≡ running.old) }
+    ensures busy { is_some running.new ≡ is_some running.old }
+{
+    match running {
+        Some(running) => running.reserve(deliveries),
+        None => Ok(()),
+    }
+}
+
+/// Adds the delivery that the receiver on the shelf has made to the history, and to the catch-up
+/// list of a checkpoint that runs. It takes no memory. The only refusal is `Halted`: then all is as
+/// before.
+fn commit_noted<D: Disk, C: Chare, B: RuntimeName>(
+    sequencer: &mut Sequencer<D, C, B>,
+    running: &mut Option<Running>,
+    locked: &mut LockedShelf<C, B>,
+) -> Result<(), Refusal>
+    requires done { is_done locked.old.phase ≡ true }
+    requires running { IfSome running.old (HasRoom sequencer.old.core) }
+    ensures goes { Goes (store_of sequencer.old) (core.Commit locked.old.number)
+        (done_or_refused result) (store_of sequencer.new) }
+    ensures ok { OnOk result (locked.new ≡ settled locked.old) }
+    ensures objects { KeepsObjects sequencer.old sequencer.new locked.old locked.new }
+    ensures disk { sequencer.new.disk ≡ sequencer.old.disk }
+    ensures noted { OnOk result (IsNoted sequencer.old.core locked.old.number running.old
+        running.new) }
+    ensures busy { is_some running.new ≡ is_some running.old }
+    ensures err { IfErr result (λ refusal. refusal ≡ refusals.Halted) }
+    ensures same { OnErr result ((sequencer.new ≡ sequencer.old)
+        × (running.new ≡ running.old) × (locked.new ≡ locked.old)) }
+    ensures runs { sequencer.old.core.halted ≡ false → IsOk result }
+{
+    note_unless_halted(sequencer, running, locked);
+    sequencer.commit(locked)
+}
+
+/// Adds the delivery that the receiver on the shelf has made to the catch-up list of a checkpoint
+/// that runs, before it is committed, unless the store is halted.
+fn note_unless_halted<D: Disk, C: Chare, B: RuntimeName>(
+    sequencer: &mut Sequencer<D, C, B>,
+    running: &mut Option<Running>,
+    locked: &mut LockedShelf<C, B>,
+)
+    requires done { is_done locked.old.phase ≡ true }
+    requires running { IfSome running.old (HasRoom sequencer.old.core) }
+    ensures noted { sequencer.old.core.halted ≡ false →
+        IsNoted sequencer.old.core locked.old.number running.old running.new }
+    ensures halted { sequencer.old.core.halted ≡ true → running.new ≡ running.old }
+    ensures busy { is_some running.new ≡ is_some running.old }
+    ensures sequencer { sequencer.new ≡ sequencer.old }
+    ensures locked { locked.new ≡ locked.old }
+{
+    if !sequencer.history().is_halted() {
+        note(sequencer, running, locked);
+    }
+}
+
+/// The same, even if the store is halted.
+fn note<D: Disk, C: Chare, B: RuntimeName>(
+    sequencer: &mut Sequencer<D, C, B>,
+    running: &mut Option<Running>,
+    locked: &mut LockedShelf<C, B>,
+)
+    requires done { is_done locked.old.phase ≡ true }
+    requires running { IfSome running.old (HasRoom sequencer.old.core) }
+    ensures noted { IsNoted sequencer.old.core locked.old.number running.old running.new }
+    ensures busy { is_some running.new ≡ is_some running.old }
+    ensures sequencer { sequencer.new ≡ sequencer.old }
+    ensures locked { locked.new ≡ locked.old }
+{
+    if let Some(running) = running {
+        sequencer.note(locked, running);
     }
 }

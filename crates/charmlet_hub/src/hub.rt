@@ -21,7 +21,8 @@ ghost use Rattle.charmlet_sequencer.specs.Part.{Part};
 ghost use Rattle.charmlet_sequencer.specs.Sequencer.{IsOf, is_lawful, supplied_of};
 ghost use Rattle.charmlet_hub.specs.Hub.{IsHub, seat_refusal, sequencer_in, shown_by, store_in};
 
-use crate::names::{PassesOf, SeatsOf};
+use crate::checkpoint::HandedIn;
+use crate::names::{CheckpointsOf, PassesOf, SeatsOf};
 use charmlet_agreement::Book;
 use charmlet_births::Ticks;
 use charmlet_chare::Chare;
@@ -29,6 +30,7 @@ use charmlet_disk::Disk;
 use charmlet_history::History;
 use charmlet_model::{MsgId, Refusal};
 use charmlet_passes::{ClientPass, PassBook, SeenPass};
+use charmlet_running::Running;
 use charmlet_seats::{Seat, SeatBook, SeenIds};
 use charmlet_sequencer::{LockedShelf, RuntimeName, Sequencer};
 use charmlet_stock::{ByKind, Tally};
@@ -36,14 +38,17 @@ use std::alloc::Global;
 use std::marker::Model;
 use std::sync::ledger::Ledger;
 
-/// What lies under the lock that orders all steps: a sequencer, and the books of the seats and of
-/// the passes that are out. A contract sees the core, the census, the disk and both books.
+/// What lies under the lock that orders all steps: a sequencer, the books of the seats and of the
+/// passes that are out, and the checkpoint that runs, if one does. A contract sees the core and
+/// whether a checkpoint runs, the census, the disk and both books.
 ///
 /// Each call is one step of the core, or leaves it as it is. Each delivery of the history stands
 /// once among the ids that the seats hold and the hub's own, in each of these lists in the
 /// history's order. All passes are current: what a pass knows of its client's requests is true of
 /// the durable events, and it has exactly its client's accepts since it was lent. The hub's own
-/// list has room for each assigned delivery, so that one can always be finished without memory.
+/// list has room for each assigned delivery, so that one can always be finished without memory; and
+/// so has a checkpoint that runs. That is one of this store, and has what stands on each shelf that
+/// its token says was handed in.
 pub struct Hub<D: Disk, C: Chare, B: RuntimeName> {
     pub(crate) alloc: Global,
     pub(crate) sequencer: Sequencer<D, C, B>,
@@ -51,19 +56,25 @@ pub struct Hub<D: Disk, C: Chare, B: RuntimeName> {
     pub(crate) passes: PassBook<PassesOf<B>>,
     /// How many processors there are.
     pub(crate) processors: u16,
+    /// The checkpoint that runs.
+    pub(crate) running: Option<Running>,
+    /// What the tokens of checkpoints say.
+    pub(crate) tokens: Book<HandedIn, CheckpointsOf<B>>,
 }
 
 impl<D: Disk, C: Chare, B: RuntimeName> Model for Hub<D, C, B> {
-    ghost use Rattle.std.specs.Prelude.{◌≡◌};
+    ghost use Rattle.std.specs.Prelude.{◌≡◌, is_some};
+    ghost use Rattle.charmlet_hub.specs.Checkpoint.{IsCheckpointed};
     ghost use Rattle.charmlet_hub.specs.Hub.{HubShown, IsHub, shown_by};
 
     ghost Value = { HubShown D };
 
-    ghost view = { λ h. shown_by h.sequencer h.seats h.passes };
+    ghost view = { λ h. shown_by h.sequencer (is_some h.running) h.seats h.passes };
 
-    ghost invariant = { λ h. IsHub (shown_by h.sequencer h.seats h.passes)
+    ghost invariant = { λ h. IsHub (shown_by h.sequencer (is_some h.running) h.seats h.passes)
         × (h.processors ≡ B.processors)
-        × (B.honest → D.honest h.sequencer.disk) };
+        × (B.honest → D.honest h.sequencer.disk)
+        × IsCheckpointed h.sequencer.core h.running h.tokens };
 }
 
 /// What a hub is made of.
@@ -84,18 +95,22 @@ impl<D: Disk, C: Chare, B: RuntimeName> Drop for Hub<D, C, B> {
             seats,
             passes,
             processors: _,
+            running,
+            tokens,
         } = self;
         drop(sequencer);
         drop(seats);
         drop(passes);
+        drop(running);
+        drop(tokens);
     }
 }
 
 impl<D: Disk, C: Chare, B: RuntimeName> Hub<D, C, B> {
-    /// What the hub is made of.
+    /// What the hub is made of, without its checkpoint.
     pub(crate) fn into_parts(self) -> HubParts<D, C, B>
-        ensures shown { shown_by result.sequencer result.seats result.passes ≡ self }
-        ensures hub { IsHub (shown_by result.sequencer result.seats result.passes) }
+        ensures shown { shown_by result.sequencer self.busy result.seats result.passes ≡ self }
+        ensures hub { IsHub (shown_by result.sequencer self.busy result.seats result.passes) }
     {
         let Hub {
             alloc: _,
@@ -103,7 +118,11 @@ impl<D: Disk, C: Chare, B: RuntimeName> Hub<D, C, B> {
             seats,
             passes,
             processors: _,
+            running,
+            tokens,
         } = self;
+        drop(running);
+        drop(tokens);
         HubParts {
             sequencer,
             seats,
@@ -111,22 +130,25 @@ impl<D: Disk, C: Chare, B: RuntimeName> Hub<D, C, B> {
         }
     }
 
-    /// A hub over a sequencer in whose history nothing has happened, with new books of seats and of
-    /// passes: none is out. It takes no memory.
+    /// A hub over a sequencer in whose history nothing has happened, with new books of seats, of
+    /// passes and of checkpoints: none is out, and none runs. It takes no memory.
     pub fn new(
         alloc: Global,
         sequencer: Sequencer<D, C, B>,
         processors: u16,
         seats: Book<SeenIds, SeatsOf<B>>,
         passes: Book<SeenPass, PassesOf<B>>,
+        tokens: Book<HandedIn, CheckpointsOf<B>>,
     ) -> Self
         requires history { sequencer.core.history ≡ [] }
         requires assigned { sequencer.core.assigned ≡ [] }
         requires processors { processors ≡ B.processors }
         requires seats { seats ≡ [] }
         requires passes { passes ≡ [] }
+        requires tokens { tokens ≡ [] }
         requires honest { B.honest → D.honest sequencer.disk }
         ensures sequencer { sequencer_in result ≡ sequencer }
+        ensures idle { result.busy ≡ false }
         ensures seats { result.seats.out ≡ [] }
         ensures own { result.seats.own.items ≡ [] }
         ensures passes { result.passes.out ≡ [] }
@@ -137,6 +159,8 @@ impl<D: Disk, C: Chare, B: RuntimeName> Hub<D, C, B> {
             seats: SeatBook::new(alloc, seats),
             passes: PassBook::new(alloc, passes),
             processors,
+            running: None,
+            tokens,
         }
     }
 

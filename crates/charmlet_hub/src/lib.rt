@@ -7,14 +7,15 @@
 #![tactic(auto)]
 
 mod asking;
+mod checkpoint;
 mod closing;
 mod delivering;
 mod hinting;
 mod hub;
 mod moving;
 mod names;
-mod sealing;
 
+pub use crate::checkpoint::{Checkpoint, HandedIn, NotSealed};
 pub use crate::closing::{Closed, NotClosed};
 pub use crate::hub::Hub;
-pub use crate::names::{PassesOf, SeatsOf};
+pub use crate::names::{CheckpointsOf, PassesOf, SeatsOf};

@@ -1,6 +1,7 @@
 //! Moves of elements between two shelves that are lent to a hub.
 
-ghost use Rattle.std.specs.Prelude.{◌≡◌, ◌≢◌, ℕ, false, Ok, Some, IfErr, IfOk, OnErr, OnOk};
+ghost use Rattle.std.specs.Prelude.{◌≡◌, ◌≢◌, ℕ, false, true, Ok, Some, IfErr, IfOk, OnErr, OnOk};
+ghost use Rattle.charmlet_model.specs.declared.names.Elem as elems;
 ghost use Rattle.charmlet_model.specs.Core as core;
 ghost use Rattle.charmlet_model.specs.Core.{Refuses, place_of};
 ghost use Rattle.charmlet_model.specs.Run.{Goes};
@@ -20,8 +21,8 @@ impl<D: Disk, C: Chare, B: RuntimeName> Hub<D, C, B> {
     /// that has to leave is [relocated](Self::relocate), and there it is asked whether a message is
     /// assigned to one of the two processors.
     ///
-    /// The refusal, which is the move's, is the first that applies of `Halted`, `BadPes` and
-    /// `Absent`. It takes no memory.
+    /// The refusal, which is the move's, is the first that applies of `Halted`, `Checkpointing`,
+    /// `BadPes` and `Absent`. It takes no memory.
     pub fn source_of_move(&self, elem: Elem, processor: u16) -> Result<Option<u16>, Refusal>
         ensures ok { IfOk result (λ source. StaysOrLeaves (store_in self.now) elem processor
             source) }
@@ -29,9 +30,26 @@ impl<D: Disk, C: Chare, B: RuntimeName> Hub<D, C, B> {
         ensures err { IfErr result (λ refusal. Goes (store_in self.now)
             (core.Move elem processor) (Refuses refusal) (store_in self.now)) }
         ensures away { (place : ℕ) → IsAway self.now.core elem place processor →
-            self.now.core.halted ≡ false → result ≡ Ok (Some place) }
+            self.now.core.halted ≡ false → self.now.busy ≡ false → result ≡ Ok (Some place) }
     {
+        if self.running.is_some() {
+            return Err(self.busy_refusal());
+        }
+        self.sequencer.facts();
         self.sequencer.source_of_move(elem, processor)
+    }
+
+    /// Why a move is refused while a checkpoint runs: `Halted`; otherwise `Checkpointing`.
+    fn busy_refusal(&self) -> Refusal
+        requires { self.now.busy ≡ true }
+        ensures { (elem : elems.Elem) (processor : ℕ) → Goes (store_in self.now)
+            (core.Move elem processor) (Refuses result) (store_in self.now) }
+    {
+        if self.sequencer.history().is_halted() {
+            Refusal::Halted
+        } else {
+            Refusal::Checkpointing
+        }
     }
 
     /// Moves an element, which stands on the one shelf, to the other. A blank of its kind is taken
@@ -41,8 +59,8 @@ impl<D: Disk, C: Chare, B: RuntimeName> Hub<D, C, B> {
     /// [`where_is`](charmlet_history::History::where_is), since it may have moved before both
     /// shelves were locked.
     ///
-    /// The refusal is the first that applies of `Halted`, `Uncommitted` where one of the two
-    /// processors has an assigned message, `NoBlank` and `Memory`. Then all is as before.
+    /// The refusal is the first that applies of `Halted`, `Checkpointing`, `Uncommitted` where one
+    /// of the two processors has an assigned message, `NoBlank` and `Memory`. Then all is as before.
     pub fn relocate(
         &mut self,
         from: &mut LockedShelf<C, B>,
@@ -63,7 +81,12 @@ impl<D: Disk, C: Chare, B: RuntimeName> Hub<D, C, B> {
         ensures err { OnErr result ((self.new ≡ self.old) × (from.new ≡ from.old)
             × (to.new ≡ to.old)) }
     {
+        if self.running.is_some() {
+            return Err(self.busy_refusal());
+        }
         self.sequencer.facts();
-        self.sequencer.relocate(from, to, elem)
+        let moved = self.sequencer.relocate(from, to, elem);
+        self.sequencer.facts();
+        moved
     }
 }

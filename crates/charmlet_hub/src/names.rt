@@ -26,3 +26,12 @@ pub struct PassesOf<B> {
 impl<B: RuntimeName> BookName for PassesOf<B> {
     ghost table = { B.passes };
 }
+
+/// Names the book of the tokens of a runtime's checkpoints.
+pub struct CheckpointsOf<B> {
+    runtime: PhantomData<B>,
+}
+
+impl<B: RuntimeName> BookName for CheckpointsOf<B> {
+    ghost table = { B.checkpoints };
+}

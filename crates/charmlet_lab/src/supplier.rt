@@ -24,6 +24,9 @@ use std::alloc::Global;
 /// starts that with them. So a supplier of mixed kinds can box them in one function, which keeps
 /// them.
 pub trait Supplier<D: LabDisk> {
+    /// When it may restart, since a restart starts threads.
+    ghost may_restart: { Self → Type 0 };
+
     /// A run of the script on this disk, with the blanks that its lines supply, as
     /// [`crate::lab_round`] makes it.
     fn run(&self, alloc: Global, script: &Script, disk: D) -> Result<Round<D>, Refusal>
@@ -46,6 +49,7 @@ pub trait Supplier<D: LabDisk> {
         events: &[Event],
         durable: Option<u64>,
     ) -> Result<bool, Refusal>
+        requires may { may_restart self.now }
         requires legal { IsLegal (new_world (arrays_of script.now)) 0 events.now }
         ensures ok { IfOk result (λ bad. (given : Blanks) × IsEnough given (blanks_in wanted.now)
             × IsJudged D.Disk script.now given disk events.now durable bad) }

@@ -40,6 +40,7 @@ pub fn try_crashes<D: LabDisk, S: Supplier<D>, W: Watch>(
     supplier: &S,
     watch: &mut W,
 ) -> Result<LabLine, Refusal>
+    requires may { S.may_restart supplier.now }
     ensures ok { IfOk result (Finds D.Disk D.calls_left script.now) }
     ensures err { IfErr result (IsNotFound D.Disk script.now) }
 {
@@ -66,6 +67,7 @@ fn try_stop<D: LabDisk, S: Supplier<D>>(
     calls: u64,
     line: &mut LabLine,
 ) -> Result<bool, Refusal>
+    requires may { S.may_restart supplier.now }
     requires before { AreTried D.Disk D.calls_left script.now (places calls) line.old }
     requires stops { line.old.stops ≡ calls }
     requires few { calls < most_stops }
@@ -96,6 +98,7 @@ fn try_crash<D: LabDisk, S: Supplier<D>>(
     calls: u64,
     choice: CrashChoice,
 ) -> Result<Option<bool>, Refusal>
+    requires may { S.may_restart supplier.now }
     ensures ok { IfOk result (ComesTo D.Disk D.calls_left script.now (calls, choice)) }
     ensures err { IfErr result (IsNotFound D.Disk script.now) }
 {

@@ -20,6 +20,7 @@ use charmlet_model::{Event, Refusal};
 use charmlet_recover::{Wanted, lacking, stock_of};
 use charmlet_script::Script;
 use std::alloc::Global;
+use std::thread::Threads;
 
 /// Restarts from a disk after a run's crash, on as many processors as the script has and with these
 /// blanks, and returns whether that was bad, as [`lab_bad`] has it. Disk and objects are dropped.
@@ -30,7 +31,8 @@ use std::alloc::Global;
 /// `BlanksWanted` if there are fewer blanks of a kind than are wanted, with the lowest such kind
 /// and all that are wanted of it: so missing blanks never make a restart bad. `Memory` and
 /// `ImageFull` as [`lab_bad`] has them.
-pub fn lab_outcome<D: Disk, C: Chare>(
+pub fn lab_outcome<R: Threads + Sync, D: Disk, C: Chare>(
+    rt: &R,
     alloc: Global,
     script: &Script,
     disk: D,
@@ -57,6 +59,6 @@ pub fn lab_outcome<D: Disk, C: Chare>(
     if let Some(lack) = lacking(&stock, wanted) {
         return Err(lack);
     }
-    let mut answer = Engine::restart(alloc, disk, stock, script.processors());
+    let mut answer = Engine::restart(rt, alloc, disk, stock, script.processors());
     lab_bad(alloc, script, &mut answer, events, durable)
 }

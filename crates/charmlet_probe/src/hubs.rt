@@ -15,9 +15,10 @@ use std::alloc::Global;
 use std::io::Write;
 use std::marker::Brand;
 use std::sync::Wait;
+use std::thread::Threads;
 
 /// Runs the lines of a probe until its store ends, over a hub.
-pub(crate) fn live_on_hub<W: Write, R: Wait>(
+pub(crate) fn live_on_hub<W: Write, R: Threads + Wait + Sync>(
     rt: &R,
     alloc: Global,
     bench: &mut Bench,
@@ -32,7 +33,7 @@ pub(crate) fn live_on_hub<W: Write, R: Wait>(
 }
 
 /// The same, under this name.
-fn live_as<B: RuntimeName, W: Write, R: Wait>(
+fn live_as<B: RuntimeName, W: Write, R: Threads + Wait + Sync>(
     rt: &R,
     alloc: Global,
     bench: &mut Bench,
@@ -45,6 +46,7 @@ fn live_as<B: RuntimeName, W: Write, R: Wait>(
     requires parts { table_of books.parts ≡ B.table }
     requires seats { table_of books.seats ≡ B.seats }
     requires passes { table_of books.passes ≡ B.passes }
+    requires checkpoints { table_of books.checkpoints ≡ B.checkpoints }
     requires honest { B.honest → ⊥ }
 {
     match HubMachine::<B>::open(alloc, store, books) {

@@ -2,19 +2,22 @@
 
 use crate::words::{bytes, choice, half, kind, number};
 use charmlet_model::Answer;
-use charmlet_probe_store::{Failed, Machine, Turn, Without};
-use charmlet_testing::{Bench, give, held, image, lend, lend_seat, look, next, pass, say, turn};
+use charmlet_probe_store::{Failed, Machine, Running, Turn, Without};
+use charmlet_testing::{
+    Bench, checkpoint, give, held, image, lend, lend_seat, look, next, pass, say, turn,
+};
 use std::alloc::Global;
 use std::io::Write;
 use std::sync::Wait;
 use std::sync::atomic::Ordering;
+use std::thread::Threads;
 
 /// What a line prints that shows something and is refused memory.
 const REFUSED: &[u8] = b"refused 1 Memory\n";
 
 /// Runs a line, and prints what it answers. Where memory is refused, and that is asked for, it is
 /// run once more.
-pub(crate) fn run_line<M: Machine, R: Wait>(
+pub(crate) fn run_line<M: Machine, R: Threads + Wait + Sync>(
     rt: &R,
     alloc: Global,
     bench: &mut Bench,
@@ -44,7 +47,7 @@ pub(crate) fn run_line<M: Machine, R: Wait>(
 }
 
 /// Does what a line says, by its first word.
-fn act<M: Machine, R: Wait>(
+fn act<M: Machine, R: Threads + Wait + Sync>(
     rt: &R,
     alloc: Global,
     bench: &mut Bench,
@@ -59,9 +62,11 @@ fn act<M: Machine, R: Wait>(
     if ["pes", "array", "handler"].contains(name) {
         bench.declare(text)
     } else if ["create", "blanks", "restart", "again"].contains(name) {
-        begin(bench, name, words, out)
+        begin(rt, bench, name, words, out)
     } else if ["leave", "close", "crash", "disk"].contains(name) {
         end(bench, store, name, words, out)
+    } else if let Some(call) = running_of(name, words)? {
+        checkpoint(alloc, store, call, out)
     } else if ["look", "next", "image", "tally", "versions"].contains(name) {
         show(bench, store, name, out)
     } else if ["lend", "give", "pass", "known"].contains(name) {
@@ -80,6 +85,18 @@ fn act<M: Machine, R: Wait>(
         turn(store, of, name, number(only(words)?)?, out)
     } else {
         bench.script(rt, store, text, out)
+    }
+}
+
+/// What a line calls of a checkpoint that runs while others work, by its words. An image of no
+/// shelf isn't one.
+fn running_of(name: &str, words: &[&str]) -> Result<Option<Running>, Failed> {
+    match (name, words) {
+        ("begin", []) => Ok(Some(Running::Begin)),
+        ("image", [processor]) => Ok(Some(Running::Image(number(processor)?))),
+        ("seal", []) => Ok(Some(Running::Seal)),
+        ("abandon", []) => Ok(Some(Running::Abandon)),
+        _ => Ok(None),
     }
 }
 
@@ -144,10 +161,16 @@ fn only<'a>(words: &[&'a str]) -> Result<&'a str, Failed> {
 }
 
 /// A line with which a store begins.
-fn begin(bench: &mut Bench, name: &str, words: &[&str], out: &mut Vec<u8>) -> Result<(), Failed> {
+fn begin<R: Threads + Sync>(
+    rt: &R,
+    bench: &mut Bench,
+    name: &str,
+    words: &[&str],
+    out: &mut Vec<u8>,
+) -> Result<(), Failed> {
     match name {
         "create" => bench.create(out),
-        "restart" => bench.restart(number(only(words)?)?, out),
+        "restart" => bench.restart(rt, number(only(words)?)?, out),
         "again" => Ok(bench.try_again()),
         _ => {
             let [of, count] = words else {

@@ -17,6 +17,7 @@ use std::alloc::{AllocError, Global};
 use std::io::Write;
 use std::process::ExitCode;
 use std::sync::Wait;
+use std::thread::Threads;
 use std::{env, io};
 
 /// The room of a line's output, in bytes.
@@ -37,7 +38,7 @@ fn output(alloc: Global) -> Result<Vec<u8>, AllocError> {
 }
 
 /// Runs the next line of a probe, and prints what it answers.
-fn print_line<M: Machine, W: Write, R: Wait>(
+fn print_line<M: Machine, W: Write, R: Threads + Wait + Sync>(
     rt: &R,
     alloc: Global,
     bench: &mut Bench,
@@ -55,7 +56,7 @@ fn print_line<M: Machine, W: Write, R: Wait>(
 
 /// Runs the lines of a probe until its store ends. What each answers is printed before the next one
 /// is run.
-pub(crate) fn live<M: Machine, W: Write, R: Wait>(
+pub(crate) fn live<M: Machine, W: Write, R: Threads + Wait + Sync>(
     rt: &R,
     alloc: Global,
     bench: &mut Bench,
@@ -73,7 +74,7 @@ pub(crate) fn live<M: Machine, W: Write, R: Wait>(
 }
 
 /// The same over an engine.
-fn live_on_engine<W: Write, R: Wait>(
+fn live_on_engine<W: Write, R: Threads + Wait + Sync>(
     rt: &R,
     alloc: Global,
     bench: &mut Bench,
@@ -87,7 +88,7 @@ fn live_on_engine<W: Write, R: Wait>(
 
 /// Runs the next line of a probe, where there is no store, and then those of the store that it
 /// makes, if it makes one.
-fn go_on<W: Write, R: Wait>(
+fn go_on<W: Write, R: Threads + Wait + Sync>(
     rt: &R,
     alloc: Global,
     bench: &mut Bench,
@@ -105,7 +106,7 @@ fn go_on<W: Write, R: Wait>(
 }
 
 /// Runs each line of a probe, and prints what it answers before the next one is run.
-fn print_lines<W: Write, R: Wait>(
+fn print_lines<W: Write, R: Threads + Wait + Sync>(
     rt: &R,
     alloc: Global,
     bench: &mut Bench,
@@ -123,7 +124,7 @@ fn print_lines<W: Write, R: Wait>(
 }
 
 /// Runs the probe in a file.
-fn probe<R: Wait>(rt: HostRuntime, wait: &R) -> Result<(), Stop> {
+fn probe<R: Threads + Wait + Sync>(rt: HostRuntime, wait: &R) -> Result<(), Stop> {
     let words: Vec<String> = env::args(&rt)?.collect(rt.alloc())?;
     let is_over_hubs = words.len() == 3 && words[1].as_str() == "--hub";
     let mut script = match words.last() {

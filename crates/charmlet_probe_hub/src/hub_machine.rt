@@ -5,9 +5,12 @@ ghost use Rattle.std.specs.Vec.{vec_capacity};
 ghost use Rattle.charmlet_agreement.specs.Naming.{table_of};
 ghost use Rattle.charmlet_sequencer.specs.Sequencer.{IsOf};
 
+use crate::checkpointing::end as end_running;
 use crate::closing::{end, put_back, take_pass, take_seat};
 use charmlet_agreement::Unnamed;
-use charmlet_hub::{Closed, Hub, NotClosed, PassesOf, SeatsOf};
+use charmlet_hub::{
+    Checkpoint, CheckpointsOf, Closed, HandedIn, Hub, NotClosed, PassesOf, SeatsOf,
+};
 use charmlet_model::Refusal;
 use charmlet_passes::{ClientPass, SeenPass};
 use charmlet_probe_disk::ProbeDisk;
@@ -25,6 +28,7 @@ pub struct Books {
     pub parts: Unnamed<SeenPart>,
     pub seats: Unnamed<SeenIds>,
     pub passes: Unnamed<SeenPass>,
+    pub checkpoints: Unnamed<HandedIn>,
 }
 
 impl Books {
@@ -33,10 +37,12 @@ impl Books {
         let parts = Unnamed::new(alloc)?;
         let seats = Unnamed::new(alloc)?;
         let passes = Unnamed::new(alloc)?;
+        let checkpoints = Unnamed::new(alloc)?;
         Ok(Books {
             parts,
             seats,
             passes,
+            checkpoints,
         })
     }
 }
@@ -54,6 +60,8 @@ pub struct HubMachine<B: RuntimeName> {
     pub(crate) passes: Vec<ClientPass<PassesOf<B>>>,
     /// The clients whose passes were asked for, and how many accepts each pass had by then.
     pub(crate) lent: BTreeMap<u32, u64>,
+    /// The checkpoint that runs.
+    pub(crate) checkpoint: Option<Checkpoint<B>>,
 }
 
 // Written by hand, so that dropping a hub is proved here, and not in each crate that drops such a
@@ -62,12 +70,14 @@ impl<B: RuntimeName> Drop for HubMachine<B> {
     fn drop(self) {
         let HubMachine {
             alloc: _,
-            hub,
+            mut hub,
             shelves,
             seats,
             passes,
             lent,
+            checkpoint,
         } = self;
+        end_running(&mut hub, checkpoint);
         drop(hub);
         drop(shelves);
         drop(seats);
@@ -83,6 +93,7 @@ impl<B: RuntimeName> HubMachine<B> {
         requires parts { table_of books.parts ≡ B.table }
         requires seats { table_of books.seats ≡ B.seats }
         requires passes { table_of books.passes ≡ B.passes }
+        requires checkpoints { table_of books.checkpoints ≡ B.checkpoints }
         requires honest { B.honest → ⊥ }
     {
         let processors = store.processors();
@@ -105,6 +116,7 @@ impl<B: RuntimeName> HubMachine<B> {
         requires parts { table_of books.parts ≡ B.table }
         requires seats { table_of books.seats ≡ B.seats }
         requires passes { table_of books.passes ≡ B.passes }
+        requires checkpoints { table_of books.checkpoints ≡ B.checkpoints }
         requires honest { B.honest → ⊥ }
         requires none { vec_len shelves ≡ 0 }
         requires room { B.processors ≤ vec_capacity shelves }
@@ -114,21 +126,25 @@ impl<B: RuntimeName> HubMachine<B> {
             parts,
             seats,
             passes,
+            checkpoints,
         } = books;
         let Opened { sequencer, shelves } = open_store(store, halves, parts.named::<B>(), shelves);
         let seat_book = seats.named::<SeatsOf<B>>();
         let pass_book = passes.named::<PassesOf<B>>();
+        let tokens = checkpoints.named::<CheckpointsOf<B>>();
         HubMachine {
             alloc,
-            hub: Hub::new(alloc, sequencer, processors, seat_book, pass_book),
+            hub: Hub::new(alloc, sequencer, processors, seat_book, pass_book, tokens),
             shelves,
             seats: Vec::new(alloc),
             passes: Vec::new(alloc),
             lent: BTreeMap::new(alloc),
+            checkpoint: None,
         }
     }
 
-    /// It comes apart, where all but this is handed in, or comes back with the reason.
+    /// It comes apart, where all but this is handed in, or comes back with the reason. A checkpoint
+    /// that runs is given up.
     pub(crate) fn come_apart(self, without: Without) -> Result<Ended, (Refusal, Self)> {
         if self.shelves.len() != usize::from(self.hub.processors()) {
             return Err((Refusal::Strayed, self));
@@ -138,12 +154,14 @@ impl<B: RuntimeName> HubMachine<B> {
         };
         let HubMachine {
             alloc,
-            hub,
+            mut hub,
             shelves,
             mut seats,
             mut passes,
             lent,
+            checkpoint,
         } = self;
+        end_running(&mut hub, checkpoint);
         let seat = take_seat(&mut seats, without);
         let pass = take_pass(&mut passes, without);
         match hub.close(shelves, empty, seats, passes) {
@@ -174,6 +192,7 @@ impl<B: RuntimeName> HubMachine<B> {
                         seats,
                         passes,
                         lent,
+                        checkpoint: None,
                     },
                 ))
             }

@@ -1,11 +1,11 @@
 //! Lines of probes over a hub, with its locked shelves and one seat for each processor.
 #![tactic(auto)]
 
+mod checkpointing;
 mod closing;
 mod delivering;
 mod hub_machine;
 mod places;
 mod running;
-mod sealing;
 
 pub use crate::hub_machine::{Books, HubMachine};

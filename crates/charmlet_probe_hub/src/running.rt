@@ -1,15 +1,17 @@
 //! Lines of probes over a hub.
 
+use crate::checkpointing::checkpoint;
 use crate::delivering::{carry_among, commit, deliver, turn};
 use crate::hub_machine::HubMachine;
 use crate::places::{place_of_pass, place_of_seat};
-use crate::sealing::seal_under_locks;
 use charmlet_hub::PassesOf;
 use charmlet_model::{Answer, Elem, Kind, MsgId, Refusal, Step, Told};
 use charmlet_passes::ClientPass;
 use charmlet_probe_disk::ProbeDisk;
 use charmlet_probe_objects::Object;
-use charmlet_probe_store::{Call, Counts, Ended, Failed, Machine, PassCounts, Turn, Without};
+use charmlet_probe_store::{
+    Call, Counts, Ended, Failed, Machine, PassCounts, Running, Turn, Without,
+};
 use charmlet_requests::{Handlers, Request, target};
 use charmlet_sequencer::RuntimeName;
 use charmlet_store::{Census, Look, Standing};
@@ -173,14 +175,8 @@ impl<B: RuntimeName> Machine for HubMachine<B> {
         }
     }
 
-    fn checkpoint<R: Wait>(&mut self, rt: &R) -> Result<u64, Failed> {
-        if self.hub.history().is_halted() {
-            return Err(Failed::Refused(Refusal::Halted));
-        }
-        match seal_under_locks(rt, self.alloc, &mut self.hub, &mut self.shelves) {
-            Ok(generation) => Ok(generation),
-            Err(refusal) => Err(Failed::Refused(refusal)),
-        }
+    fn checkpoint<R: Wait>(&mut self, _rt: &R) -> Result<u64, Failed> {
+        checkpoint(&mut self.hub, self.shelves.as_mut_slice())
     }
 
     fn call(&mut self, handlers: &Handlers, call: &Call<'_>) -> Result<Told, Failed> {
@@ -349,5 +345,9 @@ impl<B: RuntimeName> Machine for HubMachine<B> {
     fn tell(&mut self) -> Result<u64, Failed> {
         let passes = self.passes.as_mut_slice();
         Ok(self.hub.flush(passes)?)
+    }
+
+    fn running(&mut self, call: Running) -> Result<Option<u64>, Failed> {
+        self.call_running(call)
     }
 }

@@ -36,11 +36,11 @@ impl Drop for Blanks {
 }
 
 impl Blanks {
-    /// Blanks of these objects. When out of memory they are dropped.
-    pub fn of(alloc: Global, objects: Vec<Object>) -> Result<Blanks, AllocError> {
+    /// Blanks of these objects. When out of memory it hands all of them back.
+    pub fn of(alloc: Global, objects: Vec<Object>) -> Result<Blanks, Vec<Object>> {
         match stock_of(alloc, objects) {
             Ok(stock) => Ok(Blanks { stock }),
-            Err(_) => Err(AllocError),
+            Err(objects) => Err(objects),
         }
     }
 

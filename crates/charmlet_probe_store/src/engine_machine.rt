@@ -1,7 +1,7 @@
 //! Lines of probes over an engine.
 
 use crate::failed::Failed;
-use crate::machine::{Call, Counts, Ended, Machine, PassCounts, Turn, Without};
+use crate::machine::{Call, Counts, Ended, Machine, PassCounts, Running, Turn, Without};
 use crate::parts::Parts;
 use crate::probe_store::ProbeStore;
 use charmlet_engine::{Closed, Engine};
@@ -241,6 +241,10 @@ impl Machine for EngineMachine {
     }
 
     fn tell(&mut self) -> Result<u64, Failed> {
+        Err(HUB)
+    }
+
+    fn running(&mut self, _call: Running) -> Result<Option<u64>, Failed> {
         Err(HUB)
     }
 }

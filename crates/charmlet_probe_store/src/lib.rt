@@ -11,6 +11,6 @@ mod probe_store;
 pub use crate::blanks::{Blanks, wanted_objects};
 pub use crate::engine_machine::EngineMachine;
 pub use crate::failed::Failed;
-pub use crate::machine::{Call, Counts, Ended, Machine, PassCounts, Turn, Without};
+pub use crate::machine::{Call, Counts, Ended, Machine, PassCounts, Running, Turn, Without};
 pub use crate::parts::Parts;
 pub use crate::probe_store::{NotBack, ProbeStore};

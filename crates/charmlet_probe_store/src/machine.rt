@@ -31,6 +31,16 @@ pub enum Turn {
     Settle,
 }
 
+/// What is called of a checkpoint that runs while others work.
+#[derive(Clone, Copy)]
+pub enum Running {
+    Begin,
+    /// The shelf of a processor is handed in.
+    Image(u16),
+    Seal,
+    Abandon,
+}
+
 /// What isn't handed in where a hub is closed.
 #[derive(Clone, Copy)]
 pub enum Without {
@@ -129,4 +139,7 @@ pub trait Machine: Drop {
 
     /// A flush of a hub to which all passes are lent.
     fn tell(&mut self) -> Result<u64, Failed>;
+
+    /// This is called of a checkpoint of a hub. A seal answers its generation.
+    fn running(&mut self, call: Running) -> Result<Option<u64>, Failed>;
 }

@@ -15,6 +15,7 @@ use charmlet_recover::NotRestarted;
 use charmlet_store::Store;
 use std::alloc::Global;
 use std::marker::Model;
+use std::thread::Threads;
 
 /// A store on a disk that fails as told, with objects that count what is done with them. It was
 /// just made or came back, and nothing has happened since.
@@ -74,13 +75,14 @@ impl ProbeStore {
     }
 
     /// The store that stands on a disk, with objects made of these blanks.
-    pub fn restart(
+    pub fn restart<R: Threads + Sync>(
+        rt: &R,
         alloc: Global,
         disk: ProbeDisk,
         blanks: Blanks,
         processors: u16,
     ) -> Result<ProbeStore, NotBack> {
-        match Engine::restart(alloc, disk, blanks.into_stock(), processors) {
+        match Engine::restart(rt, alloc, disk, blanks.into_stock(), processors) {
             Ok(engine) => Ok(ProbeStore { engine, processors }),
             Err(
                 NotRestarted {

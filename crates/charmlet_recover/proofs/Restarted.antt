@@ -1,5 +1,5 @@
 -- A store that came back from halves that were opened.
-use Rattle.std.proofs.Common.{◌≡◌, ℕ, List, length, true, refl, sym, ap, subst, ◌∙◌}
+use Rattle.std.proofs.Common.{◌≡◌, ℕ, Bool, List, length, true, refl, sym, ap, subst, ◌∙◌}
 use Rattle.std.specs.Prelude.{IfErr, IfOk, Result, Ok, Err}
 use Rattle.charmlet_model.specs.declared.half.Half.{Half}
 use Rattle.charmlet_model.specs.declared.half.Half.TheVariants.{Zero, One}
@@ -153,10 +153,10 @@ module _ {D C : Type 0} {G : disks.Ghosts D} {H : chares.Ghosts C} where
     }
     all_from_files old finds reads text honest (Err refused) same is = tt
 
-  pub all_refused : (processors : ℕ) (blanks : Stock C H) (half : Half) (bytes : List ℕ) (s : Saved) → found bytes ≡ Open s → (r : Answer G H) → AnswersBy (taken_refusal (blanks_in blanks) (Takes half s)) (restarted_or_refused r) →
-      IfErr r (λ refused. is_half_refusal refused.refusal ≡ true) → IfErr r (λ refused. IsSameStock blanks refused.blanks) → IfErr r (IsRefused processors blanks)
-  all_refused processors blanks half bytes s is (Ok back) so of_half same = tt
-  all_refused processors blanks half bytes s is (Err refused) so of_half same = record {
+  pub all_refused : (are_counts : Bool) (blanks : Stock C H) (half : Half) (bytes : List ℕ) (s : Saved) → found bytes ≡ Open s → (r : Answer G H) → AnswersBy (taken_refusal (blanks_in blanks) (Takes half s)) (restarted_or_refused r) →
+      IfErr r (λ refused. is_half_refusal refused.refusal ≡ true) → IfErr r (λ refused. IsSameStock blanks refused.blanks) → IfErr r (IsRefused are_counts blanks)
+  all_refused are_counts blanks half bytes s is (Ok back) so of_half same = tt
+  all_refused are_counts blanks half bytes s is (Err refused) so of_half same = record {
     bad = λ bad. absurd (half_is_not_bad refused.refusal of_half bad);
     known = half_is_restart refused.refusal of_half;
     short = half_is_short (Recovered D C G) (blanks_in blanks) half bytes s refused.refusal is so;

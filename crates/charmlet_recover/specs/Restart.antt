@@ -1,5 +1,5 @@
 -- Stores that come back from two halves, and what is given back where none does.
-use Rattle.std.specs.Prelude.{◌≡◌, ℕ, ◌+◌, ◌-◌, ◌≤◌, Bool, true, false, List, length, take, Option, Some, None, Result, Ok, Err}
+use Rattle.std.specs.Prelude.{◌≡◌, ℕ, ◌+◌, ◌-◌, ◌≤◌, ◌&&◌, Bool, true, false, List, length, take, Option, Some, None, Result, Ok, Err}
 use Rattle.charmlet_model.specs.declared.half.Half.{Half}
 use Rattle.charmlet_model.specs.declared.half.Half.TheVariants.{Zero, One}
 use Rattle.charmlet_model.specs.declared.event.Event.{Event}
@@ -53,6 +53,10 @@ pub record LeavesSynced {D : Type 0} (G : disks.Ghosts D) (old new : D) (is_sync
     : Type 0 where
   pub settled : is_synced ≡ true → IsSettled (G.file new)
   pub unwritten : IsUnwritten G old new
+
+-- there are so many processors and workers
+abbrev pub are_counts : ℕ → ℕ → Bool
+are_counts processors workers = is_processor_count processors && is_processor_count workers
 
 -- ---- why a restart is refused
 
@@ -169,7 +173,8 @@ module _ {D C : Type 0} {G : disks.Ghosts D} {H : chares.Ghosts C} where
   restarted_or_refused (Ok back) = Ok back
   restarted_or_refused (Err refused) = Err refused.refusal
 
-  -- the number of processors is refused before anything is done: what was handed in comes back
+  -- the number of processors or workers is refused before anything is done: what was handed in
+  -- comes back
   abbrev pub IsHandedBack : D → Stock C H → Result (Recovered D C G) (NotRestarted D C H) → Type 0
   IsHandedBack disk blanks (Ok back) = ⊥
   IsHandedBack disk blanks (Err refused) = (refused.refusal ≡ refusals.BadPes)
@@ -213,11 +218,11 @@ module _ {D C : Type 0} {G : disks.Ghosts D} where
     pub keeps : IsKept (core_of back) back.halves
     pub current : back.is_current ≡ true → IsCurrent back.halves
 
--- No refusal is one that isn't due: BadPes comes only where there aren't so many processors, and
--- BlanksWanted where some half needs more; and the objects come back as blanks.
-pub record IsRefused {D C : Type 0} {H : chares.Ghosts C} (processors : ℕ) (blanks : Stock C H)
+-- No refusal is one that isn't due: BadPes comes only where there aren't so many processors or
+-- workers, and BlanksWanted where some half needs more; and the objects come back as blanks.
+pub record IsRefused {D C : Type 0} {H : chares.Ghosts C} (are_counts : Bool) (blanks : Stock C H)
     (refused : NotRestarted D C H) : Type 0 where
-  pub bad : refused.refusal ≡ refusals.BadPes → is_processor_count processors ≡ false
+  pub bad : refused.refusal ≡ refusals.BadPes → are_counts ≡ false
   pub known : is_restart_refusal refused.refusal ≡ true
   pub short : IsShortOfSome (blanks_in blanks) refused.refusal
   pub back : IsSameStock blanks refused.blanks

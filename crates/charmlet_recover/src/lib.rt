@@ -17,5 +17,6 @@ mod wanted;
 pub use crate::blanks::stock_of;
 pub use crate::finding::{Found, manifest};
 pub use crate::lack::lacking;
-pub use crate::restarting::{NotRestarted, Recovered, restart};
+pub use crate::reopening::replayable_half;
+pub use crate::restarting::{NotRestarted, Recovered, restart, restart_by};
 pub use crate::wanted::Wanted;

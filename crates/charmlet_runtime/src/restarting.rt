@@ -25,6 +25,7 @@ use charmlet_engine::Engine;
 use charmlet_recover::NotRestarted;
 use charmlet_stock::Stock;
 use std::alloc::Global;
+use std::thread::Threads;
 
 impl<D: Disk, C: Chare> UnnamedRuntime<D, C> {
     /// Goes on with the store that stands on a disk, whatever a crash left there, on this number of
@@ -36,7 +37,8 @@ impl<D: Disk, C: Chare> UnnamedRuntime<D, C> {
     ///
     /// The refusals are those of an engine, in their order. Each hands the disk and all blanks
     /// back, these in whatever state, and at each but `Device` nothing is written.
-    pub fn restart(
+    pub fn restart<R: Threads + Sync>(
+        rt: &R,
         alloc: Global,
         disk: D,
         blanks: Stock<C>,
@@ -63,7 +65,7 @@ impl<D: Disk, C: Chare> UnnamedRuntime<D, C> {
         ensures disk { AfterCall D.Disk disk (disk_after result)
             (is_no_failure (core_or_refusal result)) }
     {
-        match Engine::restart(alloc, disk, blanks, processors) {
+        match Engine::restart(rt, alloc, disk, blanks, processors) {
             Ok(engine) => Ok(UnnamedRuntime { engine }),
             Err(refused) => Err(refused),
         }

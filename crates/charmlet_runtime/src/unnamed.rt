@@ -1,6 +1,6 @@
 //! Runtimes that have no name yet.
 
-ghost use Rattle.std.specs.Prelude.{◌≡◌, [], IfErr, IfOk};
+ghost use Rattle.std.specs.Prelude.{◌≡◌, IfErr, IfOk};
 ghost use Rattle.charmlet_agreement.specs.Naming.{table_of};
 ghost use Rattle.charmlet_sequencer.specs.Sequencer.{IsOf};
 ghost use Rattle.charmlet_workers.specs.Runtime.{shown_of};
@@ -34,15 +34,6 @@ impl<D: Disk, C: Chare> Model for UnnamedRuntime<D, C> {
 }
 
 impl<D: Disk, C: Chare> UnnamedRuntime<D, C> {
-    /// The runtime that goes on with an engine.
-    pub fn new(engine: Engine<D, C>) -> Self
-        requires no_events { (core_of engine).history ≡ [] }
-        requires unassigned { (core_of engine).assigned ≡ [] }
-        ensures { result ≡ engine }
-    {
-        UnnamedRuntime { engine }
-    }
-
     /// The generation at which it opens, from 1 on.
     pub fn generation(&self) -> u64
         ensures { result ≡ (core_of self.now).generation }
@@ -72,6 +63,7 @@ impl<D: Disk, C: Chare> UnnamedRuntime<D, C> {
         requires parts { table_of books.parts ≡ B.table }
         requires seats { table_of books.seats ≡ B.seats }
         requires passes { table_of books.passes ≡ B.passes }
+        requires checkpoints { table_of books.checkpoints ≡ B.checkpoints }
         requires honest { B.honest → D.honest self.disk }
         ensures shown { IfOk result (λ runtime. runtime ≡ shown_of (core_of self)) }
         ensures back { IfErr result (λ back. (shown_by back.store back.halves ≡ self)

@@ -73,7 +73,7 @@ is_other _ = true
 apart : (refusal : Refusal) → is_other refusal ≡ true → refusal ≢ refusals.Device
 apart refusal other is = (let no : false ≡ true = sym (ap is_other is) ∙ other in cc)
 
-device_or_not : (refusal : Refusal) → (refusal ≡ refusals.Device) ⊎ (refusal ≢ refusals.Device)
+pub device_or_not : (refusal : Refusal) → (refusal ≡ refusals.Device) ⊎ (refusal ≢ refusals.Device)
 device_or_not refusals.Device = inl refl
 device_or_not refusal = inr (apart refusal refl)
 

@@ -8,3 +8,4 @@ pub mod Agreeing
 pub mod Beginnings
 pub mod Reopened
 pub mod Lending
+pub mod Seals

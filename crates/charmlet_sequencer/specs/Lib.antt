@@ -7,6 +7,7 @@ pub mod Relocating
 pub mod Together
 pub mod Opened
 pub mod Sealing
+pub mod Checkpointing
 pub use Rattle.charmlet_agreement.specs.Naming
 pub use Rattle.charmlet_model.specs.Core
 pub use Rattle.charmlet_model.specs.Run
@@ -22,6 +23,7 @@ pub use Rattle.charmlet_halves.specs.Answers
 pub use Rattle.charmlet_halves.specs.Halves
 pub use Rattle.charmlet_shelf.specs.Count
 pub use Rattle.charmlet_shelf.specs.Due
+pub use Rattle.charmlet_shelf.specs.Image
 pub use Rattle.charmlet_shelf.specs.Shelf as OneShelf
 pub use Rattle.charmlet_stock.specs.ByKind
 pub use Rattle.charmlet_stock.specs.Stock
@@ -37,3 +39,6 @@ pub use Rattle.charmlet_delivery.specs.UnderWay
 pub use Rattle.charmlet_delivery.specs.Workplace
 pub use Rattle.charmlet_requests.specs.Pass
 pub use Rattle.charmlet_passes.specs.Passes
+pub use Rattle.charmlet_running.specs.Laws
+pub use Rattle.charmlet_running.specs.Running
+pub use Rattle.charmlet_running.specs.Sealing as EndOfRunning

@@ -6,6 +6,7 @@
 #![tactic(auto)]
 
 mod asking;
+mod checkpointing;
 mod closing;
 mod moving;
 mod names;

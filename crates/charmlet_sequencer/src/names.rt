@@ -3,9 +3,9 @@
 use charmlet_agreement::BookName;
 use std::marker::Brand;
 
-/// Names one runtime: its books, of shelves, of seats and of passes, and the store with which it
-/// opened. The call that opens it picks them, and all types that lie under its locks are generic in
-/// the name. As a book's name it is that of the book of shelves.
+/// Names one runtime: its books, of shelves, of seats, of passes and of checkpoints, and the store
+/// with which it opened. The call that opens it picks them, and all types that lie under its locks
+/// are generic in the name. As a book's name it is that of the book of shelves.
 pub trait RuntimeName: BookName {
     ghost use Rattle.std.specs.Prelude.{ℕ};
     ghost use Rattle.atomic_table.specs.Seated.{TableId};
@@ -16,6 +16,9 @@ pub trait RuntimeName: BookName {
 
     /// The table of the book of passes.
     ghost passes: { TableId };
+
+    /// The table of the book of the tokens of checkpoints.
+    ghost checkpoints: { TableId };
 
     /// The world with which the store opened.
     ghost opening: { World };
@@ -38,6 +41,8 @@ impl RuntimeName for Brand {
     ghost seats = { no_table };
 
     ghost passes = { no_table };
+
+    ghost checkpoints = { no_table };
 
     ghost opening = { new_world [] };
 

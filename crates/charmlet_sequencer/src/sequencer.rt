@@ -14,6 +14,7 @@ ghost use Rattle.charmlet_disk.specs.Disk.{LeavesOnly};
 ghost use Rattle.charmlet_disk.specs.File.{CrashBytes, MayLeave};
 ghost use Rattle.charmlet_halves.specs.Answers.{is_no_failure};
 ghost use Rattle.charmlet_history.specs.Kept.{core_in, counts_or_refused, oldest_on_in, told_or_refused};
+ghost use Rattle.charmlet_journal.specs.Rest.{HasOldOrSealed};
 ghost use Rattle.charmlet_shelf.specs.Shelf.{is_assigned, settled};
 ghost use Rattle.charmlet_stock.specs.ByKind.{at};
 ghost use Rattle.charmlet_shelf.specs.declared.phase.Phase.TheVariants as phases;
@@ -128,7 +129,8 @@ impl<D: Disk, C: Chare, B: RuntimeName> Sequencer<D, C, B> {
     /// world after that history and the delivery that is assigned there, and of each kind all
     /// objects that were supplied are on the shelves, in the stock, or retired; and on an honest
     /// disk a crash now leaves the world after some of the history, with all durable events among
-    /// it.
+    /// it, and that after the durable events alone unless the store is halted. Its core says that
+    /// no checkpoint runs: one that does is not the sequencer's.
     pub fn facts(&self)
         ensures of { IsOf B.opening B.before B.processors self.now.core }
         ensures sound { IsSound self.now.core }
@@ -136,6 +138,10 @@ impl<D: Disk, C: Chare, B: RuntimeName> Sequencer<D, C, B> {
             × IsBookIn self.now.core self.now.census parts }
         ensures lawful { D.honest self.now.disk → (outcome : CrashBytes) →
             MayLeave (D.file self.now.disk) outcome → is_lawful self.now.core outcome }
+        ensures stored { D.honest self.now.disk → self.now.core.halted ≡ false →
+            (outcome : CrashBytes) → MayLeave (D.file self.now.disk) outcome →
+            HasOldOrSealed self.now.core outcome }
+        ensures idle { self.now.core.busy ≡ false }
     {
         self.history.facts();
         let _ = &self.halves;

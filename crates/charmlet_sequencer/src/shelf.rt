@@ -57,7 +57,10 @@ impl<C: Chare, B: BookName> Drop for LockedShelf<C, B> {
 }
 
 impl<C: Chare, B: BookName> LockedShelf<C, B> {
-    ghost use Rattle.std.specs.Prelude.{◌≡◌, true, Some, OnErr, OnOk};
+    ghost use Rattle.std.specs.Prelude.{◌≡◌, true, if◌then◌else◌, Some, IfErr, IfOk, OnErr, OnOk};
+    ghost use Rattle.std.specs.Map.{keys_of};
+    ghost use Rattle.charmlet_model.specs.declared.refusal.Refusal.TheVariants as refusals;
+    ghost use Rattle.charmlet_shelf.specs.Image.{AreImages};
     ghost use Rattle.charmlet_shelf.specs.Shelf.{is_assigned, is_idle};
     ghost use Rattle.charmlet_checkpoint.specs.Imaging.{AnswersImage};
     ghost use Rattle.charmlet_sequencer.specs.Part.{HasPart, part_on};
@@ -155,6 +158,18 @@ impl<C: Chare, B: BookName> LockedShelf<C, B> {
         ensures shelf { self.new ≡ self.old }
     {
         parts.agree(&mut self.share);
+    }
+
+    /// The images of all elements that stand here, in their order. `Uncommitted` if a delivery is
+    /// under way; otherwise `Memory`. The shelf is as before. It needs no sequencer.
+    pub fn images(&mut self) -> Result<Vec<Image>, Refusal>
+        ensures ok { IfOk result (λ images. (is_idle self.old.phase ≡ true)
+            × AreImages self.old.records (keys_of self.old.records) images.items) }
+        ensures err { IfErr result (λ refusal. refusal
+            ≡ (if is_idle self.old.phase then refusals.Memory else refusals.Uncommitted)) }
+        ensures same { self.new ≡ self.old }
+    {
+        self.shelf.images()
     }
 
     /// The image of an element, or `None` if it isn't here. `Uncommitted` if a delivery is under

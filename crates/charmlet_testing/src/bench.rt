@@ -3,7 +3,7 @@
 use charmlet_disk::CrashChoice;
 use charmlet_model::Kind;
 use charmlet_probe_disk::{ProbeDisk, Switches};
-use charmlet_probe_objects::Tally;
+use charmlet_probe_objects::{Object, Tally};
 use charmlet_probe_store::{Blanks, Failed, Machine, ProbeStore};
 use charmlet_requests::Handlers;
 use std::alloc::{AllocError, Global};
@@ -27,6 +27,8 @@ pub struct Bench {
     pub(crate) laid: Vec<(Kind, u64)>,
     /// The blanks that came back of a restart that was refused.
     pub(crate) back: Option<Blanks>,
+    /// The blanks for a restart for which no memory was left, so that it never began.
+    pub(crate) kept: Option<Vec<Object>>,
     /// Whether a line that is refused memory is tried once more.
     pub(crate) again: bool,
 }
@@ -53,6 +55,7 @@ impl Drop for Bench {
             tally,
             laid,
             back,
+            kept,
             again: _,
         } = self;
         drop(header);
@@ -63,6 +66,7 @@ impl Drop for Bench {
         drop(tally);
         drop(laid);
         drop(back);
+        drop(kept);
     }
 }
 
@@ -82,6 +86,7 @@ impl Bench {
             tally,
             laid: Vec::new(alloc),
             back: None,
+            kept: None,
             again: false,
         })
     }

@@ -4,8 +4,9 @@ use crate::bench::Bench;
 use crate::saying::say;
 use crate::store_of::store_of;
 use charmlet_model::{Answer, Step};
-use charmlet_probe_store::{Failed, Machine, Turn};
+use charmlet_probe_store::{Failed, Machine, Running, Turn};
 use charmlet_script::{Line, Runner, read_restart_script};
+use std::alloc::Global;
 use std::io::Write;
 
 impl Bench {
@@ -69,4 +70,22 @@ pub fn held<M: Machine>(
         write!(out, " {id}")?;
     }
     Ok(writeln!(out)?)
+}
+
+/// Calls this of a checkpoint that runs while others work, and prints that it is done.
+pub fn checkpoint<M: Machine>(
+    alloc: Global,
+    store: &mut Option<M>,
+    call: Running,
+    out: &mut Vec<u8>,
+) -> Result<(), Failed> {
+    let sealed = store_of(store)?.running(call)?;
+    if let Some(generation) = sealed {
+        return say(alloc, out, &Answer::Checkpointed(generation));
+    }
+    match call {
+        Running::Begin => Ok(writeln!(out, "begun")?),
+        Running::Image(processor) => Ok(writeln!(out, "imaged {processor}")?),
+        _ => Ok(writeln!(out, "abandoned")?),
+    }
 }

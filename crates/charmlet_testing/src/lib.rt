@@ -14,6 +14,6 @@ mod store_of;
 
 pub use crate::bench::Bench;
 pub use crate::clients::{give, lend, pass};
-pub use crate::hubs::{held, lend_seat, turn};
+pub use crate::hubs::{checkpoint, held, lend_seat, turn};
 pub use crate::saying::say;
 pub use crate::shows::{image, look, next};

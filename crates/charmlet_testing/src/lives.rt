@@ -13,6 +13,7 @@ use charmlet_requests::{Handler, Handlers};
 use charmlet_script::{HandlerLine, Runner, Script, read_script};
 use std::alloc::Global;
 use std::io::Write;
+use std::thread::Threads;
 
 /// The handlers of a script, by their names.
 fn handlers_of(alloc: Global, script: &Script) -> Result<Handlers, Refusal> {
@@ -74,29 +75,41 @@ impl Bench {
 
     /// The store comes back on so many processors: with the blanks that came back and those that
     /// were laid by, or with those that are wanted where there are none.
-    pub fn restart(&mut self, processors: u16, out: &mut Vec<u8>) -> Result<(), Failed> {
+    pub fn restart<R: Threads + Sync>(
+        &mut self,
+        rt: &R,
+        processors: u16,
+        out: &mut Vec<u8>,
+    ) -> Result<(), Failed> {
         self.disk()?;
         let blanks = self.bring()?;
-        self.come_back(blanks, processors)?;
+        self.come_back(rt, blanks, processors)?;
         self.say_restarted(processors, out)
     }
 
-    /// The blanks for a restart.
+    /// The blanks for a restart. Where memory is refused none that was made or came back is lost.
     fn bring(&mut self) -> Result<Blanks, Failed> {
-        if self.laid.is_empty() {
+        if self.laid.is_empty() && self.kept.is_none() {
             if let Some(blanks) = self.back.take() {
                 return Ok(blanks);
             }
         }
         let mut objects = self.make_objects()?;
-        self.add_back(&mut objects)?;
-        Ok(Blanks::of(self.alloc, objects)?)
+        self.add_kept(&mut objects)?;
+        self.laid.clear();
+        match Blanks::of(self.alloc, objects) {
+            Ok(blanks) => Ok(blanks),
+            Err(objects) => {
+                self.kept = Some(objects);
+                Err(Failed::MEMORY)
+            }
+        }
     }
 
-    /// New objects for the blanks that were laid by, or for those that a restart from the free disk
-    /// wants where there are none.
+    /// New objects for the blanks that were laid by; or for those that a restart from the free disk
+    /// wants, where there are no blanks.
     fn make_objects(&mut self) -> Result<Vec<Object>, Failed> {
-        if !self.laid.is_empty() {
+        if !self.laid.is_empty() || self.kept.is_some() {
             return Ok(blanks(self.alloc, &self.tally, &self.laid)?);
         }
         let Some(disk) = &mut self.disk else {
@@ -105,10 +118,23 @@ impl Bench {
         Ok(wanted_objects(self.alloc, &self.tally, disk)?)
     }
 
-    /// Appends the blanks that came back, if there are any. Where they find no room they stay.
-    fn add_back(&mut self, objects: &mut Vec<Object>) -> Result<(), Failed> {
-        if let Some(blanks) = &self.back {
-            objects.reserve(blanks.count() as usize)?;
+    /// How many blanks were kept or came back.
+    fn count_kept(&self) -> usize {
+        let kept = match &self.kept {
+            Some(objects) => objects.len(),
+            None => 0,
+        };
+        match &self.back {
+            Some(blanks) => kept.saturating_add(blanks.count() as usize),
+            None => kept,
+        }
+    }
+
+    /// Appends the blanks that were kept or came back. Where they find no room they stay.
+    fn add_kept(&mut self, objects: &mut Vec<Object>) -> Result<(), Failed> {
+        objects.reserve(self.count_kept())?;
+        if let Some(mut kept) = self.kept.take() {
+            objects.append(&mut kept)?;
         }
         match self.back.take() {
             Some(blanks) => Ok(blanks.append_to(objects)?),
@@ -117,12 +143,16 @@ impl Bench {
     }
 
     /// The store comes back with these blanks.
-    fn come_back(&mut self, blanks: Blanks, processors: u16) -> Result<(), Failed> {
+    fn come_back<R: Threads + Sync>(
+        &mut self,
+        rt: &R,
+        blanks: Blanks,
+        processors: u16,
+    ) -> Result<(), Failed> {
         let Some(disk) = self.disk.take() else {
             return Err(Failed::Lacks("disk"));
         };
-        self.laid.clear();
-        match ProbeStore::restart(self.alloc, disk, blanks, processors) {
+        match ProbeStore::restart(rt, self.alloc, disk, blanks, processors) {
             Ok(store) => {
                 self.born = Some(store);
                 Ok(())

@@ -1,3 +1,4 @@
+pub mod Oldest
 pub mod Runtimes
-pub mod Seals
 pub mod Refusals
+pub mod Causes

@@ -1,81 +1,104 @@
 -- Which refusals a step's checks allow.
-use Rattle.std.proofs.Common.{◌≡◌, ℕ, ◌≤◌, ◌≢◌, ◌+◌, List, [], ◌∷◌, ◌++◌, length, inl, inr, refl, sym, ap, subst, ◌∙◌, true, false, Bool, Option, Some, None, Result, Ok, Err, arith}
-use Rattle.std.specs.Prelude.{IfErr, IfOk, IfSome, OnOk, if◌then◌else◌, ◌||◌, ◌==◌, ◌^◌, nat_le, not}
+use Rattle.std.proofs.Common.{◌≡◌, ℕ, ◌<◌, ◌≤◌, ◌≢◌, ◌+◌, List, [], ◌∷◌, ◌++◌, length, inl, inr, refl, sym, ap, subst, ◌∙◌, true, false, Bool, Option, Some, None, Result, Ok, Err, arith}
+use Rattle.std.proofs.lemmas.Bool.Decides.{nat_tests}
+use Rattle.std.specs.Prelude.{IfErr, IfOk, IfSome, OnOk, if◌then◌else◌, ◌||◌, ◌==◌, ◌^◌, is_some, nat_le, not}
 use Rattle.charmlet_model.specs.declared.edition.Edition.{Edition}
-use Rattle.charmlet_model.specs.declared.kind.Kind.{Kind}
 use Rattle.charmlet_model.specs.declared.names.Elem.{Elem}
 use Rattle.charmlet_model.specs.declared.names.MsgId.{MsgId}
 use Rattle.charmlet_model.specs.declared.refusal.Refusal.{Refusal}
 use Rattle.charmlet_model.specs.declared.refusal.Refusal.TheVariants as refusals
 use Rattle.charmlet_model.specs.declared.message.Message.{Message}
 use Rattle.charmlet_model.specs.declared.told.Told.{Told}
-use Rattle.charmlet_model.specs.Core.{Blanks, Check, When, MayLackMemory, MayFail, Core, CoreStep, Refuses, Counts, Stepped, Steps, Request, Status, Assign, Commit, Finish, Release, Move, Flush, Checkpoint, assign_checks, away_checks, blank_for, checks, end_of_flush, durable_world, first_refusal, flush_checks, has_words, is_repeat, lacks_blank, may_fail, may_lack_memory, message_checks, move_checks, new_request_checks, pending_message, place_or_home, present, request_checks, status_checks, stepped_unless}
+use Rattle.charmlet_model.specs.declared.TheConstants.{CONSTRUCT}
+use Rattle.charmlet_model.specs.Core.{Blanks, Check, When, MayLackMemory, MayFail, Core, CoreStep, Refuses, Counts, Stepped, Steps, Request, Status, Assign, Commit, Finish, Release, Move, Flush, Checkpoint, assign_checks, assigned_to, blank_for, checks, end_of_flush, durable_world, first_refusal, flush_checks, has_words, is_present, is_processor, is_repeat, lacks_blank, may_fail, may_lack_memory, message_checks, new_request_checks, pending_message, place_or_home, present, request_checks, status_checks, stepped_unless}
 use Rattle.charmlet_model.specs.Told.{told}
-use Rattle.charmlet_model.specs.World.{client_of, edition_of_array}
+use Rattle.charmlet_model.specs.World.{client_of}
 use Rattle.charmlet_model.specs.Edition.{edition_kind}
 use Rattle.charmlet_model.specs.Run.{Goes, StoreView}
-use Rattle.charmlet_model.proofs.Maps.{both_parts}
-use Rattle.charmlet_history.specs.Kept.{counts_or_refused, told_or_refused}
-use Rattle.charmlet_workers.specs.Refusals.{is_flush_refusal, is_lending_refusal, is_move_refusal, is_request_refusal, is_status_refusal, is_work_refusal}
+use Rattle.charmlet_model.specs.Sound.{IsSound}
+use Rattle.charmlet_history.specs.Kept.{counts_or_refused, oldest_on_in, told_or_refused}
+use Rattle.charmlet_migrate.specs.Moving.{IsIdle}
+use Rattle.charmlet_shelf.specs.Shelf.{View}
+use Rattle.charmlet_shelf.specs.declared.phase.Phase.{Phase}
+use Rattle.charmlet_delivery.specs.UnderWay.{due_in}
+use Rattle.charmlet_sequencer.specs.Book.{IsDueOn}
+use Rattle.charmlet_hub.specs.Hub.{HubShown, store_in}
+use Rattle.charmlet_workers.specs.Refusals.{is_flush_refusal, is_lending_refusal, is_request_refusal, is_status_refusal, is_work_refusal}
+use Rattle.charmlet_workers.proofs.Oldest.{oldest_is_deliverable}
 
 -- ---- checks
 
--- each refusal of these checks is such a one
-abbrev Fit : (Refusal → Bool) → List Check → Type 0
-Fit p [] = Unit {0}
-Fit p (When holds refusal ∷ more) = (p refusal ≡ true) × Fit p more
-Fit p (MayLackMemory ∷ more) = (p refusals.Memory ≡ true) × Fit p more
-Fit p (MayFail ∷ more) = (p refusals.Device ≡ true) × Fit p more
+-- the refusal of each of these checks is so, where its condition holds and none before it does
+abbrev pub Fit : (Refusal → Type 0) → List Check → Type 0
+Fit P [] = Unit {0}
+Fit P (When holds refusal ∷ more) = (holds ≡ true → P refusal) × (holds ≡ false → Fit P more)
+Fit P (MayLackMemory ∷ more) = P refusals.Memory × Fit P more
+Fit P (MayFail ∷ more) = P refusals.Device × Fit P more
 
-first_fits : (p : Refusal → Bool) (order : List Check) → Fit p order → IfSome (first_refusal order) (λ r. p r ≡ true)
-first_fits p [] fit = tt
-first_fits p (When true refusal ∷ more) fit = fit.0
-first_fits p (When false refusal ∷ more) fit = first_fits p more fit.1
-first_fits p (MayLackMemory ∷ more) fit = first_fits p more fit.1
-first_fits p (MayFail ∷ more) fit = first_fits p more fit.1
+-- one of these refusals
+abbrev Is : (Refusal → Bool) → Refusal → Type 0
+Is p refusal = p refusal ≡ true
 
-lack_fits : (p : Refusal → Bool) (order : List Check) → Fit p order → may_lack_memory order ≡ true → p refusals.Memory ≡ true
-lack_fits p [] fit may = let never : ⊥ = cc in absurd never
-lack_fits p (When holds refusal ∷ more) fit may = lack_fits p more fit.1 (both_parts (not holds) (may_lack_memory more) may).1
-lack_fits p (MayLackMemory ∷ more) fit may = fit.0
-lack_fits p (MayFail ∷ more) fit may = lack_fits p more fit.1 may
+first_fits : (P : Refusal → Type 0) (order : List Check) → Fit P order → IfSome (first_refusal order) P
+first_fits P [] fit = tt
+first_fits P (When true refusal ∷ more) fit = fit.0 refl
+first_fits P (When false refusal ∷ more) fit = first_fits P more (fit.1 refl)
+first_fits P (MayLackMemory ∷ more) fit = first_fits P more fit.1
+first_fits P (MayFail ∷ more) fit = first_fits P more fit.1
 
-fail_fits : (p : Refusal → Bool) (order : List Check) → Fit p order → may_fail order ≡ true → p refusals.Device ≡ true
-fail_fits p [] fit may = let never : ⊥ = cc in absurd never
-fail_fits p (When holds refusal ∷ more) fit may = fail_fits p more fit.1 (both_parts (not holds) (may_fail more) may).1
-fail_fits p (MayLackMemory ∷ more) fit may = fail_fits p more fit.1 may
-fail_fits p (MayFail ∷ more) fit may = fit.0
+lack_fits : (P : Refusal → Type 0) (order : List Check) → Fit P order → may_lack_memory order ≡ true → P refusals.Memory
+lack_fits P [] fit may = let never : ⊥ = cc in absurd never
+lack_fits P (When true refusal ∷ more) fit may = let never : ⊥ = cc in absurd never
+lack_fits P (When false refusal ∷ more) fit may = lack_fits P more (fit.1 refl) may
+lack_fits P (MayLackMemory ∷ more) fit may = fit.0
+lack_fits P (MayFail ∷ more) fit may = lack_fits P more fit.1 may
+
+fail_fits : (P : Refusal → Type 0) (order : List Check) → Fit P order → may_fail order ≡ true → P refusals.Device
+fail_fits P [] fit may = let never : ⊥ = cc in absurd never
+fail_fits P (When true refusal ∷ more) fit may = let never : ⊥ = cc in absurd never
+fail_fits P (When false refusal ∷ more) fit may = fail_fits P more (fit.1 refl) may
+fail_fits P (MayLackMemory ∷ more) fit may = fail_fits P more fit.1 may
+fail_fits P (MayFail ∷ more) fit may = fit.0
 
 -- what isn't refused has another answer
-unless_fits : (p : Refusal → Bool) (core : Core) (blanks : Blanks) (step : CoreStep) (o : Option Refusal) (r : Refusal) → IfSome o (λ r. p r ≡ true) → (stepped_unless core blanks step o).answer ≡ Refuses r → p r ≡ true
-unless_fits p core blanks step (Some other) r fits answer = let same : other ≡ r = cc in subst (λ x. p x ≡ true) same fits
-unless_fits p core blanks (Request client number to entry words) None r fits answer = let never : ⊥ = cc in absurd never
-unless_fits p core blanks (Status client number) None r fits answer = let never : ⊥ = cc in absurd never
-unless_fits p core blanks (Assign processor id) None r fits answer = let never : ⊥ = cc in absurd never
-unless_fits p core blanks (Commit processor) None r fits answer = let never : ⊥ = cc in absurd never
-unless_fits p core blanks (Finish processor) None r fits answer = let never : ⊥ = cc in absurd never
-unless_fits p core blanks (Release processor) None r fits answer = let never : ⊥ = cc in absurd never
-unless_fits p core blanks (Move x processor) None r fits answer = let never : ⊥ = cc in absurd never
-unless_fits p core blanks Flush None r fits answer = let never : ⊥ = cc in absurd never
-unless_fits p core blanks Checkpoint None r fits answer = let never : ⊥ = cc in absurd never
+unless_fits : (P : Refusal → Type 0) (core : Core) (blanks : Blanks) (step : CoreStep) (o : Option Refusal) (r : Refusal) → IfSome o P → (stepped_unless core blanks step o).answer ≡ Refuses r → P r
+unless_fits P core blanks step (Some other) r fits answer = let same : other ≡ r = cc in subst P same fits
+unless_fits P core blanks (Request client number to entry words) None r fits answer = let never : ⊥ = cc in absurd never
+unless_fits P core blanks (Status client number) None r fits answer = let never : ⊥ = cc in absurd never
+unless_fits P core blanks (Assign processor id) None r fits answer = let never : ⊥ = cc in absurd never
+unless_fits P core blanks (Commit processor) None r fits answer = let never : ⊥ = cc in absurd never
+unless_fits P core blanks (Finish processor) None r fits answer = let never : ⊥ = cc in absurd never
+unless_fits P core blanks (Release processor) None r fits answer = let never : ⊥ = cc in absurd never
+unless_fits P core blanks (Move x processor) None r fits answer = let never : ⊥ = cc in absurd never
+unless_fits P core blanks Flush None r fits answer = let never : ⊥ = cc in absurd never
+unless_fits P core blanks Checkpoint None r fits answer = let never : ⊥ = cc in absurd never
 
 -- a step is refused for one of its checks
-pub refusal_fits : (p : Refusal → Bool) (core : Core) (blanks : Blanks) (step : CoreStep) (next : Stepped) (r : Refusal) → Fit p (checks core blanks step) → Steps core blanks step next → next.answer ≡ Refuses r → p r ≡ true
-refusal_fits p core blanks step next r fit steps answer =
+pub refusal_fits : (P : Refusal → Type 0) (core : Core) (blanks : Blanks) (step : CoreStep) (next : Stepped) (r : Refusal) → Fit P (checks core blanks step) → Steps core blanks step next → next.answer ≡ Refuses r → P r
+refusal_fits P core blanks step next r fit steps answer =
     let order = checks core blanks step in
     elim steps.1 [
-      | inl same ↦ unless_fits p core blanks step (first_refusal order) r (first_fits p order fit) (sym (ap (λ (n : Stepped). n.answer) same) ∙ answer)
+      | inl same ↦ unless_fits P core blanks step (first_refusal order) r (first_fits P order fit) (sym (ap (λ (n : Stepped). n.answer) same) ∙ answer)
       | inr lacking ↦ elim lacking [
         | inl memory ↦
             let is : Refuses refusals.Memory ≡ Refuses r = sym (ap (λ (n : Stepped). n.answer) memory.1) ∙ answer in
             let same : refusals.Memory ≡ r = cc in
-            subst (λ x. p x ≡ true) same (lack_fits p order fit memory.0)
+            subst P same (lack_fits P order fit memory.0)
         | inr device ↦
             let is : Refuses refusals.Device ≡ Refuses r = sym (ap (λ (n : Stepped). n.answer) device.1) ∙ answer in
             let same : refusals.Device ≡ r = cc in
-            subst (λ x. p x ≡ true) same (fail_fits p order fit device.0)
+            subst P same (fail_fits P order fit device.0)
       ]
     ]
+
+-- a check that doesn't hold
+pub no_more : {A : Type 0} (b : Bool) → b ≡ true → not b ≡ true → A
+no_more true is other = absurd (let never : ⊥ = cc in never)
+no_more false is other = absurd (let never : ⊥ = cc in never)
+
+none_there : {A X : Type 0} (o : Option X) → o ≡ None → is_some o ≡ true → A
+none_there None is other = absurd (let never : ⊥ = cc in never)
+none_there (Some x) is other = absurd (let never : ⊥ = cc in never)
 
 -- ---- each call
 
@@ -83,73 +106,74 @@ abbrev is_memory : Refusal → Bool
 is_memory refusals.Memory = true
 is_memory _ = false
 
-request_fit : (core : Core) (client number : ℕ) (to : Elem) (words : List ℕ) → Fit is_request_refusal (request_checks core client number to words)
+request_fit : (core : Core) (client number : ℕ) (to : Elem) (words : List ℕ) → Fit (Is is_request_refusal) (request_checks core client number to words)
 request_fit core client number to words = (
-  refl,
-  elim (is_repeat core client number) as (λ b. Fit is_request_refusal (if b then MayLackMemory ∷ [] else new_request_checks core (client_of (present core) client) client number to words)) [
+  λ _. refl,
+  λ _. elim (is_repeat core client number) as (λ b. Fit (Is is_request_refusal) (if b then MayLackMemory ∷ [] else new_request_checks core (client_of (present core) client) client number to words)) [
     | true ↦ (refl, tt)
-    | false ↦ (refl, (refl, (refl, (refl, (refl, (refl, (refl, tt)))))))
+    | false ↦ (λ _. refl, λ _. (λ _. refl, λ _. (λ _. refl, λ _. (λ _. refl, λ _. (λ _. refl, λ _. (λ _. refl, λ _. (refl, tt)))))))
   ],
 )
 
-status_fit : (core : Core) (client number : ℕ) → Fit is_status_refusal (status_checks core client number)
+status_fit : (core : Core) (client number : ℕ) → Fit (Is is_status_refusal) (status_checks core client number)
 status_fit core client number = (
-  refl,
-  elim (has_words (told (durable_world core) client number)) as (λ b. Fit is_status_refusal (if b then MayLackMemory ∷ [] else [])) [
+  λ _. refl,
+  λ _. elim (has_words (told (durable_world core) client number)) as (λ b. Fit (Is is_status_refusal) (if b then MayLackMemory ∷ [] else [])) [
     | true ↦ (refl, tt)
     | false ↦ tt
   ],
 )
 
-flush_fit : (core : Core) → Fit (λ r. is_flush_refusal r || is_memory r) (flush_checks core)
+abbrev is_flush_or_memory : Refusal → Bool
+is_flush_or_memory refusal = is_flush_refusal refusal || is_memory refusal
+
+flush_fit : (core : Core) → Fit (Is is_flush_or_memory) (flush_checks core)
 flush_fit core = (
-  refl,
-  elim (core.durable == length core.history) as (λ b. Fit (λ r. is_flush_refusal r || is_memory r) (if b then [] else When (nat_le (2 ^ 31) (end_of_flush core)) refusals.LogFull ∷ MayLackMemory ∷ MayFail ∷ [])) [
+  λ _. refl,
+  λ _. elim (core.durable == length core.history) as (λ b. Fit (Is is_flush_or_memory) (if b then [] else When (nat_le (2 ^ 31) (end_of_flush core)) refusals.LogFull ∷ MayLackMemory ∷ MayFail ∷ [])) [
     | true ↦ tt
-    | false ↦ (refl, (refl, (refl, tt)))
+    | false ↦ (λ _. refl, λ _. (refl, (refl, tt)))
   ],
 )
 
 -- blanks that lack, and then memory
-blank_fit : (p : Refusal → Bool) (blanks : Blanks) (edition : Option Edition) → ((kind : Kind) → p (refusals.NoBlank kind) ≡ true) → p refusals.Memory ≡ true → Fit p (lacks_blank blanks edition ++ MayLackMemory ∷ [])
-blank_fit p blanks None blank memory = (memory, tt)
-blank_fit p blanks (Some edition) blank memory = (blank (edition_kind edition), (memory, tt))
+pub blank_fit : (P : Refusal → Type 0) (blanks : Blanks) (o : Option Edition) → ((edition : Edition) → o ≡ Some edition → P (refusals.NoBlank (edition_kind edition))) → P refusals.Memory → Fit P (lacks_blank blanks o ++ MayLackMemory ∷ [])
+blank_fit P blanks None blank memory = (memory, tt)
+blank_fit P blanks (Some edition) blank memory = (λ _. blank edition refl, λ _. (memory, tt))
 
-move_fit : (core : Core) (blanks : Blanks) (x : Elem) (processor : ℕ) → Fit is_move_refusal (move_checks core blanks x processor)
-move_fit core blanks x processor = (
-  refl,
-  (
-    refl,
-    (
-      refl,
-      (
-        refl,
-        elim (place_or_home core x == processor) as (λ b. Fit is_move_refusal (if b then [] else away_checks core blanks x processor)) [
-          | true ↦ tt
-          | false ↦ (refl, blank_fit is_move_refusal blanks (edition_of_array (present core) x.array) (λ kind. refl) refl)
-        ],
-      ),
+-- a message that can be delivered on the processor, on which none is assigned
+message_fit : (core : Core) (blanks : Blanks) (processor : ℕ) (m : Message) → (is_present core m.to || (m.entry == CONSTRUCT)) ≡ true → (place_or_home core m.to == processor) ≡ true → Fit (Is is_work_refusal) (message_checks core blanks processor (Some m))
+message_fit core blanks processor m there here = (
+  λ absent. no_more (is_present core m.to || (m.entry == CONSTRUCT)) there absent,
+  λ _. (
+    λ elsewhere. no_more (place_or_home core m.to == processor) here elsewhere,
+    λ _. (λ _. refl, λ _. blank_fit (Is is_work_refusal) blanks (blank_for core m) (λ edition is. refl) refl),
+  ),
+)
+
+assign_fit : (core : Core) (blanks : Blanks) (processor : ℕ) (id : MsgId) (m : Message) → is_processor core processor ≡ true → assigned_to core processor ≡ None → pending_message core id ≡ Some m →
+    (is_present core m.to || (m.entry == CONSTRUCT)) ≡ true → (place_or_home core m.to == processor) ≡ true → Fit (Is is_work_refusal) (assign_checks core blanks processor id)
+assign_fit core blanks processor id m on none pending there here = (
+  λ _. refl,
+  λ _. (
+    λ bad. no_more (is_processor core processor) on bad,
+    λ _. (
+      λ assigned. none_there (assigned_to core processor) none assigned,
+      λ _. subst (λ o. Fit (Is is_work_refusal) (message_checks core blanks processor o)) (sym pending) (message_fit core blanks processor m there here),
     ),
   ),
 )
 
-message_fit : (core : Core) (blanks : Blanks) (processor : ℕ) (m : Option Message) → Fit is_work_refusal (message_checks core blanks processor m)
-message_fit core blanks processor None = (refl, tt)
-message_fit core blanks processor (Some m) = (refl, (refl, (refl, blank_fit is_work_refusal blanks (blank_for core m) (λ kind. refl) refl)))
-
-assign_fit : (core : Core) (blanks : Blanks) (processor : ℕ) (id : MsgId) → Fit is_work_refusal (assign_checks core blanks processor id)
-assign_fit core blanks processor id = (refl, (refl, (refl, message_fit core blanks processor (pending_message core id))))
-
 pub request_refused : (store next : StoreView) (client number : ℕ) (to : Elem) (entry : ℕ) (words : List ℕ) (r : Result Told Refusal) → Goes store (Request client number to entry words) (told_or_refused r) next → IfErr r (λ refusal. is_request_refusal refusal ≡ true)
 request_refused store next client number to entry words (Ok x) goes = tt
-request_refused store next client number to entry words (Err refusal) goes = refusal_fits is_request_refusal store.core store.blanks (Request client number to entry words) _ refusal (request_fit store.core client number to words) goes refl
+request_refused store next client number to entry words (Err refusal) goes = refusal_fits (Is is_request_refusal) store.core store.blanks (Request client number to entry words) _ refusal (request_fit store.core client number to words) goes refl
 
 pub status_refused : (store next : StoreView) (client number : ℕ) (r : Result Told Refusal) → Goes store (Status client number) (told_or_refused r) next → IfErr r (λ refusal. is_status_refusal refusal ≡ true)
 status_refused store next client number (Ok x) goes = tt
-status_refused store next client number (Err refusal) goes = refusal_fits is_status_refusal store.core store.blanks (Status client number) _ refusal (status_fit store.core client number) goes refl
+status_refused store next client number (Err refusal) goes = refusal_fits (Is is_status_refusal) store.core store.blanks (Status client number) _ refusal (status_fit store.core client number) goes refl
 
 -- a flush isn't refused memory by a runtime
-without_memory : (refusal : Refusal) → (is_flush_refusal refusal || is_memory refusal) ≡ true → refusal ≢ refusals.Memory → is_flush_refusal refusal ≡ true
+without_memory : (refusal : Refusal) → is_flush_or_memory refusal ≡ true → refusal ≢ refusals.Memory → is_flush_refusal refusal ≡ true
 without_memory refusals.Memory is other = absurd (other refl)
 without_memory refusals.Device is other = refl
 without_memory refusals.Halted is other = refl
@@ -158,17 +182,22 @@ without_memory refusal is other = is
 
 pub flush_refused : (store next : StoreView) (r : Result ℕ Refusal) → Goes store Flush (counts_or_refused r) next → IfErr r (λ refusal. refusal ≢ refusals.Memory) → IfErr r (λ refusal. is_flush_refusal refusal ≡ true)
 flush_refused store next (Ok x) goes other = tt
-flush_refused store next (Err refusal) goes other = without_memory refusal (refusal_fits (λ r. is_flush_refusal r || is_memory r) store.core store.blanks Flush _ refusal (flush_fit store.core) goes refl) other
+flush_refused store next (Err refusal) goes other = without_memory refusal (refusal_fits (Is is_flush_or_memory) store.core store.blanks Flush _ refusal (flush_fit store.core) goes refl) other
 
-pub move_refused_for : (store next : StoreView) (x : Elem) (processor : ℕ) (refusal : Refusal) → Goes store (Move x processor) (Refuses refusal) next → is_move_refusal refusal ≡ true
-move_refused_for store next x processor refusal goes = refusal_fits is_move_refusal store.core store.blanks (Move x processor) _ refusal (move_fit store.core store.blanks x processor) goes refl
+-- ---- assignments
 
-pub move_refused_if : {T : Type 0} (store : StoreView) (x : Elem) (processor : ℕ) (r : Result T Refusal) → IfErr r (λ refusal. Goes store (Move x processor) (Refuses refusal) store) → IfErr r (λ refusal. is_move_refusal refusal ≡ true)
-move_refused_if store x processor (Ok y) goes = tt
-move_refused_if store x processor (Err refusal) goes = move_refused_for store store x processor refusal goes
+-- nothing is assigned to the processor of an idle shelf
+pub none_assigned : (core : Core) (shelf : View) → IsIdle shelf → IsDueOn core shelf.number (due_in shelf.phase) → assigned_to core shelf.number ≡ None
+none_assigned core shelf idle due = subst (λ (phase : Phase). IsDueOn core shelf.number (due_in phase)) idle due
 
-pub assign_refused_for : (store next : StoreView) (processor : ℕ) (id : MsgId) (refusal : Refusal) → Goes store (Assign processor id) (Refuses refusal) next → is_work_refusal refusal ≡ true
-assign_refused_for store next processor id refusal goes = refusal_fits is_work_refusal store.core store.blanks (Assign processor id) _ refusal (assign_fit store.core store.blanks processor id) goes refl
+-- an assignment of the oldest message, where none is assigned
+pub oldest_refused : {D : Type 0} (hub : HubShown D) (next : StoreView) (processor : ℕ) (id : MsgId) (refusal : Refusal) → IsSound hub.core → processor < hub.core.processors → assigned_to hub.core processor ≡ None → oldest_on_in hub.core processor ≡ Some id →
+    Goes (store_in hub) (Assign processor id) (Refuses refusal) next → is_work_refusal refusal ≡ true
+oldest_refused hub next processor id refusal sound within none oldest goes =
+    let store = store_in hub in
+    let it = oldest_is_deliverable hub.core processor id sound oldest in
+    let on : is_processor hub.core processor ≡ true = grind (arith, nat_tests) in
+    refusal_fits (Is is_work_refusal) store.core store.blanks (Assign processor id) _ refusal (assign_fit store.core store.blanks processor id it.message on none it.pending it.there it.here) goes refl
 
 -- ---- what is lent
 

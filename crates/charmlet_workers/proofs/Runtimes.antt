@@ -29,7 +29,7 @@ lent_if client before last since (Ok pass) least is =
 lent_if client before last since (Err refusal) least is = tt
 
 -- no event changes the arrays
-kept_arrays : (w : World) (history : List Event) → (world w history).manifest ≡ w.manifest
+pub kept_arrays : (w : World) (history : List Event) → (world w history).manifest ≡ w.manifest
 kept_arrays w [] = refl
 kept_arrays w (e ∷ es) = kept_arrays (after w e) es ∙ manifest-after w e
 

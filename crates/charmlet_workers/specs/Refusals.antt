@@ -1,7 +1,15 @@
--- Which refusals the calls of a runtime answer: no other ones, whatever others do meanwhile.
-use Rattle.std.specs.Prelude.{Bool, true, false}
+-- Which refusals the calls of a runtime answer: no other ones, whatever others do meanwhile. And
+-- what the caller knows of their causes.
+use Rattle.std.specs.Prelude.{◌≡◌, ℕ, ◌+◌, ◌<◌, ◌≤◌, Bool, true, false, length, None, Some, option_map}
+use Rattle.charmlet_model.specs.declared.names.Elem.{Elem}
 use Rattle.charmlet_model.specs.declared.refusal.Refusal.{Refusal}
 use Rattle.charmlet_model.specs.declared.refusal.Refusal.TheVariants as refusals
+use Rattle.charmlet_model.specs.Edition.{edition_kind}
+use Rattle.charmlet_model.specs.Reaction.{greatest}
+use Rattle.charmlet_model.specs.World.{World, edition_of_array}
+use Rattle.charmlet_history.specs.declared.request.Request.{Request}
+use Rattle.charmlet_passes.specs.Passes.{HeldPass}
+use Rattle.charmlet_workers.specs.Runtime.{RuntimeShown}
 
 -- that of a pass or of a seat that is lent
 abbrev pub is_lending_refusal : Refusal → Bool
@@ -42,18 +50,52 @@ is_move_refusal refusals.Absent = true
 is_move_refusal (refusals.NoBlank kind) = true
 is_move_refusal refusals.BadPes = true
 is_move_refusal refusals.Checkpointing = true
-is_move_refusal refusals.Uncommitted = true
 is_move_refusal _ = false
 
--- a worker's: those of an assignment, and of a commit
+-- a worker's: those of a commit, and of an assignment of a message that can be delivered on its
+-- processor, where none is assigned
 abbrev pub is_work_refusal : Refusal → Bool
 is_work_refusal refusals.Memory = true
 is_work_refusal refusals.Halted = true
-is_work_refusal refusals.NoMessage = true
-is_work_refusal refusals.Absent = true
-is_work_refusal (refusals.Elsewhere processor) = true
 is_work_refusal (refusals.NoBlank kind) = true
 is_work_refusal refusals.HistoryFull = true
-is_work_refusal refusals.BadPes = true
-is_work_refusal refusals.Uncommitted = true
 is_work_refusal _ = false
+
+-- ---- causes
+
+-- the request has the number after the pass's last one
+abbrev pub IsNext : HeldPass → Request → Type 0
+IsNext held request = request.number ≡ held.pass.last + 1
+
+-- What is known by a pass and the arrays of why its request is refused. One that is out of turn is
+-- not the next one, unless there are no more numbers, and not the last one. For all else it is the
+-- next one that is refused: the client waits only after eight requests, and is one too many only
+-- before its first.
+abbrev pub IsRequestCause : World → HeldPass → Request → Refusal → Type 0
+IsRequestCause opening held request refusals.Memory = Unit {0}
+IsRequestCause opening held request refusals.Halted = Unit {0}
+IsRequestCause opening held request (refusals.OutOfTurn wanted) =
+    (IsNext held request → greatest ≤ held.pass.last)
+    × (request.number ≡ held.pass.last → request.number ≡ 0)
+IsRequestCause opening held request refusals.Waiting = IsNext held request
+    × (8 ≤ held.pass.last)
+IsRequestCause opening held request refusals.NoArray = IsNext held request
+    × (edition_of_array opening request.to.array ≡ None)
+IsRequestCause opening held request refusals.TooLong = IsNext held request
+    × (512 < length request.words.now)
+IsRequestCause opening held request refusals.ClientsFull = IsNext held request
+    × (held.pass.last ≡ 0)
+IsRequestCause opening held request refusals.HistoryFull = IsNext held request
+IsRequestCause opening held request _ = ⊥
+
+-- What is known by its arguments of why a move is refused: there is no such processor, or a blank
+-- of the array's own kind is lacking.
+abbrev pub IsMoveCause : RuntimeShown → Elem → ℕ → Refusal → Type 0
+IsMoveCause shown x processor refusals.Memory = Unit {0}
+IsMoveCause shown x processor refusals.Halted = Unit {0}
+IsMoveCause shown x processor refusals.Absent = Unit {0}
+IsMoveCause shown x processor refusals.Checkpointing = Unit {0}
+IsMoveCause shown x processor refusals.BadPes = shown.processors ≤ processor
+IsMoveCause shown x processor (refusals.NoBlank kind) =
+    option_map edition_kind (edition_of_array shown.opening x.array) ≡ Some kind
+IsMoveCause shown x processor _ = ⊥

@@ -14,4 +14,5 @@ is_sealing_refusal refusals.Memory = true
 is_sealing_refusal refusals.Device = true
 is_sealing_refusal refusals.Halted = true
 is_sealing_refusal refusals.ImageFull = true
+is_sealing_refusal refusals.Checkpointing = true
 is_sealing_refusal _ = false

@@ -4,7 +4,7 @@ ghost use Rattle.std.specs.Prelude.{◌≡◌, ◌≤◌, ℕ, true, IfErr, IfOk
 ghost use Rattle.charmlet_requests.specs.Handlers.{IsTarget, handler_of};
 ghost use Rattle.charmlet_requests.specs.Pass.{with_accept, with_told};
 ghost use Rattle.charmlet_passes.specs.Passes.{IsAnswered, accepts_after, with_flush};
-ghost use Rattle.charmlet_workers.specs.Refusals.{is_flush_refusal, is_request_refusal, is_status_refusal};
+ghost use Rattle.charmlet_workers.specs.Refusals.{IsRequestCause, is_flush_refusal, is_request_refusal, is_status_refusal};
 
 use crate::runtime::Runtime;
 use charmlet_chare::Chare;
@@ -34,8 +34,11 @@ impl<D: Disk, C: Chare, B: RuntimeName> Runtime<D, C, B> {
             ≡ with_accept (with_told pass.old.pass request.now.number told) request.now.number) }
         ensures accepts { OnOk result (pass.new.accepts ≡ accepts_after pass.old request.now) }
         ensures err { IfErr result (λ refusal. is_request_refusal refusal ≡ true) }
+        ensures cause { IfErr result (IsRequestCause self.now.opening pass.old request.now) }
     {
-        self.hub.lock(rt).request(pass, request)
+        let mut hub = self.hub.lock(rt);
+        hub.facts();
+        hub.request(pass, request)
     }
 
     /// Tells the pass's client what is durable of its request, in one hold of the hub. `Halted`;

@@ -1,6 +1,11 @@
 //! Gates of workers.
 
+ghost use Rattle.std.specs.Prelude.{◌≡◌, true};
+ghost use Rattle.charmlet_shelf.specs.Shelf.{is_assigned};
+
+use charmlet_chare::Chare;
 use charmlet_model::MsgId;
+use charmlet_sequencer::{LockedShelf, RuntimeName};
 
 /// How often a worker asks a gate before it goes on anyway.
 pub const MOST_ASKS: u32 = 100_000_000;
@@ -27,8 +32,16 @@ impl Gate for OpenGate {
     fn committed(&self, _processor: u16, _id: &MsgId) {}
 }
 
-/// Asks until the gate is open, at most [`MOST_ASKS`] times.
-pub(crate) fn wait_at<G: Gate>(gate: &G, processor: u16, id: &MsgId) {
+/// Asks until the gate is open, at most [`MOST_ASKS`] times. The message is assigned on the locked
+/// shelf, and its receiver hasn't reacted yet.
+pub(crate) fn wait_at<G: Gate, C: Chare, B: RuntimeName>(
+    gate: &G,
+    _locked: &LockedShelf<C, B>,
+    processor: u16,
+    id: &MsgId,
+)
+    requires { is_assigned _locked.now.phase ≡ true }
+{
     for _ in 0..MOST_ASKS {
         if gate.open(processor, id) {
             return;

@@ -1,12 +1,14 @@
 //! Moves of elements between two processors.
 
-ghost use Rattle.std.specs.Prelude.{◌≡◌, ◌≢◌, ◌<◌, false, true, Ok, IfErr, IfOk, IfSome, OnErr};
+ghost use Rattle.std.specs.Prelude.{◌≡◌, ◌≢◌, ℕ, ◌<◌, false, true, Ok, IfErr, IfOk, IfSome, OnErr};
 ghost use Rattle.charmlet_model.specs.Core as core;
 ghost use Rattle.charmlet_model.specs.Core.{Done};
 ghost use Rattle.charmlet_model.specs.Run.{Goes};
+ghost use Rattle.charmlet_migrate.specs.Moving.{IsIdle};
 ghost use Rattle.charmlet_sequencer.specs.Relocating.{Carries};
 ghost use Rattle.charmlet_hub.specs.Hub.{store_in};
-ghost use Rattle.charmlet_workers.specs.Refusals.{is_move_refusal};
+ghost use Rattle.charmlet_workers.specs.Refusals.{IsMoveCause, is_move_refusal};
+ghost use Rattle.charmlet_workers.specs.Runtime.{named};
 
 use crate::runtime::Runtime;
 use charmlet_chare::Chare;
@@ -22,10 +24,11 @@ impl<D: Disk, C: Chare, B: RuntimeName> Runtime<D, C, B> {
     /// meanwhile, it is looked for again. What is under way on a shelf ends first: a delivery that
     /// was made is committed, and a message that is only assigned is released.
     ///
-    /// The refusal is the first that applies of `Halted`, `BadPes`, `Absent`, `NoBlank` and
-    /// `Memory`. Then nothing has moved.
+    /// The refusal is the first that applies of `Halted`, `Checkpointing`, `BadPes`, `Absent`,
+    /// `NoBlank` and `Memory`. Then nothing has moved.
     pub fn move_to<R: Wait>(&self, rt: &R, elem: Elem, processor: u16) -> Result<(), Refusal>
-        ensures { IfErr result (λ refusal. is_move_refusal refusal ≡ true) }
+        ensures err { IfErr result (λ refusal. is_move_refusal refusal ≡ true) }
+        ensures cause { IfErr result (IsMoveCause self.now elem processor) }
     {
         for _ in rt.forever() {
             let source = self.source_of_move(rt, elem, processor);
@@ -52,7 +55,7 @@ impl<D: Disk, C: Chare, B: RuntimeName> Runtime<D, C, B> {
     ) -> Result<Option<u16>, Refusal>
         ensures source { IfOk result (λ source. IfSome source (λ place. (place < B.processors)
             × (processor < B.processors) × (place ≢ processor))) }
-        ensures err { IfErr result (λ refusal. is_move_refusal refusal ≡ true) }
+        ensures cause { IfErr result (IsMoveCause self.now elem processor) }
     {
         let hub = self.hub.lock(rt);
         hub.facts();
@@ -69,7 +72,7 @@ impl<D: Disk, C: Chare, B: RuntimeName> Runtime<D, C, B> {
         processor: u16,
     ) -> Result<bool, Refusal>
         requires { (place < B.processors) × (processor < B.processors) × (place ≢ processor) }
-        ensures { IfErr result (λ refusal. is_move_refusal refusal ≡ true) }
+        ensures { (any : ℕ) → IfErr result (IsMoveCause self.now elem any) }
     {
         let first = &self.shelves[usize::from(place.min(processor))];
         let second = &self.shelves[usize::from(place.max(processor))];
@@ -90,7 +93,7 @@ impl<D: Disk, C: Chare, B: RuntimeName> Runtime<D, C, B> {
         to: &mut LockedShelf<C, B>,
         elem: Elem,
     ) -> Result<bool, Refusal>
-        ensures { IfErr result (λ refusal. is_move_refusal refusal ≡ true) }
+        ensures { (any : ℕ) → IfErr result (IsMoveCause self.now elem any) }
     {
         if let Err(refusal) = self.settle(rt, from) {
             return Err(refusal);
@@ -103,7 +106,8 @@ impl<D: Disk, C: Chare, B: RuntimeName> Runtime<D, C, B> {
 }
 
 /// Moves the element from the one shelf to the other, if it stands on the one. It answers whether
-/// it did. The refusals are those of [`Hub::relocate`].
+/// it did. If nothing is under way on either, the refusal is the first that applies of `Halted`,
+/// `Checkpointing`, `NoBlank` and `Memory`. When refused, all is as before.
 fn relocate_from<D: Disk, C: Chare, B: RuntimeName>(
     hub: &mut Hub<D, C, B>,
     from: &mut LockedShelf<C, B>,
@@ -116,8 +120,10 @@ fn relocate_from<D: Disk, C: Chare, B: RuntimeName>(
         × (to.new ≡ to.old) }
     ensures err { OnErr result ((hub.new ≡ hub.old) × (from.new ≡ from.old)
         × (to.new ≡ to.old)) }
-    ensures refused { IfErr result (λ refusal. is_move_refusal refusal ≡ true) }
+    ensures cause { IsIdle from.old → IsIdle to.old → (any : ℕ) →
+        IfErr result (IsMoveCause (named B.opening B.before B.processors) elem any) }
 {
+    hub.facts();
     let Some(place) = hub.history().where_is(elem) else {
         return Ok(false);
     };
@@ -126,6 +132,11 @@ fn relocate_from<D: Disk, C: Chare, B: RuntimeName>(
     }
     match hub.relocate(from, to, elem) {
         Ok(()) => Ok(true),
-        Err(refusal) => Err(refusal),
+        Err(refusal) => {
+            // If nothing is under way on them, this shows that nothing is assigned there.
+            hub.agree(from);
+            hub.agree(to);
+            Err(refusal)
+        }
     }
 }

@@ -14,7 +14,7 @@ use charmlet_agreement::Unnamed;
 use charmlet_chare::Chare;
 use charmlet_disk::Disk;
 use charmlet_halves::Halves;
-use charmlet_hub::Hub;
+use charmlet_hub::{HandedIn, Hub};
 use charmlet_passes::SeenPass;
 use charmlet_seats::SeenIds;
 use charmlet_sequencer::{LockedShelf, Opened, RuntimeName, SeenPart, open_store};
@@ -23,12 +23,14 @@ use charmlet_store::{Store, empty_shelves};
 use std::alloc::{AllocError, Global};
 use std::sync::Mutex;
 
-/// The books of a runtime that has no name yet: of its shelves, of its seats and of its passes.
+/// The books of a runtime that has no name yet: of its shelves, of its seats, of its passes and of
+/// its checkpoints.
 #[derive(Drop)]
 pub struct UnnamedBooks {
     pub parts: Unnamed<SeenPart>,
     pub seats: Unnamed<SeenIds>,
     pub passes: Unnamed<SeenPass>,
+    pub checkpoints: Unnamed<HandedIn>,
 }
 
 impl UnnamedBooks {
@@ -37,10 +39,12 @@ impl UnnamedBooks {
         let parts = Unnamed::new(alloc)?;
         let seats = Unnamed::new(alloc)?;
         let passes = Unnamed::new(alloc)?;
+        let checkpoints = Unnamed::new(alloc)?;
         Ok(UnnamedBooks {
             parts,
             seats,
             passes,
+            checkpoints,
         })
     }
 }
@@ -69,6 +73,7 @@ impl<D: Disk, C: Chare, B: RuntimeName> Runtime<D, C, B> {
         requires parts { table_of books.parts ≡ B.table }
         requires seats { table_of books.seats ≡ B.seats }
         requires passes { table_of books.passes ≡ B.passes }
+        requires checkpoints { table_of books.checkpoints ≡ B.checkpoints }
         requires honest { B.honest → D.honest (disk_of halves) }
         ensures shown { IfOk result (λ runtime. runtime ≡ shown_of (core_in store.history)) }
         ensures back { IfErr result (λ back. (back.store ≡ store) × (back.halves ≡ halves)) }
@@ -103,6 +108,7 @@ fn open_reserved<D: Disk, C: Chare, B: RuntimeName>(
     requires parts { table_of books.parts ≡ B.table }
     requires seats { table_of books.seats ≡ B.seats }
     requires passes { table_of books.passes ≡ B.passes }
+    requires checkpoints { table_of books.checkpoints ≡ B.checkpoints }
     requires honest { B.honest → D.honest (disk_of halves) }
     requires no_shelves { vec_len shelves ≡ 0 }
     requires room { B.processors ≤ vec_capacity shelves }
@@ -115,11 +121,19 @@ fn open_reserved<D: Disk, C: Chare, B: RuntimeName>(
         parts,
         seats,
         passes,
+        checkpoints,
     } = books;
     let Opened { sequencer, shelves } = open_store(store, halves, parts.named::<B>(), shelves);
     sequencer.facts();
     let processors = shelves.len() as u16;
-    let hub = Hub::new(alloc, sequencer, processors, seats.named(), passes.named());
+    let hub = Hub::new(
+        alloc,
+        sequencer,
+        processors,
+        seats.named(),
+        passes.named(),
+        checkpoints.named(),
+    );
     let mut shelves = shelves;
     // The last one is locked first.
     shelves.as_mut_slice().reverse();

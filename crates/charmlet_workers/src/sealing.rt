@@ -1,42 +1,45 @@
-//! Checkpoints, under the locks of all shelves.
+//! Checkpoints, one shelf after another, while others work.
 
-ghost use Rattle.std.specs.Prelude.{◌≡◌, ◌≤◌, true, IfErr, IfOk, IfSome, OnOk, length, map, vec_len};
-ghost use Rattle.std.specs.List.{All};
-ghost use Rattle.std.specs.Sync.Mutex.{mutex_guard_value};
-ghost use Rattle.std.specs.Vec.{vec_capacity};
+ghost use Rattle.std.specs.Prelude.{◌≡◌, ◌+◌, ◌<◌, true, Ok, IfErr, IfOk, IfSome, OnOk};
 ghost use Rattle.charmlet_model.specs.declared.refusal.Refusal.TheVariants as refusals;
-ghost use Rattle.charmlet_model.specs.Core as core;
-ghost use Rattle.charmlet_model.specs.Run.{Goes};
-ghost use Rattle.charmlet_history.specs.Kept.{counts_or_refused};
 ghost use Rattle.charmlet_migrate.specs.Moving.{IsIdle};
-ghost use Rattle.charmlet_migrate.specs.StoreParts.{AreNumbered};
-ghost use Rattle.charmlet_sequencer.specs.Sealing.{AreAllIdle};
-ghost use Rattle.charmlet_hub.specs.Hub.{store_in};
+ghost use Rattle.charmlet_hub.specs.Checkpoint.{IsSealed};
 ghost use Rattle.charmlet_workers.specs.Sealing.{IsLaterGeneration, is_sealing_refusal};
 
+use crate::pause::{NoPause, Pause};
 use crate::runtime::Runtime;
 use charmlet_chare::Chare;
 use charmlet_disk::Disk;
-use charmlet_hub::Hub;
+use charmlet_hub::{Checkpoint, Hub, NotSealed};
 use charmlet_model::Refusal;
 use charmlet_sequencer::{LockedShelf, RuntimeName};
-use std::alloc::Global;
-use std::sync::{MutexGuard, Wait};
+use std::sync::Wait;
 
 impl<D: Disk, C: Chare, B: RuntimeName> Runtime<D, C, B> {
-    /// Makes all events durable by an image of the present world, which takes the place of the
-    /// store in the spare half, and answers its generation. It takes the locks of all shelves, by
-    /// rising number, and then the hub's. A delivery that was made on one of them and isn't
-    /// committed is committed first. No client is told anything.
+    /// Makes all events durable by an image that means the present world, which takes the place of
+    /// the store in the spare half, and answers its generation. It takes the lock of one shelf after
+    /// another, for as long as packing what stands there takes, and then the hub's, under which it
+    /// writes. Meanwhile others work: requests, deliveries, questions and flushes go on, but moves
+    /// and other checkpoints are refused `Checkpointing`. A delivery that was made on a shelf and
+    /// isn't committed is committed first. No client is told anything.
     ///
-    /// `Halted`; `Memory`; `ImageFull` if the generation would be past 2^40 or the file past 2^31
-    /// bytes: then nothing becomes durable. `Device` halts the store.
-    pub fn checkpoint<R: Wait>(&self, rt: &R, alloc: Global) -> Result<u64, Refusal>
+    /// `Halted`; `Checkpointing` if one runs already; `Memory`; `ImageFull` if the generation would
+    /// be past 2^40 or the file past 2^31 bytes: then nothing becomes durable, and it has ended.
+    /// `Device` halts the store.
+    pub fn checkpoint<R: Wait>(&self, rt: &R) -> Result<u64, Refusal>
+        ensures ok { IfOk result IsLaterGeneration }
+        ensures err { IfErr result (λ refusal. is_sealing_refusal refusal ≡ true) }
+    {
+        self.checkpoint_with(rt, &NoPause)
+    }
+
+    /// The same, with a pause that is told of each shelf.
+    pub fn checkpoint_with<P: Pause, R: Wait>(&self, rt: &R, pause: &P) -> Result<u64, Refusal>
         ensures ok { IfOk result IsLaterGeneration }
         ensures err { IfErr result (λ refusal. is_sealing_refusal refusal ≡ true) }
     {
         for _ in rt.forever() {
-            match self.seal_once(rt, alloc) {
+            match self.checkpoint_once(rt, pause) {
                 Ok(Some(generation)) => return Ok(generation),
                 // No fact of a type says that the locks are in the order of their shelves.
                 Ok(None) => {}
@@ -47,98 +50,136 @@ impl<D: Disk, C: Chare, B: RuntimeName> Runtime<D, C, B> {
     }
 
     /// The same, if the shelves are found in the order of their numbers.
-    fn seal_once<R: Wait>(&self, rt: &R, alloc: Global) -> Result<Option<u64>, Refusal>
+    fn checkpoint_once<P: Pause, R: Wait>(&self, rt: &R, pause: &P) -> Result<Option<u64>, Refusal>
         ensures ok { IfOk result (λ sealed. IfSome sealed IsLaterGeneration) }
         ensures err { IfErr result (λ refusal. is_sealing_refusal refusal ≡ true) }
     {
-        let Ok(mut guards) = Vec::with_capacity(alloc, self.shelves.len()) else {
-            return Err(self.refuse_for_memory(rt));
+        let begun = self.begin(rt);
+        let mut checkpoint = match begun {
+            Ok(checkpoint) => checkpoint,
+            Err(refusal) => return Err(refusal),
         };
-        self.lock_shelves(rt, &mut guards);
-        self.seal_locked(rt, guards.as_mut_slice())
-    }
-
-    /// Why nothing is done where memory is refused.
-    fn refuse_for_memory<R: Wait>(&self, rt: &R) -> Refusal
-        ensures { is_sealing_refusal result ≡ true }
-    {
-        if self.is_halted(rt) {
-            Refusal::Halted
-        } else {
-            Refusal::Memory
-        }
-    }
-
-    /// Takes the locks of all shelves, by rising number. There is room for their guards.
-    fn lock_shelves<'a, R: Wait>(
-        &'a self,
-        rt: &R,
-        guards: &mut Vec<MutexGuard<'a, LockedShelf<C, B>>>,
-    )
-        requires none { vec_len guards.old ≡ 0 }
-        requires room { B.processors ≤ vec_capacity guards.old }
-        ensures { vec_len guards.new ≡ B.processors }
-    {
-        for i in 0..self.shelves.len() {
-            guards.push_reserved(self.shelves[i].lock(rt));
-        }
-    }
-
-    /// Ends what is under way on the shelves, and makes the checkpoint, if they are in the order of
-    /// their numbers.
-    fn seal_locked<R: Wait>(
-        &self,
-        rt: &R,
-        guards: &mut [MutexGuard<'_, LockedShelf<C, B>>],
-    ) -> Result<Option<u64>, Refusal>
-        requires { length guards.old ≡ B.processors }
-        ensures ok { IfOk result (λ sealed. IfSome sealed IsLaterGeneration) }
-        ensures err { IfErr result (λ refusal. is_sealing_refusal refusal ≡ true) }
-    {
-        if let Err(refusal) = self.settle_all(rt, guards) {
-            return Err(refusal);
-        }
-        if !are_numbered(guards) {
-            return Ok(None);
-        }
-        match seal(&mut self.hub.lock(rt), guards) {
-            Ok(generation) => Ok(Some(generation)),
-            Err(refusal) => Err(refusal),
-        }
-    }
-
-    /// Ends what is under way on each of the shelves.
-    fn settle_all<R: Wait>(
-        &self,
-        rt: &R,
-        guards: &mut [MutexGuard<'_, LockedShelf<C, B>>],
-    ) -> Result<(), Refusal>
-        ensures idle { OnOk result (All IsIdle (map mutex_guard_value guards.new)) }
-        ensures count { length guards.new ≡ length guards.old }
-        ensures err { IfErr result (λ refusal. refusal ≡ refusals.Halted) }
-    {
-        for i in 0..guards.len() {
-            if let Err(refusal) = self.settle_one(rt, &mut guards[i]) {
-                return Err(refusal);
+        let imaged = self.image_all(rt, &mut checkpoint, pause);
+        match imaged {
+            Ok(true) => self.seal(rt, checkpoint),
+            Ok(false) => {
+                self.abandon(rt, checkpoint);
+                Ok(None)
+            }
+            Err(refusal) => {
+                self.abandon(rt, checkpoint);
+                Err(refusal)
             }
         }
-        Ok(())
+    }
+
+    /// Begins a checkpoint.
+    fn begin<R: Wait>(&self, rt: &R) -> Result<Checkpoint<B>, Refusal>
+        ensures ok { IfOk result (λ checkpoint. checkpoint ≡ 0) }
+        ensures err { IfErr result (λ refusal. is_sealing_refusal refusal ≡ true) }
+    {
+        self.hub.lock(rt).begin()
+    }
+
+    /// Gives a checkpoint up.
+    fn abandon<R: Wait>(&self, rt: &R, checkpoint: Checkpoint<B>) {
+        self.hub.lock(rt).abandon(checkpoint);
+    }
+
+    /// Hands in all shelves, one after another, if they are found in the order of their numbers. It
+    /// answers whether they were.
+    fn image_all<P: Pause, R: Wait>(
+        &self,
+        rt: &R,
+        checkpoint: &mut Checkpoint<B>,
+        pause: &P,
+    ) -> Result<bool, Refusal>
+        requires { checkpoint.old ≡ 0 }
+        ensures all { result ≡ Ok true → checkpoint.new ≡ B.processors }
+        ensures err { IfErr result (λ refusal. is_sealing_refusal refusal ≡ true) }
+    {
+        for i in 0..self.shelves.len() {
+            match self.image_at(rt, checkpoint, i) {
+                Ok(true) => pause.imaged(checkpoint.shelves() - 1),
+                Ok(false) => return Ok(false),
+                Err(refusal) => return Err(refusal),
+            }
+        }
+        Ok(true)
+    }
+
+    /// Hands in the shelf under one of the locks, if it is the next one. It answers whether it is.
+    fn image_at<R: Wait>(
+        &self,
+        rt: &R,
+        checkpoint: &mut Checkpoint<B>,
+        place: usize,
+    ) -> Result<bool, Refusal>
+        requires { place < B.processors }
+        ensures next { result ≡ Ok true → checkpoint.new ≡ checkpoint.old + 1 }
+        ensures err { IfErr result (λ refusal. is_sealing_refusal refusal ≡ true) }
+    {
+        self.image_shelf(rt, checkpoint, &mut self.shelves[place].lock(rt))
+    }
+
+    /// The same of the shelf itself.
+    fn image_shelf<R: Wait>(
+        &self,
+        rt: &R,
+        checkpoint: &mut Checkpoint<B>,
+        locked: &mut LockedShelf<C, B>,
+    ) -> Result<bool, Refusal>
+        ensures next { result ≡ Ok true → checkpoint.new ≡ checkpoint.old + 1 }
+        ensures err { IfErr result (λ refusal. is_sealing_refusal refusal ≡ true) }
+    {
+        if let Err(refusal) = self.settle(rt, locked) {
+            return Err(refusal);
+        }
+        if locked.number() != checkpoint.shelves() {
+            return Ok(false);
+        }
+        let images = match locked.images() {
+            Ok(images) => images,
+            Err(refusal) => return Err(refusal),
+        };
+        match self.hub.lock(rt).image(checkpoint, locked, images) {
+            Ok(()) => Ok(true),
+            Err(_) => Err(Refusal::Memory),
+        }
+    }
+
+    /// Ends a checkpoint to which all shelves were handed in, or gives it up.
+    fn seal<R: Wait>(&self, rt: &R, checkpoint: Checkpoint<B>) -> Result<Option<u64>, Refusal>
+        requires { checkpoint ≡ B.processors }
+        ensures ok { IfOk result (λ sealed. IfSome sealed IsLaterGeneration) }
+        ensures err { IfErr result (λ refusal. is_sealing_refusal refusal ≡ true) }
+    {
+        let sealed = self.seal_locked(rt, checkpoint);
+        match sealed {
+            Ok(generation) => Ok(Some(generation)),
+            Err(
+                NotSealed {
+                    refusal,
+                    checkpoint,
+                },
+            ) => {
+                self.abandon(rt, checkpoint);
+                Err(refusal)
+            }
+        }
+    }
+
+    /// Ends a checkpoint to which all shelves were handed in.
+    fn seal_locked<R: Wait>(&self, rt: &R, checkpoint: Checkpoint<B>) -> Result<u64, NotSealed<B>>
+        requires { checkpoint ≡ B.processors }
+        ensures ok { IfOk result IsLaterGeneration }
+        ensures err { IfErr result (λ back. is_sealing_refusal back.refusal ≡ true) }
+    {
+        seal(&mut self.hub.lock(rt), checkpoint)
     }
 
     /// Ends what is under way on a shelf: a delivery that was made is committed, and one that is
     /// only assigned is released. The only refusal is `Halted`.
-    fn settle_one<R: Wait>(
-        &self,
-        rt: &R,
-        guard: &mut MutexGuard<'_, LockedShelf<C, B>>,
-    ) -> Result<(), Refusal>
-        ensures idle { OnOk result (IsIdle (mutex_guard_value guard.new)) }
-        ensures err { IfErr result (λ refusal. refusal ≡ refusals.Halted) }
-    {
-        self.settle(rt, guard)
-    }
-
-    /// The same of the shelf itself.
     pub(crate) fn settle<R: Wait>(
         &self,
         rt: &R,
@@ -157,30 +198,16 @@ impl<D: Disk, C: Chare, B: RuntimeName> Runtime<D, C, B> {
     }
 }
 
-/// Whether the shelves are those of processors 0, 1 and so on.
-fn are_numbered<C: Chare, B: RuntimeName>(guards: &[MutexGuard<'_, LockedShelf<C, B>>]) -> bool
-    ensures { result ≡ true → AreNumbered (map mutex_guard_value guards.now) }
-{
-    for i in 0..guards.len() {
-        if usize::from(guards[i].number()) != i {
-            return false;
-        }
-    }
-    true
-}
-
-/// The hub's checkpoint, under the locks of all shelves and its own.
+/// The hub's end of a checkpoint.
 fn seal<D: Disk, C: Chare, B: RuntimeName>(
     hub: &mut Hub<D, C, B>,
-    guards: &mut [MutexGuard<'_, LockedShelf<C, B>>],
-) -> Result<u64, Refusal>
-    requires { AreAllIdle B.processors (map mutex_guard_value guards.old) }
-    ensures goes { Goes (store_in hub.old) core.Checkpoint (counts_or_refused result)
-        (store_in hub.new) }
+    checkpoint: Checkpoint<B>,
+) -> Result<u64, NotSealed<B>>
+    requires { checkpoint ≡ B.processors }
+    ensures sealed { OnOk result (IsSealed hub.old hub.new) }
     ensures ok { IfOk result IsLaterGeneration }
-    ensures err { IfErr result (λ refusal. is_sealing_refusal refusal ≡ true) }
+    ensures err { IfErr result (λ back. is_sealing_refusal back.refusal ≡ true) }
 {
     hub.facts();
-    let _ = hub.history();
-    hub.seal(guards)
+    hub.seal(checkpoint)
 }

@@ -3,6 +3,7 @@
 ghost use Rattle.std.specs.Prelude.{◌≡◌, ℕ, ◌<◌, ◌≤◌, None, Some, false, true, IfErr, IfOk, IfSome, OnErr, OnOk, length, slice_index_or};
 ghost use Rattle.charmlet_model.specs.declared.refusal.Refusal.TheVariants as refusals;
 ghost use Rattle.charmlet_history.specs.Kept.{oldest_on_in};
+ghost use Rattle.charmlet_migrate.specs.Moving.{IsIdle};
 ghost use Rattle.charmlet_shelf.specs.Shelf.{is_assigned};
 ghost use Rattle.charmlet_sequencer.specs.Shelf.{is_done};
 ghost use Rattle.charmlet_hub.specs.Hub.{roomless};
@@ -36,8 +37,14 @@ pub struct Worked {
 /// In how many turns that find no ticket the hub is asked once.
 pub const IDLE_TURNS: u64 = 16;
 
-/// How often the hub's lock is tried before a thread waits for it.
-const MOST_TRIES: u32 = 100;
+/// How often a worker spins at least after a try of the hub's lock.
+const LEAST_SPINS: u32 = 16;
+
+/// How often it spins at most.
+const MOST_SPINS: u32 = 1_024;
+
+/// How often it spins and tries again before it waits for the lock.
+const MOST_TRIES: u32 = 40;
 
 /// How a worker's turns go on.
 #[derive(Clone, Copy, Debug, Drop)]
@@ -48,6 +55,8 @@ struct Pace {
     idle: u64,
     /// Whether there is one more turn.
     goes_on: bool,
+    /// How often it spins when it finds the hub's lock taken.
+    spins: u32,
 }
 
 impl Pace {
@@ -57,6 +66,7 @@ impl Pace {
             ahead: None,
             idle: 0,
             goes_on: false,
+            spins: LEAST_SPINS,
         }
     }
 }
@@ -66,7 +76,8 @@ impl<D: Disk, C: Chare, B: RuntimeName> Runtime<D, C, B> {
     /// given the oldest message that can be delivered there, if there is one, asks the gate, lets
     /// the receiver react, commits, and tells the gate. The seat holds the ids of what was
     /// committed. The first refusal ends the work: what is assigned then is released, and a
-    /// delivery that can't be committed, since the store is halted, stays on its shelf.
+    /// delivery that can't be committed, since the store is halted, stays on its shelf. It is one
+    /// of `Halted`, `HistoryFull`, `NoBlank` and `Memory`.
     ///
     /// The message of the next turn is assigned in the hold of the hub in which a delivery is
     /// committed. Between two turns the shelf is free, and who takes its lock then may release that
@@ -142,7 +153,7 @@ impl<D: Disk, C: Chare, B: RuntimeName> Runtime<D, C, B> {
         ensures err { OnErr result (Takes seat.old seat.new None) }
         ensures refused { IfErr result (λ refusal. is_work_refusal refusal ≡ true) }
     {
-        let id = match self.next_on(rt, locked, pace.ahead) {
+        let id = match self.next_on(rt, locked, pace) {
             Ok(Some(id)) => id,
             Ok(None) => {
                 pace.idle = pace.idle.saturating_add(1);
@@ -153,15 +164,15 @@ impl<D: Disk, C: Chare, B: RuntimeName> Runtime<D, C, B> {
         pace.ahead = None;
         pace.idle = 0;
         if seat.reserve(1).is_err() {
-            self.lock_hub(rt).release(locked);
+            self.lock_hub(rt, pace).release(locked);
             return Err(Refusal::Memory);
         }
-        wait_at(gate, seat.processor(), &id);
+        wait_at(gate, locked, seat.processor(), &id);
         if locked.enter().is_err() {
-            self.lock_hub(rt).release(locked);
+            self.lock_hub(rt, pace).release(locked);
             return Err(Refusal::Memory);
         }
-        let committed = commit_and_go_on(&mut self.lock_hub(rt), locked, seat, pace);
+        let committed = commit_and_go_on(&mut self.lock_hub(rt, pace), locked, seat, pace);
         match committed {
             Ok(id) => Ok(Some(id)),
             Err(refusal) => Err(refusal),
@@ -174,12 +185,12 @@ impl<D: Disk, C: Chare, B: RuntimeName> Runtime<D, C, B> {
         &self,
         rt: &R,
         locked: &mut LockedShelf<C, B>,
-        ahead: Option<MsgId>,
+        pace: &mut Pace,
     ) -> Result<Option<MsgId>, Refusal>
         ensures assigned { IfOk result (λ o. IfSome o (λ _. is_assigned locked.new.phase ≡ true)) }
         ensures refused { IfErr result (λ refusal. is_work_refusal refusal ≡ true) }
     {
-        if let Some(id) = ahead {
+        if let Some(id) = pace.ahead {
             if locked.is_assigned() {
                 return Ok(Some(id));
             }
@@ -187,16 +198,28 @@ impl<D: Disk, C: Chare, B: RuntimeName> Runtime<D, C, B> {
         if let Err(refusal) = self.settle(rt, locked) {
             return Err(refusal);
         }
-        assign_oldest(&mut self.lock_hub(rt), locked)
+        assign_oldest(&mut self.lock_hub(rt, pace), locked)
     }
 
-    /// The hub, under its lock. It is tried for a while before the thread waits.
-    fn lock_hub<R: Wait>(&self, rt: &R) -> MutexGuard<'_, Hub<D, C, B>> {
+    /// The hub, under its lock.
+    ///
+    /// Each try takes the bytes of the lock, and of the hub beside it, from the processor that has
+    /// them; and a worker that waits has to be woken by another one. So one that finds the lock
+    /// taken stays away for longer and longer, in which another worker makes several deliveries, and
+    /// waits only after many tries. It begins with half of what it stayed away before it had the
+    /// lock the last time, so that it comes back soon where others seldom take the lock.
+    fn lock_hub<R: Wait>(&self, rt: &R, pace: &mut Pace) -> MutexGuard<'_, Hub<D, C, B>> {
+        if let Some(guard) = self.hub.try_lock() {
+            return guard;
+        }
+        let mut spins = pace.spins;
         for _ in 0..MOST_TRIES {
+            stay_away(spins);
+            pace.spins = (spins / 2).max(LEAST_SPINS);
             if let Some(guard) = self.hub.try_lock() {
                 return guard;
             }
-            hint::spin_loop();
+            spins = spins.saturating_mul(2).min(MOST_SPINS);
         }
         self.hub.lock(rt)
     }
@@ -219,6 +242,13 @@ impl<D: Disk, C: Chare, B: RuntimeName> Runtime<D, C, B> {
             Ok(_id) => Ok(()),
             Err(refusal) => Err(refusal),
         }
+    }
+}
+
+/// Spins so often, and looks at nothing that other threads write.
+fn stay_away(spins: u32) {
+    for _ in 0..spins {
+        hint::spin_loop();
     }
 }
 
@@ -275,9 +305,9 @@ fn commit_and_go_on<D: Disk, C: Chare, B: RuntimeName>(
     committed
 }
 
-/// Assigns the oldest message that can be delivered on the shelf's processor, if there is one. The
-/// refusals are those of [`Hub::assign`]; then all is as before, beside the room in the hub's own
-/// list.
+/// Assigns the oldest message that can be delivered on the shelf's processor, if there is one. If
+/// nothing is under way there, the refusal is the first that applies of `Halted`, `HistoryFull`,
+/// `NoBlank` and `Memory`. When refused, all is as before, beside the room in the hub's own list.
 fn assign_oldest<D: Disk, C: Chare, B: RuntimeName>(
     hub: &mut Hub<D, C, B>,
     locked: &mut LockedShelf<C, B>,
@@ -286,7 +316,8 @@ fn assign_oldest<D: Disk, C: Chare, B: RuntimeName>(
     ensures assigned { IfOk result (λ o. IfSome o (λ _. is_assigned locked.new.phase ≡ true)) }
     ensures err { OnErr result ((roomless hub.new ≡ roomless hub.old)
         × (locked.new ≡ locked.old)) }
-    ensures refused { IfErr result (λ refusal. is_work_refusal refusal ≡ true) }
+    ensures refused { IsIdle locked.old →
+        IfErr result (λ refusal. is_work_refusal refusal ≡ true) }
 {
     assign_counted::<Brand, D, C, B>(hub, locked, Blank::new(1))
 }
@@ -304,15 +335,21 @@ fn assign_counted<L: Ledger, D: Disk, C: Chare, B: RuntimeName>(
     ensures assigned { IfOk result (λ o. IfSome o (λ _. is_assigned locked.new.phase ≡ true)) }
     ensures err { OnErr result ((roomless hub.new ≡ roomless hub.old)
         × (locked.new ≡ locked.old)) }
-    ensures refused { IfErr result (λ refusal. is_work_refusal refusal ≡ true) }
+    ensures refused { IsIdle locked.old →
+        IfErr result (λ refusal. is_work_refusal refusal ≡ true) }
 {
     let mut ticks = Ticks::<L>::new(blank);
+    hub.facts();
     let Some(id) = hub.oldest_on(locked.number(), &mut ticks) else {
         return Ok(None);
     };
     match hub.assign(locked, id) {
         Ok(()) => Ok(Some(id)),
-        Err(refusal) => Err(refusal),
+        Err(refusal) => {
+            // If nothing is under way there, this shows that nothing is assigned there.
+            hub.agree(locked);
+            Err(refusal)
+        }
     }
 }
 

@@ -42,9 +42,9 @@ returns-in-Call-clause-prints g c =
 pub returns-in-Step-clause-prints : goal.returns-in-Step-clause-prints
 returns-in-Step-clause-prints g c =
     let before = ledger_in c.args.engine.now in
-    let next = ledger_in c.answer_to.new.engine in
-    let text = answer_text c.answer_to.result in (
+    let next = ledger_in c.answer_to-answer.new.engine in
+    let text = answer_text c.answer_to-answer.result in (
       text ∷ [],
-      subst (λ line. Follows g.D.Disk (named_at c.args.desk.now) before line (text ∷ []) next) (sym c.in-Step.is) (c.answer_to.result, c.answer_to.ensures.answered, refl),
-      c.write_answer-in-Step.ensures,
+      subst (λ line. Follows g.D.Disk (named_at c.args.desk.now) before line (text ∷ []) next) (sym c.in-Step.is) (c.answer_to-answer.result, c.answer_to-answer.ensures.answered, refl),
+      c.write_step_answer.ensures,
     )

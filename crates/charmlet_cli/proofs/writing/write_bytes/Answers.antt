@@ -2,7 +2,7 @@ use Rattle.std.proofs.Common.{◌≡◌, ℕ, List, ◌++◌, [], length, drop, 
 use Rattle.std.specs.Io.KnownBytes.{Appends}
 use Rattle.std.proofs.lemmas.Bool.{eqb-true}
 use Rattle.std.proofs.lemmas.List.{append-nil, nil_from_length}
-use Rattle.charmlet_cli.proofs.Printing.{all_written, appends_kept, more_written, rest_dropped}
+use Rattle.charmlet_cli.proofs.Printing.{appends_kept, more_written, rest_dropped}
 use Rattle.charmlet_cli.proofs.writing.write_bytes.Goals as goal
 use Rattle.charmlet_cli.proofs.writing.write_bytes.Goals.{in-Ok, in-Err}
 
@@ -10,12 +10,11 @@ pub returns-then-is_empty : goal.returns-then-is_empty
 returns-then-is_empty g c =
     let old = g.W.Write.contents c.args.writer.now in
     let mid = g.W.Write.contents c.loop.writer in
-    let new = g.W.Write.contents c.flush.new.self in
     let bytes = c.args.bytes.now in
     let written = c.loop.invariant.0 in
     let none : c.loop.rest.now ≡ [] = nil_from_length c.loop.rest.now (eqb-true (length c.loop.rest.now) 0 (sym c.is_empty.ensures ∙ c.if-is_empty.true)) in
     let whole : bytes ≡ written = c.loop.invariant.1 ∙ ap (λ rest. written ++ rest) none ∙ append-nil written in
-    all_written c.flush.result old new bytes (appends_kept old mid new bytes (subst (Appends old mid) (sym whole) c.loop.invariant.2) c.flush.ensures.bytes)
+    subst (Appends old mid) (sym whole) c.loop.invariant.2
 
 pub loop-preserved : goal.loop-preserved
 loop-preserved g c =

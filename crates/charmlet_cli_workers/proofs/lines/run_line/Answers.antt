@@ -42,7 +42,7 @@ returns-in-Call-clause-said g c =
     let nowhere : Elem = record { array = 0; index = 0 } in
     let answers : Answers clients c.told_answer.result (steps.Request call.client call.number nowhere 0 call.words) =
     subst (λ (a : Answer). Answers clients a (steps.Request call.client call.number nowhere 0 call.words)) (sym c.told_answer.ensures)
-    (told_answers clients call.client call.number nowhere 0 call.words c.call_handler-told.result c.call_handler-told.ensures.heard c.call_handler-told.ensures.reached) in (
+    (told_answers clients call.client call.number nowhere 0 call.words c.call_handler-told.result c.call_handler-told.ensures.heard c.call_handler-told.ensures.reached c.call_handler-told.ensures.err) in (
       answer_text c.told_answer.result ∷ [],
       subst (λ (line : Line). Says clients line (answer_text c.told_answer.result ∷ [])) (sym call.is) (nowhere, 0, (c.told_answer.result, answers, refl)),
       c.write_answer.ensures,
@@ -53,5 +53,5 @@ returns-in-Step-clause-said g c =
     let clients = known_by c.answer_to-answer.new.clients.passes.items in (
       answer_text c.answer_to-answer.result ∷ [],
       subst (λ (line : Line). Says clients line (answer_text c.answer_to-answer.result ∷ [])) (sym c.in-Step.is) (c.answer_to-answer.result, c.answer_to-answer.ensures.answers, refl),
-      c.write_answer-in-Step.ensures,
+      c.write_step_answer.ensures,
     )

@@ -10,6 +10,7 @@ abbrev pub ghosts-live_as-B-RuntimeName : goal.ghosts-live_as-B-RuntimeName
 ghosts-live_as-B-RuntimeName g a = record {
   seats = table_of a.books.seats;
   passes = table_of a.books.passes;
+  checkpoints = table_of a.books.checkpoints;
   opening = a.store.opening;
   before = a.store.before;
   processors = a.store.processors;

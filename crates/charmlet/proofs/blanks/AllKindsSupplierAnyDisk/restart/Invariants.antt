@@ -3,7 +3,7 @@ use Rattle.charmlet.proofs.blanks.AllKindsSupplierAnyDisk.restart.Given as goal
 
 -- the disk is the one that was given
 abbrev pub invariant-loop-kind : goal.invariant-loop-kind
-invariant-loop-kind l = l.disk ≡ l.fn.disk
+invariant-loop-kind g l = l.disk ≡ l.fn.disk
 
 abbrev pub invariant-loop : goal.invariant-loop
-invariant-loop l = l.disk ≡ l.fn.disk
+invariant-loop g l = l.disk ≡ l.fn.disk

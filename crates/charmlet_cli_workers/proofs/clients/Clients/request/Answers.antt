@@ -3,6 +3,8 @@ use Rattle.std.specs.Prelude.{Some, length, slice_get, slice_set}
 use Rattle.std.proofs.lemmas.Option.{slice_get_read, slice_get_within}
 use Rattle.charmlet_passes.specs.Passes.{HeldPass}
 use Rattle.charmlet_cli_workers.proofs.Hearing.{asked_heard, asked_later, asked_reached, later_still}
+use Rattle.charmlet_workers.specs.Refusals.{is_lending_refusal, is_request_refusal}
+use Rattle.charmlet_cli_workers.proofs.Sayings.{refused_one, refused_other}
 use Rattle.charmlet_cli_workers.proofs.clients.Clients.request.Goals as goal
 
 pub returns-in-Ok-clause-heard : goal.returns-in-Ok-clause-heard
@@ -35,3 +37,9 @@ returns-in-Ok-clause-reached g c =
     let got : slice_get passes place ≡ Some old = slice_get_read passes (length passes) place old refl (slice_get_within passes place found.0 found.1) c.index_mut.ensures.value in
     let of : old.pass.client ≡ c.args.client = let same : found.0 ≡ old = cc in sym (ap (λ (held : HeldPass). held.pass.client) same) ∙ found.2 in
     asked_reached passes place old c.request.new.pass c.args.client c.args.request.now.number got of c.request.result c.request.ensures.told
+
+pub returns-in-Ok-clause-err : goal.returns-in-Ok-clause-err
+returns-in-Ok-clause-err g c = refused_one is_request_refusal is_lending_refusal c.request.result c.request.ensures.err
+
+pub returns-in-Err-clause-err : goal.returns-in-Err-clause-err
+returns-in-Err-clause-err g c = refused_other is_request_refusal is_lending_refusal c.in-Err.refusal c.in-Err.ensures.err

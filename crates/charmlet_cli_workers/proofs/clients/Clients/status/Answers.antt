@@ -3,6 +3,8 @@ use Rattle.std.specs.Prelude.{Some, length, slice_get, slice_set}
 use Rattle.std.proofs.lemmas.Option.{slice_get_read, slice_get_within}
 use Rattle.charmlet_passes.specs.Passes.{HeldPass}
 use Rattle.charmlet_cli_workers.proofs.Hearing.{stated_heard, stated_later, later_still}
+use Rattle.charmlet_workers.specs.Refusals.{is_lending_refusal, is_status_refusal}
+use Rattle.charmlet_cli_workers.proofs.Sayings.{refused_one, refused_other}
 use Rattle.charmlet_cli_workers.proofs.clients.Clients.status.Goals as goal
 
 pub returns-in-Ok-clause-heard : goal.returns-in-Ok-clause-heard
@@ -25,3 +27,9 @@ returns-in-Ok-clause-later g c =
     let of : old.pass.client ≡ c.args.client = let same : found.0 ≡ old = cc in sym (ap (λ (held : HeldPass). held.pass.client) same) ∙ found.2 in
     later_still c.args.self.now.passes.items passes (slice_set passes place c.status.new.pass) c.in-Ok.ensures.later
     (stated_later passes place old c.status.new.pass c.args.client c.args.number got of c.status.result c.status.ensures.told c.status.ensures.answered)
+
+pub returns-in-Ok-clause-err : goal.returns-in-Ok-clause-err
+returns-in-Ok-clause-err g c = refused_one is_status_refusal is_lending_refusal c.status.result c.status.ensures.err
+
+pub returns-in-Err-clause-err : goal.returns-in-Err-clause-err
+returns-in-Err-clause-err g c = refused_other is_status_refusal is_lending_refusal c.in-Err.refusal c.in-Err.ensures.err

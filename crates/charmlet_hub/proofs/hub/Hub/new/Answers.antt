@@ -2,6 +2,7 @@ use Rattle.std.proofs.Common.{length, List, sym, ap, subst, arith}
 use Rattle.charmlet_model.specs.declared.event.Event.{Event}
 use Rattle.charmlet_seats.specs.Seats.{HaveAll}
 use Rattle.charmlet_hub.specs.Hub.{deliveries_in}
+use Rattle.charmlet_hub.proofs.Checkpoints.{none_there}
 use Rattle.charmlet_hub.proofs.hub.Hub.new.Goals as goal
 
 pub invariant_of-result : goal.invariant_of-result
@@ -13,4 +14,5 @@ invariant_of-result g c = (
   },
   c.requires.processors,
   c.requires.honest,
+  λ place shelves at. none_there c.args.tokens c.requires.tokens place shelves at,
 )

@@ -1,22 +1,35 @@
-use Rattle.std.proofs.Common.{subst}
-use Rattle.charmlet_model.specs.Core.{Checkpoint}
-use Rattle.charmlet_model.specs.Run.{Goes}
-use Rattle.charmlet_history.specs.Kept.{counts_or_refused}
-use Rattle.charmlet_sequencer.specs.Sequencer.{store_of}
-use Rattle.charmlet_hub.specs.Hub.{HubShown, store_in}
-use Rattle.charmlet_hub.proofs.Hubs.{hub_stepped}
+use Rattle.std.proofs.Common.{◌≡◌, ℕ, List, sym, subst}
+use Rattle.std.specs.Prelude.{Option, is_some}
+use Rattle.charmlet_running.specs.Running.{Run}
+use Rattle.charmlet_hub.specs.Checkpoint.{IsCheckpointed}
+use Rattle.charmlet_hub.proofs.Hubs.{hub_sealed, seal_events}
+use Rattle.charmlet_hub.proofs.Checkpoints.{seal_keeps}
 use Rattle.charmlet_hub.proofs.hub.Hub.seal.Goals as goal
 
 pub invariant_of-self : goal.invariant_of-self
 invariant_of-self g c =
     let h = c.self.inside in
-    let new = c.seal.new.self in (
-      hub_stepped h.sequencer new h.seats h.passes c.self.invariant.0 (store_of h.sequencer).blanks (store_of new).blanks Checkpoint
-          (counts_or_refused c.seal.result) c.facts.ensures.sound tt tt tt c.seal.ensures.goes,
+    let done = c.seal_running-sealed in
+    let new = done.new.sequencer in
+    let sound = c.facts.ensures.sound in
+    let same = seal_events h.sequencer new sound done.result done.ensures.sealed done.ensures.failed done.ensures.refused in (
+      hub_sealed h.sequencer new (is_some h.running) (is_some done.new.running) h.seats h.passes c.self.invariant.0 same sound c.facts-2.ensures.sound,
       c.self.invariant.1,
-      λ named. c.seal.ensures.disk.honest.0 (c.self.invariant.2 named),
+      λ named. done.ensures.disk.honest.0 (c.self.invariant.2 named),
+      subst (λ (x : Option Run × List (Option ℕ)). IsCheckpointed new.core x.0 x.1) (λ i. (sym done.ensures.running i, sym c.agree.ensures.book i))
+          (seal_keeps h.sequencer.core new.core h.running h.tokens same.opening same.before same.history same.places same.assigned c.self.invariant.3),
     )
 
-pub returns-clause-goes : goal.returns-clause-goes
-returns-clause-goes g c =
-    subst (λ (v : HubShown _). Goes (store_in v) Checkpoint (counts_or_refused c.seal.result) (store_of c.seal.new.self)) c.self.view_is c.seal.ensures.goes
+pub invariant_of-self-in-Err : goal.invariant_of-self-in-Err
+invariant_of-self-in-Err g c =
+    let h = c.self.inside in
+    let done = c.seal_running-sealed in
+    let new = done.new.sequencer in
+    let sound = c.facts.ensures.sound in
+    let same = seal_events h.sequencer new sound done.result done.ensures.sealed done.ensures.failed done.ensures.refused in (
+      hub_sealed h.sequencer new (is_some h.running) (is_some done.new.running) h.seats h.passes c.self.invariant.0 same sound c.facts-2.ensures.sound,
+      c.self.invariant.1,
+      λ named. done.ensures.disk.honest.0 (c.self.invariant.2 named),
+      subst (λ (x : Option Run × List (Option ℕ)). IsCheckpointed new.core x.0 x.1) (λ i. (sym done.ensures.running i, sym c.agree.ensures.book i))
+          (seal_keeps h.sequencer.core new.core h.running h.tokens same.opening same.before same.history same.places same.assigned c.self.invariant.3),
+    )

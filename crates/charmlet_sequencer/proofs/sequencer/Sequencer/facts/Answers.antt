@@ -1,8 +1,10 @@
-use Rattle.std.proofs.Common.{List, subst}
+use Rattle.std.proofs.Common.{◌≡◌, false, List, subst}
 use Rattle.std.specs.Prelude.{Option}
 use Rattle.charmlet_disk.specs.File.{CrashBytes, MayLeave}
 use Rattle.charmlet_recovery.proofs.Outcomes.{kept_is_lawful}
 use Rattle.charmlet_history.specs.Kept.{core_in}
+use Rattle.charmlet_journal.specs.Rest.{HasOldOrSealed}
+use Rattle.charmlet_journal.proofs.Turning.{rests_sealed}
 use Rattle.charmlet_sequencer.specs.Book.{IsBookIn}
 use Rattle.charmlet_sequencer.specs.Part.{Part}
 use Rattle.charmlet_sequencer.specs.Sequencer.{SequencerShown, is_lawful}
@@ -21,3 +23,12 @@ returns-clause-lawful g c =
     let core = core_in h.history in
     subst (λ (v : SequencerShown _). g.D.Disk.honest v.disk → (outcome : CrashBytes) → MayLeave (g.D.Disk.file v.disk) outcome → is_lawful v.core outcome) c.self.view_is
     (λ honest outcome left. kept_is_lawful core.opening core.before core.history core.durable outcome ((c.self.invariant.1.keeps honest).now outcome left))
+
+pub returns-clause-stored : goal.returns-clause-stored
+returns-clause-stored g c =
+    let h = c.self.inside in
+    let core = core_in h.history in
+    let sound = c.facts.ensures.sound in
+    let tied = c.self.invariant.1 in
+    subst (λ (v : SequencerShown _). g.D.Disk.honest v.disk → v.core.halted ≡ false → (outcome : CrashBytes) → MayLeave (g.D.Disk.file v.disk) outcome → HasOldOrSealed v.core outcome) c.self.view_is
+    (λ honest going outcome left. rests_sealed {G = g.D.Disk} core sound.legal sound.durable h.halves honest (tied.agrees going).going ((tied.keeps honest).rest going) outcome left)

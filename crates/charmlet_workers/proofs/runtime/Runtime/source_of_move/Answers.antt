@@ -1,6 +1,21 @@
-use Rattle.charmlet_hub.specs.Hub.{store_in}
-use Rattle.charmlet_workers.proofs.Refusals.{move_refused_if}
+use Rattle.std.proofs.Common.{◌≡◌, ◌∙◌, ap, sym, subst}
+use Rattle.std.specs.Prelude.{IfErr}
+use Rattle.charmlet_model.specs.Sound.{IsSound}
+use Rattle.charmlet_hub.specs.Hub.{HubShown}
+use Rattle.charmlet_workers.specs.Refusals.{IsMoveCause}
+use Rattle.charmlet_workers.specs.Runtime.{RuntimeShown, named}
+use Rattle.charmlet_workers.proofs.Causes.{source_caused}
 use Rattle.charmlet_workers.proofs.runtime.Runtime.source_of_move.Goals as goal
 
-pub returns-clause-err : goal.returns-clause-err
-returns-clause-err g c = move_refused_if (store_in c.deref-2.result.now) c.args.elem c.args.processor c.source_of_move.result c.source_of_move.ensures.err
+pub returns-clause-cause : goal.returns-clause-cause
+returns-clause-cause g c =
+    let hub = c.deref-2.result.now in
+    let elem = c.args.elem in
+    let processor = c.args.processor in
+    let same : hub ≡ c.deref.result.now = c.deref-2.ensures ∙ sym c.deref.ensures in
+    let shown : RuntimeShown = named g.B.RuntimeName.opening g.B.RuntimeName.before g.B.RuntimeName.processors in
+    let opening : hub.core.opening ≡ shown.opening = ap (λ (h : HubShown _). h.core.opening) same ∙ c.facts.ensures.of.opening_is in
+    let count : hub.core.processors ≡ shown.processors = ap (λ (h : HubShown _). h.core.processors) same ∙ c.facts.ensures.of.processors_are in
+    let sound = subst (λ (h : HubShown _). IsSound h.core) (sym same) c.facts.ensures.sound in
+    subst (λ (v : RuntimeShown). IfErr c.source_of_move.result (IsMoveCause v elem processor)) c.self.view_is
+    (source_caused hub shown opening elem processor c.source_of_move.result count sound c.source_of_move.ensures.err c.source_of_move.ensures.away)

@@ -1,0 +1,100 @@
+-- A checkpoint that runs while others work, and its token.
+use Rattle.std.specs.Prelude.{◌≡◌, ℕ, ◌+◌, ◌<◌, ◌≤◌, Bool, true, false, max, List, length, Option, Some, None, slice_get, if◌then◌else◌}
+use Rattle.charmlet_model.specs.declared.refusal.Refusal.{Refusal}
+use Rattle.charmlet_model.specs.declared.refusal.Refusal.TheVariants as refusals
+use Rattle.charmlet_model.specs.Core.{Commit, Core, next_core}
+use Rattle.charmlet_history.specs.Kept.{sealed_at}
+use Rattle.charmlet_running.specs.Laws.{AreSettledOn}
+use Rattle.charmlet_running.specs.Running.{AreAllSettled, IsRunning, Run, with_delivery, with_images}
+use Rattle.charmlet_running.specs.Sealing.{PassesLimit}
+use Rattle.charmlet_shelf.specs.declared.image.Image.{Image}
+use Rattle.charmlet_hub.specs.Hub.{HubShown}
+
+-- ---- what a hub has of it
+
+-- the shelves of the first processors were handed in: what stands there is settled
+abbrev pub AreHandedIn : Core → Run → ℕ → Type 0
+AreHandedIn core run shelves = (processor : ℕ) → processor < shelves →
+    AreSettledOn core run processor
+
+-- A token that is out is the last that was given out, and knows how many shelves were handed in.
+pub record IsToken (core : Core) (run : Run) (tokens : List (Option ℕ))
+    (place shelves : ℕ) : Type 0 where
+  pub last : place + 1 ≡ length tokens
+  pub handed_in : AreHandedIn core run shelves
+
+-- the checkpoint is one of this store, and has room for each assigned delivery
+pub record IsCheckpoint (core : Core) (run : Run) (tokens : List (Option ℕ)) : Type 0 where
+  pub running : IsRunning core run
+  pub room : length core.assigned ≤ run.room
+  pub token : (place shelves : ℕ) → slice_get tokens place ≡ Some (Some shelves) →
+      IsToken core run tokens place shelves
+
+-- a checkpoint runs, or no token is out
+abbrev pub IsCheckpointed : Core → Option Run → List (Option ℕ) → Type 0
+IsCheckpointed core None tokens = (place shelves : ℕ) →
+    slice_get tokens place ≡ Some (Some shelves) → ⊥
+IsCheckpointed core (Some run) tokens = IsCheckpoint core run tokens
+
+-- ---- deliveries while it runs
+
+-- there is room for a delivery
+pub record HasRoom (core : Core) (run : Run) : Type 0 where
+  pub running : IsRunning core run
+  pub room : 1 ≤ run.room
+
+-- with room for at least so many
+abbrev pub roomier : ℕ → Option Run → Option Run
+roomier deliveries None = None
+roomier deliveries (Some run) = Some (record run { room = max run.room deliveries })
+
+-- The processor's delivery is noted. Once it is committed, what was settled on a processor still
+-- is.
+pub record NotesDelivery (core : Core) (processor : ℕ) (old new : Run) : Type 0 where
+  pub noted : new ≡ with_delivery core processor old
+  pub running : IsRunning (next_core core (Commit processor)) new
+  pub settled : (other : ℕ) → AreSettledOn core old other →
+      AreSettledOn (next_core core (Commit processor)) new other
+
+-- the same, if a checkpoint runs
+abbrev pub IsNoted : Core → ℕ → Option Run → Option Run → Type 0
+IsNoted core processor None new = new ≡ None
+IsNoted core processor (Some old) new = (run : Run) × (new ≡ Some run)
+    × NotesDelivery core processor old run
+
+-- ---- images
+
+-- with these images, if one runs
+abbrev pub with_images_if : Option Run → List Image → Option Run
+with_images_if None images = None
+with_images_if (Some run) images = Some (record run {
+  settled = with_images run.settled images;
+})
+
+-- ---- its beginning and its end
+
+-- A checkpoint of this store, to which all shelves were handed in, would pass a limit.
+pub record IsTooLarge (core : Core) : Type 0 where
+  pub run : Run
+  pub running : IsRunning core run
+  pub settled : AreAllSettled core run
+  pub passes : PassesLimit core run
+
+-- the refusal isn't for the device
+abbrev pub is_no_device : Refusal → Bool
+is_no_device refusals.Device = false
+is_no_device _ = true
+
+module _ {D : Type 0} where
+  -- why a checkpoint doesn't begin
+  abbrev pub begin_refusal : HubShown D → Refusal
+  begin_refusal hub = if hub.core.halted then refusals.Halted
+      else (if hub.busy then refusals.Checkpointing else refusals.Memory)
+
+  -- it ends: all events are durable by an image of the next generation
+  abbrev pub IsSealed : HubShown D → HubShown D → Type 0
+  IsSealed hub next = (log_end : ℕ) × (next ≡ record hub {
+    core = sealed_at hub.core log_end;
+    busy = false;
+    disk = next.disk;
+  })

@@ -1,0 +1,267 @@
+//! A checkpoint that runs while others work.
+
+ghost use Rattle.std.specs.Prelude.{◌≡◌, ◌≢◌, ◌+◌, ◌<◌, ◌^◌, ℕ, All, false, true, is_some, IfErr, IfOk, IfSome, OnErr, OnOk};
+ghost use Rattle.std.specs.Map.{keys_of};
+ghost use Rattle.charmlet_model.specs.declared.refusal.Refusal.TheVariants as refusals;
+ghost use Rattle.charmlet_model.specs.Core.{halted_core, present};
+ghost use Rattle.charmlet_disk.specs.Calls.{AfterCall};
+ghost use Rattle.charmlet_disk.specs.Disk.{LeavesOnly};
+ghost use Rattle.charmlet_halves.specs.Answers.{is_no_failure};
+ghost use Rattle.charmlet_history.specs.Kept.{core_in, sealed_at};
+ghost use Rattle.charmlet_journal.specs.Rest.{HasOldOrSealed};
+ghost use Rattle.charmlet_running.specs.Running.{AreAllSettled, IsRunning, IsShownBy};
+ghost use Rattle.charmlet_shelf.specs.Image.{AreImages};
+ghost use Rattle.charmlet_sequencer.specs.Checkpointing.{IsSealRefusal};
+ghost use Rattle.charmlet_sequencer.specs.Sequencer.{is_lawful};
+ghost use Rattle.charmlet_hub.specs.Checkpoint.{IsSealed, IsTooLarge, begin_refusal, is_no_device, with_images_if};
+
+use crate::hub::Hub;
+use crate::names::CheckpointsOf;
+use charmlet_agreement::Share;
+use charmlet_chare::Chare;
+use charmlet_disk::Disk;
+use charmlet_history::History;
+use charmlet_model::Refusal;
+use charmlet_running::Running;
+use charmlet_sequencer::{LockedShelf, RuntimeName, Sequencer};
+use charmlet_shelf::Image;
+use std::alloc::AllocError;
+use std::marker::Model;
+
+/// How many shelves were handed in to a checkpoint.
+#[derive(Debug, Drop)]
+pub struct HandedIn {
+    pub(crate) shelves: u16,
+}
+
+impl Model for HandedIn {
+    ghost use Rattle.std.specs.Prelude.{ℕ};
+
+    ghost Value = { ℕ };
+
+    ghost view = { λ h. h.shelves };
+}
+
+/// The token of whoever runs a checkpoint: that it runs, and how many shelves were handed in, those
+/// of the first processors. A contract sees this number. It can't be dropped: a checkpoint ends by
+/// [`Hub::seal`] or [`Hub::abandon`].
+pub struct Checkpoint<B: RuntimeName> {
+    shelves: u16,
+    share: Share<HandedIn, CheckpointsOf<B>>,
+}
+
+impl<B: RuntimeName> Model for Checkpoint<B> {
+    ghost use Rattle.std.specs.Prelude.{◌≡◌, ℕ, Some};
+
+    ghost Value = { ℕ };
+
+    ghost view = { λ c. c.shelves };
+
+    ghost invariant = { λ c. c.share.1 ≡ Some c.shelves };
+}
+
+impl<B: RuntimeName> Checkpoint<B> {
+    /// How many shelves were handed in, those of the first processors.
+    pub fn shelves(&self) -> u16
+        ensures { result ≡ self.now }
+    {
+        self.shelves
+    }
+}
+
+/// A checkpoint that wasn't sealed, and why not. It still runs.
+pub struct NotSealed<B: RuntimeName> {
+    pub refusal: Refusal,
+    pub checkpoint: Checkpoint<B>,
+}
+
+impl<D: Disk, C: Chare, B: RuntimeName> Hub<D, C, B> {
+    /// Begins a checkpoint that lets others work meanwhile: of moves and other checkpoints alone
+    /// each is refused `Checkpointing` until it ends. There is room for all deliveries that are
+    /// assigned. Each element that isn't there and has a record is settled now. No shelf was handed
+    /// in yet. Nothing is written.
+    ///
+    /// The refusal is the first that applies of `Halted`, `Checkpointing` where one runs already,
+    /// and `Memory`. Then nothing changes.
+    pub fn begin(&mut self) -> Result<Checkpoint<B>, Refusal>
+        ensures ok { IfOk result (λ checkpoint. checkpoint ≡ 0) }
+        ensures begun { OnOk result (self.new ≡ record self.old { busy = true }) }
+        ensures going { OnOk result (self.old.core.halted ≡ false) }
+        ensures free { OnOk result (self.old.busy ≡ false) }
+        ensures err { IfErr result (λ refusal. refusal ≡ begin_refusal self.old) }
+        ensures same { OnErr result (self.new ≡ self.old) }
+    {
+        if self.sequencer.history().is_halted() {
+            return Err(Refusal::Halted);
+        }
+        if self.running.is_some() {
+            return Err(Refusal::Checkpointing);
+        }
+        self.sequencer.facts();
+        let most = usize::from(self.processors);
+        let Ok(running) = Running::begin(self.alloc, self.sequencer.history(), most) else {
+            return Err(Refusal::Memory);
+        };
+        self.running = Some(running);
+        let share = self.tokens.issue(&HandedIn { shelves: 0 });
+        Ok(Checkpoint { shelves: 0, share })
+    }
+
+    /// Hands in the images of a shelf to the checkpoint that runs. They are those of all elements
+    /// that stand there, and the shelf's lock is held, as it was when they were made. The shelves
+    /// come by rising number. It fails only when out of memory, and then the shelf wasn't handed
+    /// in. Nothing else changes.
+    pub fn image(
+        &mut self,
+        checkpoint: &mut Checkpoint<B>,
+        locked: &mut LockedShelf<C, B>,
+        images: Vec<Image>,
+    ) -> Result<(), AllocError>
+        requires next { locked.old.number ≡ checkpoint.old }
+        requires images { AreImages locked.old.records (keys_of locked.old.records)
+            images.items }
+        ensures ok { OnOk result (checkpoint.new ≡ checkpoint.old + 1) }
+        ensures err { OnErr result (checkpoint.new ≡ checkpoint.old) }
+        ensures runs { self.old.busy ≡ true }
+        ensures hub { self.new ≡ self.old }
+        ensures locked { locked.new ≡ locked.old }
+    {
+        self.sequencer.facts();
+        self.sequencer.agree(locked);
+        self.tokens.agree(&mut checkpoint.share);
+        if take_images(&mut self.running, self.sequencer.history(), images).is_err() {
+            return Err(AllocError);
+        }
+        let shelves = checkpoint.shelves + 1;
+        self.tokens
+            .change(&mut checkpoint.share, &HandedIn { shelves });
+        checkpoint.shelves = shelves;
+        Ok(())
+    }
+
+    /// Ends the checkpoint, to which each shelf was handed in: makes all events durable by an image
+    /// that means the present world, which takes the place of the store in the spare half, and
+    /// answers its generation. The image has each element as it was at a moment since the
+    /// checkpoint began, and the deliveries since then. No client is told anything.
+    ///
+    /// `Halted`; `Memory`; `ImageFull` if the generation would be past 2^40 or the file past 2^31
+    /// bytes: then nothing changes. `Device` halts the store. When refused, the checkpoint still
+    /// runs, and its token comes back. On an honest disk a crash at any moment of the call leaves
+    /// the world after some of the history, with all events among it that were durable before; and
+    /// of a store that isn't halted it leaves the world after the durable events, as it was, or the
+    /// present one at the next generation, and none between them.
+    pub fn seal(&mut self, checkpoint: Checkpoint<B>) -> Result<u64, NotSealed<B>>
+        requires { checkpoint ≡ B.processors }
+        ensures ok { IfOk result (λ generation. generation ≡ self.old.core.generation + 1) }
+        ensures within { OnOk result (self.old.core.generation < 2 ^ 40) }
+        ensures going { OnOk result (self.old.core.halted ≡ false) }
+        ensures sealed { OnOk result (IsSealed self.old self.new) }
+        ensures err { IfErr result (λ back. IsSealRefusal self.old.core back.refusal) }
+        ensures full { IfErr result (λ back. back.refusal ≡ refusals.ImageFull →
+            IsTooLarge self.old.core) }
+        ensures refused { IfErr result (λ back. back.refusal ≢ refusals.Device →
+            self.new ≡ self.old) }
+        ensures failed { IfErr result (λ back. back.refusal ≡ refusals.Device → self.new
+            ≡ record self.old { core = halted_core self.old.core; disk = self.new.disk }) }
+        ensures back { IfErr result (λ back. back.checkpoint ≡ checkpoint) }
+        ensures ran { self.old.busy ≡ true }
+        ensures any_moment { D.honest self.old.disk → LeavesOnly D.moment D.since self.old.disk
+            self.new.disk (is_lawful self.old.core) }
+        ensures stored { D.honest self.old.disk → self.old.core.halted ≡ false →
+            LeavesOnly D.moment D.since self.old.disk self.new.disk
+            (HasOldOrSealed self.old.core) }
+        ensures disk { OnOk result (AfterCall D.Disk self.old.disk self.new.disk true) }
+        ensures disk_err { IfErr result (λ back. AfterCall D.Disk self.old.disk self.new.disk
+            (is_no_device back.refusal)) }
+    {
+        let mut checkpoint = checkpoint;
+        self.sequencer.facts();
+        self.tokens.agree(&mut checkpoint.share);
+        let sealed = seal_running(&mut self.sequencer, &mut self.running);
+        self.sequencer.facts();
+        match sealed {
+            Ok(generation) => {
+                self.end(checkpoint);
+                Ok(generation)
+            }
+            Err(refusal) => Err(NotSealed {
+                refusal,
+                checkpoint,
+            }),
+        }
+    }
+
+    /// Gives the checkpoint up: nothing of it is written.
+    pub fn abandon(&mut self, checkpoint: Checkpoint<B>)
+        ensures ended { self.new ≡ record self.old { busy = false } }
+        ensures ran { self.old.busy ≡ true }
+    {
+        self.end(checkpoint);
+    }
+
+    /// Takes the token back, and forgets the checkpoint.
+    fn end(&mut self, checkpoint: Checkpoint<B>)
+        ensures ended { self.new ≡ record self.old { busy = false } }
+        ensures ran { self.old.busy ≡ true }
+    {
+        let Checkpoint { shelves: _, share } = checkpoint;
+        self.tokens.take_back(share);
+        self.running = None;
+    }
+}
+
+/// Settles the elements of a shelf in the checkpoint that runs. When out of memory, nothing
+/// changes.
+fn take_images(
+    running: &mut Option<Running>,
+    history: &History,
+    images: Vec<Image>,
+) -> Result<(), AllocError>
+    requires runs { is_some running.old ≡ true }
+    requires running { IfSome running.old (IsRunning (core_in history.now)) }
+    requires shown { All (IsShownBy (present (core_in history.now))) images.items }
+    ensures ok { OnOk result (running.new ≡ with_images_if running.old images.items) }
+    ensures err { OnErr result (running.new ≡ running.old) }
+    ensures running { IfSome running.new (IsRunning (core_in history.now)) }
+{
+    match running {
+        Some(running) => running.take(history, images),
+        None => unreachable!(),
+    }
+}
+
+/// Ends the checkpoint that runs, in which all is settled, by the sequencer's part of it.
+fn seal_running<D: Disk, C: Chare, B: RuntimeName>(
+    sequencer: &mut Sequencer<D, C, B>,
+    running: &mut Option<Running>,
+) -> Result<u64, Refusal>
+    requires runs { is_some running.old ≡ true }
+    requires running { IfSome running.old (IsRunning sequencer.old.core) }
+    requires settled { IfSome running.old (AreAllSettled sequencer.old.core) }
+    ensures ok { IfOk result (λ generation. generation ≡ sequencer.old.core.generation + 1) }
+    ensures within { OnOk result (sequencer.old.core.generation < 2 ^ 40) }
+    ensures going { OnOk result (sequencer.old.core.halted ≡ false) }
+    ensures sealed { OnOk result ((log_end : ℕ)
+        × (sequencer.new.core ≡ sealed_at sequencer.old.core log_end)) }
+    ensures err { IfErr result (IsSealRefusal sequencer.old.core) }
+    ensures full { IfErr result (λ refusal. refusal ≡ refusals.ImageFull →
+        IsTooLarge sequencer.old.core) }
+    ensures failed { IfErr result (λ refusal. refusal ≡ refusals.Device →
+        sequencer.new.core ≡ halted_core sequencer.old.core) }
+    ensures refused { IfErr result (λ refusal. refusal ≢ refusals.Device →
+        sequencer.new ≡ sequencer.old) }
+    ensures any_moment { D.honest sequencer.old.disk → LeavesOnly D.moment D.since
+        sequencer.old.disk sequencer.new.disk (is_lawful sequencer.old.core) }
+    ensures stored { D.honest sequencer.old.disk → sequencer.old.core.halted ≡ false →
+        LeavesOnly D.moment D.since sequencer.old.disk sequencer.new.disk
+        (HasOldOrSealed sequencer.old.core) }
+    ensures disk { AfterCall D.Disk sequencer.old.disk sequencer.new.disk
+        (is_no_failure result) }
+    ensures census { sequencer.new.census ≡ sequencer.old.census }
+    ensures running { running.new ≡ running.old }
+{
+    match running {
+        Some(running) => sequencer.seal_running(running),
+        None => unreachable!(),
+    }
+}

@@ -1,0 +1,15 @@
+//! What is told while a checkpoint runs.
+
+/// What a checkpoint tells after each shelf.
+pub trait Pause: Sync {
+    /// The images of the processor's shelf were taken. The caller has no lock, and others work.
+    fn imaged(&self, processor: u16);
+}
+
+/// A pause that does nothing.
+#[derive(Clone, Copy, Debug, Drop)]
+pub struct NoPause;
+
+impl Pause for NoPause {
+    fn imaged(&self, _processor: u16) {}
+}
