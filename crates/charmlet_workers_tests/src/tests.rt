@@ -1,3 +1,6 @@
+mod closing;
 mod crossing;
 mod moving;
 mod opening;
+mod pausing;
+mod random;

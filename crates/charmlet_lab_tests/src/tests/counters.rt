@@ -1,6 +1,7 @@
 //! Counters for the laboratory, over either disk.
 
 ghost use Rattle.std.specs.Prelude.{◌≡◌, true, IfErr, IfOk};
+ghost use Rattle.std.specs.Thread.{IsSync};
 ghost use Rattle.charmlet_model.specs.Core.{Blanks};
 ghost use Rattle.charmlet_model.specs.Sound.{new_world};
 ghost use Rattle.charmlet_model.specs.World.{IsLegal};
@@ -22,9 +23,13 @@ use charmlet_model::{Event, Kind, Refusal};
 use charmlet_recover::Wanted;
 use charmlet_script::Script;
 use std::alloc::{AllocError, Global};
+use std::thread::Threads;
 
 // Has as many counters as are wanted.
-pub(super) struct Counters;
+#[derive(Drop)]
+pub(super) struct Counters<'a, R: Threads + Sync> {
+    pub(super) threads: &'a R,
+}
 
 // `count` blank counters.
 pub(super) fn blank_counters(alloc: Global, count: u64) -> Result<Vec<Counter>, AllocError> {
@@ -50,7 +55,8 @@ fn run_counters<D: Disk>(alloc: Global, script: &Script, disk: D) -> Result<Roun
 }
 
 // Whether a restart from this disk after a run's crash is bad, with as many counters as are wanted.
-fn restart_counters<D: Disk>(
+fn restart_counters<R: Threads + Sync, D: Disk>(
+    threads: &R,
     alloc: Global,
     script: &Script,
     disk: D,
@@ -65,10 +71,14 @@ fn restart_counters<D: Disk>(
         × IsNotTried D.Disk script.now given (blanks_in wanted.now) disk refusal) }
 {
     let blanks = blank_counters(alloc, wanted.of(Kind::Counter))?;
-    lab_outcome(alloc, script, disk, wanted, blanks, events, durable)
+    lab_outcome(
+        threads, alloc, script, disk, wanted, blanks, events, durable,
+    )
 }
 
-impl Supplier<AnyDisk> for Counters {
+impl<R: Threads + Sync> Supplier<AnyDisk> for Counters<'_, R> {
+    ghost may_restart = { λ _. IsSync R.row };
+
     fn run(
         &self,
         alloc: Global,
@@ -87,11 +97,13 @@ impl Supplier<AnyDisk> for Counters {
         events: &[Event],
         durable: Option<u64>,
     ) -> Result<bool, Refusal> {
-        restart_counters(alloc, script, disk, wanted, events, durable)
+        restart_counters(self.threads, alloc, script, disk, wanted, events, durable)
     }
 }
 
-impl Supplier<ForgetfulDisk> for Counters {
+impl<R: Threads + Sync> Supplier<ForgetfulDisk> for Counters<'_, R> {
+    ghost may_restart = { λ _. IsSync R.row };
+
     fn run(
         &self,
         alloc: Global,
@@ -110,6 +122,6 @@ impl Supplier<ForgetfulDisk> for Counters {
         events: &[Event],
         durable: Option<u64>,
     ) -> Result<bool, Refusal> {
-        restart_counters(alloc, script, disk, wanted, events, durable)
+        restart_counters(self.threads, alloc, script, disk, wanted, events, durable)
     }
 }

@@ -30,7 +30,10 @@ fn an_honest_disk_is_found_good(rt: HostRuntime) -> Result<(), Fail> {
     let alloc = rt.alloc();
     let script = read_script(alloc, &mut SCRIPT.as_bytes(), Runner::Engine)?;
     let mut told = Told { times: 0 };
-    let found = try_crashes::<AnyDisk, Counters, Told>(alloc, &script, &Counters, &mut told)?;
+    let counters = Counters { threads: rt };
+    let found = try_crashes::<AnyDisk, Counters<'_, HostRuntime>, Told>(
+        alloc, &script, &counters, &mut told,
+    )?;
     let good = LabLine {
         stops: 14,
         outcomes: 84,
@@ -48,7 +51,10 @@ fn a_disk_that_forgets_is_found_bad(rt: HostRuntime) -> Result<(), Fail> {
     let alloc = rt.alloc();
     let script = read_script(alloc, &mut SCRIPT.as_bytes(), Runner::Engine)?;
     let mut told = Told { times: 0 };
-    let found = try_crashes::<ForgetfulDisk, Counters, Told>(alloc, &script, &Counters, &mut told)?;
+    let counters = Counters { threads: rt };
+    let found = try_crashes::<ForgetfulDisk, Counters<'_, HostRuntime>, Told>(
+        alloc, &script, &counters, &mut told,
+    )?;
     assert_eq!(rt; (found.stops, found.outcomes), (14, 84));
     assert_eq!(rt; found.bad, 43);
     Ok(())

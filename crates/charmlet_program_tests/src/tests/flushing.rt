@@ -48,18 +48,13 @@ pending
 state 0 0
 ";
 
-// The end of each line that they print, and how many entries were run by then.
-const REACHED: [(usize, u64); 9] = [
-    (13, 0),
-    (26, 0),
-    (41, 1),
-    (54, 1),
-    (71, 2),
-    (81, 2),
-    (129, 2),
-    (139, 2),
-    (205, 2),
-];
+// How many bytes the lines before the drain print, and those up to the flush, and how many entries
+// were run by then.
+const REACHED: [(usize, u64); 2] = [(54, 1), (81, 2)];
+
+// What the lines up to the flush print.
+const PRINTED: &[u8] =
+    b"supplied 1 1\ntold unknown\ndelivered c7.1\ntold unknown\ndrained 1 left 0\nflushed 4\n";
 
 // An output that takes `most` flushes.
 fn output_with(rt: &(impl AllocGlobal + Abort), notes: &Arc<Notes>, most: usize) -> Flushed {
@@ -73,7 +68,7 @@ fn output_with(rt: &(impl AllocGlobal + Abort), notes: &Arc<Notes>, most: usize)
 }
 
 #[test]
-fn each_line_is_flushed_before_the_next_one_runs(rt: HostRuntime) {
+fn output_is_flushed_before_a_drain_and_after_a_flush(rt: HostRuntime) {
     let notes = new_notes(&rt);
     let blanks = noted_counters(&rt, &notes, 1);
     let output = output_with(&rt, &notes, 100);
@@ -84,16 +79,23 @@ fn each_line_is_flushed_before_the_next_one_runs(rt: HostRuntime) {
     assert_eq!(rt; output.at.as_slice(), REACHED.as_slice());
 }
 
+// An output that takes `most` flushes ends the run at the line of its flush.
+fn ends_at_the_flush(rt: &(impl AllocGlobal + Abort), most: usize) {
+    let notes = new_notes(rt);
+    let blanks = noted_counters(rt, &notes, 1);
+    let mut output = output_with(rt, &notes, most);
+    let ran = run_anew(rt.alloc(), &script_of(rt, ENTERED), blanks, &mut output);
+    assert!(rt; matches!(&ran.result, Err(RunError::Output(_))));
+    assert_eq!(rt; output.taken.as_slice(), PRINTED);
+    assert_eq!(rt; notes.entries(), 2);
+}
+
 #[test]
 fn failed_flush_ends_the_run(rt: HostRuntime) {
-    let notes = new_notes(&rt);
-    let blanks = noted_counters(&rt, &notes, 1);
-    let mut output = output_with(&rt, &notes, 1);
-    let ran = run_anew(rt.alloc(), &script_of(&rt, ENTERED), blanks, &mut output);
-    assert!(rt; matches!(&ran.result, Err(RunError::Output(_))));
-    assert_eq!(rt;
-        output.taken.as_slice(),
-        b"supplied 1 1\ntold unknown\n".as_slice()
-    );
-    assert_eq!(rt; notes.entries(), 0);
+    ends_at_the_flush(&rt, 1);
+}
+
+#[test]
+fn failed_flush_before_a_drain_is_told_by_the_next_one(rt: HostRuntime) {
+    ends_at_the_flush(&rt, 0);
 }

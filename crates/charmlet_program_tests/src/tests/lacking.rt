@@ -7,6 +7,7 @@ use charmlet_kinds::Counter;
 use charmlet_model::{Kind, Refusal};
 use charmlet_script::{Runner, read_restart_script};
 use std::process::Abort;
+use std::thread::Threads;
 
 // A script supplies three objects, and there are two: they come back, nothing is written, and no
 // call of the disk is made.
@@ -41,8 +42,8 @@ fn stored_counter(rt: &(impl AllocGlobal + Abort)) -> MemDisk {
 }
 
 // That store comes back with this many counters for a script, which may supply two.
-fn restart_with(
-    rt: &(impl AllocGlobal + Abort),
+fn restart_with<R: Threads + Sync + AllocGlobal + Abort>(
+    rt: &R,
     count: usize,
     text: &str,
     output: &mut Vec<u8>,
@@ -53,7 +54,7 @@ fn restart_with(
     let disk = stored_counter(rt);
     let blanks = counters(rt, count);
     let supplies = counters(rt, 2);
-    restart_script(rt.alloc(), disk, 1, &script, blanks, supplies, output)
+    restart_script(rt, rt.alloc(), disk, 1, &script, blanks, supplies, output)
 }
 
 // If there are fewer objects than the script supplies, they come back, with those for the restart,

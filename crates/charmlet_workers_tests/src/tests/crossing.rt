@@ -1,4 +1,4 @@
-//! Two workers whose commits cross at a gate, and a flush that fails after them.
+//! Two workers whose commits cross at a gate, and then a flush that fails, at each of its calls.
 
 ghost use Rattle.std.specs.Prelude.{◌≡◌};
 ghost use Rattle.charmlet_agreement.specs.Naming.{table_of};
@@ -6,26 +6,27 @@ ghost use Rattle.charmlet_history.specs.Kept.{core_in};
 ghost use Rattle.charmlet_sequencer.specs.Sequencer.{IsOf};
 ghost use Rattle.charmlet_workers.specs.Runtime.{IsReady};
 
-use super::opening::new_store;
+use super::opening::Start;
 use charmlet_disk::CrashChoice;
-use charmlet_halves::Halves;
 use charmlet_history::Request;
 use charmlet_hub::{Closed, PassesOf, SeatsOf};
-use charmlet_model::{CONSTRUCT, Elem, Event, Kind, MsgId, Origin, Refusal, Told};
+use charmlet_model::{CONSTRUCT, Elem, Event, MsgId, Origin, Refusal, Told};
 use charmlet_passes::ClientPass;
 use charmlet_probe_disk::{ProbeDisk, Switches};
-use charmlet_probe_objects::{Object, Tally, blanks};
+use charmlet_probe_objects::{Object, Tally};
 use charmlet_probe_store::{Blanks, ProbeStore, wanted_objects};
 use charmlet_seats::Seat;
 use charmlet_sequencer::RuntimeName;
-use charmlet_store::Store;
-use charmlet_workers::{Gate, MOST_ASKS, Runtime, Station, UnnamedBooks, Worked, work_all};
+use charmlet_workers::{Gate, MOST_ASKS, Runtime, Station, Worked, work_all};
 use std::alloc::AllocGlobal;
 use std::marker::Brand;
 use std::process::Abort;
 use std::sync::atomic::{AtomicU64, Ordering};
 use std::sync::{Arc, Wait};
 use std::thread::Threads;
+
+// The calls of the disk that a flush makes: a batch and its sync, a gate and its sync.
+const FLUSH: u64 = 4;
 
 // Processor 1 may go on once processor 0 has asked, and 0 once 1 has committed.
 #[derive(Drop)]
@@ -101,13 +102,22 @@ fn has_worked<B: RuntimeName>(rt: &impl Abort, station: &Station<B>, client: u32
     assert_eq!(rt; station.seat.ids(), [first_of(client)].as_slice());
 }
 
-// A flush fails, and then all is refused.
+// A flush fails at this call of the disk, whose later calls would all pass. Then all is refused.
 fn fail<B: RuntimeName, R: Wait + Abort>(
     rt: &R,
     runtime: &Runtime<ProbeDisk, Object, B>,
     passes: &mut [ClientPass<PassesOf<B>>],
+    switches: &Switches,
+    call: u64,
 ) {
+    let [lengths, reads, writes, syncs, failed] = switches.counts();
+    switches.once.store(call, Ordering::SeqCst);
     assert_eq!(rt; runtime.flush(rt, passes).err(), Some(Refusal::Device));
+    let passed = [writes + call.div_ceil(2), syncs + call / 2];
+    assert_eq!(rt;
+        switches.counts(),
+        [lengths, reads, passed[0], passed[1], failed + 1]
+    );
     assert_eq!(rt; runtime.flush(rt, passes).err(), Some(Refusal::Halted));
     assert!(rt; runtime.is_halted(rt));
     let request = Request {
@@ -144,23 +154,15 @@ fn end<B: RuntimeName>(
     halves.into_disk()
 }
 
-// What two workers on two processors begin with.
-#[derive(Drop)]
-struct Start {
-    store: Store<Object>,
-    halves: Halves<ProbeDisk>,
-    books: UnnamedBooks,
-    switches: Arc<Switches>,
-    blanks: Vec<Object>,
-}
-
-// Both workers deliver, each in a thread; then a flush fails, and the runtime is closed.
+// Both workers deliver, each in a thread; then a flush fails at this call, which is the last one of
+// the disk, and the runtime is closed.
 fn cross<B: RuntimeName + Send + Sync, R: Threads + Wait + Sync + AllocGlobal + Abort>(
     rt: &R,
     runtime: Runtime<ProbeDisk, Object, B>,
     gate: &Crossing,
     switches: &Switches,
     blanks: Vec<Object>,
+    call: u64,
 ) -> ProbeDisk {
     assert!(rt; runtime.supply(rt, blanks).is_ok());
     let mut passes = Vec::new(rt.alloc());
@@ -173,9 +175,11 @@ fn cross<B: RuntimeName + Send + Sync, R: Threads + Wait + Sync + AllocGlobal + 
     }
     assert_eq!(rt; runtime.seat(rt, 2).err(), Some(Refusal::BadPes));
     work_all(rt, &runtime, stations.as_mut_slice(), gate, 3);
-    switches.fuse.store(2, Ordering::SeqCst);
-    fail(rt, &runtime, passes.as_mut_slice());
-    end(rt, runtime, stand(rt, stations), passes)
+    fail(rt, &runtime, passes.as_mut_slice(), switches, call);
+    let counts = switches.counts();
+    let disk = end(rt, runtime, stand(rt, stations), passes);
+    assert_eq!(rt; switches.counts(), counts);
+    disk
 }
 
 // Each worker has committed its one message. Their seats.
@@ -197,12 +201,14 @@ fn cross_named<B: RuntimeName + Send + Sync, R: Threads + Wait + Sync + AllocGlo
     rt: &R,
     start: Start,
     gate: &Crossing,
+    call: u64,
 ) -> ProbeDisk
     requires ready { IsReady start.store start.halves }
     requires named { IsOf B.opening B.before B.processors (core_in start.store.history) }
     requires parts { table_of start.books.parts ≡ B.table }
     requires seats { table_of start.books.seats ≡ B.seats }
     requires passes { table_of start.books.passes ≡ B.passes }
+    requires checkpoints { table_of start.books.checkpoints ≡ B.checkpoints }
     requires honest { B.honest → ⊥ }
 {
     let Start {
@@ -213,7 +219,7 @@ fn cross_named<B: RuntimeName + Send + Sync, R: Threads + Wait + Sync + AllocGlo
         blanks,
     } = start;
     match Runtime::<ProbeDisk, Object, B>::open(store, halves, books) {
-        Ok(runtime) => cross(rt, runtime, gate, &switches, blanks),
+        Ok(runtime) => cross(rt, runtime, gate, &switches, blanks, call),
         Err(_) => panic!(rt; "memory"),
     }
 }
@@ -223,42 +229,57 @@ fn cross_once<R: Threads + Wait + Sync + AllocGlobal + Abort>(
     rt: &R,
     start: Start,
     gate: &Crossing,
+    call: u64,
 ) -> ProbeDisk
     requires { IsReady start.store start.halves }
 {
-    cross_named::<Brand, R>(rt, start, gate)
+    cross_named::<Brand, R>(rt, start, gate, call)
 }
 
-// What a crash leaves of the disk restarts, with some of the events.
-fn restarts(rt: &(impl AllocGlobal + Abort), tally: &Arc<Tally>, disk: ProbeDisk) {
-    let mut disk = disk.crash(CrashChoice::New);
+// What a crash leaves of the disk restarts, with so many events.
+fn restarts<R: Threads + Sync + AllocGlobal + Abort>(
+    rt: &R,
+    tally: &Arc<Tally>,
+    disk: ProbeDisk,
+    choice: CrashChoice,
+    events: u64,
+) {
+    let mut disk = disk.crash(choice);
     let objects = wanted_objects(rt.alloc(), tally, &mut disk).expect(rt, "memory");
-    let blanks = Blanks::of(rt.alloc(), objects).expect(rt, "memory");
-    match ProbeStore::restart(rt.alloc(), disk, blanks, 1) {
-        Ok(store) => assert!(rt; store.durable() <= 4),
+    let Ok(blanks) = Blanks::of(rt.alloc(), objects) else {
+        panic!(rt; "memory")
+    };
+    match ProbeStore::restart(rt, rt.alloc(), disk, blanks, 1) {
+        Ok(store) => assert_eq!(rt; store.durable(), events),
         Err(_) => panic!(rt; "a store stands there"),
     }
 }
 
-#[test]
-fn commits_cross_and_a_flush_fails(rt: HostRuntime) {
-    let alloc = rt.alloc();
-    let tally = Arc::new(alloc, Tally::new()).expect(&rt, "memory");
-    let disk = ProbeDisk::new(alloc).expect(&rt, "memory");
-    let switches = disk.switches().expect(&rt, "memory");
-    let (store, halves) = new_store(&rt, alloc, disk);
+// The commits cross, and a flush fails at this call. The events are there after a crash if it was
+// the sync of the gate, and the crash leaves the gate as it was written, or as ones.
+fn crosses_and_fails<R: Threads + Wait + Sync + AllocGlobal + Abort>(
+    rt: &R,
+    tally: &Arc<Tally>,
+    call: u64,
+    choice: CrashChoice,
+) {
     let gate = Crossing {
         asks_of_zero: AtomicU64::new(0),
         commits_of_one: AtomicU64::new(0),
     };
-    let start = Start {
-        store,
-        halves,
-        books: UnnamedBooks::new(alloc).expect(&rt, "memory"),
-        switches,
-        blanks: blanks(alloc, &tally, &[(Kind::Counter, 2)]).expect(&rt, "memory"),
-    };
-    let disk = cross_once(&rt, start, &gate);
-    assert!(&rt; gate.asks_of_zero.load(Ordering::SeqCst) < u64::from(MOST_ASKS));
-    restarts(&rt, &tally, disk);
+    let disk = cross_once(rt, Start::new(rt, rt.alloc(), tally), &gate, call);
+    assert!(rt; gate.asks_of_zero.load(Ordering::SeqCst) < u64::from(MOST_ASKS));
+    let is_there = matches!(choice, CrashChoice::New | CrashChoice::Ones);
+    let events = if call + 1 == FLUSH && is_there { 4 } else { 0 };
+    restarts(rt, tally, disk, choice, events);
+}
+
+#[test]
+fn commits_cross_and_a_flush_fails(rt: HostRuntime) {
+    let tally = Arc::new(rt.alloc(), Tally::new()).expect(&rt, "memory");
+    for call in 0..FLUSH {
+        for choice in &CrashChoice::ALL {
+            crosses_and_fails(&rt, &tally, call, *choice);
+        }
+    }
 }

@@ -158,11 +158,11 @@ fn seal<B: RuntimeName, R: Wait + AllocGlobal + Abort>(
     pass: &mut ClientPass<PassesOf<B>>,
 ) {
     assert_eq!(rt; runtime.durable(rt), 2);
-    assert_eq!(rt; runtime.checkpoint(rt, rt.alloc()), Ok(2));
+    assert_eq!(rt; runtime.checkpoint(rt), Ok(2));
     is_durable(rt, runtime, pass);
     switches.fuse.store(0, Ordering::SeqCst);
-    assert_eq!(rt; runtime.checkpoint(rt, rt.alloc()), Err(Refusal::Device));
-    assert_eq!(rt; runtime.checkpoint(rt, rt.alloc()), Err(Refusal::Halted));
+    assert_eq!(rt; runtime.checkpoint(rt), Err(Refusal::Device));
+    assert_eq!(rt; runtime.checkpoint(rt), Err(Refusal::Halted));
     go(rt, runtime, 0, Some(Refusal::Halted));
 }
 
@@ -271,6 +271,7 @@ fn live_named<B: RuntimeName, R: Wait + AllocGlobal + Abort>(
     requires parts { table_of books.parts ≡ B.table }
     requires seats { table_of books.seats ≡ B.seats }
     requires passes { table_of books.passes ≡ B.passes }
+    requires checkpoints { table_of books.checkpoints ≡ B.checkpoints }
     requires honest { B.honest → ⊥ }
 {
     match begun.open::<B>(books) {

@@ -6,18 +6,20 @@ ghost use Rattle.charmlet_workers.specs.Runtime.{IsReady};
 use charmlet_halves::Halves;
 use charmlet_journal::{Created, create};
 use charmlet_model::{Kind, Manifest};
-use charmlet_probe_disk::ProbeDisk;
-use charmlet_probe_objects::{Object, Tally};
-use charmlet_probe_store::wanted_objects;
+use charmlet_probe_disk::{ProbeDisk, Switches};
+use charmlet_probe_objects::{Object, Tally, blanks};
+use charmlet_probe_store::{Blanks, EngineMachine, ProbeStore, wanted_objects};
 use charmlet_recover::stock_of;
 use charmlet_runtime::UnnamedRuntime;
 use charmlet_store::{Store, empty_shelves};
+use charmlet_workers::UnnamedBooks;
 use std::alloc::{AllocGlobal, Global};
 use std::process::Abort;
 use std::sync::Arc;
+use std::thread::Threads;
 
 // An array of counters.
-fn counters(rt: &impl Abort, alloc: Global) -> Manifest
+pub(super) fn counters(rt: &impl Abort, alloc: Global) -> Manifest
     ensures { AreNewest result }
 {
     let arrays = [(0, Kind::Counter.number())];
@@ -26,17 +28,19 @@ fn counters(rt: &impl Abort, alloc: Global) -> Manifest
         .expect(rt, "one array")
 }
 
-// A store on two processors, with an array of counters, whose events are noted.
+// A store with these arrays on so many processors, whose events are noted.
 pub(super) fn new_store(
     rt: &impl Abort,
     alloc: Global,
     disk: ProbeDisk,
+    manifest: Manifest,
+    processors: u16,
 ) -> (Store<Object>, Halves<ProbeDisk>)
+    requires newest { AreNewest manifest }
     ensures { IsReady result.0 result.1 }
 {
-    let manifest = counters(rt, alloc);
-    let shelves = empty_shelves(alloc, 2).expect(rt, "memory");
-    match create(alloc, disk, manifest, 2) {
+    let shelves = empty_shelves(alloc, processors).expect(rt, "memory");
+    match create(alloc, disk, manifest, processors) {
         Ok(created) => {
             let Created {
                 mut history,
@@ -46,6 +50,34 @@ pub(super) fn new_store(
             (Store::new(alloc, history, shelves), halves)
         }
         Err(_) => panic!(rt; "no store is there"),
+    }
+}
+
+// What two workers on two processors begin with: a new store, the switches of its disk, and two
+// blank counters.
+#[derive(Drop)]
+pub(super) struct Start {
+    pub(super) store: Store<Object>,
+    pub(super) halves: Halves<ProbeDisk>,
+    pub(super) books: UnnamedBooks,
+    pub(super) switches: Arc<Switches>,
+    pub(super) blanks: Vec<Object>,
+}
+
+impl Start {
+    pub(super) fn new(rt: &impl Abort, alloc: Global, tally: &Arc<Tally>) -> Start
+        ensures { IsReady result.store result.halves }
+    {
+        let disk = ProbeDisk::new(alloc).expect(rt, "memory");
+        let switches = disk.switches().expect(rt, "memory");
+        let (store, halves) = new_store(rt, alloc, disk, counters(rt, alloc), 2);
+        Start {
+            store,
+            halves,
+            books: UnnamedBooks::new(alloc).expect(rt, "memory"),
+            switches,
+            blanks: blanks(alloc, tally, &[(Kind::Counter, 2)]).expect(rt, "memory"),
+        }
     }
 }
 
@@ -62,8 +94,8 @@ pub(super) fn create_on(
 }
 
 // The runtime that comes back on two processors, with the objects that it wants.
-pub(super) fn restart_on(
-    rt: &(impl AllocGlobal + Abort),
+pub(super) fn restart_on<R: Threads + Sync + AllocGlobal + Abort>(
+    rt: &R,
     disk: ProbeDisk,
     tally: &Arc<Tally>,
 ) -> UnnamedRuntime<ProbeDisk, Object> {
@@ -72,8 +104,26 @@ pub(super) fn restart_on(
     let Ok(blanks) = stock_of(rt.alloc(), objects) else {
         panic!(rt; "memory")
     };
-    match UnnamedRuntime::restart(rt.alloc(), disk, blanks, 2) {
+    match UnnamedRuntime::restart(rt, rt.alloc(), disk, blanks, 2) {
         Ok(begun) => begun,
         Err(_) => panic!(rt; "a store is there"),
+    }
+}
+
+// The store that stands on a disk, on so many processors, with the objects that it wants.
+pub(super) fn come_back<R: Threads + Sync + AllocGlobal + Abort>(
+    rt: &R,
+    disk: ProbeDisk,
+    tally: &Arc<Tally>,
+    processors: u16,
+) -> EngineMachine {
+    let mut disk = disk;
+    let objects = wanted_objects(rt.alloc(), tally, &mut disk).expect(rt, "memory");
+    let Ok(blanks) = Blanks::of(rt.alloc(), objects) else {
+        panic!(rt; "memory")
+    };
+    match ProbeStore::restart(rt, rt.alloc(), disk, blanks, processors) {
+        Ok(store) => EngineMachine::new(rt.alloc(), store),
+        Err(_) => panic!(rt; "a store stands there"),
     }
 }

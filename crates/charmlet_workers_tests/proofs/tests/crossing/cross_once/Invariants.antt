@@ -11,6 +11,7 @@ abbrev pub ghosts-cross_named-B-RuntimeName : goal.ghosts-cross_named-B-RuntimeN
 ghosts-cross_named-B-RuntimeName g a = record {
   seats = table_of a.start.books.seats;
   passes = table_of a.start.books.passes;
+  checkpoints = table_of a.start.books.checkpoints;
   opening = (core_in a.start.store.history).opening;
   before = (core_in a.start.store.history).before;
   processors = (core_in a.start.store.history).processors;

@@ -11,6 +11,7 @@ abbrev pub ghosts-live_named-B-RuntimeName : goal.ghosts-live_named-B-RuntimeNam
 ghosts-live_named-B-RuntimeName g a = record {
   seats = table_of a.books.seats;
   passes = table_of a.books.passes;
+  checkpoints = table_of a.books.checkpoints;
   opening = (core_of a.begun).opening;
   before = (core_of a.begun).before;
   processors = (core_of a.begun).processors;

@@ -1,0 +1,1 @@
+-- The tests cite no definition of their own.

@@ -1,0 +1,5 @@
+mod answers;
+mod counters;
+mod meeting;
+mod random;
+mod refusals;
