@@ -101,15 +101,14 @@ copy_crates() {
 
 # Proves all crates from nothing, and builds and runs the programs, by `rt ci`, in a copy of the tree, which has no edits since
 # edits.py tries those together. What was built goes into the crates' out/; it stays in the copy too, for what reads it there.
-# As many crates are proved at once as there are processors, or RT_JOBS: by itself rt reckons with several times the memory
-# that these take, and leaves processors free.
+# rt gives a crate for which others wait more than one processor where it can. Where it leaves one free, edits and tests take it.
 prove_tree() {
   local tree sum crate out
   tree=$(copy_of_tree)
   sum=$(sum_of_tree)
   rm -rf "$tree" "$(tree_file)"
   copy_crates "$tree" || return
-  (cd "$tree" && RT_JOBS=${RT_JOBS:-$(nproc)} rt ci) || return
+  (cd "$tree" && rt ci) || return
   for crate in "$tree"/crates/*; do
     out=$top/crates/$(basename "$crate")/out
     rm -rf "$out"
