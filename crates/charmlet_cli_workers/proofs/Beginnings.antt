@@ -14,11 +14,12 @@ use Rattle.charmlet_disk.specs.declared.disk.Disk.{Ghosts}
 use Rattle.charmlet_journal.specs.NewStores.{new_core}
 use Rattle.charmlet_script.specs.declared.script.Line.{Line}
 use Rattle.charmlet_script.specs.Script.{Contents, blanks_of, pairs_of, processors_of}
-use Rattle.charmlet_cli.specs.Lines.{AreEnough, kinds_of}
+use Rattle.charmlet_cli.specs.Lines.{AreEnough, kinds_of, named_by}
 use Rattle.charmlet_cli_workers.specs.declared.ended.WorkersError.{WorkersError}
 use Rattle.charmlet_cli_workers.specs.declared.ended.WorkersError.TheVariants.{Delivers, TooFewBlanks, Memory, NotCreated, NotRestarted, NotOpened, Output, NotClosed}
-use Rattle.charmlet_cli_workers.specs.Left.{EndsEarly, IsLeft, Prints}
-use Rattle.charmlet_cli_workers.specs.Said.{ArePrinted, IsBrokenOff, known_in}
+use Rattle.charmlet_cli_workers.specs.Left.{EndsEarly, IsLeft, Prints, PrintsOver}
+use Rattle.charmlet_cli_workers.specs.Said.{HaveBrokenOff, HaveRun, unknown}
+use Rattle.charmlet_cli_workers.proofs.Leavings.{left_anyhow}
 use Rattle.charmlet_cli_workers.specs.Runs.{EndsMade, EndsRun, IsMade, Lacks}
 
 -- objects that are enough are so in a stock that has them
@@ -40,24 +41,27 @@ module _ {D : Type 0} (G : Ghosts D) where
       (make : (P : Core → Type 0) → IfSome end (IsLeft G core.opening core.before core.processors P) → IsMade G first end script P) where
     -- what a run left that ended well
     pub made_ok : {T X : Type 0} (before after : Option Text) (r : Result X (WorkersError T)) →
-        IfSome end (IsLeft G core.opening core.before core.processors (λ last. Prints r None (known_in last) script.lines before after)) →
-        OnOk r (IsMade G first end script (λ last. ArePrinted None (known_in last) script.lines before after))
-    made_ok before after (Ok x) left = make (λ last. ArePrinted None (known_in last) script.lines before after) left
+        IfSome end (IsLeft G core.opening core.before core.processors (λ last. PrintsOver r None last (named_by script.handlers) script.lines before after)) →
+        OnOk r (IsMade G first end script (λ last. HaveRun None last script.handlers script.lines before after))
+    made_ok before after (Ok x) left = make (λ last. HaveRun None last script.handlers script.lines before after) left
     made_ok before after (Err e) left = tt
 
     -- a run over a store that was made ends early
     pub made_early : {T W X : Type 0} (contents : W → Option Text) (before after : W) (r : Result X (WorkersError T)) →
-        IfSome end (IsLeft G core.opening core.before core.processors (λ last. Prints r None (known_in last) script.lines (contents before) (contents after))) →
+        IfSome end (IsLeft G core.opening core.before core.processors (λ last. PrintsOver r None last (named_by script.handlers) script.lines (contents before) (contents after))) →
+        Prints r None unknown (λ deeds. Unit {0}) script.lines (contents before) (contents after) →
         IfErr r (EndsEarly end before after) → IfErr r (EndsMade G contents first end script before after)
-    made_early contents before after (Ok x) left early = tt
-    made_early contents before after (Err NotOpened) left early = (make (λ last. Unit {0}) left, early)
-    made_early contents before after (Err (Output e)) left early = inr (make (λ last. IsBrokenOff None (known_in last) script.lines (contents before) (contents after)) left)
-    made_early contents before after (Err NotClosed) left early = (make (λ last. Unit {0}) left, early)
-    made_early contents before after (Err (Delivers o)) left early = absurd early
-    made_early contents before after (Err (TooFewBlanks o)) left early = absurd early
-    made_early contents before after (Err Memory) left early = absurd early
-    made_early contents before after (Err (NotCreated refusal)) left early = absurd early
-    made_early contents before after (Err (NotRestarted refusal)) left early = absurd early
+    made_early contents before after (Ok x) left prints early = tt
+    made_early {T = T} {X = X} contents before after (Err NotOpened) left prints early =
+        (make (λ last. Unit {0}) (left_anyhow G core.opening core.before core.processors (λ last. PrintsOver {T = T} {X = X} (Err NotOpened) None last (named_by script.handlers) script.lines (contents before) (contents after)) end left), early)
+    made_early contents before after (Err (Output e)) left prints early = inr (make (λ last. HaveBrokenOff None last script.handlers script.lines (contents before) (contents after)) left, prints)
+    made_early {T = T} {X = X} contents before after (Err NotClosed) left prints early =
+        (make (λ last. Unit {0}) (left_anyhow G core.opening core.before core.processors (λ last. PrintsOver {T = T} {X = X} (Err NotClosed) None last (named_by script.handlers) script.lines (contents before) (contents after)) end left), early, prints)
+    made_early contents before after (Err (Delivers o)) left prints early = absurd early
+    made_early contents before after (Err (TooFewBlanks o)) left prints early = absurd early
+    made_early contents before after (Err Memory) left prints early = absurd early
+    made_early contents before after (Err (NotCreated refusal)) left prints early = absurd early
+    made_early contents before after (Err (NotRestarted refusal)) left prints early = absurd early
 
   -- and so ends the run
   pub made_ends : {C W X : Type 0} (state : C → State) (contents : W → Option Text) (first : D) (end : Option D) (objects : List C) (script : Contents) (before after : W) (r : Result X (WorkersError (Vec C))) →

@@ -16,14 +16,16 @@ use Rattle.charmlet_model.proofs.Lasts.{holds_later}
 use Rattle.charmlet_recovery.proofs.Sealed.{can-take}
 use Rattle.charmlet_requests.specs.Pass.{Pass, with_accept, with_told}
 use Rattle.charmlet_passes.specs.Passes.{AreTrue, HeldPass, IsAnswered, IsCurrent, with_answer, with_flush}
-use Rattle.charmlet_cli_workers.specs.Heard.{AreLater, IsHeard, IsLater, IsReached, known_by}
+use Rattle.charmlet_workers.specs.Runtime.{RuntimeShown}
+use Rattle.charmlet_cli.specs.Lines.{Names}
+use Rattle.charmlet_cli_workers.specs.Heard.{AreLater, IsHeard, IsLater, IsLentAfter, IsReached, IsSure, known_by}
 use Rattle.charmlet_cli_workers.specs.Said.{StaysTrue}
 use Rattle.charmlet_cli_workers.proofs.Sayings.{KnowsMore}
 
 -- ---- later passes
 
 pub same_pass : (held : HeldPass) → IsLater held held
-same_pass held = record { more = []; client = refl; last = le_refl held.pass.last; heard = sym (append-nil held.heard) }
+same_pass held = record { more = []; client = refl; lent_at = refl; last = le_refl held.pass.last; heard = sym (append-nil held.heard) }
 
 pub same_passes : (passes : List HeldPass) → AreLater passes passes
 same_passes [] = tt
@@ -33,6 +35,7 @@ then_later : (a b c : HeldPass) → IsLater a b → IsLater b c → IsLater a c
 then_later a b c one two = record {
   more = one.more ++ two.more;
   client = two.client ∙ one.client;
+  lent_at = two.lent_at ∙ one.lent_at;
   last = omega (arith, one.last, two.last);
   heard = two.heard ∙ ap (λ xs. xs ++ two.more) one.heard ∙ append_assoc a.heard one.more two.more;
 }
@@ -52,7 +55,7 @@ one_more (h ∷ passes) held = (same_pass h, one_more passes held)
 flushed_pass : (held : HeldPass) → IsLater held (with_flush held)
 flushed_pass held =
     elim (nat_lt held.pass.lent_at held.pass.last) as (λ b. IsLater held (if b then with_answer held (with_told held.pass held.pass.last Accepted) held.pass.last Accepted else held)) [
-      | true ↦ record { more = (held.pass.last, Accepted) ∷ []; client = refl; last = le_refl held.pass.last; heard = refl }
+      | true ↦ record { more = (held.pass.last, Accepted) ∷ []; client = refl; lent_at = refl; last = le_refl held.pass.last; heard = refl }
       | false ↦ same_pass held
     ]
 
@@ -79,11 +82,28 @@ still_reached (h ∷ old) [] client number later reached = absurd later
 still_reached (h ∷ old) (k ∷ new) client number later reached =
     ⊎_elim (λ here. inl (later.0.client ∙ here.0, omega (arith, here.1, later.0.last))) (λ there. inr (still_reached old new client number later.1 there)) reached
 
+pub still_lent : (old new : List HeldPass) (client number : ℕ) → AreLater old new → IsLentAfter old client number → IsLentAfter new client number
+still_lent [] new client number later lent = absurd lent
+still_lent (h ∷ old) [] client number later lent = absurd later
+still_lent (h ∷ old) (k ∷ new) client number later lent =
+    ⊎_elim (λ here. inl (later.0.client ∙ here.0, omega (arith, here.1, later.0.lent_at))) (λ there. inr (still_lent old new client number later.1 there)) lent
+
+pub still_sure : (old new : List HeldPass) (client number : ℕ) → AreLater old new → IsSure old client number → IsSure new client number
+still_sure [] new client number later sure = absurd sure
+still_sure (h ∷ old) [] client number later sure = absurd later
+still_sure (h ∷ old) (k ∷ new) client number later sure =
+    ⊎_elim (λ here. inl (later.0.client ∙ here.0, (here.1.0, here.1.1, heard_by_later h k here.1.0 Accepted later.0 here.1.2))) (λ there. inr (still_sure old new client number later.1 there)) sure
+
 -- later passes know more
-pub knows_later : (old new : List HeldPass) → AreLater old new → KnowsMore (known_by old) (known_by new)
-knows_later old new later = record {
+pub knows_later : (shown : RuntimeShown) (names : Names) (old new : List HeldPass) → AreLater old new → KnowsMore (known_by shown names old) (known_by shown names new)
+knows_later shown names old new later = record {
   told = λ client number told heard. still_heard old new client number told later heard;
   accepted = λ client number reached. still_reached old new client number later reached;
+  earlier = λ client number lent. still_lent old new client number later lent;
+  durable = λ client number sure. still_sure old new client number later sure;
+  target = λ name index to entry is. is;
+  flushed = λ accepts count is. is;
+  pending = λ count is. is;
 }
 
 -- ---- what is true
@@ -111,6 +131,18 @@ heard_stays_true core (held ∷ passes) client number told sound all heard =
     ⊎_elim
     (λ here. stays_true core client number told sound (subst (λ c. Holds core.opening (take core.durable core.history) c number told) here.0 (true_of core held.pass.client number told held.heard all.0.heard here.1)))
     (λ there. heard_stays_true core passes client number told sound all.1 there) heard
+
+-- what is accepted in some world is so of each number up to it
+up_to : (core : Core) (client number last : ℕ) → number ≤ last → StaysTrue core client last Accepted → StaysTrue core client number Accepted
+up_to core client number last less stays = λ kept from to. omega (arith, less, stays kept from to)
+
+-- and so does what is durable
+pub sure_stays_true : (core : Core) (passes : List HeldPass) (client number : ℕ) → IsSound core → AllByRecursion (λ (held : HeldPass). IsCurrent held core) passes → IsSure passes client number → StaysTrue core client number Accepted
+sure_stays_true core [] client number sound all sure = absurd sure
+sure_stays_true core (held ∷ passes) client number sound all sure =
+    ⊎_elim
+    (λ here. up_to core client number here.1.0 here.1.1 (heard_stays_true core (held ∷ passes) client here.1.0 Accepted sound all (inl (here.0, here.1.2))))
+    (λ there. sure_stays_true core passes client number sound all.1 there) sure
 
 -- and what was accepted is so in the present world
 accepted_at : (core : Core) (pass : Pass) (number : ℕ) → (client_of (present core) pass.client).last ≡ pass.last → number ≤ pass.last → Holds core.opening core.history pass.client number Accepted
@@ -152,8 +184,8 @@ reached_at (h ∷ passes) (suc place) old new client number is its reached = inr
 -- ---- answers
 
 -- a pass is told one thing more
-pub told_pass : (old new : HeldPass) (number : ℕ) (told : Told) → new.pass.client ≡ old.pass.client → old.pass.last ≤ new.pass.last → new.heard ≡ old.heard ++ (number, told) ∷ [] → IsLater old new
-told_pass old new number told client last heard = record { more = (number, told) ∷ []; client = client; last = last; heard = heard }
+pub told_pass : (old new : HeldPass) (number : ℕ) (told : Told) → new.pass.client ≡ old.pass.client → new.pass.lent_at ≡ old.pass.lent_at → old.pass.last ≤ new.pass.last → new.heard ≡ old.heard ++ (number, told) ∷ [] → IsLater old new
+told_pass old new number told client lent_at last heard = record { more = (number, told) ∷ []; client = client; lent_at = lent_at; last = last; heard = heard }
 
 reaches : (last number : ℕ) (b : Bool) → nat_lt last number ≡ b → (last ≤ (if b then number else last)) × (number ≤ (if b then number else last))
 reaches last number true is = (grind (arith, nat_tests), le_refl number)
@@ -172,8 +204,8 @@ module _ (passes : List HeldPass) (place : ℕ) (old new : HeldPass) (client num
   heard_new (Ok told) its answered = heard_at passes place old new client number told got (its ∙ of) (answer_is_heard old new number told answered.heard)
   heard_new (Err refusal) its answered = tt
 
-  later_new : (r : Result Told Refusal) → IfOk r (λ told. (new.pass.client ≡ old.pass.client) × (old.pass.last ≤ new.pass.last)) → IsAnswered old new number r → AreLater passes (slice_set passes place new)
-  later_new (Ok told) its answered = later_at passes place old new got (told_pass old new number told its.0 its.1 answered.heard)
+  later_new : (r : Result Told Refusal) → IfOk r (λ told. (new.pass.client ≡ old.pass.client) × (new.pass.lent_at ≡ old.pass.lent_at) × (old.pass.last ≤ new.pass.last)) → IsAnswered old new number r → AreLater passes (slice_set passes place new)
+  later_new (Ok told) its answered = later_at passes place old new got (told_pass old new number told its.0 its.1 its.2 answered.heard)
   later_new (Err refusal) its answered = later_at passes place old new got (subst (λ (held : HeldPass). IsLater old held) (sym answered.err) (same_pass old))
 
   pub asked_heard : (r : Result Told Refusal) → IfOk r (λ told. new.pass ≡ with_accept (with_told old.pass number told) number) → IsAnswered old new number r → IfOk r (IsHeard (slice_set passes place new) client number)
@@ -186,7 +218,7 @@ module _ (passes : List HeldPass) (place : ℕ) (old new : HeldPass) (client num
 
   pub asked_later : (r : Result Told Refusal) → IfOk r (λ told. new.pass ≡ with_accept (with_told old.pass number told) number) → IsAnswered old new number r → AreLater passes (slice_set passes place new)
   asked_later (Ok told) is answered =
-      later_new (Ok told) (ap (λ (p : Pass). p.client) is, subst (λ n. old.pass.last ≤ n) (sym (ap (λ (p : Pass). p.last) is)) (accept_reaches (with_told old.pass number told) number).0) answered
+      later_new (Ok told) (ap (λ (p : Pass). p.client) is, ap (λ (p : Pass). p.lent_at) is, subst (λ n. old.pass.last ≤ n) (sym (ap (λ (p : Pass). p.last) is)) (accept_reaches (with_told old.pass number told) number).0) answered
   asked_later (Err refusal) is answered = later_new (Err refusal) tt answered
 
   pub stated_heard : (r : Result Told Refusal) → IfOk r (λ told. new.pass ≡ with_told old.pass number told) → IsAnswered old new number r → IfOk r (IsHeard (slice_set passes place new) client number)
@@ -195,5 +227,5 @@ module _ (passes : List HeldPass) (place : ℕ) (old new : HeldPass) (client num
 
   pub stated_later : (r : Result Told Refusal) → IfOk r (λ told. new.pass ≡ with_told old.pass number told) → IsAnswered old new number r → AreLater passes (slice_set passes place new)
   stated_later (Ok told) is answered =
-      later_new (Ok told) (ap (λ (p : Pass). p.client) is, subst (λ n. old.pass.last ≤ n) (sym (ap (λ (p : Pass). p.last) is)) (le_refl old.pass.last)) answered
+      later_new (Ok told) (ap (λ (p : Pass). p.client) is, ap (λ (p : Pass). p.lent_at) is, subst (λ n. old.pass.last ≤ n) (sym (ap (λ (p : Pass). p.last) is)) (le_refl old.pass.last)) answered
   stated_later (Err refusal) is answered = later_new (Err refusal) tt answered

@@ -5,3 +5,5 @@ pub mod Beginnings
 pub mod Returnings
 pub mod Hearing
 pub mod Sayings
+pub mod Asking
+pub mod Delivering

@@ -1,8 +1,21 @@
--- What clients' passes know.
-use Rattle.std.specs.Prelude.{◌≡◌, ◌⊎◌, ℕ, ◌≤◌, List, [], ◌∷◌, ◌++◌, Some, Contains, slice_get}
+-- What clients' passes and workers' seats know.
+use Rattle.std.specs.Prelude.{◌≡◌, ◌⊎◌, ℕ, ◌<◌, ◌≤◌, ◌==◌, List, [], ◌∷◌, ◌++◌, if◌then◌else◌, Some, Contains, slice_get}
+use Rattle.std.specs.List.{AllByRecursion}
+use Rattle.std.specs.Map.{lookup}
+use Rattle.std.specs.BTreeMap.{is_at}
+use Rattle.std.specs.Ordering.{nat_cmp}
+use Rattle.charmlet_model.specs.declared.event.Event.{Event}
+use Rattle.charmlet_model.specs.declared.event.Event.TheVariants.{Accept, Deliver}
+use Rattle.charmlet_model.specs.declared.names.MsgId.{MsgId}
 use Rattle.charmlet_model.specs.declared.told.Told.{Told}
-use Rattle.charmlet_passes.specs.Passes.{HeldPass}
-use Rattle.charmlet_cli_workers.specs.Said.{Clients}
+use Rattle.charmlet_model.specs.declared.told.Told.TheVariants.{Accepted}
+use Rattle.charmlet_history.specs.declared.request.Request.{Request}
+use Rattle.charmlet_passes.specs.Passes.{HeldPass, accept_of, accepts_in}
+use Rattle.charmlet_requests.specs.declared.handlers.Handlers.{Handlers}
+use Rattle.charmlet_requests.specs.Handlers.{IsTarget, handler_of}
+use Rattle.charmlet_cli.specs.Lines.{Names}
+use Rattle.charmlet_workers.specs.Runtime.{RuntimeShown}
+use Rattle.charmlet_cli_workers.specs.Said.{Clients, Deeds, WereFlushed, WerePending, last_of}
 
 -- a client's pass is among these, and its client was told this about the request with this number
 abbrev pub IsHeard : List HeldPass → ℕ → ℕ → Told → Type 0
@@ -17,14 +30,74 @@ IsReached [] client number = ⊥
 IsReached (held ∷ passes) client number =
     ((held.pass.client ≡ client) × (number ≤ held.pass.last)) ⊎ IsReached passes client number
 
--- what these passes know
-abbrev pub known_by : List HeldPass → Clients
-known_by passes = record { told = IsHeard passes; accepted = IsReached passes }
+-- a client's pass is among these, and was lent when its last request had this number or one after
+-- it
+abbrev pub IsLentAfter : List HeldPass → ℕ → ℕ → Type 0
+IsLentAfter [] client number = ⊥
+IsLentAfter (held ∷ passes) client number =
+    ((held.pass.client ≡ client) × (number ≤ held.pass.lent_at))
+    ⊎ IsLentAfter passes client number
+
+-- a client's pass is among these, and its client was told that the request with this number or one
+-- after it is accepted
+abbrev pub IsSure : List HeldPass → ℕ → ℕ → Type 0
+IsSure [] client number = ⊥
+IsSure (held ∷ passes) client number =
+    ((held.pass.client ≡ client)
+    × ((last : ℕ) × (number ≤ last) × Contains held.heard (last, Accepted)))
+    ⊎ IsSure passes client number
+
+-- the handlers by their names
+abbrev pub names_in : Handlers → Names
+names_in handlers name = handler_of handlers name
+
+-- what these passes of a runtime know, and these names
+abbrev pub known_by : RuntimeShown → Names → List HeldPass → Clients
+known_by shown names passes = record {
+  told = IsHeard passes;
+  accepted = IsReached passes;
+  earlier = IsLentAfter passes;
+  durable = IsSure passes;
+  target = λ name index to entry. IsTarget shown.opening index (names name) to entry;
+  flushed = WereFlushed shown.opening shown.before shown.processors;
+  pending = WerePending shown.opening shown.before shown.processors;
+}
+
+-- the accepts of the client's pass among these, which is the first one
+abbrev pub accepts_by : ℕ → List HeldPass → List Event
+accepts_by client [] = []
+accepts_by client (held ∷ passes) =
+    if held.pass.client == client then held.accepts else accepts_by client passes
+
+-- what these passes hold as accepts, and the seats as ids, is what was done
+pub record IsDoneBy (passes : List HeldPass) (lists : List (List MsgId)) (deeds : Deeds)
+    : Type 0 where
+  pub accepts : (client : ℕ) → accepts_in client deeds.accepts ≡ accepts_by client passes
+  pub delivered : deeds.delivered ≡ lists
+
+-- the numbers of these accepts rise from above this one
+abbrev pub AreRising : ℕ → List Event → Type 0
+AreRising number [] = Unit {0}
+AreRising number (Deliver id ∷ events) = AreRising number events
+AreRising number (Accept client other to entry words ∷ events) = (number < other)
+    × AreRising other events
+
+-- the pass's last number is that of the last of its accepts, and their numbers rise
+pub record IsCounted (held : HeldPass) : Type 0 where
+  pub last : held.pass.last ≡ last_of held.pass.lent_at held.accepts
+  pub rising : AreRising held.pass.lent_at held.accepts
+
+-- each pass is found by its client at its own place, so that no client has two, and is counted
+pub record AreTidy (passes : List HeldPass) (places : List (ℕ × ℕ)) : Type 0 where
+  pub found : (place : ℕ) (held : HeldPass) → slice_get passes place ≡ Some held →
+      lookup (is_at (nat_cmp held.pass.client)) places ≡ Some place
+  pub counted : AllByRecursion IsCounted passes
 
 -- the pass is the same client's, and knows no less
 pub record IsLater (old new : HeldPass) : Type 0 where
   pub more : List (ℕ × Told)
   pub client : new.pass.client ≡ old.pass.client
+  pub lent_at : new.pass.lent_at ≡ old.pass.lent_at
   pub last : old.pass.last ≤ new.pass.last
   pub heard : new.heard ≡ old.heard ++ more
 
@@ -38,3 +111,20 @@ AreLater (held ∷ old) (later ∷ new) = IsLater held later × AreLater old new
 abbrev pub IsPassOf : ℕ → List HeldPass → ℕ → Type 0
 IsPassOf client passes place = (held : HeldPass) × (slice_get passes place ≡ Some held)
     × (held.pass.client ≡ client)
+
+-- none of these is the client's
+abbrev pub HaveNone : ℕ → List HeldPass → Type 0
+HaveNone client passes = (place : ℕ) → IsPassOf client passes place → ⊥
+
+-- each client has accepted requests as before
+abbrev pub AreAccepted : List HeldPass → List HeldPass → Type 0
+AreAccepted old new = (client : ℕ) → accepts_by client new ≡ accepts_by client old
+
+-- The client's request was accepted, behind what each client had accepted before. Or it repeats one
+-- of the client's, and nothing was.
+abbrev pub IsAsked : ℕ → Request → List HeldPass → List HeldPass → Type 0
+IsAsked client request old new =
+    ((other : ℕ) → accepts_by other new
+    ≡ accepts_by other old ++ accepts_in other (accept_of client request ∷ []))
+    ⊎ (AreAccepted old new × ((request.number ≤ last_of 0 (accepts_by client old))
+    ⊎ IsLentAfter new client request.number))

@@ -16,7 +16,7 @@ use Rattle.charmlet_cli_workers.specs.declared.ended.WorkersError.{WorkersError}
 use Rattle.charmlet_cli_workers.specs.declared.ended.WorkersError.TheVariants.{Delivers, TooFewBlanks, Memory, NotCreated, NotRestarted, NotOpened, Output, NotClosed}
 use Rattle.charmlet_cli_workers.specs.Left.{IsLeft}
 use Rattle.charmlet_cli_workers.specs.Lines.{has_delivery}
-use Rattle.charmlet_cli_workers.specs.Said.{IsBrokenOff, known_in}
+use Rattle.charmlet_cli_workers.specs.Said.{ArePrinted, HaveBrokenOff, IsBrokenOff, unknown}
 
 module _ {D : Type 0} (G : Ghosts D) where
   -- one disk is as honest as the other
@@ -39,7 +39,9 @@ module _ {D : Type 0} (G : Ghosts D) where
   IsNotMade first end script refusal = (last : D) × (end ≡ Some last)
       × IsHandedBack G first last script refusal × IsAsHonest first last
 
-  -- What each error means where a store was to be made. A refused creation writes its line.
+  -- What each error means where a store was to be made. A refused creation writes its line. Where
+  -- the disk doesn't come back, what was printed is still of the lines' own forms; and if only the
+  -- runtime wasn't taken apart, all of it.
   abbrev pub EndsMade : {T W : Type 0} → (W → Option Text) → (first : D) → (end : Option D) →
       Contents → (before after : W) → WorkersError T → Type 0
   EndsMade contents first end script before after (NotCreated refusal) =
@@ -50,10 +52,14 @@ module _ {D : Type 0} (G : Ghosts D) where
   EndsMade contents first end script before after (Output error) =
       ((refusal : Refusal) × IsNotSaid script refusal (contents before) (contents after)
       × IsNotMade first end script refusal)
-      ⊎ IsMade first end script (λ last. IsBrokenOff None (known_in last) script.lines
+      ⊎ (IsMade first end script (λ last. HaveBrokenOff None last script.handlers script.lines
       (contents before) (contents after))
+      × IsBrokenOff None unknown (λ deeds. Unit {0}) script.lines (contents before)
+      (contents after))
   EndsMade contents first end script before after NotClosed =
       IsMade first end script (λ last. Unit {0}) × (end ≡ None)
+      × ArePrinted None unknown (λ deeds. Unit {0}) script.lines (contents before)
+      (contents after)
   EndsMade contents first end script before after (Delivers objects) = ⊥
   EndsMade contents first end script before after (TooFewBlanks objects) = ⊥
   EndsMade contents first end script before after Memory = ⊥

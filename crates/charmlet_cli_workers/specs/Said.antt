@@ -1,7 +1,9 @@
 -- What lines of a run by workers print.
-use Rattle.std.specs.Prelude.{◌≡◌, ◌⊎◌, ℕ, ◌≤◌, Bool, true, false, ◌||◌, List, [], ◌∷◌, ◌++◌, length, take, Option, Some, None, IfSome, Result}
+use Rattle.std.specs.Prelude.{◌≡◌, ◌⊎◌, ℕ, ◌+◌, ◌-◌, ◌^◌, ◌<◌, ◌≤◌, min, Bool, true, false, ◌||◌, List, [], ◌∷◌, ◌++◌, length, take, Option, Some, None, IfSome, Result}
 use Rattle.std.specs.Io.KnownBytes.{Appends}
-use Rattle.std.specs.List.{flat_map}
+use Rattle.std.specs.List.{AllByRecursion, flat_map}
+use Rattle.charmlet_model.specs.declared.event.Event.{Event}
+use Rattle.charmlet_model.specs.declared.event.Event.TheVariants.{Accept, Deliver}
 use Rattle.charmlet_model.specs.declared.kind.Kind.{Kind}
 use Rattle.charmlet_model.specs.declared.names.Elem.{Elem}
 use Rattle.charmlet_model.specs.declared.names.MsgId.{MsgId}
@@ -13,11 +15,19 @@ use Rattle.charmlet_model.specs.declared.step.Step.{Step}
 use Rattle.charmlet_model.specs.declared.step.Step.TheVariants as steps
 use Rattle.charmlet_model.specs.declared.told.Told.{Told}
 use Rattle.charmlet_model.specs.declared.told.Told.TheVariants.{Accepted}
-use Rattle.charmlet_model.specs.Core.{Core}
+use Rattle.charmlet_model.specs.Core.{Core, present}
+use Rattle.charmlet_model.specs.Sound.{IsSound}
+use Rattle.charmlet_model.specs.World.{World, client_of}
 use Rattle.charmlet_model.specs.Texts.{Text, answer_text}
 use Rattle.charmlet_model.specs.Told.{Holds}
+use Rattle.charmlet_hub.specs.Hub.{deliveries_in}
+use Rattle.charmlet_passes.specs.Passes.{accepts_in}
+use Rattle.charmlet_requests.specs.Handlers.{IsTarget}
+use Rattle.charmlet_seats.specs.Woven.{IsWoven}
+use Rattle.charmlet_sequencer.specs.Sequencer.{IsOf}
 use Rattle.charmlet_script.specs.declared.printed.Counted.{Counted}
 use Rattle.charmlet_script.specs.declared.printed.Drained.{Drained}
+use Rattle.charmlet_script.specs.declared.script.HandlerLine.{HandlerLine}
 use Rattle.charmlet_script.specs.declared.script.Line.{Line}
 use Rattle.charmlet_script.specs.declared.script.Line.TheVariants as lines
 use Rattle.charmlet_script.specs.Printed.{drained_text, pending_text, supplied_text}
@@ -25,16 +35,74 @@ use Rattle.charmlet_store.specs.declared.look.Look.{Look}
 use Rattle.charmlet_workers.specs.Refusals.{is_flush_refusal, is_lending_refusal, is_move_refusal, is_request_refusal, is_status_refusal, is_work_refusal}
 use Rattle.charmlet_workers.specs.Sealing.{IsLaterGeneration, is_sealing_refusal}
 use Rattle.charmlet_cli.specs.declared.restarting.RestartedLine.{RestartedLine}
-use Rattle.charmlet_cli.specs.Lines.{in_lines, memory_text}
+use Rattle.charmlet_cli.specs.Lines.{Names, in_lines, memory_text, named_by}
 use Rattle.charmlet_cli.specs.Restarted.{restarted_line_text}
 use Rattle.charmlet_cli.specs.Shown.{counted_texts, look_text}
 use Rattle.charmlet_cli.specs.Writing.{AppendsBeginning, Writes}
 
--- What is known of clients: what a client was told about which of its requests, and which of these
--- were accepted.
+-- ---- what lines do
+
+-- What lines have done: the requests that were accepted, in order, and for each worker the ids of
+-- the messages that it delivered, in order.
+pub record Deeds : Type 0 where
+  pub accepts : List Event
+  pub delivered : List (List MsgId)
+
+-- nothing was done
+abbrev pub IsNothing : Deeds → Type 0
+IsNothing deeds = (deeds.accepts ≡ []) × AllByRecursion (λ ids. ids ≡ []) deeds.delivered
+
+-- the number of the last of these accepts, or this one if there is none
+abbrev pub last_of : ℕ → List Event → ℕ
+last_of number [] = number
+last_of number (Deliver id ∷ events) = last_of number events
+last_of number (Accept client other to entry words ∷ events) = last_of other events
+
+-- the number of the client's last accept among these, or 0
+abbrev pub last_by : ℕ → List Event → ℕ
+last_by client events = last_of 0 (accepts_in client events)
+
+-- In this history the accepts of each client are those of the lines, in order, and no others. Each
+-- of its deliveries was made by a worker in these lines, or without a seat: each of these lists is
+-- in the history's order.
+pub record HaveDone (core : Core) (deeds : Deeds) : Type 0 where
+  pub accepts : (client : ℕ) → accepts_in client deeds.accepts ≡ accepts_in client core.history
+  pub own : List MsgId
+  pub delivered : IsWoven (own ∷ deeds.delivered) (deliveries_in core.history)
+
+-- At a moment all events of a store that opened so were durable, and they were so many, with those
+-- before its opening world. Each client that these lines had accepts of had these, and no others.
+pub record WereFlushed (opening : World) (before processors : ℕ) (accepts : List Event) (count : ℕ)
+    : Type 0 where
+  pub core : Core
+  pub of : IsOf opening before processors core
+  pub sound : IsSound core
+  pub durable : core.durable ≡ length core.history
+  pub counted : count ≡ core.before + length core.history
+  pub accepts_are : (client : ℕ) → (accepts_in client accepts ≡ [])
+      ⊎ (accepts_in client accepts ≡ accepts_in client core.history)
+
+-- at a moment so many messages of a store that opened so were pending
+pub record WerePending (opening : World) (before processors : ℕ) (count : ℕ) : Type 0 where
+  pub core : Core
+  pub of : IsOf opening before processors core
+  pub sound : IsSound core
+  pub counted : count ≡ length (present core).pending
+
+-- ---- what is known of it
+
+-- What is known of clients: what a client was told about which of its requests, which of them were
+-- accepted, which before the store opened, and which are durable. Where a call of a name goes, to
+-- the element with this index, and at which entry. And how many events there were when they were
+-- flushed after these accepts, and how many pending messages at some moment.
 pub record Clients : Type 1 where
   pub told : ℕ → ℕ → Told → Type 0
   pub accepted : ℕ → ℕ → Type 0
+  pub earlier : ℕ → ℕ → Type 0
+  pub durable : ℕ → ℕ → Type 0
+  pub target : Text → ℕ → Elem → ℕ → Type 0
+  pub flushed : List Event → ℕ → Type 0
+  pub pending : ℕ → Type 0
 
 -- What a client was told about a request is true whichever events of this core a crash leaves, all
 -- durable ones among them.
@@ -42,12 +110,32 @@ abbrev pub StaysTrue : Core → ℕ → ℕ → Told → Type 0
 StaysTrue core client number told = (kept : ℕ) → core.durable ≤ kept → kept ≤ length core.history →
     Holds core.opening (take kept core.history) client number told
 
--- what was told stays true of this core, and what was accepted is accepted in its present world
-abbrev pub known_in : Core → Clients
-known_in core = record {
+-- What was told stays true of this core, what was accepted is so in its present world, and what is
+-- durable is so whichever events a crash leaves.
+abbrev pub known_in : Core → Names → Clients
+known_in core names = record {
   told = StaysTrue core;
   accepted = λ client number. Holds core.opening core.history client number Accepted;
+  earlier = λ client number. number ≤ (client_of core.opening client).last;
+  durable = λ client number. StaysTrue core client number Accepted;
+  target = λ name index to entry. IsTarget core.opening index (names name) to entry;
+  flushed = WereFlushed core.opening core.before core.processors;
+  pending = WerePending core.opening core.before core.processors;
 }
+
+-- nothing is known of clients
+abbrev pub unknown : Clients
+unknown = record {
+  told = λ client number told. Unit {0};
+  accepted = λ client number. Unit {0};
+  earlier = λ client number. Unit {0};
+  durable = λ client number. Unit {0};
+  target = λ name index to entry. Unit {0};
+  flushed = λ accepts count. Unit {0};
+  pending = λ count. Unit {0};
+}
+
+-- ---- what lines print
 
 -- the step can be refused so, and one of a client also because there is no pass for the client
 abbrev pub is_refusal_of : Step → Refusal → Bool
@@ -60,23 +148,45 @@ is_refusal_of steps.Flush refusal = is_flush_refusal refusal
 is_refusal_of steps.Checkpoint refusal = is_sealing_refusal refusal
 is_refusal_of (steps.Deliver processor id) refusal = false
 
--- An answer of a step's own form, or one of its refusals. A client was told what it says, and a
--- request that isn't refused was accepted.
-abbrev pub Answers : Clients → Answer → Step → Type 0
-Answers clients (answers.Refused refusal) step = is_refusal_of step refusal ≡ true
-Answers clients (answers.Told told) (steps.Request client number to entry words) =
+-- A client's request was accepted, exactly so, behind those before it. Or it repeats one that a
+-- line before had accepted, or that was accepted before the store opened; and then nothing is done.
+abbrev pub IsAccepted : Clients → (before : Deeds) → ℕ → ℕ → Elem → ℕ → List ℕ →
+    (after : Deeds) → Type 0
+IsAccepted clients before client number to entry words after =
+    (after ≡ record before {
+      accepts = before.accepts ++ Accept client number to entry words ∷ [];
+    })
+    ⊎ ((after ≡ before)
+    × ((number ≤ last_by client before.accepts) ⊎ clients.earlier client number))
+
+-- each of these accepts is durable, and so is each request before it
+abbrev pub AreDurable : Clients → List Event → Type 0
+AreDurable clients accepts = (client number : ℕ) → 0 < number → number ≤ last_by client accepts →
+    clients.durable client number
+
+-- An answer of a step's own form, or one of its refusals. A client was told what it says, a request
+-- that isn't refused was accepted, and after a flush that isn't refused all accepts of the lines so
+-- far are durable, and it tells how many events there were at that moment.
+abbrev pub Answers : Clients → (before : Deeds) → Answer → Step → (after : Deeds) → Type 0
+Answers clients before (answers.Refused refusal) step after =
+    (is_refusal_of step refusal ≡ true) × (after ≡ before)
+Answers clients before (answers.Told told) (steps.Request client number to entry words) after =
     clients.told client number told × clients.accepted client number
-Answers clients (answers.Told told) (steps.Status client number) = clients.told client number told
-Answers clients (answers.Moved moved place) (steps.Move elem processor) = (moved ≡ elem)
-    × (place ≡ processor)
-Answers clients (answers.Flushed durable) steps.Flush = Unit {0}
-Answers clients (answers.Checkpointed generation) steps.Checkpoint = IsLaterGeneration generation
-Answers clients answer step = ⊥
+    × IsAccepted clients before client number to entry words after
+Answers clients before (answers.Told told) (steps.Status client number) after =
+    clients.told client number told × (after ≡ before)
+Answers clients before (answers.Moved moved place) (steps.Move elem processor) after =
+    (moved ≡ elem) × (place ≡ processor) × (after ≡ before)
+Answers clients before (answers.Flushed durable) steps.Flush after =
+    AreDurable clients before.accepts × clients.flushed before.accepts durable × (after ≡ before)
+Answers clients before (answers.Checkpointed generation) steps.Checkpoint after =
+    IsLaterGeneration generation × (after ≡ before)
+Answers clients before answer step after = ⊥
 
 -- a step prints its answer
-abbrev pub SaysStep : Clients → Step → List Text → Type 0
-SaysStep clients step texts = (answer : Answer) × Answers clients answer step
-    × (texts ≡ answer_text answer ∷ [])
+abbrev pub SaysStep : Clients → (before : Deeds) → Step → List Text → (after : Deeds) → Type 0
+SaysStep clients before step texts after = (answer : Answer)
+    × Answers clients before answer step after × (texts ≡ answer_text answer ∷ [])
 
 -- the line of a refusal, if there is one
 abbrev pub refused_texts : Option Refusal → List Text
@@ -89,11 +199,27 @@ IsSupplyText kind count texts =
     (texts ≡ supplied_text (record { kind = kind; count = count }) ∷ [])
     ⊎ (texts ≡ memory_text ∷ [])
 
--- what a drain prints: how many messages were delivered and are left, and maybe a worker's refusal
-abbrev pub IsDrainText : List Text → Type 0
-IsDrainText texts = (drained : Drained) × (refusal : Option Refusal)
-    × IfSome refusal (λ refusal. is_work_refusal refusal ≡ true)
-    × (texts ≡ drained_text drained ∷ refused_texts refusal)
+-- each worker delivered some more messages, at most so many each, and this many in all
+abbrev pub HaveDelivered : ℕ → (before after : List (List MsgId)) → ℕ → Type 0
+HaveDelivered turns [] after count = (after ≡ []) × (count ≡ 0)
+HaveDelivered turns (ids ∷ before) after count =
+    (more : List MsgId) × (rest : List (List MsgId)) × (others : ℕ) × (length more ≤ turns)
+    × HaveDelivered turns before rest others × (after ≡ (ids ++ more) ∷ rest)
+    × (count ≡ length more + others)
+
+-- What a drain prints: how many messages its workers delivered, or the greatest number that is
+-- printed, and how many are pending then; and maybe a worker's refusal.
+pub record IsDrained (clients : Clients) (turns : ℕ) (before after : Deeds) (texts : List Text)
+    : Type 0 where
+  pub count : ℕ
+  pub delivered : HaveDelivered turns before.delivered after.delivered count
+  pub accepts : after.accepts ≡ before.accepts
+  pub drained : Drained
+  pub counts : drained.delivered ≡ min count (2 ^ 32 - 1)
+  pub left : clients.pending drained.left
+  pub refusal : Option Refusal
+  pub known : IfSome refusal (λ refusal. is_work_refusal refusal ≡ true)
+  pub texts_are : texts ≡ drained_text drained ∷ refused_texts refusal
 
 -- what a line prints that shows an element, or why it can't be seen
 abbrev pub IsStateText : Elem → List Text → Type 0
@@ -110,22 +236,29 @@ IsPendingText texts = ((ids : List MsgId) × (texts ≡ pending_text ids ∷ [])
 abbrev pub IsCensusText : List Text → Type 0
 IsCensusText texts = (counts : List Counted) × (texts ≡ flat_map counted_texts counts)
 
--- the texts of a line: those of its own form, or of a refusal
-abbrev pub Says : Clients → Line → List Text → Type 0
-Says clients (lines.Step step) texts = SaysStep clients step texts
-Says clients (lines.Call client number name index words) texts = (to : Elem) × (entry : ℕ)
-    × SaysStep clients (steps.Request client number to entry words) texts
-Says clients (lines.Supply kind count) texts = IsSupplyText kind count texts
-Says clients (lines.Drain count) texts = IsDrainText texts
-Says clients (lines.State elem) texts = IsStateText elem texts
-Says clients lines.Pending texts = IsPendingText texts
-Says clients lines.Census texts = IsCensusText texts
+-- What a line prints, those texts of its own form or of a refusal, and what it does. What it isn't
+-- said to do it doesn't do: only requests are accepted, and only drains deliver.
+abbrev pub Says : Clients → (before : Deeds) → Line → List Text → (after : Deeds) → Type 0
+Says clients before (lines.Step step) texts after = SaysStep clients before step texts after
+Says clients before (lines.Call client number name index words) texts after =
+    (array : ℕ) × (entry : ℕ)
+    × clients.target name index (record { array = array; index = index }) entry
+    × SaysStep clients before (steps.Request client number
+    (record { array = array; index = index }) entry words) texts after
+Says clients before (lines.Supply kind count) texts after = IsSupplyText kind count texts
+    × (after ≡ before)
+Says clients before (lines.Drain count) texts after = IsDrained clients count before after texts
+Says clients before (lines.State elem) texts after = IsStateText elem texts × (after ≡ before)
+Says clients before lines.Pending texts after = IsPendingText texts × (after ≡ before)
+Says clients before lines.Census texts after = IsCensusText texts × (after ≡ before)
 
--- the texts of lines one after another
-abbrev pub SayInTurn : Clients → List Line → List Text → Type 0
-SayInTurn clients [] texts = texts ≡ []
-SayInTurn clients (line ∷ lines) texts = (printed : List Text) × (rest : List Text)
-    × Says clients line printed × SayInTurn clients lines rest × (texts ≡ printed ++ rest)
+-- the texts of lines one after another, and what they do
+abbrev pub SayInTurn : Clients → (first : Deeds) → List Line → List Text → (last : Deeds) → Type 0
+SayInTurn clients first [] texts last = (texts ≡ []) × (last ≡ first)
+SayInTurn clients first (line ∷ lines) texts last =
+    (next : Deeds) × (printed : List Text) × (rest : List Text)
+    × Says clients first line printed next × SayInTurn clients next lines rest last
+    × (texts ≡ printed ++ rest)
 
 -- such texts are printed, or, if that fails, a beginning of them
 abbrev pub IsWritten : {T E : Type 0} → Result T E → (List Text → Type 0) →
@@ -134,16 +267,18 @@ IsWritten result are before after = (texts : List Text) × are texts
     × Writes result before after (in_lines texts)
 
 -- lines print their texts one after another
-abbrev pub AreSaid : Clients → List Line → (before after : Option Text) → Type 0
-AreSaid clients lines before after = (texts : List Text) × SayInTurn clients lines texts
-    × Appends before after (in_lines texts)
+abbrev pub AreSaid : Clients → (first : Deeds) → List Line → (last : Deeds) →
+    (before after : Option Text) → Type 0
+AreSaid clients first lines last before after = (texts : List Text)
+    × SayInTurn clients first lines texts last × Appends before after (in_lines texts)
 
 -- some lines print their texts, and the next line a beginning of its texts
-abbrev pub AreCutOff : Clients → List Line → (before after : Option Text) → Type 0
-AreCutOff clients lines before after =
+abbrev pub AreCutOff : Clients → (first : Deeds) → List Line → (last : Deeds) →
+    (before after : Option Text) → Type 0
+AreCutOff clients first lines last before after =
     (whole : List Line) × (line : Line) × (rest : List Line) × (lines ≡ whole ++ line ∷ rest)
-    × (between : Option Text) × AreSaid clients whole before between
-    × (texts : List Text) × Says clients line texts
+    × (mid : Deeds) × (between : Option Text) × AreSaid clients first whole mid before between
+    × (texts : List Text) × Says clients mid line texts last
     × AppendsBeginning between after (in_lines texts)
 
 -- the line of a store that came back, if one did
@@ -151,17 +286,33 @@ abbrev pub opening_texts : Option RestartedLine → List Text
 opening_texts None = []
 opening_texts (Some line) = restarted_line_text line ∷ []
 
--- that line and all lines of the script are printed
-abbrev pub ArePrinted : Option RestartedLine → Clients → List Line → (before after : Option Text) →
-    Type 0
-ArePrinted restarted clients lines before after = (between : Option Text)
-    × Appends before between (in_lines (opening_texts restarted))
-    × AreSaid clients lines between after
-
--- what is printed where a line can't be written
-abbrev pub IsBrokenOff : Option RestartedLine → Clients → List Line →
+-- That line and all lines of the script are printed. What they did, from nothing on, is so.
+abbrev pub ArePrinted : Option RestartedLine → Clients → (Deeds → Type 0) → List Line →
     (before after : Option Text) → Type 0
-IsBrokenOff restarted clients lines before after =
-    AppendsBeginning before after (in_lines (opening_texts restarted))
+ArePrinted restarted clients did lines before after =
+    (first : Deeds) × (last : Deeds) × IsNothing first × did last
+    × (between : Option Text) × Appends before between (in_lines (opening_texts restarted))
+    × AreSaid clients first lines last between after
+
+-- what is printed where a line can't be written, and what was done
+abbrev pub IsBrokenOff : Option RestartedLine → Clients → (Deeds → Type 0) → List Line →
+    (before after : Option Text) → Type 0
+IsBrokenOff restarted clients did lines before after =
+    (first : Deeds) × (last : Deeds) × IsNothing first × did last
+    × (((last ≡ first) × AppendsBeginning before after (in_lines (opening_texts restarted)))
     ⊎ ((between : Option Text) × Appends before between (in_lines (opening_texts restarted))
-    × AreCutOff clients lines between after)
+    × AreCutOff clients first lines last between after))
+
+-- ---- over a store
+
+-- a script with these handlers was run over a store that has this core in the end, and printed
+abbrev pub HaveRun : Option RestartedLine → Core → List HandlerLine → List Line →
+    (before after : Option Text) → Type 0
+HaveRun restarted core handlers lines before after =
+    ArePrinted restarted (known_in core (named_by handlers)) (HaveDone core) lines before after
+
+-- the same where a line can't be written
+abbrev pub HaveBrokenOff : Option RestartedLine → Core → List HandlerLine → List Line →
+    (before after : Option Text) → Type 0
+HaveBrokenOff restarted core handlers lines before after =
+    IsBrokenOff restarted (known_in core (named_by handlers)) (HaveDone core) lines before after

@@ -17,18 +17,20 @@ use std::sync::Wait;
 pub(crate) struct Clients<B: RuntimeName> {
     pub(crate) passes: Vec<ClientPass<PassesOf<B>>>,
     /// Where the pass of a client stands among them. A place without the client's pass is no place.
-    places: BTreeMap<u32, usize>,
+    pub(crate) places: BTreeMap<u32, usize>,
 }
 
 impl<B: RuntimeName> Clients<B> {
-    ghost use Rattle.std.specs.Prelude.{◌≡◌, ◌||◌, [], true, map, IfErr, IfOk, OnErr, OnOk};
+    ghost use Rattle.std.specs.Prelude.{◌≡◌, ◌||◌, [], None, true, map, IfErr, IfOk, IfSome, OnErr, OnOk};
     ghost use Rattle.charmlet_passes.specs.Passes.{with_flush};
+    ghost use Rattle.charmlet_workers.specs.Runtime.{AreFlushed};
     ghost use Rattle.charmlet_workers.specs.Refusals.{is_flush_refusal, is_lending_refusal, is_request_refusal, is_status_refusal};
-    ghost use Rattle.charmlet_cli_workers.specs.Heard.{AreLater, IsHeard, IsPassOf, IsReached};
+    ghost use Rattle.charmlet_cli_workers.specs.Heard.{AreAccepted, AreLater, AreTidy, HaveNone, IsAsked, IsHeard, IsPassOf, IsReached};
 
     /// No client yet. It takes no memory.
     pub(crate) fn new(alloc: Global) -> Self
-        ensures { result.passes.items ≡ [] }
+        ensures passes { result.passes.items ≡ [] }
+        ensures tidy { AreTidy result.passes.items result.places.entries }
     {
         Clients {
             passes: Vec::new(alloc),
@@ -54,6 +56,12 @@ impl<B: RuntimeName> Clients<B> {
         client: u32,
         request: &Request<'_>,
     ) -> Result<Told, Refusal>
+        requires tidy { AreTidy self.old.passes.items self.old.places.entries }
+        ensures tidy { AreTidy self.new.passes.items self.new.places.entries }
+        ensures asked { OnOk result (IsAsked client request.now self.old.passes.items
+            self.new.passes.items) }
+        ensures unasked { OnErr result (AreAccepted self.old.passes.items
+            self.new.passes.items) }
         ensures heard { IfOk result (IsHeard self.new.passes.items client request.now.number) }
         ensures reached { OnOk result
             (IsReached self.new.passes.items client request.now.number) }
@@ -76,6 +84,9 @@ impl<B: RuntimeName> Clients<B> {
         client: u32,
         number: u64,
     ) -> Result<Told, Refusal>
+        requires tidy { AreTidy self.old.passes.items self.old.places.entries }
+        ensures tidy { AreTidy self.new.passes.items self.new.places.entries }
+        ensures accepted { AreAccepted self.old.passes.items self.new.passes.items }
         ensures heard { IfOk result (IsHeard self.new.passes.items client number) }
         ensures later { AreLater self.old.passes.items self.new.passes.items }
         ensures err { IfErr result (λ refusal.
@@ -97,6 +108,8 @@ impl<B: RuntimeName> Clients<B> {
         ensures told { OnOk result
             (self.new.passes.items ≡ map with_flush self.old.passes.items) }
         ensures untold { OnErr result (self.new.passes.items ≡ self.old.passes.items) }
+        ensures places { self.new.places ≡ self.old.places }
+        ensures flushed { IfOk result (AreFlushed runtime.now self.new.passes.items) }
         ensures err { IfErr result (λ refusal. is_flush_refusal refusal ≡ true) }
     {
         runtime.flush(rt, self.passes.as_mut_slice())
@@ -110,20 +123,39 @@ impl<B: RuntimeName> Clients<B> {
         runtime: &Runtime<D, C, B>,
         client: u32,
     ) -> Result<usize, Refusal>
+        requires tidy { AreTidy self.old.passes.items self.old.places.entries }
+        ensures tidy { AreTidy self.new.passes.items self.new.places.entries }
+        ensures accepted { AreAccepted self.old.passes.items self.new.passes.items }
         ensures place { IfOk result (IsPassOf client self.new.passes.items) }
         ensures later { AreLater self.old.passes.items self.new.passes.items }
         ensures err { IfErr result (λ refusal. is_lending_refusal refusal ≡ true) }
     {
-        let place = self.places.get(&client).copied();
-        match place {
-            Some(place) if self.is_at(place, client) => Ok(place),
-            _ => self.lend(rt, runtime, client),
+        match self.find(client) {
+            Some(place) => Ok(place),
+            None => self.lend(rt, runtime, client),
+        }
+    }
+
+    /// The place of a client's pass, if the client has one.
+    fn find(&self, client: u32) -> Option<usize>
+        requires tidy { AreTidy self.now.passes.items self.now.places.entries }
+        ensures place { IfSome result (IsPassOf client self.now.passes.items) }
+        ensures none { result ≡ None → HaveNone client self.now.passes.items }
+    {
+        let Some(place) = self.places.get(&client).copied() else {
+            return None;
+        };
+        if self.is_at(place, client) {
+            Some(place)
+        } else {
+            None
         }
     }
 
     /// Whether the client's pass stands at this place.
     fn is_at(&self, place: usize, client: u32) -> bool
-        ensures { result ≡ true → IsPassOf client self.now.passes.items place }
+        ensures there { result ≡ true → IsPassOf client self.now.passes.items place }
+        ensures not_there { IsPassOf client self.now.passes.items place → result ≡ true }
     {
         match self.passes.get(place) {
             Some(pass) => pass.client() == client,
@@ -131,14 +163,18 @@ impl<B: RuntimeName> Clients<B> {
         }
     }
 
-    /// Lends the client its pass, which comes last. There is room for it before it is lent, so that
-    /// none is lost.
+    /// Lends a client that has none its pass, which comes last. There is room for it before it is
+    /// lent, so that none is lost.
     fn lend<D: Disk, C: Chare, R: Wait>(
         &mut self,
         rt: &R,
         runtime: &Runtime<D, C, B>,
         client: u32,
     ) -> Result<usize, Refusal>
+        requires none { HaveNone client self.old.passes.items }
+        requires tidy { AreTidy self.old.passes.items self.old.places.entries }
+        ensures tidy { AreTidy self.new.passes.items self.new.places.entries }
+        ensures accepted { AreAccepted self.old.passes.items self.new.passes.items }
         ensures place { IfOk result (IsPassOf client self.new.passes.items) }
         ensures later { AreLater self.old.passes.items self.new.passes.items }
         ensures err { IfErr result (λ refusal. is_lending_refusal refusal ≡ true) }

@@ -1,8 +1,11 @@
 //! The running of `drain` lines.
 
-ghost use Rattle.std.specs.Prelude.{◌≡◌, ℕ, ◌<◌, true, IfSome, length, slice_index_or};
+ghost use Rattle.std.specs.Prelude.{◌≡◌, ℕ, ◌-◌, ◌^◌, ◌<◌, min, sum_by, true, List, IfSome, length, map, slice_index_or};
 ghost use Rattle.charmlet_workers.specs.Refusals.{is_work_refusal};
-ghost use Rattle.charmlet_cli_workers.specs.Said.{IsDrainText, IsWritten};
+ghost use Rattle.charmlet_passes.specs.Passes.{HeldPass};
+ghost use Rattle.charmlet_cli.specs.Lines.{Names};
+ghost use Rattle.charmlet_cli_workers.specs.Heard.{known_by};
+ghost use Rattle.charmlet_cli_workers.specs.Said.{Deeds, IsDrained, IsWritten};
 
 use charmlet_chare::Chare;
 use charmlet_cli::{write_answer, write_line};
@@ -36,8 +39,12 @@ pub(crate) fn drain_line<
     turns: u32,
     writer: &mut W,
 ) -> io::Result<()>
-    ensures { IsWritten result IsDrainText (W.contents writer.old)
-        (W.contents writer.new) }
+    ensures { (named : Names) (passes : List HeldPass) (before : Deeds) →
+        before.delivered ≡ map (λ station. station.seat.ids) stations.old →
+        IsWritten result (IsDrained (known_by runtime.now named passes) turns before
+        (record before {
+          delivered = map (λ station. station.seat.ids) stations.new;
+        })) (W.contents writer.old) (W.contents writer.new) }
 {
     let _ = writer.flush();
     work_all(rt, runtime, stations, &OpenGate, u64::from(turns));
@@ -53,12 +60,17 @@ pub(crate) fn drain_line<
 }
 
 /// How many messages the workers delivered together, or 2^32-1 if there are more.
-fn delivered_by<B: RuntimeName>(stations: &[Station<B>]) -> u32 {
+fn delivered_by<B: RuntimeName>(stations: &[Station<B>]) -> u32
+    ensures { result ≡ min (sum_by (λ station. station.worked.count) stations.now) (2 ^ 32 - 1) }
+{
     let mut total: u64 = 0;
     for station in stations {
         total = total.saturating_add(station.worked.count);
     }
-    u32::try_from(total).unwrap_or(u32::MAX)
+    let Ok(count) = u32::try_from(total) else {
+        return u32::MAX;
+    };
+    count
 }
 
 /// The refusal that ended the work of the first of these workers that was refused.

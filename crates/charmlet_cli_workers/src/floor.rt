@@ -1,5 +1,9 @@
 //! What a script's lines go by, beside the runtime.
 
+ghost use Rattle.std.specs.Prelude.{◌≡◌, ◌++◌, [], OnOk, map};
+ghost use Rattle.std.specs.List.{AllByRecursion};
+ghost use Rattle.charmlet_seats.specs.Seats.{HeldSeat};
+
 use crate::clients::Clients;
 use charmlet_chare::Chare;
 use charmlet_disk::Disk;
@@ -44,12 +48,16 @@ impl<C: Chare, B: RuntimeName> Drop for Floor<C, B> {
 }
 
 impl<C: Chare, B: RuntimeName> Floor<C, B> {
-    ghost use Rattle.std.specs.Prelude.{◌≡◌, []};
+    ghost use Rattle.charmlet_cli_workers.specs.Heard.{AreTidy};
 
     /// Without a seat and without a pass. It takes no memory.
     pub(crate) fn new(alloc: Global, handlers: Handlers, source: Stock<C>) -> Self
         ensures source { result.source ≡ source }
+        ensures handlers { result.handlers ≡ handlers }
         ensures passes { result.clients.passes.items ≡ [] }
+        ensures tidy { AreTidy result.clients.passes.items result.clients.places.entries }
+        ensures stations { result.stations.items ≡ [] }
+        ensures seats { result.seats.items ≡ [] }
     {
         Floor {
             stations: Vec::new(alloc),
@@ -62,7 +70,9 @@ impl<C: Chare, B: RuntimeName> Floor<C, B> {
 
     /// What was lent, for the end.
     pub(crate) fn into_lent(self) -> Lent<B>
-        ensures { result.passes.items ≡ self.clients.passes.items }
+        ensures passes { result.passes.items ≡ self.clients.passes.items }
+        ensures stations { result.stations.items ≡ self.stations.items }
+        ensures seats { result.seats.items ≡ self.seats.items }
     {
         let Floor {
             stations,
@@ -97,7 +107,12 @@ pub(crate) fn take_seats<D: Disk, C: Chare, B: RuntimeName, R: Wait>(
     stations: &mut Vec<Station<B>>,
     seats: &mut Vec<Seat<SeatsOf<B>>>,
     processors: u16,
-) -> Result<(), Refusal> {
+) -> Result<(), Refusal>
+    requires { stations.old.items ≡ [] }
+    ensures new { OnOk result (AllByRecursion (λ ids. ids ≡ [])
+        (map (λ station. station.seat.ids) stations.new.items)) }
+    ensures seats { seats.new.items ≡ seats.old.items }
+{
     if seats.reserve(usize::from(processors)).is_err() {
         return Err(Refusal::Memory);
     }
@@ -122,8 +137,13 @@ pub(crate) fn take_seats<D: Disk, C: Chare, B: RuntimeName, R: Wait>(
 pub(crate) fn give_up<B: RuntimeName>(
     stations: Vec<Station<B>>,
     seats: &mut Vec<Seat<SeatsOf<B>>>,
-) -> Result<(), AllocError> {
-    for Station { seat, worked: _ } in stations {
+) -> Result<(), AllocError>
+    ensures { OnOk result (map (λ (seat : HeldSeat). seat.ids) seats.new.items
+        ≡ map (λ (seat : HeldSeat). seat.ids) seats.old.items
+        ++ map (λ station. station.seat.ids) stations.items) }
+{
+    for station in stations {
+        let Station { seat, worked: _ } = station;
         seats.push(seat)?;
     }
     Ok(())

@@ -1,15 +1,19 @@
 //! The running of lines.
 
-ghost use Rattle.std.specs.Prelude.{◌≡◌, ◌+◌, ◌≤◌, ◌||◌, ◌∷◌, [], false, true, IfErr, IfOk, OnErr, OnOk};
+ghost use Rattle.std.specs.Prelude.{◌≡◌, ℕ, ◌+◌, ◌≤◌, List, false, OnErr, OnOk, map};
 ghost use Rattle.charmlet_model.specs.declared.kind.Kind as kinds;
+ghost use Rattle.charmlet_model.specs.declared.names.MsgId as names;
 ghost use Rattle.charmlet_stock.specs.Stock.{blanks_in};
 ghost use Rattle.charmlet_script.specs.Script.{blanks_of};
 ghost use Rattle.charmlet_script.specs.Script.{blanks_in as supplied_by};
 ghost use Rattle.charmlet_script.specs.declared.script.Line.TheVariants as lines;
-ghost use Rattle.charmlet_workers.specs.Refusals.{is_lending_refusal, is_request_refusal};
-ghost use Rattle.charmlet_cli_workers.specs.Heard.{AreLater, IsHeard, IsReached, known_by};
+ghost use Rattle.charmlet_model.specs.declared.step.Step.TheVariants as steps;
+ghost use Rattle.charmlet_engine.specs.Engine.{client_answer};
+ghost use Rattle.charmlet_requests.specs.Handlers.{IsTarget};
+ghost use Rattle.charmlet_cli.specs.Lines.{Names};
+ghost use Rattle.charmlet_cli_workers.specs.Heard.{AreLater, AreTidy, IsDoneBy, known_by, names_in};
 ghost use Rattle.charmlet_cli_workers.specs.Lines.{has_delivery, is_delivery};
-ghost use Rattle.charmlet_cli_workers.specs.Said.{Answers, AreCutOff, AreSaid, IsWritten, Says};
+ghost use Rattle.charmlet_cli_workers.specs.Said.{Answers, AreCutOff, AreSaid, Deeds, IsWritten, Says};
 
 use crate::clients::Clients;
 use crate::draining::drain_line;
@@ -63,9 +67,21 @@ pub(crate) fn run_lines<
     requires no_delivery { has_delivery lines.now ≡ false }
     requires enough { (kind : kinds.Kind) → blanks_of kind lines.now
         ≤ blanks_in floor.old.source kind }
-    ensures said { OnOk result (AreSaid (known_by floor.new.clients.passes.items) lines.now
+    requires tidy { AreTidy floor.old.clients.passes.items floor.old.clients.places.entries }
+    ensures seats { floor.new.seats ≡ floor.old.seats }
+    ensures said { OnOk result ((first : Deeds) → IsDoneBy floor.old.clients.passes.items
+        (map (λ station. station.seat.ids) floor.old.stations.items) first →
+        (last : Deeds) × IsDoneBy floor.new.clients.passes.items
+        (map (λ station. station.seat.ids) floor.new.stations.items) last
+        × AreSaid (known_by runtime.now (names_in floor.old.handlers)
+        floor.new.clients.passes.items) first lines.now last
         (W.contents writer.old) (W.contents writer.new)) }
-    ensures cut_off { OnErr result (AreCutOff (known_by floor.new.clients.passes.items) lines.now
+    ensures cut_off { OnErr result ((first : Deeds) → IsDoneBy floor.old.clients.passes.items
+        (map (λ station. station.seat.ids) floor.old.stations.items) first →
+        (last : Deeds) × IsDoneBy floor.new.clients.passes.items
+        (map (λ station. station.seat.ids) floor.new.stations.items) last
+        × AreCutOff (known_by runtime.now (names_in floor.old.handlers)
+        floor.new.clients.passes.items) first lines.now last
         (W.contents writer.old) (W.contents writer.new)) }
 {
     for line in lines {
@@ -86,10 +102,18 @@ fn run_line<D: Disk, C: Chare, B: RuntimeName + Send + Sync, W: Write, R: Thread
     requires no_delivery { is_delivery line.now ≡ false }
     requires enough { (kind : kinds.Kind) → supplied_by kind line.now
         ≤ blanks_in floor.old.source kind }
+    requires tidy { AreTidy floor.old.clients.passes.items floor.old.clients.places.entries }
     ensures left { (kind : kinds.Kind) → blanks_in floor.old.source kind
         ≤ blanks_in floor.new.source kind + supplied_by kind line.now }
-    ensures said { IsWritten result (Says (known_by floor.new.clients.passes.items) line.now)
-        (W.contents writer.old) (W.contents writer.new) }
+    ensures tidy { AreTidy floor.new.clients.passes.items floor.new.clients.places.entries }
+    ensures seats { floor.new.seats ≡ floor.old.seats }
+    ensures handlers { floor.new.handlers ≡ floor.old.handlers }
+    ensures said { (before : Deeds) → IsDoneBy floor.old.clients.passes.items
+        (map (λ station. station.seat.ids) floor.old.stations.items) before →
+        (after : Deeds) × IsDoneBy floor.new.clients.passes.items
+        (map (λ station. station.seat.ids) floor.new.stations.items) after
+        × IsWritten result (λ texts. Says (known_by runtime.now (names_in floor.old.handlers)
+        floor.new.clients.passes.items) before line.now texts after) (W.contents writer.old) (W.contents writer.new) }
     ensures later { AreLater floor.old.clients.passes.items floor.new.clients.passes.items }
 {
     match line {
@@ -138,13 +162,19 @@ fn call_handler<D: Disk, C: Chare, B: RuntimeName, R: Wait>(
     clients: &mut Clients<B>,
     call: &Call<'_>,
 ) -> Result<Told, Refusal>
-    ensures heard { IfOk result
-        (IsHeard clients.new.passes.items call.now.client call.now.number) }
-    ensures reached { OnOk result
-        (IsReached clients.new.passes.items call.now.client call.now.number) }
+    requires tidy { AreTidy clients.old.passes.items clients.old.places.entries }
+    ensures tidy { AreTidy clients.new.passes.items clients.new.places.entries }
+    ensures did { (lists : List (List names.MsgId)) (before : Deeds) →
+        IsDoneBy clients.old.passes.items lists before →
+        (after : Deeds) × (array : ℕ) × (entry : ℕ)
+        × IsDoneBy clients.new.passes.items lists after
+        × IsTarget runtime.now.opening call.now.index (names_in handlers.now call.now.name.now)
+        (record { array = array; index = call.now.index }) entry
+        × Answers (known_by runtime.now (names_in handlers.now) clients.new.passes.items) before
+        (client_answer result)
+        (steps.Request call.now.client call.now.number
+        (record { array = array; index = call.now.index }) entry call.now.words.now) after }
     ensures later { AreLater clients.old.passes.items clients.new.passes.items }
-    ensures err { IfErr result (λ refusal.
-        (is_request_refusal refusal || is_lending_refusal refusal) ≡ true) }
 {
     let handler = runtime.target(rt, handlers, call.name);
     let request = Request {
@@ -167,8 +197,14 @@ fn answer_to<D: Disk, C: Chare, B: RuntimeName, R: Wait>(
     clients: &mut Clients<B>,
     step: &Step,
 ) -> Answer
-    requires { is_delivery (lines.Step step.now) ≡ false }
-    ensures answers { Answers (known_by clients.new.passes.items) result step.now }
+    requires no_delivery { is_delivery (lines.Step step.now) ≡ false }
+    requires tidy { AreTidy clients.old.passes.items clients.old.places.entries }
+    ensures tidy { AreTidy clients.new.passes.items clients.new.places.entries }
+    ensures answers { (named : Names) (lists : List (List names.MsgId)) (before : Deeds) →
+        IsDoneBy clients.old.passes.items lists before →
+        (after : Deeds) × IsDoneBy clients.new.passes.items lists after
+        × Answers (known_by runtime.now named clients.new.passes.items) before result step.now
+        after }
     ensures later { AreLater clients.old.passes.items clients.new.passes.items }
 {
     match step {

@@ -1,16 +1,16 @@
 //! Runtimes that are opened for a script, and taken apart after it.
 
-ghost use Rattle.std.specs.Prelude.{◌≡◌, ◌≤◌, None, false, IfErr, IfSome, IsErr, IsSome, OnOk};
+ghost use Rattle.std.specs.Prelude.{◌≡◌, ◌≤◌, [], None, false, IfErr, IfSome, IsErr, IsSome, OnOk, map};
 ghost use Rattle.charmlet_model.specs.declared.kind.Kind.{Kind};
 ghost use Rattle.charmlet_script.specs.Script.{blanks_of};
 ghost use Rattle.charmlet_stock.specs.Stock.{blanks_in};
 ghost use Rattle.charmlet_agreement.specs.Naming.{table_of};
 ghost use Rattle.charmlet_sequencer.specs.Sequencer.{IsOf};
 ghost use Rattle.charmlet_engine.specs.Engine.{core_of};
-ghost use Rattle.charmlet_cli_workers.specs.Heard.{known_by};
-ghost use Rattle.charmlet_cli_workers.specs.Left.{EndsApart, EndsEarly, IsApart, IsEarly, IsLeft, KeepsDurable, Prints};
+ghost use Rattle.charmlet_cli_workers.specs.Heard.{AreTidy, IsDoneBy, known_by, names_in};
+ghost use Rattle.charmlet_cli_workers.specs.Left.{EndsApart, EndsEarly, IsApart, IsEarly, IsLeft, KeepsDurable, Prints, PrintsOver};
 ghost use Rattle.charmlet_cli_workers.specs.Lines.{has_delivery};
-ghost use Rattle.charmlet_cli_workers.specs.Said.{known_in, opening_texts};
+ghost use Rattle.charmlet_cli_workers.specs.Said.{opening_texts, unknown};
 ghost use Rattle.charmlet_cli.specs.Lines.{in_lines};
 ghost use Rattle.charmlet_cli.specs.Writing.{Writes};
 
@@ -78,8 +78,11 @@ pub(crate) fn run_named<
     requires enough { (kind : Kind) → blanks_of kind lines.now.lines.now
         ≤ blanks_in given.source kind }
     ensures left { IfSome result.disk (IsLeft D.Disk (core_of begun).opening (core_of begun).before
-        (core_of begun).processors (λ last. Prints result.result lines.now.restarted
-        (known_in last) lines.now.lines.now (W.contents writer.old) (W.contents writer.new))) }
+        (core_of begun).processors (λ last. PrintsOver result.result lines.now.restarted last
+        (names_in given.handlers) lines.now.lines.now (W.contents writer.old)
+        (W.contents writer.new))) }
+    ensures prints { Prints result.result lines.now.restarted unknown (λ deeds. Unit {0})
+        lines.now.lines.now (W.contents writer.old) (W.contents writer.new) }
     ensures honest { IfSome result.disk (λ disk. D.honest begun.disk → D.honest disk) }
     ensures back { OnOk result.result (IsSome result.disk) }
     ensures err { IfErr result.result (EndsEarly result.disk writer.old writer.new) }
@@ -120,16 +123,23 @@ fn run_on<
     requires no_delivery { has_delivery lines.now.lines.now ≡ false }
     requires enough { (kind : Kind) → blanks_of kind lines.now.lines.now
         ≤ blanks_in floor.old.source kind }
+    requires passes { floor.old.clients.passes.items ≡ [] }
+    requires tidy { AreTidy floor.old.clients.passes.items floor.old.clients.places.entries }
+    requires stations { floor.old.stations.items ≡ [] }
+    requires seats { floor.old.seats.items ≡ [] }
+    ensures seats { floor.new.seats.items ≡ [] }
     ensures err { IfErr result (IsEarly writer.old writer.new) }
     ensures prints { Prints result lines.now.restarted
-        (known_by floor.new.clients.passes.items) lines.now.lines.now (W.contents writer.old)
-        (W.contents writer.new) }
+        (known_by runtime.now (names_in floor.old.handlers) floor.new.clients.passes.items)
+        (IsDoneBy floor.new.clients.passes.items
+        (map (λ station. station.seat.ids) floor.new.stations.items)) lines.now.lines.now
+        (W.contents writer.old) (W.contents writer.new) }
 {
     let stations = &mut floor.stations;
     let seats = &mut floor.seats;
-    if take_seats(rt, runtime, stations, seats, lines.processors).is_err() {
+    let Ok(()) = take_seats(rt, runtime, stations, seats, lines.processors) else {
         return Err(WorkersError::NotOpened);
-    }
+    };
     if let Err(error) = write_opening(alloc, lines.restarted, writer) {
         return Err(WorkersError::Output(error));
     }
@@ -162,8 +172,10 @@ fn take_apart<D: Disk, C: Chare, T: Drop, B: RuntimeName>(
     floor: Floor<C, B>,
     ran: Result<(), WorkersError<T>>,
 ) -> RanByWorkers<D, T>
+    requires seats { floor.seats.items ≡ [] }
     ensures left { IfSome result.disk (IsApart D.Disk runtime.opening runtime.before
-        runtime.processors floor.clients.passes.items) }
+        runtime.processors floor.clients.passes.items
+        (map (λ station. station.seat.ids) floor.stations.items)) }
     ensures honest { IfSome result.disk (λ disk. B.honest → D.honest disk) }
     ensures same { IsSome result.disk → result.result ≡ ran }
     ensures back { OnOk result.result (IsSome result.disk) }
@@ -174,9 +186,9 @@ fn take_apart<D: Disk, C: Chare, T: Drop, B: RuntimeName>(
         mut seats,
         passes,
     } = floor.into_lent();
-    if give_up(stations, &mut seats).is_err() {
+    let Ok(()) = give_up(stations, &mut seats) else {
         return not_closed(ran);
-    }
+    };
     match runtime.close(seats, passes) {
         Ok(Closed { store, halves, own }) => {
             store.history.facts();

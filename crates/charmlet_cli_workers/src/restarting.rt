@@ -1,13 +1,15 @@
 //! Scripts over runtimes that come back.
 
-ghost use Rattle.std.specs.Prelude.{◌≡◌, ◌≤◌, Some, false, IfErr, IfOk, IsSome, OnOk};
+ghost use Rattle.std.specs.Prelude.{◌≡◌, ℕ, ◌≤◌, List, Some, false, IfErr, IfOk, IsSome, OnOk};
 ghost use Rattle.charmlet_model.specs.declared.kind.Kind.{Kind};
 ghost use Rattle.charmlet_script.specs.Script.{blanks_of};
+ghost use Rattle.charmlet_requests.specs.Handlers.{handler_of};
+ghost use Rattle.charmlet_cli.specs.Lines.{named_by};
 ghost use Rattle.charmlet_stock.specs.Stock.{blanks_in, supplied_to};
 ghost use Rattle.charmlet_replay.specs.Unused.{IsUnused};
 ghost use Rattle.charmlet_cli.specs.Restarted.{given_of};
 ghost use Rattle.charmlet_cli_workers.specs.Lines.{has_delivery};
-ghost use Rattle.charmlet_cli_workers.specs.Said.{ArePrinted, known_in};
+ghost use Rattle.charmlet_cli_workers.specs.Said.{HaveRun};
 ghost use Rattle.charmlet_cli_workers.specs.Restarts.{EndsBack, EndsRestart, IsBackByWorkers, line_of};
 ghost use Rattle.charmlet_cli_workers.specs.Runs.{IsFit};
 
@@ -48,12 +50,13 @@ pub fn restart_workers<D: Disk, C: Chare, W: Write, R: Threads + Wait + Sync>(
 ) -> RanByWorkers<D, (Vec<C>, Vec<C>)>
     ensures fit { OnOk result.result (IsFit C.state supplies.items script.now.lines) }
     ensures ran { OnOk result.result (IsBackByWorkers D.Disk processors
-        (given_of C.state blanks.items) disk result.disk (λ back last.
-        ArePrinted (Some (line_of back)) (known_in last) script.now.lines
-        (W.contents writer.old) (W.contents writer.new))) }
+        (given_of C.state blanks.items) disk result.disk
+        (λ back last. HaveRun (Some (line_of back)) last script.now.handlers script.now.lines
+        (W.contents writer.old) (W.contents writer.new)) (λ back. Unit {0})) }
     ensures back { OnOk result.result (IsSome result.disk) }
     ensures err { IfErr result.result (EndsRestart D.Disk C.state W.contents processors
-        disk result.disk blanks.items supplies.items script.now.lines writer.old writer.new) }
+        disk result.disk blanks.items supplies.items script.now.handlers script.now.lines
+        writer.old writer.new) }
 {
     if has_delivery(script.lines()) {
         return RanByWorkers {
@@ -98,6 +101,8 @@ fn prepare<C: Chare>(
         supplied_to prepared.blanks kind ≡ given_of C.state blanks.items kind) }
     ensures source { IfOk result (λ prepared. (kind : Kind) →
         blanks_in prepared.given.source kind ≡ given_of C.state supplies.items kind) }
+    ensures handlers { IfOk result (λ prepared. (name : List ℕ) →
+        handler_of prepared.given.handlers name ≡ named_by script.now.handlers name) }
 {
     let Ok(blanks) = stock_of(alloc, blanks) else {
         return Err(AllocError);
@@ -126,14 +131,16 @@ fn restart_with<D: Disk, C: Chare, W: Write, R: Threads + Wait + Sync>(
     requires no_delivery { has_delivery script.now.lines ≡ false }
     requires enough { (kind : Kind) → blanks_of kind script.now.lines
         ≤ blanks_in prepared.given.source kind }
+    requires handlers { (name : List ℕ) →
+        handler_of prepared.given.handlers name ≡ named_by script.now.handlers name }
     ensures ran { OnOk result.result (IsBackByWorkers D.Disk processors
-        (supplied_to prepared.blanks) disk result.disk (λ back last.
-        ArePrinted (Some (line_of back)) (known_in last) script.now.lines
-        (W.contents writer.old) (W.contents writer.new))) }
+        (supplied_to prepared.blanks) disk result.disk
+        (λ back last. HaveRun (Some (line_of back)) last script.now.handlers script.now.lines
+        (W.contents writer.old) (W.contents writer.new)) (λ back. Unit {0})) }
     ensures back { OnOk result.result (IsSome result.disk) }
     ensures err { IfErr result.result (EndsBack D.Disk W.contents processors
-        (supplied_to prepared.blanks) disk result.disk script.now.lines writer.old
-        writer.new) }
+        (supplied_to prepared.blanks) disk result.disk script.now.handlers script.now.lines
+        writer.old writer.new) }
 {
     let Prepared {
         blanks,

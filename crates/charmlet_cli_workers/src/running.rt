@@ -1,6 +1,6 @@
 //! Scripts over new runtimes.
 
-ghost use Rattle.std.specs.Prelude.{◌≡◌, ◌≤◌, None, Some, false, IfErr, IfOk, IsSome, OnOk};
+ghost use Rattle.std.specs.Prelude.{◌≡◌, ℕ, ◌≤◌, List, None, Some, false, IfErr, IfOk, IsSome, OnOk};
 ghost use Rattle.charmlet_model.specs.declared.kind.Kind.{Kind};
 ghost use Rattle.charmlet_model.specs.Shelves.{count_of};
 ghost use Rattle.charmlet_stock.specs.Stock.{blanks_in};
@@ -8,8 +8,10 @@ ghost use Rattle.charmlet_model.specs.Edition.{AreNewest};
 ghost use Rattle.charmlet_model.specs.Manifest.{manifest_of};
 ghost use Rattle.charmlet_disk.specs.Disk.{IsSettled};
 ghost use Rattle.charmlet_script.specs.Script.{blanks_of, pairs_of};
+ghost use Rattle.charmlet_requests.specs.Handlers.{handler_of};
+ghost use Rattle.charmlet_cli.specs.Lines.{named_by};
 ghost use Rattle.charmlet_cli_workers.specs.Lines.{has_delivery};
-ghost use Rattle.charmlet_cli_workers.specs.Said.{ArePrinted, known_in};
+ghost use Rattle.charmlet_cli_workers.specs.Said.{HaveRun};
 ghost use Rattle.charmlet_cli_workers.specs.Runs.{EndsMade, EndsRun, IsFit, IsMade, Lacks};
 
 use crate::ended::{RanByWorkers, WorkersError};
@@ -54,7 +56,7 @@ pub fn run_workers<D: Disk, C: Chare, W: Write, R: Threads + Wait + Sync>(
     requires settled { D.honest disk → IsSettled (D.file disk) }
     ensures fit { OnOk result.result (IsFit C.state blanks.items script.now.lines) }
     ensures ran { OnOk result.result (IsMade D.Disk disk result.disk script.now
-        (λ last. ArePrinted None (known_in last) script.now.lines (W.contents writer.old)
+        (λ last. HaveRun None last script.now.handlers script.now.lines (W.contents writer.old)
         (W.contents writer.new))) }
     ensures back { OnOk result.result (IsSome result.disk) }
     ensures err { IfErr result.result (EndsRun D.Disk C.state W.contents disk result.disk
@@ -92,6 +94,8 @@ fn prepare<C: Chare>(
     ensures newest { IfOk result (λ prepared. AreNewest prepared.manifest) }
     ensures source { IfOk result (λ prepared. (kind : Kind) →
         blanks_in prepared.given.source kind ≡ count_of C.state blanks.items kind) }
+    ensures handlers { IfOk result (λ prepared. (name : List ℕ) →
+        handler_of prepared.given.handlers name ≡ named_by script.now.handlers name) }
     ensures err { IfErr result (Lacks C.state blanks.items script.now.lines) }
 {
     if has_delivery(script.lines()) {
@@ -117,6 +121,8 @@ fn prepared_with<C: Chare>(
     ensures newest { IfOk result (λ prepared. AreNewest prepared.manifest) }
     ensures source { IfOk result (λ prepared. (kind : Kind) →
         blanks_in prepared.given.source kind ≡ count_of C.state blanks.items kind) }
+    ensures handlers { IfOk result (λ prepared. (name : List ℕ) →
+        handler_of prepared.given.handlers name ≡ named_by script.now.handlers name) }
 {
     let manifest = script.manifest(alloc)?;
     let books = UnnamedBooks::new(alloc)?;
@@ -144,8 +150,10 @@ fn run_in_new_store<D: Disk, C: Chare, W: Write, R: Threads + Wait + Sync>(
     requires no_delivery { has_delivery script.now.lines ≡ false }
     requires enough { (kind : Kind) → blanks_of kind script.now.lines
         ≤ blanks_in prepared.given.source kind }
+    requires handlers { (name : List ℕ) →
+        handler_of prepared.given.handlers name ≡ named_by script.now.handlers name }
     ensures ran { OnOk result.result (IsMade D.Disk disk result.disk script.now
-        (λ last. ArePrinted None (known_in last) script.now.lines (W.contents writer.old)
+        (λ last. HaveRun None last script.now.handlers script.now.lines (W.contents writer.old)
         (W.contents writer.new))) }
     ensures back { OnOk result.result (IsSome result.disk) }
     ensures err { IfErr result.result (EndsMade D.Disk W.contents disk result.disk script.now

@@ -1,6 +1,6 @@
 -- Deliveries that are under way, and what they make of the world.
-use Rattle.std.proofs.Common.{◌≡◌, ℕ, ◌+◌, ◌==◌, ◌<◌, Bool, true, false, cond, List, refl, sym, ap, subst, ◌∙◌}
-use Rattle.std.specs.Prelude.{Option, Some, None, IfSome, IsSome, is_some, nat_le, option_and_then, unwrap_or, ◌&&◌, ◌||◌, if◌then◌else◌}
+use Rattle.std.proofs.Common.{◌≡◌, ℕ, ◌+◌, ◌==◌, ◌<◌, true, false, cond, List, refl, sym, ap, subst, ◌∙◌}
+use Rattle.std.specs.Prelude.{Option, Some, None, IfSome, is_some, option_and_then, if◌then◌else◌}
 use Rattle.std.specs.Ordering.{eq_by_cmp}
 use Rattle.std.specs.BTreeMap.{is_at}
 use Rattle.std.specs.Map.{lookup}
@@ -15,16 +15,14 @@ use Rattle.charmlet_model.specs.declared.state.Record.{Record}
 use Rattle.charmlet_model.specs.declared.reaction.Reaction.{Reaction}
 use Rattle.charmlet_model.specs.declared.TheConstants.{CONSTRUCT}
 use Rattle.charmlet_model.specs.Names.{elem_cmp}
-use Rattle.charmlet_model.specs.Fit.{IsMessage}
 use Rattle.charmlet_model.specs.declared.refusal.Refusal.TheVariants as refusals
-use Rattle.charmlet_model.specs.Reaction.{constructed, edition_of, greatest, react}
+use Rattle.charmlet_model.specs.Reaction.{constructed, edition_of, react}
 use Rattle.charmlet_model.specs.Packed.{IsState}
 use Rattle.charmlet_model.specs.World.{World, advanced, performed, record_of, reaction_of, edition_of_array, can_deliver}
-use Rattle.charmlet_model.specs.Core.{Core, home, present, pending_message, place_of, place_or_home, assigned_to, next_core, Commit, blank_for, blank_of_id}
+use Rattle.charmlet_model.specs.Core.{Core, present, pending_message, place_of, assigned_to, next_core, Commit, blank_for, blank_of_id}
 use Rattle.charmlet_model.specs.Sound.{IsAssigned}
 use Rattle.charmlet_model.specs.Shelves.{if_here, if_there, there_in}
 use Rattle.charmlet_model.proofs.Maps.{elem_exact, tied_elem}
-use Rattle.charmlet_model.proofs.Fits.{found}
 use Rattle.charmlet_model.proofs.Histories.{record_at-insert}
 use Rattle.charmlet_model.proofs.SoundLemmas.{sound_fit}
 use Rattle.charmlet_chare.specs.declared.output.Output.{Output}
@@ -32,7 +30,7 @@ use Rattle.charmlet_chare.specs.Output.{output_of}
 use Rattle.charmlet_history.specs.declared.history.History.{History}
 use Rattle.charmlet_history.specs.Kept.{Kept, IsConsistent, IsAssignedOutput, assigned_message, core_in}
 use Rattle.charmlet_shelf.specs.Due.{Due, newcomer_due, reaction_in, record_after}
-use Rattle.charmlet_shelf.specs.Shelf.{Assigns, IsDueAt, View, done_by, is_idle, refusal_at, performed as performed_phase, with_record}
+use Rattle.charmlet_shelf.specs.Shelf.{Assigns, IsDueAt, View, done_by, performed as performed_phase, with_record}
 use Rattle.charmlet_shelf.proofs.Records.{found_with, rising_with}
 use Rattle.charmlet_shelf.specs.Count.{is_newcomer_of, objects_on}
 use Rattle.charmlet_shelf.specs.declared.phase.Phase.{Phase}
@@ -40,7 +38,7 @@ use Rattle.charmlet_shelf.specs.declared.phase.Phase.TheVariants as phases
 use Rattle.charmlet_delivery.specs.Workplace.{ShowsOn, ShowsPart}
 use Rattle.charmlet_delivery.specs.UnderWay.{IsUnderWay, blank_in}
 use Rattle.charmlet_delivery.specs.Delivering.{IsDelivering}
-use Rattle.charmlet_delivery.proofs.Places.{if_here_same, others_stay, present_next, receiver_shown, seen_is, stands_here}
+use Rattle.charmlet_delivery.proofs.Places.{others_stay, present_next, receiver_shown, seen_is}
 use Rattle.charmlet_model.specs.Own.{advanced_if}
 
 -- ---- the assigned message
@@ -52,11 +50,6 @@ some_of (Some x) h = (x, refl)
 pub and_then_some : {A B : Type 0} (f : A → Option B) (o : Option A) (y : B) → option_and_then f o ≡ Some y → (x : A) × (o ≡ Some x) × (f x ≡ Some y)
 and_then_some f None y h = cc
 and_then_some f (Some x) y h = (x, refl, h)
-
--- an element that has the processor as its place is seen there
-seen_there : (place : Option ℕ) (p other : ℕ) (r : Record) → unwrap_or place other ≡ p → is_some place ≡ true → is_some (if_here place p r) ≡ true
-seen_there None p other r on some = absurd (let never : ⊥ = cc in never)
-seen_there (Some q) p other r on some = ap (λ n. is_some (if_here (Some n) p r)) on ∙ ap is_some (if_here_same p r)
 
 module _ (k : Kept) (consistent : IsConsistent k) (p : ℕ) where
   abbrev core : Core
@@ -87,32 +80,6 @@ module _ (k : Kept) (consistent : IsConsistent k) (p : ℕ) where
           receiver = receiver;
           reacts = ap (λ o. is_some (react (edition_of at.0) m.to o m.entry m.words)) at.2;
         })
-
-    -- the receiver of a message for which no blank is wanted is there, on the processor's shelf
-    module _ (unwanted : blank_of_id core (assigned_to core p) ≡ None) where
-      -- else it were to be constructed, in its array's edition
-      not_constructed : (entry received sent : Bool) (edition : Option Edition) → (entry && received && sent) ≡ true → IsSome edition → (if entry then edition else None) ≡ None → ⊥
-      not_constructed true received sent (Some edition) can some none = cc
-      not_constructed true received sent None can some none = cc
-      not_constructed false received sent edition can some none = cc
-
-      receiver_there : (o : Option State) → (record_of w m.to).state ≡ o → is_some o ≡ true
-      receiver_there (Some s) is = refl
-      receiver_there None is =
-          let its_edition : IsSome (edition_of_array w m.to.array) = (found (IsMessage w) its.0 w.pending m its.2 (sound_fit core consistent.sound).messages).to.array in
-          let none : blank_for core m ≡ None = ap (option_and_then (blank_for core)) (sym here) ∙ unwanted in
-          let received = nat_le ((record_of w m.to).received + 1) greatest in
-          let sent = nat_le ((record_of w m.to).sent + 16) greatest in
-          absurd (not_constructed (m.entry == CONSTRUCT) received sent (edition_of_array w m.to.array)
-          (ap (λ o. (is_some o || (m.entry == CONSTRUCT)) && received && sent) (sym is) ∙ can_be)
-          its_edition
-          (ap (λ o. if is_some o then None else (if m.entry == CONSTRUCT then edition_of_array w m.to.array else None)) (sym is) ∙ none))
-
-      pub receiver_seen : (records : List (Elem × Record)) → ShowsOn p records core.places w → is_some (lookup (is_at (elem_cmp m.to)) records) ≡ true
-      receiver_seen records shows =
-          let on : place_or_home core m.to ≡ p = stands_here core consistent.sound p its.0 m its.1 its.2 in
-          let placed : is_some (place_of core m.to) ≡ true = (consistent.sound.placed m.to).there ∙ receiver_there (record_of w m.to).state refl in
-          ap is_some (shows.shown m.to) ∙ seen_there (place_of core m.to) p (home m.to core.processors) (record_of w m.to) on placed
 
     -- a message for which a blank is wanted constructs its receiver, which isn't there
     module _ (edition : Edition) (wanted : blank_of_id core (assigned_to core p) ≡ Some edition) where
@@ -247,12 +214,6 @@ performed_objects old shelf is = λ i kind. each kind i
 -- ---- a message that is assigned on the shelf
 
 module _ (history : History) (consistent : IsConsistent history) (old shelf : View) (shows : ShowsPart history old) (idle : old.phase ≡ phases.Idle) (m : Message) (here : assigned_message (core_in history) old.number ≡ Some m) where
-  -- it isn't refused where no blank is wanted for it
-  pub not_refused : blank_of_id (core_in history) (assigned_to (core_in history) old.number) ≡ None → refusal_at old m.to ≡ None
-  not_refused unwanted =
-      let seen = receiver_seen history consistent old.number m here unwanted old.records shows.objects in
-      λ i. if is_idle (idle i) then (if seen i then None else Some refusals.Absent) else Some refusals.Uncommitted
-
   -- with a receiver that is there
   module _ (assigns : Assigns old m shelf) where
     abbrev due_there : Due

@@ -130,14 +130,16 @@ fn shelve<C: Chare>(
     let Some((id, letter)) = history.assigned(shelf.number()) else {
         unreachable!()
     };
-    let Ok(message) = letter.copy(alloc, id) else {
-        return Err(AllocError);
-    };
     let Some(edition) = wanted else {
-        if shelf.assign(message).is_err() {
-            unreachable!()
+        let words = letter.words.as_slice();
+        let assigned = shelf.assign_copy(id, letter.to, letter.entry, words);
+        if assigned.is_err() {
+            return Err(AllocError);
         }
         return Ok(());
+    };
+    let Ok(message) = letter.copy(alloc, id) else {
+        return Err(AllocError);
     };
     let counts = history.element(message.to);
     if assign_newcomer(shelf, stock, edition, counts, message).is_err() {

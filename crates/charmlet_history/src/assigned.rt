@@ -43,6 +43,7 @@ impl Assigned {
     }
 
     /// The processor's message, if it has one.
+    #[inline(always)]
     pub(crate) fn get(&self, processor: u16) -> Option<MsgId>
         ensures { result ≡ lookup (is_at (nat_cmp processor)) self.now.entries }
     {

@@ -9,7 +9,7 @@ ghost use Rattle.charmlet_history.specs.Kept.{core_in};
 ghost use Rattle.charmlet_sequencer.specs.Rest.{Agrees};
 ghost use Rattle.charmlet_stock.specs.ByKind.{for_all};
 ghost use Rattle.charmlet_store.specs.Store.{AreEmpty};
-ghost use Rattle.charmlet_passes.specs.Passes.{AreAll, HeldPass, IsCurrent};
+ghost use Rattle.charmlet_passes.specs.Passes.{AreAll, HaveAllAccepts, HeldPass, IsCurrent};
 ghost use Rattle.charmlet_seats.specs.Seats.{HeldSeat};
 ghost use Rattle.charmlet_seats.specs.Woven.{IsWoven};
 ghost use Rattle.charmlet_sequencer.specs.Sequencer.{IsOf, is_lawful};
@@ -53,10 +53,10 @@ impl<D: Disk, C: Chare, B: RuntimeName> Hub<D, C, B> {
     /// in any order. What is under way on each of them ends first, as [`settle`](Self::settle) ends
     /// it. The objects show the world after the history. The ids that the seats hold and those of
     /// the commits without a seat are all deliveries of the history: each stands in one of these
-    /// lists, in the history's order. Each pass has exactly its client's accepts since it was lent,
-    /// and all that it knows of its client's requests is true of the durable events. It takes no
-    /// memory: an empty shelf for each processor, in whose place the store has its shelf, is handed
-    /// in too.
+    /// lists, in the history's order. Each pass has exactly its client's accepts, and all that it
+    /// knows of its client's requests is true of the durable events; a client without a pass has no
+    /// accepts. It takes no memory: an empty shelf for each processor, in whose place the store has
+    /// its shelf, is handed in too.
     ///
     /// The only refusal is `PassOut`, if a seat or a pass that is out isn't handed in. Then all
     /// comes back as it was.
@@ -89,6 +89,8 @@ impl<D: Disk, C: Chare, B: RuntimeName> Hub<D, C, B> {
             (deliveries_in (core_in closed.store.history).history)) }
         ensures current { IfOk result (λ closed. AllByRecursion
             (λ (held : HeldPass). IsCurrent held (core_in closed.store.history)) passes.items) }
+        ensures accepts { IfOk result (λ closed. HaveAllAccepts passes.items
+            (core_in closed.store.history)) }
         ensures all { OnOk result (AreAll self.passes.held passes.items) }
         ensures all_in { OnOk result (are_all_in self (vec_len seats) (vec_len passes) ≡ true) }
         ensures err { IfErr result (λ back. back.refusal ≡ refusals.PassOut) }

@@ -45,10 +45,10 @@ use std::sync::ledger::Ledger;
 /// Each call is one step of the core, or leaves it as it is. Each delivery of the history stands
 /// once among the ids that the seats hold and the hub's own, in each of these lists in the
 /// history's order. All passes are current: what a pass knows of its client's requests is true of
-/// the durable events, and it has exactly its client's accepts since it was lent. The hub's own
-/// list has room for each assigned delivery, so that one can always be finished without memory; and
-/// so has a checkpoint that runs. That is one of this store, and has what stands on each shelf that
-/// its token says was handed in.
+/// the durable events, and it has exactly its client's accepts; a client without a pass has none.
+/// The hub's own list has room for each assigned delivery, so that one can always be finished
+/// without memory; and so has a checkpoint that runs. That is one of this store, and has what
+/// stands on each shelf that its token says was handed in.
 pub struct Hub<D: Disk, C: Chare, B: RuntimeName> {
     pub(crate) alloc: Global,
     pub(crate) sequencer: Sequencer<D, C, B>,

@@ -64,7 +64,7 @@ last-delivered : (w : World) (m : Option Message) (c : ℕ) → (client_of (deli
 last-delivered w None c = refl
 last-delivered w (Some m) c = last-performed w m (reaction_of w m) c
 
-last-without : (w : World) (events : List Event) (client : ℕ) → accepts_in client events ≡ [] → (client_of (world w events) client).last ≡ (client_of w client).last
+pub last-without : (w : World) (events : List Event) (client : ℕ) → accepts_in client events ≡ [] → (client_of (world w events) client).last ≡ (client_of w client).last
 last-without w [] client none = refl
 last-without w (Deliver id ∷ es) client none =
     last-without (after w (Deliver id)) es client none ∙ last-delivered w (message_among id w.pending) client
@@ -128,6 +128,10 @@ module _ (old new : Core) (client : ℕ) (on : GoesOnWithout client old new) (so
       ∙ ap (λ l. accepts_in client (drop n old.history) ++ l) on.without
       ∙ append-nil (accepts_in client (drop n old.history))
 
+  -- all of them are as before
+  pub history-later : accepts_in client new.history ≡ accepts_in client old.history
+  history-later = accepts-later 0 (omega arith)
+
   longer : length old.history ≤ length new.history
   longer = let long = ap length on.grows ∙ length-append old.history on.more in omega arith
 
@@ -140,6 +144,7 @@ current-later old new h on sound sound' is =
     record {
       heard = all-later old new h.pass.client on sound sound' h.heard is.heard;
       told = λ number. holds-later old new h.pass.client on sound sound' number (known h.pass number) (is.told number);
+      lent_at = is.lent_at ∙ ap (λ w. (client_of w h.pass.client).last) (sym on.opening);
       up_to_date = last-later old new h.pass.client on sound sound' ∙ is.up_to_date;
       since = omega arith;
       within = omega arith;
@@ -147,6 +152,7 @@ current-later old new h on sound sound' is =
           is.accepts
           ∙ sym (accepts-later old new h.pass.client on sound sound' (h.since - old.before) (omega arith))
           ∙ ap (λ b. accepts_in h.pass.client (drop (h.since - b) new.history)) (sym before);
+      all = is.all ∙ sym (history-later old new h.pass.client on sound sound');
     }
 
 pub are_current-later : (passes : LentPasses) (old new : Core) → ((client : ℕ) → GoesOnWithout client old new) → IsSound old → IsSound new → AreCurrent passes old → AreCurrent passes new
@@ -154,4 +160,5 @@ are_current-later passes old new on sound sound' are = record {
   each = λ place h at. current-later old new h (on h.pass.client) sound sound' (are.each place h at);
   out = are.out;
   apart = are.apart;
+  others = λ client none. history-later old new client (on client) sound sound' ∙ are.others client none;
 }

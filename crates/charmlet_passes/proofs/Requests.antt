@@ -1,5 +1,5 @@
 -- What is made of the passes by requests.
-use Rattle.std.proofs.Common.{◌≡◌, ◌≢◌, ◌⊎◌, inl, inr, ⊎_elim, ℕ, ◌+◌, ◌-◌, ◌≤◌, true, false, List, [], ◌∷◌, ◌++◌, length, take, drop, refl, sym, ap, subst, ◌∙◌, arith, length-append, if◌then◌else◌, Option, Some, None, nat_lt, Result}
+use Rattle.std.proofs.Common.{◌≡◌, ◌≢◌, ◌⊎◌, inl, inr, ⊎_elim, ℕ, zero, suc, ◌+◌, ◌-◌, ◌≤◌, true, false, List, [], ◌∷◌, ◌++◌, length, take, drop, refl, sym, ap, subst, ◌∙◌, arith, length-append, if◌then◌else◌, Option, Some, None, nat_lt, Result}
 use Rattle.std.specs.Prelude.{◌==◌, slice_get, slice_set, IfErr, IfOk, OnErr}
 use Rattle.std.specs.List.{AllByRecursion}
 use Rattle.std.specs.Cmp.{nat_eq_equiv}
@@ -26,10 +26,10 @@ use Rattle.charmlet_model.proofs.Windows.{inside-parts}
 use Rattle.charmlet_requests.specs.Pass.{Pass, IsTold, IsUpToDate, IsHeard, is_out}
 use Rattle.charmlet_requests.proofs.Covering.{told-above, told-below}
 use Rattle.charmlet_requests.proofs.Turns.{IsAnswered, answered, follows}
-use Rattle.charmlet_passes.specs.Passes.{HeldPass, LentPasses, AreTrue, IsCurrent, AreCurrent, accepts_in, lent_since, held_by, with_answer}
+use Rattle.charmlet_passes.specs.Passes.{HasNone, HeldPass, LentPasses, AreTrue, IsCurrent, AreCurrent, accepts_in, lent_since, held_by, with_answer}
 use Rattle.charmlet_passes.specs.Passes as answers
-use Rattle.charmlet_passes.proofs.Lasting.{GoesOnWithout, accepts_in-append, current-later}
-use Rattle.charmlet_passes.proofs.Places.{at_end, at_set}
+use Rattle.charmlet_passes.proofs.Lasting.{GoesOnWithout, accepts_in-append, current-later, history-later, last-without}
+use Rattle.charmlet_passes.proofs.Places.{at_end, at_set, was_at}
 use Rattle.charmlet_passes.proofs.Sets.{out-put, out-still}
 use Rattle.charmlet_passes.proofs.OtherSteps.{stays}
 
@@ -47,15 +47,38 @@ nothing_told core client number =
           subst (Holds core.opening (take core.durable core.history) client number) (sym (told-below no_client number (omega arith))) past
     ] refl
 
-lent_current : (core : Core) (client : ℕ) → IsCurrent (lent_since client (client_of (present core) client).last (core.before + length core.history)) core
-lent_current core client = record {
+lent_current : (core : Core) (client : ℕ) → accepts_in client core.history ≡ [] → IsCurrent (lent_since client (client_of (present core) client).last (core.before + length core.history)) core
+lent_current core client none = record {
   heard = tt;
   told = nothing_told core client;
+  lent_at = last-without core.opening core.history client none;
   up_to_date = refl;
   since = omega arith;
   within = omega arith;
   accepts = sym (ap (accepts_in client) (drop_all (core.before + length core.history - core.before) core.history (omega arith)));
+  all = sym none;
 }
+
+-- nothing stands in an empty list
+none-stands : (place : ℕ) (h : HeldPass) → slice_get [] place ≡ Some (Some h) → ⊥
+none-stands place h at = cc
+
+-- what stands in a list does so in a longer one
+still-there : {A : Type 0} (xs : List A) (a b : A) (n : ℕ) → slice_get xs n ≡ Some b → slice_get (xs ++ a ∷ []) n ≡ Some b
+still-there [] a b n at = absurd (let no : ⊥ = cc in no)
+still-there (x ∷ xs) a b zero at = at
+still-there (x ∷ xs) a b (suc n) at = still-there xs a b n at
+
+-- where nothing has happened no pass is out, and no client has accepts
+pub none_current : (out : List ℕ) (held : List (Option HeldPass)) (core : Core) → held ≡ [] → core.history ≡ [] → AreCurrent (record { out = out; held = held }) core
+none_current out held core empty new =
+    let never : (place : ℕ) (h : HeldPass) → slice_get held place ≡ Some (Some h) → ⊥ = λ place h at. (let there : slice_get [] place ≡ Some (Some h) = subst (λ (hs : List (Option HeldPass)). slice_get hs place ≡ Some (Some h)) empty at in none-stands place h there) in
+    record {
+      each = λ place h at. absurd (never place h at);
+      out = λ place h at. absurd (never place h at);
+      apart = λ i j g h at there same. absurd (never i g at);
+      others = λ client none. ap (accepts_in client) new;
+    }
 
 pub are_current-lent : (passes : LentPasses) (core : Core) (client : ℕ) (h : HeldPass) → is_out client passes.out ≡ false → h ≡ lent_since client (client_of (present core) client).last (core.before + length core.history) →
     AreCurrent passes core → AreCurrent (record { out = insert_key nat_cmp passes.out client; held = passes.held ++ Some h ∷ [] }) core
@@ -65,8 +88,9 @@ are_current-lent passes core client h in_here is are =
     λ i g at same. absurd (let there : is_out client passes.out ≡ true = subst (λ c. is_out c passes.out ≡ true) same (are.out i g at) in let no : ⊥ = cc in no) in
     let both : (i : ℕ) (g : HeldPass) → slice_get (passes.held ++ Some h ∷ []) i ≡ Some (Some g) → (slice_get passes.held i ≡ Some (Some g)) ⊎ ((h ≡ g) × (i ≡ length passes.held)) =
     λ i g at. ⊎_elim (λ t. inl t) (λ (t : (Some h ≡ Some g) × (i ≡ length passes.held)). inr (let one : h ≡ g = cc in one, t.1)) (at_end passes.held (Some h) (Some g) i at) in
+    let none : accepts_in client core.history ≡ [] = are.others client not_it in
     record {
-      each = λ i g at. ⊎_elim (are.each i g) (λ (t : (h ≡ g) × (i ≡ length passes.held)). subst (λ (k : HeldPass). IsCurrent k core) (sym is ∙ t.0) (lent_current core client)) (both i g at);
+      each = λ i g at. ⊎_elim (are.each i g) (λ (t : (h ≡ g) × (i ≡ length passes.held)). subst (λ (k : HeldPass). IsCurrent k core) (sym is ∙ t.0) (lent_current core client none)) (both i g at);
       out = λ i g at. ⊎_elim (λ t. out-still passes.out client g.pass.client (are.out i g t))
           (λ (t : (h ≡ g) × (i ≡ length passes.held)). subst (λ c. is_out c (insert_key nat_cmp passes.out client) ≡ true) (sym own ∙ ap (λ (k : HeldPass). k.pass.client) t.0) (out-put passes.out client)) (both i g at);
       apart = λ i j f g at there same.
@@ -74,9 +98,16 @@ are_current-lent passes core client h in_here is are =
           (λ t. ⊎_elim (λ u. are.apart i j f g t u same) (λ (u : (h ≡ g) × (j ≡ length passes.held)). absurd (not_it i f t (same ∙ sym (ap (λ (k : HeldPass). k.pass.client) u.0) ∙ own))) (both j g there))
           (λ (t : (h ≡ f) × (i ≡ length passes.held)). ⊎_elim (λ u. absurd (not_it j g u (sym same ∙ sym (ap (λ (k : HeldPass). k.pass.client) t.0) ∙ own))) (λ (u : (h ≡ g) × (j ≡ length passes.held)). t.1 ∙ sym u.1) (both j g there))
           (both i f at);
+      others = λ c no. are.others c (λ i g at. no i g (still-there passes.held (Some h) (Some g) i at));
     }
 
 -- ---- what one pass holds is written, and the others stay current
+
+-- one that was set stands there
+set-there : {A : Type 0} (xs : List A) (place : ℕ) (a b : A) → slice_get xs place ≡ Some a → slice_get (slice_set xs place b) place ≡ Some b
+set-there [] place a b at = absurd (let no : ⊥ = cc in no)
+set-there (x ∷ xs) zero a b at = refl
+set-there (x ∷ xs) (suc place) a b at = set-there xs place a b at
 
 pub are_current-written : (passes : LentPasses) (core new : Core) (place : ℕ) (h g : HeldPass) → slice_get passes.held place ≡ Some (Some h) → g.pass.client ≡ h.pass.client → IsCurrent g new →
     ((client : ℕ) → client ≢ h.pass.client → GoesOnWithout client core new) → IsSound core → IsSound new → AreCurrent passes core →
@@ -99,6 +130,11 @@ are_current-written passes core new place h g there own is others sound sound' a
           (λ (u : (j ≡ place) × (g ≡ k)). absurd (other i f t.0 t.1 (same ∙ sym (ap (λ (x : HeldPass). x.pass.client) u.1) ∙ own)))
           (λ (u : (j ≢ place) × (slice_get passes.held j ≡ Some (Some k))). are.apart i j f k t.1 u.1 same) (both j k at'))
           (both i f at);
+      others = λ c none.
+          let other_client : c ≢ h.pass.client = λ same. none place g (set-there passes.held place (Some h) (Some g) there) (own ∙ sym same) in
+          let had_none : HasNone passes.held c = λ i k at same. ⊎_elim (λ (one : Some h ≡ Some k). (let is_one : h ≡ k = cc in absurd (other_client (sym same ∙ sym (ap (λ (x : HeldPass). x.pass.client) is_one)))))
+          (λ still. none i k still same) (was_at passes.held place (Some h) (Some k) (Some g) i there at) in
+          history-later core new c (others c other_client) sound sound' ∙ are.others c had_none;
     }
 
 -- all of two lists of answers are true
@@ -153,10 +189,12 @@ module _ (core : Core) (blanks : Blanks) (client number : ℕ) (to : Elem) (entr
   own_event = ap (λ b. if b then event ∷ [] else []) (nat_eq_equiv.refl client)
 
   -- what the pass then holds
-  pub own-current : (h g : HeldPass) → h.pass.client ≡ client → IsCurrent h core → IsTold g.pass new → IsUpToDate g.pass new → g.pass.client ≡ client → g.since ≡ h.since → g.accepts ≡ accepts_with h → g.heard ≡ h.heard ++ (number, t) ∷ [] → IsCurrent g new
-  own-current h g own is told up_to_date own' since' accepts' heard' =
+  pub own-current : (h g : HeldPass) → h.pass.client ≡ client → IsCurrent h core → IsTold g.pass new → IsUpToDate g.pass new → g.pass.client ≡ client → g.pass.lent_at ≡ h.pass.lent_at → g.since ≡ h.since → g.accepts ≡ accepts_with h →
+      g.heard ≡ h.heard ++ (number, t) ∷ [] → IsCurrent g new
+  own-current h g own is told up_to_date own' lent' since' accepts' heard' =
       let last : (client_of (present core) client).last ≡ h.pass.last = subst (λ c. (client_of (present core) c).last ≡ h.pass.last) own is.up_to_date in
-      let Whole : Core → Type 0 = λ c. (c.before ≤ h.since) × (h.since ≤ c.before + length c.history) × (accepts_with h ≡ accepts_in client (drop (h.since - c.before) c.history)) in
+      let Whole : Core → Type 0 = λ c. (c.before ≤ h.since) × (h.since ≤ c.before + length c.history) × (accepts_with h ≡ accepts_in client (drop (h.since - c.before) c.history)) × (accepts_with h ≡ accepts_in client c.history) in
+      let had_all : h.accepts ≡ accepts_in client core.history = is.all ∙ ap (λ c. accepts_in c core.history) own in
       let had : h.accepts ≡ accepts_in client (drop (h.since - core.before) core.history) = is.accepts ∙ ap (λ c. accepts_in c (drop (h.since - core.before) core.history)) own in
       let since = is.since in
       let inside = is.within in
@@ -168,6 +206,10 @@ module _ (core : Core) (blanks : Blanks) (client number : ℕ) (to : Elem) (entr
         elim (nat_lt h.pass.last number) as (λ b. nat_lt h.pass.last number ≡ b → (if b then h.accepts ++ event ∷ [] else h.accepts) ≡ accepts_in client (drop (h.since - core.before) core.history)) [
           | true ↦ λ less. let above = ltb-true h.pass.last number less in absurd (omega arith)
           | false ↦ λ _. had
+        ] refl,
+        elim (nat_lt h.pass.last number) as (λ b. nat_lt h.pass.last number ≡ b → (if b then h.accepts ++ event ∷ [] else h.accepts) ≡ accepts_in client core.history) [
+          | true ↦ λ less. let above = ltb-true h.pass.last number less in absurd (omega arith)
+          | false ↦ λ _. had_all
         ] refl,
       ))
       (λ fresh.
@@ -184,17 +226,24 @@ module _ (core : Core) (blanks : Blanks) (client number : ℕ) (to : Elem) (entr
               ∙ sym (ap (accepts_in client) (drop-append-le n core.history (event ∷ []) (omega arith)))
           | false ↦ λ no. let above = ltb-false h.pass.last number no in absurd (omega arith)
         ] refl,
+        elim (nat_lt h.pass.last number) as (λ b. nat_lt h.pass.last number ≡ b → (if b then h.accepts ++ event ∷ [] else h.accepts) ≡ accepts_in client (core.history ++ event ∷ [])) [
+          | true ↦ λ _. ap (λ l. l ++ event ∷ []) had_all ∙ ap (λ l. accepts_in client core.history ++ l) (sym own_event) ∙ sym (accepts_in-append client core.history (event ∷ []))
+          | false ↦ λ no. let above = ltb-false h.pass.last number no in absurd (omega arith)
+        ] refl,
       )) in
       let low = whole.0 in
       let high = whole.1 in
+      let same_opening : new.opening ≡ core.opening = either (λ c. c.opening ≡ core.opening) (λ _. refl) (λ _. refl) in
       let had_heard : AreTrue core client h.heard = subst (λ c. AreTrue core c h.heard) own is.heard in
       record {
         heard = subst (λ (x : ℕ × List (ℕ × Told)). AreTrue new x.0 x.1) (λ i. (sym own' i, sym heard' i)) (true-append new client h.heard ((number, t) ∷ []) (true_still h.heard had_heard) answer_true);
         told = told;
+        lent_at = lent' ∙ is.lent_at ∙ (λ i. (client_of (sym same_opening i) ((own ∙ sym own') i)).last);
         up_to_date = up_to_date;
         since = omega arith;
         within = omega arith;
         accepts = accepts' ∙ whole.2 ∙ ap (λ (p : ℕ × ℕ). accepts_in p.0 (drop (p.1 - new.before) new.history)) (λ i. (sym own' i, sym since' i));
+        all = accepts' ∙ whole.3 ∙ ap (λ c. accepts_in c new.history) (sym own');
       }
 
 -- ---- the number that is wanted
@@ -289,18 +338,20 @@ module _ (core : Core) (blanks : Blanks) (client number : ℕ) where
   ]
 
 -- what a pass is told of durable events
-pub told-current : (core : Core) (h : HeldPass) (p q : Pass) (number : ℕ) (t : Told) → h.pass ≡ p → IsCurrent h core → q.client ≡ p.client → q.last ≡ p.last → IsTold q core →
+pub told-current : (core : Core) (h : HeldPass) (p q : Pass) (number : ℕ) (t : Told) → h.pass ≡ p → IsCurrent h core → q.client ≡ p.client → q.lent_at ≡ p.lent_at → q.last ≡ p.last → IsTold q core →
     Holds core.opening (take core.durable core.history) p.client number t → IsCurrent (with_answer h q number t) core
-told-current core h p q number t is current client last told holds =
+told-current core h p q number t is current client lent last told holds =
     let own : h.pass.client ≡ q.client = ap (λ (x : Pass). x.client) is ∙ sym client in
     record {
       heard = true-append core q.client h.heard ((number, t) ∷ []) (subst (λ c. AreTrue core c h.heard) own current.heard)
           (subst (λ c. Holds core.opening (take core.durable core.history) c number t) (sym client) holds, tt);
       told = told;
+      lent_at = lent ∙ sym (ap (λ (x : Pass). x.lent_at) is) ∙ current.lent_at ∙ ap (λ c. (client_of core.opening c).last) own;
       up_to_date = ap (λ c. (client_of (present core) c).last) (sym own) ∙ current.up_to_date ∙ ap (λ (x : Pass). x.last) is ∙ sym last;
       since = current.since;
       within = current.within;
       accepts = current.accepts ∙ ap (λ c. accepts_in c (drop (h.since - core.before) core.history)) own;
+      all = current.all ∙ ap (λ c. accepts_in c core.history) own;
     }
 
 -- what the pass held, and how the hub's book has it

@@ -2,8 +2,9 @@
 use Rattle.std.proofs.Common.{◌≡◌, ◌≢◌, ◌⊎◌, inl, inr, ⊎_elim, ℕ, List, [], ◌∷◌, ◌++◌, length, Option, Some, None, subst, arith, length-append}
 use Rattle.std.specs.Prelude.{slice_get, slice_set, Contains}
 use Rattle.std.specs.List.{AllByRecursion}
-use Rattle.std.proofs.lemmas.List.Elements.{Contains-append_left, Contains-push}
-use Rattle.charmlet_passes.specs.Passes.{HeldPass, AreAll, passes_out}
+use Rattle.std.proofs.lemmas.List.Elements.{All-contains, All-from_recursion, Contains-append_left, Contains-push}
+use Rattle.charmlet_passes.specs.Passes.{HeldPass, AreAll, AreCurrent, HaveAllAccepts, passes_out}
+use Rattle.charmlet_model.specs.Core.{Core}
 use Rattle.charmlet_passes.proofs.Places.{all-last, at_set, count-without, none-at, was_at}
 
 -- this pass is out
@@ -59,3 +60,12 @@ taken-all all handed held so_far = record {
 pub all-out : (P : HeldPass → Type 0) (held : List (Option HeldPass)) (passes : List HeldPass) → ((place : ℕ) (h : HeldPass) → slice_get held place ≡ Some (Some h) → P h) → AllByRecursion (IsOut held) passes → AllByRecursion P passes
 all-out P held [] each only = tt
 all-out P held (h ∷ passes) each only = (each only.0.0 h only.0.1, all-out P held passes each only.1)
+
+all-apart : (client : ℕ) (passes : List HeldPass) (h : HeldPass) → AllByRecursion (λ (x : HeldPass). x.pass.client ≢ client) passes → Contains passes h → h.pass.client ≢ client
+all-apart client passes h all among =
+    let P : HeldPass → Type 0 = λ x. x.pass.client ≢ client in
+    All-contains P passes h (All-from_recursion P passes all) among
+
+-- these are the passes of all clients that have accepts
+pub all-accepts : (held : List (Option HeldPass)) (out : List ℕ) (passes : List HeldPass) (core : Core) → AreCurrent (record { out = out; held = held }) core → AreAll held passes → HaveAllAccepts passes core
+all-accepts held out passes core are all = λ client none. are.others client (λ place h at. all-apart client passes h none (all.each place h at))

@@ -1,5 +1,5 @@
 -- What passes hold, and what their book has of them.
-use Rattle.std.specs.Prelude.{◌≡◌, ℕ, ◌+◌, ◌-◌, ◌≤◌, ◌==◌, nat_lt, true, List, [], ◌∷◌, ◌++◌, length, drop, take, if◌then◌else◌, Option, Some, None, slice_get, slice_set, Contains, Result, IfOk, IfErr, OnErr}
+use Rattle.std.specs.Prelude.{◌≡◌, ◌≢◌, ℕ, ◌+◌, ◌-◌, ◌≤◌, ◌==◌, nat_lt, true, List, [], ◌∷◌, ◌++◌, length, drop, take, if◌then◌else◌, Option, Some, None, slice_get, slice_set, Contains, Result, IfOk, IfErr, OnErr}
 use Rattle.std.specs.List.{AllByRecursion}
 use Rattle.charmlet_model.specs.declared.event.Event.{Event}
 use Rattle.charmlet_model.specs.declared.event.Event.TheVariants.{Accept, Deliver}
@@ -10,6 +10,7 @@ use Rattle.charmlet_model.specs.declared.told.Told.TheVariants.{Accepted}
 use Rattle.charmlet_model.specs.Core.{Core}
 use Rattle.charmlet_model.specs.Reaction.{capped}
 use Rattle.charmlet_model.specs.Told.{Holds}
+use Rattle.charmlet_model.specs.World.{client_of}
 use Rattle.charmlet_history.specs.declared.request.Request.{Request}
 use Rattle.charmlet_requests.specs.Knowing.{IsNoLess}
 use Rattle.charmlet_requests.specs.Pass.{Pass, known, lent, with_told, is_out, IsTold, IsUpToDate}
@@ -51,16 +52,18 @@ AreTrue core client answers = AllByRecursion (λ (answer : ℕ × Told).
     Holds core.opening (take core.durable core.history) client answer.0 answer.1) answers
 
 -- All that the pass's client was told is true of the durable events, and so is what the pass knows
--- by it; the pass's last number is its client's, and its accepts are exactly its client's since it
--- was lent.
+-- by it. It was lent at its client's last number in the opening world, and its last number is its
+-- client's now. Its accepts are exactly its client's since it was lent, and all of this history.
 pub record IsCurrent (held : HeldPass) (core : Core) : Type 0 where
   pub heard : AreTrue core held.pass.client held.heard
   pub told : IsTold held.pass core
+  pub lent_at : held.pass.lent_at ≡ (client_of core.opening held.pass.client).last
   pub up_to_date : IsUpToDate held.pass core
   pub since : core.before ≤ held.since
   pub within : held.since ≤ core.before + length core.history
   pub accepts : held.accepts
       ≡ accepts_in held.pass.client (drop (held.since - core.before) core.history)
+  pub all : held.accepts ≡ accepts_in held.pass.client core.history
 
 -- The book has the clients whose passes are out, and what each pass holds, by its place among those
 -- that were lent: nothing any more once it was taken in.
@@ -74,7 +77,18 @@ passes_out [] = []
 passes_out (None ∷ held) = passes_out held
 passes_out (Some h ∷ held) = h ∷ passes_out held
 
--- each pass that is out is current, and no client has two
+-- none of these passes is the client's
+abbrev pub HasNone : List (Option HeldPass) → ℕ → Type 0
+HasNone held client = (place : ℕ) (h : HeldPass) → slice_get held place ≡ Some (Some h) →
+    h.pass.client ≢ client
+
+-- these are the passes of all clients that have accepts in this history
+abbrev pub HaveAllAccepts : List HeldPass → Core → Type 0
+HaveAllAccepts passes core = (client : ℕ) →
+    AllByRecursion (λ (h : HeldPass). h.pass.client ≢ client) passes →
+    accepts_in client core.history ≡ []
+
+-- each pass that is out is current, no client has two, and one that has none has no accepts
 pub record AreCurrent (passes : LentPasses) (core : Core) : Type 0 where
   pub each : (place : ℕ) (h : HeldPass) → slice_get passes.held place ≡ Some (Some h) →
       IsCurrent h core
@@ -82,6 +96,7 @@ pub record AreCurrent (passes : LentPasses) (core : Core) : Type 0 where
       is_out h.pass.client passes.out ≡ true
   pub apart : (i j : ℕ) (g h : HeldPass) → slice_get passes.held i ≡ Some (Some g) →
       slice_get passes.held j ≡ Some (Some h) → g.pass.client ≡ h.pass.client → i ≡ j
+  pub others : (client : ℕ) → HasNone passes.held client → accepts_in client core.history ≡ []
 
 -- One of the passes that are out held the one before and holds the other after, and so has the book
 -- in its place. Of all other passes the book has what it had.

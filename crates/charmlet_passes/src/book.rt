@@ -9,7 +9,7 @@ ghost use Rattle.charmlet_model.specs.Core.{Blanks, Core, Steps, present};
 ghost use Rattle.charmlet_model.specs.World.{client_of};
 ghost use Rattle.charmlet_history.specs.Kept.{core_in, told_or_refused};
 ghost use Rattle.charmlet_requests.specs.Pass.{is_out, lending_refusal, with_accept, with_told};
-ghost use Rattle.charmlet_passes.specs.Passes.{AreAll, AreCurrent, HeldPass, IsAnswered, IsCurrent, IsKept, TellAll, accepts_after, held_by, lent_since, passes_out, with_answer, with_flush, with_request};
+ghost use Rattle.charmlet_passes.specs.Passes.{AreAll, AreCurrent, HaveAllAccepts, HeldPass, IsAnswered, IsCurrent, IsKept, TellAll, accepts_after, held_by, lent_since, passes_out, with_answer, with_flush, with_request};
 
 use crate::pass::{ClientPass, SeenPass};
 use charmlet_agreement::{Book, BookName, GhostValue, Share};
@@ -53,7 +53,7 @@ impl<B: BookName> PassBook<B> {
     pub fn new(alloc: Global, book: Book<SeenPass, B>) -> Self
         requires { book ≡ [] }
         ensures out { result.out ≡ [] }
-        ensures current { (c : Core) → AreCurrent result c }
+        ensures current { (c : Core) → c.history ≡ [] → AreCurrent result c }
     {
         PassBook {
             out: requests::Passes::new(alloc),
@@ -213,13 +213,15 @@ impl<B: BookName> PassBook<B> {
         write_told::<Brand, B>(&mut self.book, share, &pass.pass, last, &Told::Accepted);
     }
 
-    /// Takes all passes in: each has exactly its client's accepts since it was lent, and all that
-    /// its client was told is true of the durable events. If a pass stays out, all comes back. It
-    /// takes no memory.
+    /// Takes all passes in: each has exactly its client's accepts, and all that its client was told
+    /// is true of the durable events; a client that has none of them has no accepts. If a pass stays
+    /// out, all comes back. It takes no memory.
     pub fn close(self, passes: Vec<ClientPass<B>>) -> Result<(), StillOut<B>>
         ensures all { OnOk result (AreAll self.held passes.items) }
         ensures current { OnOk result ((c : Core) → AreCurrent self c →
             AllByRecursion (λ (held : HeldPass). IsCurrent held c) passes.items) }
+        ensures accepts { OnOk result ((c : Core) → AreCurrent self c →
+            HaveAllAccepts passes.items c) }
         ensures which { is_ok result ≡ (vec_len passes == length self.out) }
         ensures back { IfErr result (λ refused. (refused.book ≡ self)
             × (refused.passes ≡ passes)) }

@@ -4,14 +4,11 @@ ghost use Rattle.std.specs.Prelude.{◌≡◌};
 ghost use Rattle.charmlet_agreement.specs.Naming.{table_of};
 ghost use Rattle.charmlet_sequencer.specs.Sequencer.{IsOf};
 
-use crate::live;
-use crate::script::Script;
+use crate::Probe;
 use charmlet_cli::Stop;
 use charmlet_probe_hub::{Books, HubMachine};
 use charmlet_probe_store::ProbeStore;
 use charmlet_sequencer::RuntimeName;
-use charmlet_testing::Bench;
-use std::alloc::Global;
 use std::io::Write;
 use std::marker::Brand;
 use std::sync::Wait;
@@ -20,27 +17,21 @@ use std::thread::Threads;
 /// Runs the lines of a probe until its store ends, over a hub.
 pub(crate) fn live_on_hub<W: Write, R: Threads + Wait + Sync>(
     rt: &R,
-    alloc: Global,
-    bench: &mut Bench,
+    probe: &mut Probe<'_, W>,
     store: ProbeStore,
-    script: &mut Script,
-    writer: &mut W,
 ) -> Result<(), Stop> {
-    let Ok(books) = Books::new(alloc) else {
+    let Ok(books) = Books::new(probe.alloc) else {
         return Err(Stop::CannotGoOn);
     };
-    live_as::<Brand, W, R>(rt, alloc, bench, store, books, script, writer)
+    live_as::<Brand, W, R>(rt, probe, store, books)
 }
 
 /// The same, under this name.
 fn live_as<B: RuntimeName, W: Write, R: Threads + Wait + Sync>(
     rt: &R,
-    alloc: Global,
-    bench: &mut Bench,
+    probe: &mut Probe<'_, W>,
     store: ProbeStore,
     books: Books,
-    script: &mut Script,
-    writer: &mut W,
 ) -> Result<(), Stop>
     requires named { IsOf B.opening B.before B.processors store }
     requires parts { table_of books.parts ≡ B.table }
@@ -49,10 +40,10 @@ fn live_as<B: RuntimeName, W: Write, R: Threads + Wait + Sync>(
     requires checkpoints { table_of books.checkpoints ≡ B.checkpoints }
     requires honest { B.honest → ⊥ }
 {
-    match HubMachine::<B>::open(alloc, store, books) {
+    match HubMachine::<B>::open(probe.alloc, store, books) {
         Ok(machine) => {
             let mut store = Some(machine);
-            live(rt, alloc, bench, &mut store, script, writer)
+            probe.live(rt, &mut store)
         }
         Err(_) => Err(Stop::CannotGoOn),
     }

@@ -11,7 +11,7 @@ use crate::hubs::live_on_hub;
 use crate::lines::run_line;
 use crate::script::Script;
 use charmlet_cli::{Failure, Stop, end_program, open_script};
-use charmlet_probe_store::{EngineMachine, Failed, Machine, ProbeStore};
+use charmlet_probe_store::{EngineMachine, Failed, Machine};
 use charmlet_testing::Bench;
 use std::alloc::{AllocError, Global};
 use std::io::Write;
@@ -37,118 +37,93 @@ fn output(alloc: Global) -> Result<Vec<u8>, AllocError> {
     }
 }
 
-/// Runs the next line of a probe, and prints what it answers.
-fn print_line<M: Machine, W: Write, R: Threads + Wait + Sync>(
-    rt: &R,
-    alloc: Global,
-    bench: &mut Bench,
-    store: &mut Option<M>,
-    script: &mut Script,
-    writer: &mut W,
-) -> Result<(), Stop> {
-    let mut out = output(alloc)?;
-    match run_line(rt, alloc, bench, store, script.take(), &mut out) {
-        Ok(()) => Ok(writer.write_all(&out)?),
-        Err(Failed::Malformed) => Err(Stop::MalformedLine(script.taken() as u64)),
-        Err(_) => Err(Stop::CannotGoOn),
-    }
+/// A probe: its lines, what they work on, and where they print.
+#[derive(Drop)]
+pub(crate) struct Probe<'a, W: Write> {
+    pub(crate) alloc: Global,
+    bench: Bench,
+    script: Script,
+    writer: &'a mut W,
 }
 
-/// Runs the lines of a probe until its store ends. What each answers is printed before the next one
-/// is run.
-pub(crate) fn live<M: Machine, W: Write, R: Threads + Wait + Sync>(
-    rt: &R,
-    alloc: Global,
-    bench: &mut Bench,
-    store: &mut Option<M>,
-    script: &mut Script,
-    writer: &mut W,
-) -> Result<(), Stop> {
-    for _ in 0..script.left() {
-        if store.is_none() {
-            break;
+impl<W: Write> Probe<'_, W> {
+    /// Runs the next line, and prints what it answers.
+    fn print_line<M: Machine, R: Threads + Wait + Sync>(
+        &mut self,
+        rt: &R,
+        store: &mut Option<M>,
+    ) -> Result<(), Stop> {
+        let mut out = output(self.alloc)?;
+        let text = self.script.take();
+        match run_line(rt, self.alloc, &mut self.bench, store, text, &mut out) {
+            Ok(()) => Ok(self.writer.write_all(&out)?),
+            Err(Failed::Malformed) => Err(Stop::MalformedLine(self.script.taken() as u64)),
+            Err(_) => Err(Stop::CannotGoOn),
         }
-        print_line(rt, alloc, bench, store, script, writer)?;
     }
-    Ok(())
-}
 
-/// The same over an engine.
-fn live_on_engine<W: Write, R: Threads + Wait + Sync>(
-    rt: &R,
-    alloc: Global,
-    bench: &mut Bench,
-    store: ProbeStore,
-    script: &mut Script,
-    writer: &mut W,
-) -> Result<(), Stop> {
-    let mut store = Some(EngineMachine::new(alloc, store));
-    live(rt, alloc, bench, &mut store, script, writer)
-}
-
-/// Runs the next line of a probe, where there is no store, and then those of the store that it
-/// makes, if it makes one.
-fn go_on<W: Write, R: Threads + Wait + Sync>(
-    rt: &R,
-    alloc: Global,
-    bench: &mut Bench,
-    is_over_hubs: bool,
-    script: &mut Script,
-    writer: &mut W,
-) -> Result<(), Stop> {
-    let mut none: Option<EngineMachine> = None;
-    print_line(rt, alloc, bench, &mut none, script, writer)?;
-    match bench.take_born() {
-        Some(store) if is_over_hubs => live_on_hub(rt, alloc, bench, store, script, writer),
-        Some(store) => live_on_engine(rt, alloc, bench, store, script, writer),
-        None => Ok(()),
-    }
-}
-
-/// Runs each line of a probe, and prints what it answers before the next one is run.
-fn print_lines<W: Write, R: Threads + Wait + Sync>(
-    rt: &R,
-    alloc: Global,
-    bench: &mut Bench,
-    is_over_hubs: bool,
-    script: &mut Script,
-    writer: &mut W,
-) -> Result<(), Stop> {
-    for _ in 0..script.left() {
-        if script.left() == 0 {
-            break;
+    /// Runs lines until the store ends. What each answers is printed before the next one is run.
+    pub(crate) fn live<M: Machine, R: Threads + Wait + Sync>(
+        &mut self,
+        rt: &R,
+        store: &mut Option<M>,
+    ) -> Result<(), Stop> {
+        for _ in 0..self.script.left() {
+            if store.is_none() {
+                break;
+            }
+            self.print_line(rt, store)?;
         }
-        go_on(rt, alloc, bench, is_over_hubs, script, writer)?;
+        Ok(())
     }
-    Ok(())
+
+    /// Runs the next line, where there is no store, and then those of the store that it makes, if
+    /// it makes one.
+    fn go_on<R: Threads + Wait + Sync>(&mut self, rt: &R, is_over_hubs: bool) -> Result<(), Stop> {
+        let mut none: Option<EngineMachine> = None;
+        self.print_line(rt, &mut none)?;
+        match self.bench.take_born() {
+            Some(store) if is_over_hubs => live_on_hub(rt, self, store),
+            Some(store) => {
+                let mut machine = Some(EngineMachine::new(self.alloc, store));
+                self.live(rt, &mut machine)
+            }
+            None => Ok(()),
+        }
+    }
+
+    /// Runs each line, and prints what it answers before the next one is run.
+    fn run<R: Threads + Wait + Sync>(&mut self, rt: &R, is_over_hubs: bool) -> Result<(), Stop> {
+        for _ in 0..self.script.left() {
+            if self.script.left() == 0 {
+                break;
+            }
+            self.go_on(rt, is_over_hubs)?;
+        }
+        Ok(())
+    }
 }
 
 /// Runs the probe in a file.
-fn probe<R: Threads + Wait + Sync>(rt: HostRuntime, wait: &R) -> Result<(), Stop> {
+fn run_probe<R: Threads + Wait + Sync>(rt: HostRuntime, wait: &R) -> Result<(), Stop> {
     let words: Vec<String> = env::args(&rt)?.collect(rt.alloc())?;
     let is_over_hubs = words.len() == 3 && words[1].as_str() == "--hub";
-    let mut script = match words.last() {
+    let script = match words.last() {
         Some(path) => script_in(rt, path.as_str())?,
         None => return Err(Stop::UnreadableScript),
     };
-    match Bench::new(rt.alloc()) {
-        Ok(mut bench) => {
-            let writer = &mut io::writer(&rt);
-            print_lines(
-                wait,
-                rt.alloc(),
-                &mut bench,
-                is_over_hubs,
-                &mut script,
-                writer,
-            )
-        }
-        Err(_) => Err(Stop::CannotGoOn),
-    }
+    let mut writer = io::writer(&rt);
+    let mut probe = Probe {
+        alloc: rt.alloc(),
+        bench: Bench::new(rt.alloc())?,
+        script,
+        writer: &mut writer,
+    };
+    probe.run(wait, is_over_hubs)
 }
 
 fn main(rt: HostRuntime) -> ExitCode {
-    let result = probe(rt, &rt).map_err(Failure::from);
+    let result = run_probe(rt, &rt).map_err(Failure::from);
     let (status, _) = end_program(&result, &mut rt.stderr());
     ExitCode::from(status)
 }

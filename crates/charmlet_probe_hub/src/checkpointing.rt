@@ -156,7 +156,8 @@ fn image<B: RuntimeName>(
     if shelf.number() != checkpoint.shelves() {
         return Err(SHELF);
     }
-    let images = shelf.images()?;
+    let room = shelf.image_room();
+    let images = shelf.images(room)?;
     match hub.image(checkpoint, shelf, images) {
         Ok(()) => Ok(None),
         Err(_) => Err(Failed::MEMORY),

@@ -24,10 +24,11 @@ use Rattle.charmlet_model.proofs.SoundLemmas.{sound_fit}
 use Rattle.charmlet_shelf.proofs.Risen.{none_from_test}
 use Rattle.charmlet_world.specs.declared.element.Element.{Element}
 use Rattle.charmlet_world.specs.Seen.{IsCountedBy, element_at, no_element}
+use Rattle.charmlet_world.specs.Standing.{is_left, left_of}
 use Rattle.charmlet_history.specs.Kept.{IsConsistent, Kept, core_in}
 use Rattle.charmlet_history.proofs.Assigning.{there_is}
 use Rattle.charmlet_running.specs.declared.settled.Settled.{Settled}
-use Rattle.charmlet_running.specs.Running.{IsRunning, IsRunningFrom, Run, begun_in, is_left, left, settled_of, with_all_left, with_left}
+use Rattle.charmlet_running.specs.Running.{IsRunning, IsRunningFrom, Run, begun_in, left, settled_of, with_all_left, with_left}
 use Rattle.charmlet_running.proofs.Steps.{Rises, Settles, put_rises}
 
 -- ---- maps
@@ -41,7 +42,15 @@ abbrev over : Option Element → Option (Option Settled) → Option (Option Sett
 over None o = o
 over (Some e) o = if is_left e then Some (Some (left e)) else o
 
-one_left : (settled : List (Elem × Option Settled)) (e : Elem × Element) (x : Elem) → settled_of (with_left settled e) x ≡ cond (eq_by_cmp elem_cmp x e.0) (over (Some e.1) (settled_of settled x)) (settled_of settled x)
+-- with what the element left, if it has
+abbrev with_left_if : List (Elem × Option Settled) → Elem × Element → List (Elem × Option Settled)
+with_left_if settled e = if is_left e.1 then insert_entry elem_cmp settled e.0 (Some (left e.1)) else settled
+
+first_left : (settled : List (Elem × Option Settled)) (e : Elem × Element) (es : List (Elem × Element)) → with_all_left settled (left_of (e ∷ es)) ≡ with_all_left (with_left_if settled e) (left_of es)
+first_left settled e es =
+    elim (is_left e.1) as (λ b. with_all_left settled (if b then e ∷ left_of es else left_of es) ≡ with_all_left (if b then insert_entry elem_cmp settled e.0 (Some (left e.1)) else settled) (left_of es)) [ true ↦ refl | false ↦ refl ]
+
+one_left : (settled : List (Elem × Option Settled)) (e : Elem × Element) (x : Elem) → settled_of (with_left_if settled e) x ≡ cond (eq_by_cmp elem_cmp x e.0) (over (Some e.1) (settled_of settled x)) (settled_of settled x)
 one_left settled e x =
     elim (is_left e.1) as (λ b. settled_of (if b then insert_entry elem_cmp settled e.0 (Some (left e.1)) else settled) x ≡ cond (eq_by_cmp elem_cmp x e.0) (if b then Some (Some (left e.1)) else settled_of settled x) (settled_of settled x)) [
       | true ↦ lookup-insert_entry elem_cmp elem_total x e.0 (Some (left e.1)) settled
@@ -52,15 +61,16 @@ rest_rises : (e : Elem × Element) (es : List (Elem × Element)) → IsStrictlyS
 unfolding IsStrictlySortedBy
 rest_rises e es h = h.1
 
-all_left : (es : List (Elem × Element)) → IsStrictlySortedBy elem_cmp (keys_of es) → (settled : List (Elem × Option Settled)) (x : Elem) → settled_of (with_all_left settled es) x ≡ over (lookup (is_at (elem_cmp x)) es) (settled_of settled x)
+all_left : (es : List (Elem × Element)) → IsStrictlySortedBy elem_cmp (keys_of es) → (settled : List (Elem × Option Settled)) (x : Elem) → settled_of (with_all_left settled (left_of es)) x ≡ over (lookup (is_at (elem_cmp x)) es) (settled_of settled x)
 all_left [] rising settled x = refl
 all_left (e ∷ es) rising settled x =
-    let rest = all_left es (rest_rises e es rising) (with_left settled e) x in
-    elim (eq_by_cmp elem_cmp x e.0) as (λ b. eq_by_cmp elem_cmp x e.0 ≡ b → settled_of (with_all_left (with_left settled e) es) x ≡ over (cond b (Some e.1) (lookup (is_at (elem_cmp x)) es)) (settled_of settled x)) [
+    let rest = all_left es (rest_rises e es rising) (with_left_if settled e) x in
+    ap (λ (s : List (Elem × Option Settled)). settled_of s x) (first_left settled e es)
+    ∙ elim (eq_by_cmp elem_cmp x e.0) as (λ b. eq_by_cmp elem_cmp x e.0 ≡ b → settled_of (with_all_left (with_left_if settled e) (left_of es)) x ≡ over (cond b (Some e.1) (lookup (is_at (elem_cmp x)) es)) (settled_of settled x)) [
       | true ↦ λ same.
           let others = IsDistinct-head (eq_by_cmp elem_cmp) e.0 (keys_of es) (IsDistinct-from_sorted elem_cmp (keys_of (e ∷ es)) rising) in
           let none : lookup (is_at (elem_cmp x)) es ≡ None = subst (λ y. lookup (is_at (elem_cmp y)) es ≡ None) (sym (tells_apart elem_exact x e.0 same)) (absent (is_at (elem_cmp e.0)) es others) in
-          rest ∙ ap (λ o. over o (settled_of (with_left settled e) x)) none ∙ one_left settled e x ∙ ap (λ b. cond b (over (Some e.1) (settled_of settled x)) (settled_of settled x)) same
+          rest ∙ ap (λ o. over o (settled_of (with_left_if settled e) x)) none ∙ one_left settled e x ∙ ap (λ b. cond b (over (Some e.1) (settled_of settled x)) (settled_of settled x)) same
       | false ↦ λ apart.
           rest ∙ ap (over (lookup (is_at (elem_cmp x)) es)) (one_left settled e x ∙ ap (λ b. cond b (over (Some e.1) (settled_of settled x)) (settled_of settled x)) apart)
     ] refl
@@ -70,14 +80,13 @@ none_settled None = refl
 none_settled (Some e) = refl
 
 -- an element is settled by what it has left alone
-pub settled_first : (es : List (Elem × Element)) → IsStrictlySortedBy elem_cmp (keys_of es) → (x : Elem) → settled_of (with_all_left [] es) x ≡ left_if (element_at es x)
+pub settled_first : (es : List (Elem × Element)) → IsStrictlySortedBy elem_cmp (keys_of es) → (x : Elem) → settled_of (with_all_left [] (left_of es)) x ≡ left_if (element_at es x)
 settled_first es rising x = all_left es rising [] x ∙ none_settled (lookup (is_at (elem_cmp x)) es)
 
 pub all_left_rises : (es : List (Elem × Element)) (settled : List (Elem × Option Settled)) → Rises settled → Rises (with_all_left settled es)
 all_left_rises [] settled rises = rises
 all_left_rises (e ∷ es) settled rises =
-    all_left_rises es (with_left settled e)
-    (elim (is_left e.1) as (λ b. Rises (if b then insert_entry elem_cmp settled e.0 (Some (left e.1)) else settled)) [ true ↦ put_rises settled e.0 (Some (left e.1)) rises | false ↦ rises ])
+    all_left_rises es (with_left settled e) (put_rises settled e.0 (Some (left e.1)) rises)
 
 -- ---- records
 
@@ -132,7 +141,7 @@ begun_running k room consistent =
     let before : world k.opening (take (run.begun - k.before) k.events) ≡ w = ap (world k.opening) (take_all (run.begun - k.before) k.events (omega arith)) in
     let since : drop (run.begun - k.before) k.events ≡ [] = drop_all (run.begun - k.before) k.events (omega arith) in
     let from : IsRunningFrom w [] run = record {
-      rising = all_left_rises k.elements [] none_rises;
+      rising = all_left_rises (left_of k.elements) [] none_rises;
       settled = λ x. subst (Settles w [] x) (sym (settled_first k.elements consistent.rising x))
           (left_settles w fit x (element_at k.elements x) (there_is k consistent x) (consistent.counts x));
       caught_up = refl;

@@ -1,5 +1,5 @@
 -- What a checkpoint has of a store that goes on meanwhile.
-use Rattle.std.specs.Prelude.{◌≡◌, ◌⊎◌, ℕ, ◌+◌, ◌-◌, ◌<◌, ◌≤◌, ◌^◌, Bool, true, ◌&&◌, is_none, is_some, nat_lt, List, [], ◌∷◌, ◌++◌, length, take, drop, Option, Some, None, IfSome, option_map, if◌then◌else◌}
+use Rattle.std.specs.Prelude.{◌≡◌, ◌⊎◌, ℕ, ◌+◌, ◌-◌, ◌<◌, ◌≤◌, ◌^◌, Bool, true, is_some, List, [], ◌∷◌, ◌++◌, length, take, drop, Option, Some, None, IfSome, option_map, if◌then◌else◌}
 use Rattle.std.specs.List.{flat_map}
 use Rattle.std.specs.List.Sorted.{IsStrictlySortedBy}
 use Rattle.std.specs.BTreeMap.{insert_entry, is_at}
@@ -23,6 +23,7 @@ use Rattle.charmlet_recovery.specs.Moments.{deliveries}
 use Rattle.charmlet_shelf.specs.declared.image.Image.{Image}
 use Rattle.charmlet_shelf.specs.Image.{IsImage}
 use Rattle.charmlet_world.specs.declared.element.Element.{Element}
+use Rattle.charmlet_world.specs.Standing.{left_of}
 use Rattle.charmlet_history.specs.Kept.{Kept, assigned_message}
 use Rattle.charmlet_running.specs.declared.settled.Settled.{Settled}
 
@@ -89,18 +90,13 @@ AreAllSettled core run = (x : Elem) → is_some (record_of (present core) x).sta
 
 -- ---- its beginning
 
--- an element that isn't there, and has a record
-abbrev pub is_left : Element → Bool
-is_left e = is_none e.place && nat_lt 0 e.received
-
--- what it leaves
+-- what an element leaves that isn't there
 abbrev pub left : Element → Settled
 left e = record { sent = e.sent; received = e.received; packed = None }
 
--- the element is settled, if it has only left a record
+-- the element is settled by what it left
 abbrev pub with_left : List (Elem × Option Settled) → Elem × Element → List (Elem × Option Settled)
-with_left settled e = if is_left e.1 then insert_entry elem_cmp settled e.0 (Some (left e.1))
-    else settled
+with_left settled e = insert_entry elem_cmp settled e.0 (Some (left e.1))
 
 -- the same of all of these
 abbrev pub with_all_left : List (Elem × Option Settled) → List (Elem × Element) →
@@ -112,7 +108,7 @@ with_all_left settled (e ∷ es) = with_all_left (with_left settled e) es
 abbrev pub begun_in : Kept → ℕ → Run
 begun_in k room = record {
   begun = k.before + length k.events;
-  settled = with_all_left [] k.elements;
+  settled = with_all_left [] (left_of k.elements);
   caught_up = [];
   count = 0;
   room = room;

@@ -3,7 +3,7 @@
 ghost use Rattle.std.specs.Prelude.{◌≡◌, [], IfOk, OnOk};
 ghost use Rattle.charmlet_shelf.specs.Risen.{risen};
 ghost use Rattle.charmlet_history.specs.Kept.{core_in};
-ghost use Rattle.charmlet_running.specs.Running.{IsRunning, begun_in, is_left, with_all_left, with_left};
+ghost use Rattle.charmlet_running.specs.Running.{IsRunning, begun_in, with_all_left, with_left};
 
 use crate::running::Running;
 use crate::settled::{Settled, put};
@@ -16,17 +16,18 @@ use std::collections::BTreeMap;
 
 impl Running {
     /// Begins a checkpoint, with room for so many deliveries: as many as are assigned already. An
-    /// element that isn't there is settled by its record now, if it has one. It fails only when out
-    /// of memory.
+    /// element that isn't there is settled by its record now, if it has one. For the others there is
+    /// room. It fails only when out of memory.
     pub fn begin(alloc: Global, history: &History, deliveries: usize) -> Result<Self, AllocError>
         ensures begun { IfOk result (λ running. running ≡ begun_in history.now deliveries) }
         ensures running { IfOk result (λ running. IsRunning (core_in history.now) running) }
     {
         history.facts();
-        let elements = history.elements()?;
+        let left = history.left()?;
+        let most = history.element_count().saturating_add(deliveries);
         let mut running = Running {
             begun: history.event_count(),
-            settled: settle_all(alloc, &elements)?,
+            settled: settle_all(alloc, most, &left)?,
             caught_up: Vec::new(alloc),
             count: 0,
             room: 0,
@@ -36,23 +37,24 @@ impl Running {
     }
 }
 
-/// The elements that aren't there and have a record, settled by it. It fails only when out of
-/// memory.
+/// Elements that aren't there and have a record, settled by it, with room for at most so many
+/// elements. It fails only when out of memory.
 fn settle_all(
     alloc: Global,
-    elements: &BTreeMap<Elem, Element>,
+    most: usize,
+    left: &BTreeMap<Elem, Element>,
 ) -> Result<IndexMap<Elem, Option<Settled>>, AllocError>
-    ensures { IfOk result (λ table. risen table.entries ≡ with_all_left [] elements.now.entries) }
+    ensures { IfOk result (λ table. risen table.entries ≡ with_all_left [] left.now.entries) }
 {
     let mut table = IndexMap::new(alloc);
-    for (elem, element) in elements {
+    table.reserve(most)?;
+    for (elem, element) in left {
         settle_left(&mut table, *elem, element)?;
     }
     Ok(table)
 }
 
-/// Settles an element by its record, if it isn't there and has one. It fails only when out of
-/// memory.
+/// Settles an element by the record that it left. It fails only when out of memory.
 fn settle_left(
     table: &mut IndexMap<Elem, Option<Settled>>,
     elem: Elem,
@@ -61,21 +63,10 @@ fn settle_left(
     ensures { OnOk result (risen table.new.entries
         ≡ with_left (risen table.old.entries) (elem, element.now)) }
 {
-    let is_settled = is_left(element);
-    if !is_settled {
-        return Ok(());
-    }
     let left = Settled {
         sent: element.sent,
         received: element.received,
         packed: None,
     };
     put(table, elem, Some(left))
-}
-
-/// Whether an element isn't there, and has a record.
-fn is_left(element: &Element) -> bool
-    ensures { result ≡ is_left element.now }
-{
-    element.place.is_none() && element.received > 0
 }

@@ -156,13 +156,7 @@ pub both_same : {T E : Type 0} (P Q : Type 0) (result : Result T E) → OnErr re
 both_same P Q (Ok x) p q = tt
 both_same P Q (Err e) p q = (p, q)
 
--- a refusal by which the core stays leaves all as it was
-pub shown_same : {T D C : Type 0} {G : disks.Ghosts D} {H : chares.Ghosts C} (history next : History) (stock : Stock C H) (halves : Halves D G) (result : Result T Refusal) → OnErr result (core_in next ≡ core_in history) →
-    OnErr result (shown_by next stock halves ≡ shown_by history stock halves)
-shown_same history next stock halves (Ok x) same = tt
-shown_same history next stock halves (Err refusal) same = λ i. record { core = same i; census = census_of stock; disk = disk_of halves }
-
--- and so does one of a flush that isn't for the device
+-- a refusal of a flush that isn't for the device leaves all as it was
 pub flushed_same : {D C : Type 0} {G : disks.Ghosts D} {H : chares.Ghosts C} (history next : History) (stock : Stock C H) (halves later : Halves D G) (result : Result ℕ Refusal) →
     Steps (core_in history) plenty Flush (record { answer = counts_or_refused result; core = core_in next; blanks = plenty }) → IfErr result (λ refusal. refusal ≢ refusals.Device → later ≡ halves) →
     IfErr result (λ refusal. refusal ≢ refusals.Device → shown_by next stock later ≡ shown_by history stock halves)
@@ -179,14 +173,6 @@ pub told_holds : (core next : Core) (blanks : Blanks) (step : CoreStep) (client 
     Steps core blanks step (record { answer = told_or_refused result; core = next; blanks = blanks }) → IfOk result (λ told. Holds core.opening (take core.durable core.history) client number told)
 told_holds core next blanks step client number (Ok told) asks steps = told_durable core blanks step (record { answer = told_or_refused (Ok told); core = next; blanks = blanks }) client number told asks steps refl
 told_holds core next blanks step client number (Err refusal) asks steps = tt
-
--- a refusal leaves the core as it was
-pub untold_same : (core next : Core) (blanks : Blanks) (step : CoreStep) (result : Result Told Refusal) → IsQuiet step →
-    Steps core blanks step (record { answer = told_or_refused result; core = next; blanks = blanks }) → OnErr result (next ≡ core)
-untold_same core next blanks step (Ok told) quiet steps = tt
-untold_same core next blanks step (Err refusal) quiet steps =
-    let stepped : Stepped = record { answer = Refuses refusal; core = next; blanks = blanks } in
-    (refusals_change_nothing core blanks step stepped refusal steps refl).0 (λ device. only_writes_fail core blanks step stepped quiet steps (ap Refuses device))
 
 -- ---- blanks that are supplied
 

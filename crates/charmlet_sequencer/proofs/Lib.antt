@@ -7,5 +7,4 @@ pub mod Endings
 pub mod Agreeing
 pub mod Beginnings
 pub mod Reopened
-pub mod Lending
 pub mod Seals

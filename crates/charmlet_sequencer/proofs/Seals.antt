@@ -1,18 +1,22 @@
 -- What a checkpoint that runs while others work asks of a sequencer.
-use Rattle.std.proofs.Common.{◌≡◌, ◌≢◌, ℕ, true, false, Result, Ok, Err, inl, inr, refl, sym, ap, subst, ◌∙◌}
+use Rattle.std.proofs.Common.{◌≡◌, ◌≢◌, ◌⊎◌, ℕ, Bool, true, false, Result, Ok, Err, inl, inr, refl, sym, ap, subst, ◌∙◌}
 use Rattle.std.specs.Prelude.{Option, Some, IfErr, OnOk}
 use Rattle.charmlet_model.specs.declared.refusal.Refusal.{Refusal}
 use Rattle.charmlet_model.specs.declared.refusal.Refusal.TheVariants as refusals
 use Rattle.charmlet_model.specs.Core.{Commit, Core, halted_core, next_core}
 use Rattle.charmlet_model.specs.Sound.{IsSound}
 use Rattle.charmlet_model.specs.World.{World}
+use Rattle.charmlet_chare.specs.declared.chare.Chare as chares
 use Rattle.charmlet_chare.specs.declared.output.Output.{Output}
 use Rattle.charmlet_disk.specs.declared.disk.Disk as disks
 use Rattle.charmlet_halves.specs.declared.halves.Halves.{Halves}
+use Rattle.charmlet_halves.specs.Halves.{disk_of, is_halted}
 use Rattle.charmlet_history.specs.declared.history.History.{History}
 use Rattle.charmlet_history.specs.Kept.{IsAssignedOutput, IsConsistent, core_in, sealed_at}
+use Rattle.charmlet_journal.specs.Rest.{Agrees, IsCurrent}
 use Rattle.charmlet_shelf.specs.declared.phase.Phase.{Phase}
 use Rattle.charmlet_shelf.specs.declared.phase.Phase.TheVariants as phases
+use Rattle.charmlet_stock.specs.declared.stock.Stock.{Stock}
 use Rattle.charmlet_delivery.specs.Leaves.{Leaves}
 use Rattle.charmlet_delivery.specs.UnderWay.{HasMade, due_in}
 use Rattle.charmlet_delivery.proofs.Delivering.{assigned_output}
@@ -23,7 +27,7 @@ use Rattle.charmlet_running.proofs.Others.{deliveries_keep, deliveries_keep_runn
 use Rattle.charmlet_sequencer.specs.Book.{IsDueOn}
 use Rattle.charmlet_sequencer.specs.Sequencer.{IsOf}
 use Rattle.charmlet_sequencer.specs.Shelf.{HasOutput, is_done}
-use Rattle.charmlet_sequencer.proofs.Lending.{device_or_not}
+use Rattle.charmlet_sequencer.specs.Together.{shown_by}
 
 -- ---- a delivery that was made
 
@@ -52,6 +56,17 @@ noted_settled core sound p run new output running outcome noted q settled =
 
 -- ---- an image is made durable, or isn't
 
+abbrev is_other : Refusal → Bool
+is_other refusals.Device = false
+is_other _ = true
+
+apart : (refusal : Refusal) → is_other refusal ≡ true → refusal ≢ refusals.Device
+apart refusal other is = (let no : false ≡ true = sym (ap is_other is) ∙ other in cc)
+
+pub device_or_not : (refusal : Refusal) → (refusal ≡ refusals.Device) ⊎ (refusal ≢ refusals.Device)
+device_or_not refusals.Device = inl refl
+device_or_not refusal = inr (apart refusal refl)
+
 -- what holds of the core in each case holds of the one that there is
 pub sealed_core : (P : Core → Type 0) (core next : Core) (result : Result ℕ Refusal) → OnOk result ((n : ℕ) × (next ≡ sealed_at core n)) → IfErr result (λ refusal. refusal ≡ refusals.Device → next ≡ halted_core core) →
     IfErr result (λ refusal. refusal ≢ refusals.Device → next ≡ core) → P core → P (halted_core core) → ((n : ℕ) → P (sealed_at core n)) → P next
@@ -78,3 +93,24 @@ module _ (core next : Core) (result : Result ℕ Refusal) (sealed : OnOk result 
   sealed_of opening before processors of =
       sealed_core (IsOf opening before processors) core next result sealed failed refused of (record { opening_is = of.opening_is; before_is = of.before_is; processors_are = of.processors_are })
       (λ n. record { opening_is = of.opening_is; before_is = of.before_is; processors_are = of.processors_are })
+
+-- ---- what is left of the halves
+
+-- where no image is written, the halves are as current as they were; and where one is, they are
+-- current
+module _ {D : Type 0} {G : disks.Ghosts D} (history next : History) (was halves : Halves D G) (current : G.honest (disk_of was) → (core_in history).halted ≡ false → IsCurrent was) where
+  pub taken_current : (result : Result ℕ Refusal) → (G.honest (disk_of was) → OnOk result (IsCurrent halves)) → IfErr result (λ refusal. refusal ≢ refusals.Device → (next ≡ history) × (halves ≡ was)) →
+      IfErr result (λ refusal. refusal ≡ refusals.Device → is_halted halves ≡ true) → Agrees (core_in next) halves → G.honest (disk_of was) → (core_in next).halted ≡ false → IsCurrent halves
+  taken_current (Ok generation) sealed same failed agrees honest going = sealed honest
+  taken_current (Err refusal) sealed same failed agrees honest going = elim (device_or_not refusal) [
+    | inl is ↦ (let no : true ≡ false = sym (failed is) ∙ (agrees going).going in absurd cc)
+    | inr other ↦
+        (let both = same other in
+        subst (λ (its : Halves D G). IsCurrent its) (sym both.1) (current honest (ap (λ (h : History). (core_in h).halted) (sym both.0) ∙ going)))
+  ]
+
+-- a refusal that isn't for the device leaves all as it was
+pub sealed_same : {D C : Type 0} {G : disks.Ghosts D} {H : chares.Ghosts C} (history next : History) (stock : Stock C H) (halves later : Halves D G) (result : Result ℕ Refusal) →
+    IfErr result (λ refusal. refusal ≢ refusals.Device → (next ≡ history) × (later ≡ halves)) → IfErr result (λ refusal. refusal ≢ refusals.Device → shown_by next stock later ≡ shown_by history stock halves)
+sealed_same history next stock halves later (Ok generation) same = tt
+sealed_same history next stock halves later (Err refusal) same = λ other. let both = same other in λ i. shown_by (both.0 i) stock (both.1 i)

@@ -6,7 +6,6 @@ pub mod Sequencer
 pub mod Relocating
 pub mod Together
 pub mod Opened
-pub mod Sealing
 pub mod Checkpointing
 pub use Rattle.charmlet_agreement.specs.Naming
 pub use Rattle.charmlet_model.specs.Core

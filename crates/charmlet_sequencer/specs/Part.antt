@@ -1,5 +1,5 @@
 -- What the sequencer has of a shelf.
-use Rattle.std.specs.Prelude.{◌≡◌, ℕ, ◌+◌, Bool, false, List, [], Option, Some, None, if◌then◌else◌, slice_get}
+use Rattle.std.specs.Prelude.{ℕ, ◌+◌, Bool, false, List, [], Option, Some, None, if◌then◌else◌}
 use Rattle.charmlet_model.specs.declared.kind.Kind.{Kind}
 use Rattle.charmlet_model.specs.declared.names.Elem.{Elem}
 use Rattle.charmlet_model.specs.declared.state.Record.{Record}
@@ -22,10 +22,6 @@ no_part = record { records = []; due = None }
 -- that of a shelf
 abbrev pub part_on : View → Part
 part_on shelf = record { records = shelf.records; due = due_in shelf.phase }
-
--- the book has what stands on the shelf, and the delivery that is under way there
-abbrev pub HasPart : List (Option Part) → View → Type 0
-HasPart parts shelf = slice_get parts shelf.number ≡ Some (Some (part_on shelf))
 
 -- the delivery constructs an object of the kind
 abbrev pub brings : Kind → Option Due → Bool

@@ -24,10 +24,11 @@ use charmlet_model::{Refusal, Told};
 use charmlet_passes::{ClientPass, PassBook};
 
 impl<D: Disk, C: Chare, B: RuntimeName> Sequencer<D, C, B> {
-    /// Accepts a request of the pass's client, and tells the client what is durable of it, with the
-    /// same answers and refusals as [`request`](Self::request). If it isn't refused, the pass and
-    /// its book record that it was accepted, and what was told about it. What is told is no less
-    /// than the pass knew, and no other words. A refusal changes nothing.
+    /// Accepts a request of the pass's client, unless it repeats one in the client's window, and
+    /// tells the client what is durable of it. The refusals are those of
+    /// [`charmlet_history::History::request`], in their order. If it isn't refused, the pass and its
+    /// book record that it was accepted, and what was told about it. What is told is no less than
+    /// the pass knew, and no other words. A refusal changes nothing.
     pub fn request_by<P: BookName>(
         &mut self,
         passes: &mut PassBook<P>,

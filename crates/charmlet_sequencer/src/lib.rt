@@ -13,7 +13,6 @@ mod names;
 mod opening;
 mod part;
 mod reopening;
-mod sealing;
 mod sequencer;
 mod shelf;
 

@@ -1,6 +1,6 @@
 //! The sequencer: what orders the steps of all processors.
 
-ghost use Rattle.std.specs.Prelude.{◌≡◌, ◌≢◌, ◌+◌, ◌≤◌, List, Option, false, true, IfErr, IfOk, IsOk, OnErr, OnOk, length, take};
+ghost use Rattle.std.specs.Prelude.{◌≡◌, ◌≢◌, ◌+◌, ◌≤◌, List, Option, false, true, IfErr, IsOk, OnErr, OnOk, length};
 ghost use Rattle.charmlet_model.specs.declared.kind.Kind as kinds;
 ghost use Rattle.charmlet_model.specs.declared.refusal.Refusal.TheVariants as refusals;
 ghost use Rattle.charmlet_model.specs.Core as core;
@@ -8,12 +8,11 @@ ghost use Rattle.charmlet_model.specs.Core.{Done};
 ghost use Rattle.charmlet_model.specs.Run.{Goes};
 ghost use Rattle.charmlet_model.specs.Shelves.{count_of};
 ghost use Rattle.charmlet_model.specs.Sound.{IsSound};
-ghost use Rattle.charmlet_model.specs.Told.{Holds};
 ghost use Rattle.charmlet_disk.specs.Calls.{AfterCall};
 ghost use Rattle.charmlet_disk.specs.Disk.{LeavesOnly};
 ghost use Rattle.charmlet_disk.specs.File.{CrashBytes, MayLeave};
 ghost use Rattle.charmlet_halves.specs.Answers.{is_no_failure};
-ghost use Rattle.charmlet_history.specs.Kept.{core_in, counts_or_refused, oldest_on_in, told_or_refused};
+ghost use Rattle.charmlet_history.specs.Kept.{core_in, counts_or_refused, oldest_on_in};
 ghost use Rattle.charmlet_journal.specs.Rest.{HasOldOrSealed};
 ghost use Rattle.charmlet_shelf.specs.Shelf.{is_assigned, settled};
 ghost use Rattle.charmlet_stock.specs.ByKind.{at};
@@ -35,9 +34,9 @@ use charmlet_chare::Chare;
 use charmlet_delivery::{assign, commit, finish, release};
 use charmlet_disk::Disk;
 use charmlet_halves::Halves;
-use charmlet_history::{History, Request};
+use charmlet_history::History;
 use charmlet_journal::flush;
-use charmlet_model::{MsgId, Refusal, Told};
+use charmlet_model::{MsgId, Refusal};
 use charmlet_stock::{ByKind, Stock, Tally};
 use std::alloc::Global;
 use std::marker::Model;
@@ -187,36 +186,6 @@ impl<D: Disk, C: Chare, B: RuntimeName> Sequencer<D, C, B> {
     {
         self.history.facts();
         self.stock.supply(blanks)
-    }
-
-    /// Accepts a client's request, unless it repeats one in the client's window, and tells the
-    /// client what is durable of it. The refusals are those of [`History::request`], in their
-    /// order, and change nothing.
-    pub fn request(&mut self, client: u32, request: &Request<'_>) -> Result<Told, Refusal>
-        ensures goes { Goes (store_of self.old) (core.Request client request.now.number
-            request.now.to request.now.entry request.now.words.now) (told_or_refused result)
-            (store_of self.new) }
-        ensures told { IfOk result (λ told. Holds self.old.core.opening
-            (take self.old.core.durable self.old.core.history) client request.now.number told) }
-        ensures census { self.new.census ≡ self.old.census }
-        ensures disk { self.new.disk ≡ self.old.disk }
-        ensures err { OnErr result (self.new ≡ self.old) }
-    {
-        self.history.facts();
-        let told = self.history.request(client, request);
-        self.history.facts();
-        told
-    }
-
-    /// Tells a client what is durable of its request. `Halted`; otherwise `Memory`, but only if the
-    /// answer has words.
-    pub fn status(&self, client: u32, number: u64) -> Result<Told, Refusal>
-        ensures goes { Goes (store_of self.now) (core.Status client number)
-            (told_or_refused result) (store_of self.now) }
-        ensures told { IfOk result (λ told. Holds self.now.core.opening
-            (take self.now.core.durable self.now.core.history) client number told) }
-    {
-        self.history.status(client, number)
     }
 
     /// Assigns a pending message to the shelf's processor. One that constructs its receiver takes a

@@ -1,10 +1,10 @@
 //! A shelf under its lock.
 
 use crate::part::SeenPart;
-use charmlet_agreement::{Book, BookName, Share};
+use charmlet_agreement::{BookName, Share};
 use charmlet_chare::{Chare, Output};
 use charmlet_model::{Elem, MsgId, Refusal};
-use charmlet_shelf::{Image, Shelf};
+use charmlet_shelf::{Image, ImageRoom, Shelf};
 use std::alloc::AllocError;
 use std::marker::Model;
 
@@ -63,7 +63,7 @@ impl<C: Chare, B: BookName> LockedShelf<C, B> {
     ghost use Rattle.charmlet_shelf.specs.Image.{AreImages};
     ghost use Rattle.charmlet_shelf.specs.Shelf.{is_assigned, is_idle};
     ghost use Rattle.charmlet_checkpoint.specs.Imaging.{AnswersImage};
-    ghost use Rattle.charmlet_sequencer.specs.Part.{HasPart, part_on};
+    ghost use Rattle.charmlet_sequencer.specs.Part.{part_on};
     ghost use Rattle.charmlet_sequencer.specs.Shelf.{delivery_in, entered, is_done, sent_in};
 
     /// The shelf, and its share of the book.
@@ -150,26 +150,31 @@ impl<C: Chare, B: BookName> LockedShelf<C, B> {
         Ok(())
     }
 
-    /// Shows that the book has what stands on the shelf, and the delivery that is under way there.
-    /// Nothing is compared, and nothing changes.
-    pub(crate) fn agree(&mut self, parts: &mut Book<SeenPart, B>)
-        ensures agrees { HasPart parts.old self.old }
-        ensures parts { parts.new ≡ parts.old }
-        ensures shelf { self.new ≡ self.old }
-    {
-        parts.agree(&mut self.share);
+    /// Room for the images of as many elements as stand here now, which is yet to be made. It takes
+    /// no memory.
+    pub fn image_room(&self) -> ImageRoom {
+        self.shelf.image_room()
     }
 
-    /// The images of all elements that stand here, in their order. `Uncommitted` if a delivery is
-    /// under way; otherwise `Memory`. The shelf is as before. It needs no sequencer.
-    pub fn images(&mut self) -> Result<Vec<Image>, Refusal>
+    /// Notes in the room how many bytes each object packs to, as far as it has room for that. It
+    /// takes no memory, and the shelf is as before.
+    pub fn measure(&mut self, room: &mut ImageRoom)
+        ensures { self.new ≡ self.old }
+    {
+        self.shelf.measure(room);
+    }
+
+    /// The images of all elements that stand here, in any order, in the memory of the room.
+    /// `Uncommitted` if a delivery is under way; otherwise `Memory`, which is only taken where the
+    /// room lacks some. The shelf is as before. It needs no sequencer.
+    pub fn images(&mut self, room: ImageRoom) -> Result<Vec<Image>, Refusal>
         ensures ok { IfOk result (λ images. (is_idle self.old.phase ≡ true)
             × AreImages self.old.records (keys_of self.old.records) images.items) }
         ensures err { IfErr result (λ refusal. refusal
             ≡ (if is_idle self.old.phase then refusals.Memory else refusals.Uncommitted)) }
         ensures same { self.new ≡ self.old }
     {
-        self.shelf.images()
+        self.shelf.images(room)
     }
 
     /// The image of an element, or `None` if it isn't here. `Uncommitted` if a delivery is under

@@ -1,16 +1,13 @@
 -- The residents in rising order of their elements.
-use Rattle.std.proofs.Common.{◌≡◌, ℕ, ◌+◌, ◌<◌, suc, true, false, cond, not, nat_lt, List, [], ◌∷◌, ◌++◌, length, refl, sym, ap, subst, ◌∙◌, slice_get, drop, arith}
+use Rattle.std.proofs.Common.{◌≡◌, ℕ, ◌+◌, ◌<◌, suc, true, false, cond, not, nat_lt, List, [], ◌∷◌, ◌++◌, length, refl, sym, ap, subst, ◌∙◌, slice_get, arith}
 use Rattle.std.proofs.lemmas.Bool.{ltb-true}
 use Rattle.std.specs.Prelude.{Option, Some, None, IfSome, IsSome, is_some, position, unwrap_or, option_map, option_to_list, sum_by}
 use Rattle.std.specs.BTreeMap.{insert_entry, is_at}
-use Rattle.std.specs.BTreeSet.{insert_key}
 use Rattle.std.specs.Cmp.{IsEquivalence}
 use Rattle.std.specs.List.{AllByRecursion, IsDistinct, position_or_len}
 use Rattle.std.specs.List.Sorted.{IsStrictlySortedBy}
 use Rattle.std.specs.Map.{keys_of, lookup, remove_entry, set_value, values_of}
-use Rattle.std.specs.declared.cmp.Ordering.{Ordering}
-use Rattle.std.specs.declared.cmp.Ordering.TheVariants.{Less, Equal, Greater}
-use Rattle.std.specs.Ordering.{eq_by_cmp, match_ordering}
+use Rattle.std.specs.Ordering.{eq_by_cmp}
 use Rattle.std.proofs.lemmas.Cmp.{eq_by_cmp_equiv}
 use Rattle.std.proofs.lemmas.List.Sums.{sum_by-cons}
 use Rattle.std.proofs.lemmas.Map.{keys-set_value, lookup-set_value}
@@ -185,23 +182,3 @@ module _ {X : Type 0} where
       let rest = sum_risen f es distinct.1 in
       let first = sum_by-cons f e.1 (values_of es) in
       omega arith
-
-  -- ---- one more entry, from the last on
-
-  pub one_more : (es : List (Elem × X)) (i : ℕ) (x : Elem) (w : X) → slice_get es i ≡ Some (x, w) → risen (drop i es) ≡ insert_entry elem_cmp (risen (drop (suc i) es)) x w
-  one_more [] i x w here = absurd (let no : ⊥ = cc in no)
-  one_more (e ∷ es) Prim.Native.Nat.zero x w here = let same : e ≡ (x, w) = (λ j. unwrap_or (here j) e) in λ j. insert_entry elem_cmp (risen es) (same j).0 (same j).1
-  one_more (e ∷ es) (suc i) x w here = one_more es i x w here
-
--- ---- elements without what is kept of them
-
-pub keys_put : {X : Type 0} (es : List (Elem × X)) (k : Elem) (v : X) → keys_of (insert_entry elem_cmp es k v) ≡ insert_key elem_cmp (keys_of es) k
-keys_put [] k v = refl
-keys_put {X} (e ∷ es) k v =
-    chosen (elem_cmp k e.0) ((k, v) ∷ e ∷ es) ((e.0, v) ∷ es) (e ∷ insert_entry elem_cmp es k v)
-    ∙ ap (λ xs. match_ordering (elem_cmp k e.0) (k ∷ e.0 ∷ keys_of es) (e.0 ∷ keys_of es) (e.0 ∷ xs)) (keys_put es k v)
-  where
-    chosen : (o : Ordering) (a b d : List (Elem × X)) → keys_of (match_ordering o a b d) ≡ match_ordering o (keys_of a) (keys_of b) (keys_of d)
-    chosen Less a b d = refl
-    chosen Equal a b d = refl
-    chosen Greater a b d = refl

@@ -1,19 +1,21 @@
 //! Images of elements.
 
-ghost use Rattle.std.specs.Prelude.{◌≡◌, true, IfOk, IfSome, is_some};
+ghost use Rattle.std.specs.Prelude.{◌≡◌, ◌<◌, true, [], IfOk, IfSome, Some, is_some, length, slice_get};
 ghost use Rattle.std.specs.BTreeMap.{is_at};
 ghost use Rattle.std.specs.Map.{keys_of, lookup};
+ghost use Rattle.charmlet_model.specs.declared.names.Elem.{Elem as AnElem};
+ghost use Rattle.charmlet_model.specs.declared.state.Record.{Record};
 ghost use Rattle.charmlet_model.specs.Names.{elem_cmp};
 ghost use Rattle.charmlet_model.specs.Shelves.{record_in, records_of};
 ghost use Rattle.charmlet_shelf.specs.Image.{AreImages, IsImage};
 ghost use Rattle.charmlet_shelf.specs.Risen.{risen};
 
 use crate::residents::index_of;
+use crate::room::ImageRoom;
 use charmlet_chare::Chare;
 use charmlet_model::{Elem, Resident};
 use indexmap::IndexMap;
 use std::alloc::{AllocError, Global};
-use std::collections::BTreeSet;
 
 /// An element that is there: its packed state, and how many messages it sent and received in its
 /// whole life.
@@ -25,11 +27,12 @@ pub struct Image {
     pub packed: Vec<u8>,
 }
 
-/// The image of each element, in rising order. It fails only when out of memory. The objects show
-/// what they showed.
+/// The image of each element, in the order in which they stand, in the memory of the room. It takes
+/// more only where the room lacks some, and fails only when out of memory. The objects show what
+/// they showed.
 pub(crate) fn images_of<C: Chare>(
-    alloc: Global,
     residents: &mut IndexMap<Elem, Resident<C>>,
+    room: ImageRoom,
 ) -> Result<Vec<Image>, AllocError>
     ensures ok { IfOk result (λ images.
         AreImages (records_of C.state (risen residents.old.entries))
@@ -37,43 +40,48 @@ pub(crate) fn images_of<C: Chare>(
     ensures same { records_of C.state (risen residents.new.entries)
         ≡ records_of C.state (risen residents.old.entries) }
 {
-    let elems = elems_of(alloc, residents)?;
-    let mut images = Vec::new(alloc);
-    for elem in &elems {
-        let image = image_at(alloc, residents, *elem)?;
+    let mut room = room;
+    let mut images = room.take_list();
+    for index in 0..residents.len() {
+        let image = image_standing(residents, index, room.next_buffer())?;
         images.push(image)?;
     }
     Ok(images)
 }
 
-/// The elements, in rising order. It fails only when out of memory.
-fn elems_of<C: Chare>(
-    alloc: Global,
-    residents: &IndexMap<Elem, Resident<C>>,
-) -> Result<Vec<Elem>, AllocError>
-    ensures { IfOk result (λ elems. elems.items ≡ keys_of (risen residents.now.entries)) }
+/// The image of the element that stands at the index, in an empty buffer. It fails only when out of
+/// memory. The objects show what they showed.
+fn image_standing<C: Chare>(
+    residents: &mut IndexMap<Elem, Resident<C>>,
+    index: usize,
+    buffer: Vec<u8>,
+) -> Result<Image, AllocError>
+    requires within { index < length residents.old.entries }
+    requires empty { buffer.items ≡ [] }
+    ensures ok { IfOk result (λ image. (e : AnElem × Record)
+        × (slice_get (records_of C.state residents.old.entries) index ≡ Some e)
+        × IsImage image e.0 e.1) }
+    ensures same { records_of C.state residents.new.entries
+        ≡ records_of C.state residents.old.entries }
+    ensures len { length residents.new.entries ≡ length residents.old.entries }
 {
-    let elems = rising_elems(alloc, residents)?;
-    elems.iter().copied().collect(alloc)
+    let (elem, resident) = residents.pair_mut(index);
+    image_of(*elem, resident, buffer)
 }
 
-/// The elements as a set, which has them in rising order. It fails only when out of memory.
-fn rising_elems<C: Chare>(
-    alloc: Global,
-    residents: &IndexMap<Elem, Resident<C>>,
-) -> Result<BTreeSet<Elem>, AllocError>
-    ensures { IfOk result (λ elems. elems.keys ≡ keys_of (risen residents.now.entries)) }
+/// Notes in the room how many bytes each object packs to, in the order in which they stand, as far
+/// as it has room for that. It takes no memory. The objects show what they showed.
+pub(crate) fn measure_all<C: Chare>(
+    residents: &mut IndexMap<Elem, Resident<C>>,
+    room: &mut ImageRoom,
+)
+    ensures { records_of C.state (risen residents.new.entries)
+        ≡ records_of C.state (risen residents.old.entries) }
 {
-    let mut elems = BTreeSet::new(alloc);
-    let mut index = residents.len();
-    while index > 0 {
-        index -= 1;
-        let Some((elem, _)) = residents.get_index(index) else {
-            unreachable!()
-        };
-        elems.insert(*elem)?;
+    for index in 0..residents.len() {
+        let (_elem, resident) = residents.pair_mut(index);
+        room.note_size(resident.object.size());
     }
-    Ok(elems)
 }
 
 /// The image of an element that is there. It fails only when out of memory. The objects show what
@@ -94,20 +102,21 @@ pub(crate) fn image_at<C: Chare>(
         unreachable!()
     };
     let (_elem, resident) = residents.pair_mut(index);
-    image_of(alloc, elem, resident)
+    image_of(elem, resident, Vec::new(alloc))
 }
 
-/// The image of an element with its object. It fails only when out of memory, and the object shows
-/// what it showed.
+/// The image of an element with its object, in an empty buffer. It fails only when out of memory,
+/// and the object shows what it showed.
 fn image_of<C: Chare>(
-    alloc: Global,
     elem: Elem,
     resident: &mut Resident<C>,
+    buffer: Vec<u8>,
 ) -> Result<Image, AllocError>
+    requires { buffer.items ≡ [] }
     ensures ok { IfOk result (λ image. IsImage image elem (record_in C.state resident.old)) }
     ensures same { record_in C.state resident.new ≡ record_in C.state resident.old }
 {
-    let mut packed = Vec::new(alloc);
+    let mut packed = buffer;
     resident.object.pack(&mut packed)?;
     Ok(Image {
         elem,

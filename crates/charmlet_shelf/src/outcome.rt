@@ -75,6 +75,18 @@ impl Outcome {
         self.is_destroyed
     }
 
+    /// The memory of the message's words, and what it holds.
+    pub(crate) fn into_words(self) -> Vec<u64> {
+        let Outcome {
+            delivery,
+            sends: _,
+            is_destroyed: _,
+            output,
+        } = self;
+        drop(output);
+        delivery.into_words()
+    }
+
     /// Takes what the receiver sent and replied, once.
     pub(crate) fn take_output(&mut self) -> Option<Output>
         ensures output { result ≡ self.old.output }

@@ -5,6 +5,7 @@ pub mod Working
 pub mod Sealing
 pub use Rattle.charmlet_agreement.specs.Naming
 pub use Rattle.charmlet_model.specs.Core
+pub use Rattle.charmlet_model.specs.Sound
 pub use Rattle.charmlet_model.specs.World
 pub use Rattle.charmlet_disk.specs.File
 pub use Rattle.charmlet_halves.specs.Halves

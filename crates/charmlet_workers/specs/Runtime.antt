@@ -1,13 +1,16 @@
 -- What is seen of a runtime, and what it opens with.
-use Rattle.std.specs.Prelude.{◌≡◌, ℕ, ◌+◌, ◌≤◌, false, []}
-use Rattle.charmlet_model.specs.Core.{Core}
+use Rattle.std.specs.Prelude.{◌≡◌, ℕ, ◌+◌, ◌≤◌, false, List, [], length}
+use Rattle.std.specs.List.{AllByRecursion}
+use Rattle.charmlet_model.specs.Core.{Core, present}
+use Rattle.charmlet_model.specs.Sound.{IsSound}
 use Rattle.charmlet_model.specs.World.{World}
 use Rattle.charmlet_disk.specs.declared.disk.Disk.{Ghosts}
 use Rattle.charmlet_halves.specs.declared.halves.Halves.{Halves}
 use Rattle.charmlet_halves.specs.Halves.{disk_of}
 use Rattle.charmlet_history.specs.Kept.{core_in}
 use Rattle.charmlet_journal.specs.Rest.{Agrees, IsCurrent, IsKept}
-use Rattle.charmlet_passes.specs.Passes.{HeldPass, lent_since}
+use Rattle.charmlet_passes.specs.Passes.{HeldPass, accepts_in, lent_since}
+use Rattle.charmlet_sequencer.specs.Sequencer.{IsOf}
 use Rattle.charmlet_stock.specs.declared.pile.Tally.{Tally}
 use Rattle.charmlet_stock.specs.ByKind.{for_all}
 use Rattle.charmlet_store.specs.Store.{StoreShown}
@@ -29,6 +32,30 @@ named opening before processors = record {
 -- that of a runtime over a store with this core
 abbrev pub shown_of : Core → RuntimeShown
 shown_of core = named core.opening core.before core.processors
+
+-- what the runtime's store is at some moment: sound, and gone on from the opening world
+pub record IsMoment (shown : RuntimeShown) (core : Core) : Type 0 where
+  pub of : IsOf shown.opening shown.before shown.processors core
+  pub sound : IsSound core
+
+-- the pass has exactly its client's accepts in this history
+abbrev pub HasAccepts : Core → HeldPass → Type 0
+HasAccepts core held = held.accepts ≡ accepts_in held.pass.client core.history
+
+-- at a moment so many messages were pending
+pub record ArePending (shown : RuntimeShown) (count : ℕ) : Type 0 where
+  pub core : Core
+  pub moment : IsMoment shown core
+  pub counted : count ≡ length (present core).pending
+
+-- At a moment all events were durable, and they were so many, with those before the opening world.
+-- Each of these passes had its client's accepts among them, and no others.
+pub record AreFlushed (shown : RuntimeShown) (passes : List HeldPass) (count : ℕ) : Type 0 where
+  pub core : Core
+  pub moment : IsMoment shown core
+  pub durable : core.durable ≡ length core.history
+  pub counted : count ≡ core.before + length core.history
+  pub accepts : AllByRecursion (HasAccepts core) passes
 
 -- no more objects are in the stock or retired than were supplied
 abbrev pub IsWithin : Tally → Type 0

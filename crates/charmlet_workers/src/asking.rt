@@ -5,6 +5,7 @@ ghost use Rattle.charmlet_requests.specs.Handlers.{IsTarget, handler_of};
 ghost use Rattle.charmlet_requests.specs.Pass.{with_accept, with_told};
 ghost use Rattle.charmlet_passes.specs.Passes.{IsAnswered, accepts_after, with_flush};
 ghost use Rattle.charmlet_workers.specs.Refusals.{IsRequestCause, is_flush_refusal, is_request_refusal, is_status_refusal};
+ghost use Rattle.charmlet_workers.specs.Runtime.{AreFlushed};
 
 use crate::runtime::Runtime;
 use charmlet_chare::Chare;
@@ -70,10 +71,10 @@ impl<D: Disk, C: Chare, B: RuntimeName> Runtime<D, C, B> {
         target(hub.history(), handlers, name)
     }
 
-    /// Makes all events durable, in one hold of the hub, and answers how many there are, those
-    /// before the opening world among them. Then it tells each client whose pass is handed in that
-    /// the last of its accepts is accepted. It takes no memory; where no events are to be written
-    /// it makes no call of the disk.
+    /// Makes all events durable, in one hold of the hub, and answers how many there are at that
+    /// moment, those before the opening world among them. Then it tells each client whose pass is
+    /// handed in that the last of its accepts is accepted. It takes no memory; where no events are
+    /// to be written it makes no call of the disk.
     ///
     /// `Halted`; `LogFull` if the file would have more than 2^31 bytes, the closed gate after its
     /// log among them: then nothing changes. `Device` halts the store. When refused, no client is
@@ -86,10 +87,13 @@ impl<D: Disk, C: Chare, B: RuntimeName> Runtime<D, C, B> {
         ensures told { OnOk result (passes.new ≡ map with_flush passes.old) }
         ensures untold { OnErr result (passes.new ≡ passes.old) }
         ensures count { IfOk result (λ count. self.now.before ≤ count) }
+        ensures flushed { IfOk result (AreFlushed self.now passes.new) }
         ensures err { IfErr result (λ refusal. is_flush_refusal refusal ≡ true) }
     {
         let mut hub = self.hub.lock(rt);
         hub.facts();
-        hub.flush(passes)
+        let flushed = hub.flush(passes);
+        hub.facts();
+        flushed
     }
 }

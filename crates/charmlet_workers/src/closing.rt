@@ -9,7 +9,7 @@ ghost use Rattle.charmlet_halves.specs.Halves.{disk_of};
 ghost use Rattle.charmlet_history.specs.Kept.{core_in};
 ghost use Rattle.charmlet_journal.specs.Rest.{Agrees};
 ghost use Rattle.charmlet_stock.specs.ByKind.{for_all};
-ghost use Rattle.charmlet_passes.specs.Passes.{HeldPass, IsCurrent};
+ghost use Rattle.charmlet_passes.specs.Passes.{HaveAllAccepts, HeldPass, IsCurrent};
 ghost use Rattle.charmlet_seats.specs.Seats.{HeldSeat};
 ghost use Rattle.charmlet_seats.specs.Woven.{IsWoven};
 ghost use Rattle.charmlet_sequencer.specs.Sequencer.{IsOf, is_lawful};
@@ -40,10 +40,10 @@ impl<D: Disk, C: Chare, B: RuntimeName> Runtime<D, C, B> {
     /// and isn't committed is finished first. The objects of the store show the world after the
     /// history, and the world with which it opened is the runtime's own. The ids that the seats
     /// hold and those of the commits without a seat are all deliveries of the history: each stands
-    /// in one of these lists, in the history's order. Each pass has exactly its client's accepts
-    /// since it was lent, and all that it knows of its client's requests is true of the durable
-    /// events. The disk is honest if the first one was; and then a crash leaves the world after some
-    /// of the history, with all durable events among it.
+    /// in one of these lists, in the history's order. Each pass has exactly its client's accepts,
+    /// and all that it knows of its client's requests is true of the durable events; a client
+    /// without a pass has no accepts. The disk is honest if the first one was; and then a crash
+    /// leaves the world after some of the history, with all durable events among it.
     ///
     /// It takes no memory. The only refusal is `PassOut`, if a seat or a pass that is out isn't handed
     /// in. Then the runtime, the seats and the passes come back.
@@ -66,6 +66,8 @@ impl<D: Disk, C: Chare, B: RuntimeName> Runtime<D, C, B> {
             (deliveries_in (core_in closed.store.history).history)) }
         ensures current { IfOk result (λ closed. AllByRecursion
             (λ (held : HeldPass). IsCurrent held (core_in closed.store.history)) passes.items) }
+        ensures accepts { IfOk result (λ closed. HaveAllAccepts passes.items
+            (core_in closed.store.history)) }
         ensures err { IfErr result (λ back. back.refusal ≡ refusals.PassOut) }
         ensures back { IfErr result (λ back. (back.runtime ≡ self) × (back.seats ≡ seats)
             × (back.passes ≡ passes)) }

@@ -4,6 +4,7 @@ ghost use Rattle.std.specs.Prelude.{◌≡◌, ◌≤◌, ◌⊎◌, IfErr, IfOk
 ghost use Rattle.charmlet_model.specs.declared.refusal.Refusal.TheVariants as refusals;
 ghost use Rattle.charmlet_model.specs.Core.{present};
 ghost use Rattle.charmlet_history.specs.Kept.{core_in};
+ghost use Rattle.charmlet_workers.specs.Runtime.{ArePending};
 
 use crate::runtime::Runtime;
 use charmlet_chare::Chare;
@@ -51,8 +52,12 @@ impl<D: Disk, C: Chare, B: RuntimeName> Runtime<D, C, B> {
     }
 
     /// How many messages are pending.
-    pub fn pending_count<R: Wait>(&self, rt: &R) -> usize {
-        self.hub.lock(rt).history().pending_count()
+    pub fn pending_count<R: Wait>(&self, rt: &R) -> usize
+        ensures { ArePending self.now result }
+    {
+        let hub = self.hub.lock(rt);
+        hub.facts();
+        hub.history().pending_count()
     }
 
     /// The ids of the pending messages, in order of birth. It fails only when out of memory.

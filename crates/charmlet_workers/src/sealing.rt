@@ -13,6 +13,8 @@ use charmlet_disk::Disk;
 use charmlet_hub::{Checkpoint, Hub, NotSealed};
 use charmlet_model::Refusal;
 use charmlet_sequencer::{LockedShelf, RuntimeName};
+use charmlet_shelf::ImageRoom;
+use std::alloc::AllocError;
 use std::sync::Wait;
 
 impl<D: Disk, C: Chare, B: RuntimeName> Runtime<D, C, B> {
@@ -119,15 +121,31 @@ impl<D: Disk, C: Chare, B: RuntimeName> Runtime<D, C, B> {
         ensures next { result ≡ Ok true → checkpoint.new ≡ checkpoint.old + 1 }
         ensures err { IfErr result (λ refusal. is_sealing_refusal refusal ≡ true) }
     {
-        self.image_shelf(rt, checkpoint, &mut self.shelves[place].lock(rt))
+        let Ok(room) = self.image_room(rt, place) else {
+            return Err(Refusal::Memory);
+        };
+        self.image_shelf(rt, checkpoint, &mut self.shelves[place].lock(rt), room)
     }
 
-    /// The same of the shelf itself.
+    /// Room for the images of the shelf under one of the locks, by what its objects pack to now. No
+    /// lock is held where memory is taken. It fails only when out of memory.
+    fn image_room<R: Wait>(&self, rt: &R, place: usize) -> Result<ImageRoom, AllocError>
+        requires { place < B.processors }
+    {
+        let mut room = self.shelves[place].lock(rt).image_room();
+        room.prepare()?;
+        self.shelves[place].lock(rt).measure(&mut room);
+        room.reserve()?;
+        Ok(room)
+    }
+
+    /// The same of the shelf itself, in the memory of the room.
     fn image_shelf<R: Wait>(
         &self,
         rt: &R,
         checkpoint: &mut Checkpoint<B>,
         locked: &mut LockedShelf<C, B>,
+        room: ImageRoom,
     ) -> Result<bool, Refusal>
         ensures next { result ≡ Ok true → checkpoint.new ≡ checkpoint.old + 1 }
         ensures err { IfErr result (λ refusal. is_sealing_refusal refusal ≡ true) }
@@ -138,7 +156,7 @@ impl<D: Disk, C: Chare, B: RuntimeName> Runtime<D, C, B> {
         if locked.number() != checkpoint.shelves() {
             return Ok(false);
         }
-        let images = match locked.images() {
+        let images = match locked.images(room) {
             Ok(images) => images,
             Err(refusal) => return Err(refusal),
         };

@@ -1,5 +1,6 @@
 mod closing;
 mod crossing;
+mod hinting;
 mod moving;
 mod opening;
 mod pausing;

@@ -2,6 +2,7 @@ pub mod Behind
 pub mod Holes
 pub mod Ids
 pub mod Indices
+pub mod Left
 pub mod Made
 pub mod Places
 pub mod Suiting

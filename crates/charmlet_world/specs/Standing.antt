@@ -1,5 +1,5 @@
 -- What is kept of the elements, in the order in which they came.
-use Rattle.std.specs.Prelude.{ℕ, List, [], ◌∷◌, ◌++◌, Option, Some, None, unwrap_or, is_some, if◌then◌else◌}
+use Rattle.std.specs.Prelude.{ℕ, Bool, ◌&&◌, List, [], ◌∷◌, ◌++◌, Option, Some, None, unwrap_or, is_none, is_some, nat_lt, if◌then◌else◌}
 use Rattle.std.specs.BTreeMap.{insert_entry}
 use Rattle.std.specs.Map.{lookup}
 use Rattle.charmlet_model.specs.declared.names.Elem.{Elem}
@@ -40,3 +40,14 @@ with_place x (Some place) places = (x, place) ∷ places
 abbrev pub places_of : List (Elem × Element) → List (Elem × ℕ)
 places_of [] = []
 places_of (e ∷ es) = with_place e.0 e.1.place (places_of es)
+
+-- ---- elements that have left a record
+
+-- the element isn't there, and has received a message
+abbrev pub is_left : Element → Bool
+is_left e = is_none e.place && nat_lt 0 e.received
+
+-- the elements that aren't there, and have received a message
+abbrev pub left_of : List (Elem × Element) → List (Elem × Element)
+left_of [] = []
+left_of (e ∷ es) = if is_left e.1 then e ∷ left_of es else left_of es

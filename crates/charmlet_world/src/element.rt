@@ -4,6 +4,7 @@ ghost use Rattle.std.specs.Prelude.{◌≡◌, ◌+◌, ◌≤◌, not};
 ghost use Rattle.charmlet_model.specs.Reaction.{greatest};
 ghost use Rattle.charmlet_world.specs.Changed.{counted, lacks_count};
 ghost use Rattle.charmlet_world.specs.Seen.{has_record, no_element};
+ghost use Rattle.charmlet_world.specs.Standing.{is_left};
 
 use charmlet_model::MAX_SENDS;
 
@@ -40,6 +41,13 @@ impl Element {
         ensures { result ≡ has_record self.now }
     {
         self.place.is_some() || self.received > 0
+    }
+
+    /// Whether its world has a record of it although it isn't there.
+    pub fn has_left(&self) -> bool
+        ensures { result ≡ is_left self.now }
+    {
+        self.place.is_none() && self.received > 0
     }
 
     /// Counts one more delivery, which made the element send `sends` messages. The element then

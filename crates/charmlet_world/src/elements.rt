@@ -7,7 +7,7 @@ ghost use Rattle.charmlet_model.specs.Names.{elem_cmp, same_elem};
 ghost use Rattle.std.specs.BTreeMap.{insert_entry, is_at};
 ghost use Rattle.std.specs.List.Sorted.{IsStrictlySortedBy};
 ghost use Rattle.charmlet_model.specs.declared.names.Elem.{Elem as AnElem};
-ghost use Rattle.charmlet_world.specs.Standing.{element_in, places_of, risen, with_row};
+ghost use Rattle.charmlet_world.specs.Standing.{element_in, is_left, left_of, places_of, risen, with_row};
 ghost use Rattle.charmlet_world.specs.declared.element.Element.{Element as AnElement};
 
 use crate::element::Element;
@@ -150,11 +150,26 @@ impl Elements {
         }
     }
 
+    /// How many elements ever received a message.
+    pub fn len(&self) -> usize
+        ensures { result ≡ length self.now.entries }
+    {
+        self.rows.len()
+    }
+
     /// A copy of what is kept, in rising order of the elements. It fails only when out of memory.
     pub fn rising(&self, alloc: Global) -> Result<BTreeMap<Elem, Element>, AllocError>
         ensures { IfOk result (λ tree. tree.entries ≡ risen self.now.entries) }
     {
         rising_rows(&self.rows, alloc)
+    }
+
+    /// A copy of what is kept of each element that isn't there and has received a message, in rising
+    /// order of the elements. It fails only when out of memory.
+    pub fn left(&self, alloc: Global) -> Result<BTreeMap<Elem, Element>, AllocError>
+        ensures { IfOk result (λ tree. tree.entries ≡ left_of (risen self.now.entries)) }
+    {
+        rising_left(&self.rows, alloc)
     }
 
     /// The processor of each element that is there, in rising order of the elements. It fails only
@@ -302,6 +317,42 @@ fn rising_rows(
         tree.insert(*elem, *element)?;
     }
     Ok(tree)
+}
+
+/// Those of these rows whose elements aren't there and have received a message, in rising order.
+fn rising_left(
+    rows: &IndexMap<Elem, Element>,
+    alloc: Global,
+) -> Result<BTreeMap<Elem, Element>, AllocError>
+    ensures { IfOk result (λ tree. tree.entries ≡ left_of (risen rows.now.entries)) }
+{
+    let mut tree = BTreeMap::new(alloc);
+    let mut index = rows.len();
+    while index > 0 {
+        index -= 1;
+        let Some((elem, element)) = rows.get_index(index) else {
+            unreachable!()
+        };
+        put_left(&mut tree, *elem, element)?;
+    }
+    Ok(tree)
+}
+
+/// Puts an element into the tree, if it isn't there and has received a message. Otherwise it takes
+/// no memory.
+fn put_left(
+    tree: &mut BTreeMap<Elem, Element>,
+    elem: Elem,
+    element: &Element,
+) -> Result<(), AllocError>
+    ensures { OnOk result (tree.new.entries ≡ (if is_left element.now
+        then insert_entry elem_cmp tree.old.entries elem element.now else tree.old.entries)) }
+{
+    if !element.has_left() {
+        return Ok(());
+    }
+    tree.insert(elem, *element)?;
+    Ok(())
 }
 
 /// The places of these rows in rising order of their elements. It takes no memory where there is

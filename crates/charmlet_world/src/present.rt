@@ -18,7 +18,7 @@ ghost use Rattle.charmlet_locate.specs.Locations.{is_processor_count};
 ghost use Rattle.charmlet_world.specs.declared.element.Element.{Element as AnElement};
 ghost use Rattle.charmlet_world.specs.Changed.{IsOutputOf, Suits, accepted, delivered_in, flushed_row, relocated, with_entry};
 ghost use Rattle.charmlet_world.specs.Seen.{IsSlot, Shows, client_at, element_at, next_due, oldest, oldest_on, place_or_home_in, seen};
-ghost use Rattle.charmlet_world.specs.Standing.{places_of, risen};
+ghost use Rattle.charmlet_world.specs.Standing.{left_of, places_of, risen};
 ghost use Rattle.charmlet_world.specs.Waiting.{message_of};
 
 use crate::clients::{flush_row, keep_reply, note_request};
@@ -210,12 +210,27 @@ impl PresentWorld {
         place_in(self.dispatch.processors(), elem, self.element(elem).place)
     }
 
+    /// How many elements ever received a message. Those that are there are among them.
+    pub fn element_count(&self) -> usize
+        ensures { result ≡ length self.now.rows }
+    {
+        self.dispatch.elements().len()
+    }
+
     /// A copy of what is kept of each element, in rising order. It sorts, and fails only when out
     /// of memory.
     pub fn rising(&self, alloc: Global) -> Result<BTreeMap<Elem, Element>, AllocError>
         ensures { IfOk result (λ tree. tree.entries ≡ (seen self.now).elements) }
     {
         self.dispatch.elements().rising(alloc)
+    }
+
+    /// A copy of what is kept of each element that isn't there and has received a message, in rising
+    /// order of the elements. It fails only when out of memory.
+    pub fn left(&self, alloc: Global) -> Result<BTreeMap<Elem, Element>, AllocError>
+        ensures { IfOk result (λ tree. tree.entries ≡ left_of (seen self.now).elements) }
+    {
+        self.dispatch.elements().left(alloc)
     }
 
     /// The processor of each element that is there, in rising order of the elements. It fails only

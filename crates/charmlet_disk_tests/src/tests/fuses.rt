@@ -194,6 +194,30 @@ fn has_no_len<D: Disk>(rt: &impl Abort, disk: &mut D) {
     assert!(rt; disk.len(Half::One).is_err());
 }
 
+// A length, a read, a write and a sync are passed on to a disk, one after another, and each of them
+// fails there once.
+fn passes_each_once<D: Disk>(rt: &impl Abort, disk: &mut D) {
+    let mut byte = [0; 1];
+    has_no_len(rt, disk);
+    has_failures(rt, disk, 1);
+    assert!(rt; disk.read_at(Half::One, 0, &mut byte).is_err());
+    has_failures(rt, disk, 2);
+    assert!(rt; disk.write_at(Half::One, 0, &byte).is_err());
+    has_failures(rt, disk, 3);
+    fails_to_sync(rt, disk);
+    has_failures(rt, disk, 4);
+}
+
+#[test]
+fn calls_are_passed_on_once(rt: HostRuntime) {
+    let mut fuse = FuseDisk::new(BrokenDisk { faults: 0 }, 9);
+    passes_each_once(&rt, &mut fuse);
+    has_failures(&rt, &fuse.inner(), 4);
+    let mut once = OnceDisk::new(BrokenDisk { faults: 0 }, 9);
+    passes_each_once(&rt, &mut once);
+    has_failures(&rt, &once.inner(), 4);
+}
+
 #[test]
 fn failures_stay_at_the_greatest_count(rt: HostRuntime) {
     let broken = BrokenDisk {

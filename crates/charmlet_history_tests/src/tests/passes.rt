@@ -1,6 +1,6 @@
 //! Each call of passes and their book, over a history.
 
-ghost use Rattle.std.specs.Prelude.{◌≡◌, OnOk, length};
+ghost use Rattle.std.specs.Prelude.{◌≡◌, [], OnOk, length};
 ghost use Rattle.charmlet_agreement.specs.Naming.{table_of};
 ghost use Rattle.charmlet_history.specs.Kept.{core_in};
 ghost use Rattle.charmlet_passes.specs.Passes.{AreCurrent};
@@ -21,7 +21,9 @@ fn one_array(rt: &(impl AllocGlobal + Abort)) -> Manifest {
 }
 
 // The history of a new store of counters.
-pub fn new_history(rt: &(impl AllocGlobal + Abort)) -> History {
+pub fn new_history(rt: &(impl AllocGlobal + Abort)) -> History
+    ensures { (core_in result).history ≡ [] }
+{
     let history = History::new(rt.alloc(), one_array(rt), 50, 1);
     history.ok().expect(rt, "one processor is right")
 }

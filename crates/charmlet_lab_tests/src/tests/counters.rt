@@ -23,12 +23,34 @@ use charmlet_model::{Event, Kind, Refusal};
 use charmlet_recover::Wanted;
 use charmlet_script::Script;
 use std::alloc::{AllocError, Global};
+use std::sync::atomic::{AtomicU64, Ordering};
 use std::thread::Threads;
 
-// Has as many counters as are wanted.
+// Has as many counters as are wanted, and counts the runs and the restarts.
 #[derive(Drop)]
 pub(super) struct Counters<'a, R: Threads + Sync> {
-    pub(super) threads: &'a R,
+    threads: &'a R,
+    runs: AtomicU64,
+    restarts: AtomicU64,
+}
+
+impl<'a, R: Threads + Sync> Counters<'a, R> {
+    // Nothing was run or restarted yet.
+    pub(super) fn new(threads: &'a R) -> Counters<'a, R> {
+        Counters {
+            threads,
+            runs: AtomicU64::new(0),
+            restarts: AtomicU64::new(0),
+        }
+    }
+
+    // How many runs and restarts there were.
+    pub(super) fn counts(&self) -> [u64; 2] {
+        [
+            self.runs.load(Ordering::SeqCst),
+            self.restarts.load(Ordering::SeqCst),
+        ]
+    }
 }
 
 // `count` blank counters.
@@ -85,6 +107,7 @@ impl<R: Threads + Sync> Supplier<AnyDisk> for Counters<'_, R> {
         script: &Script,
         disk: AnyDisk,
     ) -> Result<Round<AnyDisk>, Refusal> {
+        self.runs.fetch_add(1, Ordering::SeqCst);
         run_counters(alloc, script, disk)
     }
 
@@ -97,6 +120,7 @@ impl<R: Threads + Sync> Supplier<AnyDisk> for Counters<'_, R> {
         events: &[Event],
         durable: Option<u64>,
     ) -> Result<bool, Refusal> {
+        self.restarts.fetch_add(1, Ordering::SeqCst);
         restart_counters(self.threads, alloc, script, disk, wanted, events, durable)
     }
 }
@@ -110,6 +134,7 @@ impl<R: Threads + Sync> Supplier<ForgetfulDisk> for Counters<'_, R> {
         script: &Script,
         disk: ForgetfulDisk,
     ) -> Result<Round<ForgetfulDisk>, Refusal> {
+        self.runs.fetch_add(1, Ordering::SeqCst);
         run_counters(alloc, script, disk)
     }
 
@@ -122,6 +147,7 @@ impl<R: Threads + Sync> Supplier<ForgetfulDisk> for Counters<'_, R> {
         events: &[Event],
         durable: Option<u64>,
     ) -> Result<bool, Refusal> {
+        self.restarts.fetch_add(1, Ordering::SeqCst);
         restart_counters(self.threads, alloc, script, disk, wanted, events, durable)
     }
 }

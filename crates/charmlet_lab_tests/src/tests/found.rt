@@ -3,6 +3,7 @@
 use super::counters::{Counters, blank_counters};
 use super::forgetful::ForgetfulDisk;
 use charmlet_any_disk::AnyDisk;
+use charmlet_disk::Disk;
 use charmlet_lab::{LabLine, Watch, lab_round, try_crashes};
 use charmlet_script::{Runner, read_script};
 use std::alloc::{AllocGlobal, Global};
@@ -30,7 +31,7 @@ fn an_honest_disk_is_found_good(rt: HostRuntime) -> Result<(), Fail> {
     let alloc = rt.alloc();
     let script = read_script(alloc, &mut SCRIPT.as_bytes(), Runner::Engine)?;
     let mut told = Told { times: 0 };
-    let counters = Counters { threads: rt };
+    let counters = Counters::new(rt);
     let found = try_crashes::<AnyDisk, Counters<'_, HostRuntime>, Told>(
         alloc, &script, &counters, &mut told,
     )?;
@@ -41,6 +42,9 @@ fn an_honest_disk_is_found_good(rt: HostRuntime) -> Result<(), Fail> {
     };
     assert_eq!(rt; found, good);
     assert_eq!(rt; told.times, 14);
+    // Each of the six crashes of a stop has a run and a restart of its own, and one run isn't
+    // stopped.
+    assert_eq!(rt; counters.counts(), [85, 84]);
     Ok(())
 }
 
@@ -51,7 +55,7 @@ fn a_disk_that_forgets_is_found_bad(rt: HostRuntime) -> Result<(), Fail> {
     let alloc = rt.alloc();
     let script = read_script(alloc, &mut SCRIPT.as_bytes(), Runner::Engine)?;
     let mut told = Told { times: 0 };
-    let counters = Counters { threads: rt };
+    let counters = Counters::new(rt);
     let found = try_crashes::<ForgetfulDisk, Counters<'_, HostRuntime>, Told>(
         alloc, &script, &counters, &mut told,
     )?;
@@ -67,6 +71,24 @@ fn durable_after(alloc: Global, calls: u64) -> Result<Option<u64>, Fail> {
     let disk = AnyDisk::failing(alloc, calls);
     let round = lab_round(alloc, &script, blank_counters(alloc, 1)?, disk)?;
     Ok(round.durable)
+}
+
+// How many writes and syncs failed of a run whose disk fails from some call on.
+fn failures_after(alloc: Global, calls: u64) -> Result<u64, Fail> {
+    let script = read_script(alloc, &mut SCRIPT.as_bytes(), Runner::Engine)?;
+    let disk = AnyDisk::failing(alloc, calls);
+    let round = lab_round(alloc, &script, blank_counters(alloc, 1)?, disk)?;
+    Ok(round.disk.failures())
+}
+
+#[test]
+fn no_call_comes_after_one_that_failed(rt: HostRuntime) -> Result<(), Fail> {
+    let rt = &rt;
+    for calls in 0..14 {
+        assert_eq!(rt; failures_after(rt.alloc(), calls)?, 1);
+    }
+    assert_eq!(rt; failures_after(rt.alloc(), 14)?, 0);
+    Ok(())
 }
 
 // The creation makes six calls, and each flush four.

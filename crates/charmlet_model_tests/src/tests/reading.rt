@@ -94,3 +94,17 @@ fn an_interrupted_read_is_tried_again(rt: HostRuntime) {
     let read = read_script(rt.alloc(), &mut interrupted_script(), Runner::Workers);
     assert!(rt; matches!(read, Err(ReadError::Malformed(2))));
 }
+
+// The error is told in these words.
+fn is_told_so(rt: &(impl AllocGlobal + Abort), error: ReadError, text: &str) {
+    let said = format!(in rt.alloc(); "{error}").expect(rt, "memory");
+    assert_eq!(rt; said.as_str(), text);
+}
+
+#[test]
+fn errors_of_readers_are_told_in_words(rt: HostRuntime) {
+    is_told_so(&rt, ReadError::Memory, "out of memory");
+    is_told_so(&rt, ReadError::Malformed(7), "script line 7");
+    let denied = failure(&rt, ErrorKind::PermissionDenied);
+    is_told_so(&rt, denied, "cannot read script: permission denied");
+}

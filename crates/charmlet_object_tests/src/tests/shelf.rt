@@ -309,7 +309,8 @@ fn refuses_images<C: Chare>(rt: &impl Abort, shelf: &mut Shelf<C>, refusal: Refu
 {
     let of_one = shelf.image(ME).err().expect(rt, "a refusal");
     assert!(rt; of_one == refusal);
-    let of_all = shelf.images().err().expect(rt, "a refusal");
+    let room = shelf.image_room();
+    let of_all = shelf.images(room).err().expect(rt, "a refusal");
     assert!(rt; of_all == refusal);
 }
 

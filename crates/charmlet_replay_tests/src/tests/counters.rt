@@ -67,8 +67,8 @@ fn take(rt: &impl Abort, engine: &mut Engine<ProbeDisk, Counter>, step: &Step) {
     assert!(rt; !matches!(engine.step(step), Answer::Refused(_)));
 }
 
-// Clients 1 and 2 each ask the counter of their processor for this entry, and then both messages are
-// delivered.
+// Clients 1 and 2 each ask the counter of their processor for this entry, and then both messages
+// are delivered.
 fn ask_both(
     rt: &(impl AllocGlobal + Abort),
     engine: &mut Engine<ProbeDisk, Counter>,
@@ -87,8 +87,8 @@ fn ask_both(
     }
 }
 
-// A disk whose log makes a counter with 5 on each of two processors, and then, if that is asked for,
-// adds 1 to each.
+// A disk whose log makes a counter with 5 on each of two processors, and then, if that is asked
+// for, adds 1 to each.
 pub fn logged(rt: &(impl AllocGlobal + Abort), adds: bool) -> ProbeDisk {
     let mut engine = new_engine(rt);
     ask_both(rt, &mut engine, 1, CONSTRUCT, 5);

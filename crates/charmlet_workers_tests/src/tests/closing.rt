@@ -7,7 +7,7 @@ ghost use Rattle.charmlet_history.specs.Kept.{core_in};
 ghost use Rattle.charmlet_sequencer.specs.Sequencer.{IsOf};
 ghost use Rattle.charmlet_workers.specs.Runtime.{IsReady};
 
-use super::opening::Start;
+use super::opening::{Start, has_counters};
 use charmlet_history::Request;
 use charmlet_hub::{Closed, PassesOf, SeatsOf};
 use charmlet_model::{CONSTRUCT, Elem, Event, MsgId, Origin, Refusal, Told};
@@ -158,7 +158,7 @@ fn halt<B: RuntimeName + Send + Sync, R: Wait + AllocGlobal + Abort + Sync>(
 }
 
 // The runtime is closed. The delivery that was left on its shelf stands once in its history, by no
-// seat, and the counter is there.
+// seat, and the counter is there. No blank is lost.
 fn end<B: RuntimeName>(rt: &impl Abort, open: Open<B>) {
     let Open {
         runtime,
@@ -180,6 +180,7 @@ fn end<B: RuntimeName>(rt: &impl Abort, open: Open<B>) {
     let look = store.look(ELEM).expect(rt, "memory");
     assert!(rt; look.standing.is_some());
     assert_eq!(rt; look.received, 1);
+    has_counters(rt, &store, 1);
 }
 
 // A store is halted while a counter is made, and closed. Each seat and each pass is missing in a

@@ -6,7 +6,7 @@ ghost use Rattle.charmlet_history.specs.Kept.{core_in};
 ghost use Rattle.charmlet_sequencer.specs.Sequencer.{IsOf};
 ghost use Rattle.charmlet_workers.specs.Runtime.{IsReady};
 
-use super::opening::Start;
+use super::opening::{Start, has_counters};
 use charmlet_disk::CrashChoice;
 use charmlet_history::Request;
 use charmlet_hub::{Closed, PassesOf, SeatsOf};
@@ -135,7 +135,8 @@ fn fail<B: RuntimeName, R: Wait + Abort>(
     }
 }
 
-// The runtime is closed. Both deliveries stand in its history, processor 1's first, and no other.
+// The runtime is closed. Both deliveries stand in its history, processor 1's first, and no other;
+// and both counters on its shelves.
 fn end<B: RuntimeName>(
     rt: &impl Abort,
     runtime: Runtime<ProbeDisk, Object, B>,
@@ -151,6 +152,7 @@ fn end<B: RuntimeName>(
     assert_eq!(rt; events.len(), 4);
     assert!(rt; matches!(&events[2], Event::Deliver(id) if *id == first_of(8)));
     assert!(rt; matches!(&events[3], Event::Deliver(id) if *id == first_of(7)));
+    has_counters(rt, &store, 2);
     halves.into_disk()
 }
 

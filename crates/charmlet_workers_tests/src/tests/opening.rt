@@ -81,6 +81,17 @@ impl Start {
     }
 }
 
+// So many of the two counters of a store that was closed are on its shelves, and the others in its
+// stock.
+pub(super) fn has_counters(rt: &impl Abort, store: &Store<Object>, on_shelves: u64) {
+    let census = store.census(Kind::Counter);
+    assert_eq!(rt;
+        [census.supplied, census.on_shelves, census.retired],
+        [2, on_shelves, 0]
+    );
+    assert_eq!(rt; census.on_shelves + census.in_stock, 2);
+}
+
 // A new runtime on two processors, with an array of counters.
 pub(super) fn create_on(
     rt: &(impl AllocGlobal + Abort),

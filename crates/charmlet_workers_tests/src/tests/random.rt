@@ -1,5 +1,5 @@
-//! Random stores whose checkpoints run while clients ask and workers deliver. Each crashes and comes
-//! back, and is compared with the world after the events that were durable.
+//! Random stores whose checkpoints run while clients ask and workers deliver. Each crashes and
+//! comes back, and is compared with the world after the events that were durable.
 
 ghost use Rattle.std.specs.Prelude.{◌≡◌};
 ghost use Rattle.charmlet_agreement.specs.Naming.{table_of};

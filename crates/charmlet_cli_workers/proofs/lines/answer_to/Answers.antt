@@ -1,5 +1,13 @@
-use Rattle.std.proofs.Common.{sym, subst}
-use Rattle.charmlet_cli_workers.specs.Heard.{AreLater}
+use Rattle.std.proofs.Common.{◌≡◌, List, ℕ, map, refl, sym, subst}
+use Rattle.charmlet_model.specs.declared.step.Answer.{Answer}
+use Rattle.charmlet_model.specs.declared.step.Answer.TheVariants as answers
+use Rattle.charmlet_model.specs.declared.step.Step.{Step}
+use Rattle.charmlet_model.specs.declared.step.Step.TheVariants as steps
+use Rattle.charmlet_history.specs.declared.request.Request.{Request}
+use Rattle.charmlet_passes.specs.Passes.{HeldPass, with_flush}
+use Rattle.charmlet_cli_workers.specs.Heard.{AreAccepted, AreLater, AreTidy, known_by}
+use Rattle.charmlet_cli_workers.specs.Said.{Answers}
+use Rattle.charmlet_cli_workers.proofs.Asking.{accepts_flushed, done_same, flushed_durable, stated_answers, tidy_flushed, told_answers, were_flushed}
 use Rattle.charmlet_cli_workers.proofs.Hearing.{flushed_passes, same_passes}
 use Rattle.charmlet_cli_workers.proofs.lines.answer_to.Goals as goal
 
@@ -20,3 +28,81 @@ returns-in-Ok-flush-clause-later g c = subst (AreLater c.args.clients.now.passes
 
 pub returns-in-Err-flush-clause-later : goal.returns-in-Err-flush-clause-later
 returns-in-Err-flush-clause-later g c = subst (AreLater c.args.clients.now.passes.items) (sym c.in-Err-flush.ensures.untold) (same_passes c.args.clients.now.passes.items)
+
+pub returns-in-Request-clause-answers : goal.returns-in-Request-clause-answers
+returns-in-Request-clause-answers g c = λ named lists before done.
+    let old = c.args.clients.now.passes.items in
+    let new = c.request.new.self.passes.items in
+    let clients = known_by c.args.runtime.now named new in
+    let asked = c.in-Request in
+    let request : Request = record { number = asked.number; to = asked.to; entry = asked.entry; words = c.as_slice.result } in
+    let words : c.as_slice.result.now ≡ asked.words = c.as_slice.ensures in
+    let did = told_answers c.args.runtime.now named old new lists before asked.client request c.request.result done c.request.ensures.asked c.request.ensures.unasked c.request.ensures.heard c.request.ensures.reached c.request.ensures.err in
+    let after = did.0 in
+    let told = subst (λ (a : Answer). Answers clients before a (steps.Request asked.client asked.number asked.to asked.entry c.as_slice.result.now) after) (sym c.told_answer.ensures) did.2 in
+    let so = subst (λ (ws : List ℕ). Answers clients before c.told_answer.result (steps.Request asked.client asked.number asked.to asked.entry ws) after) words told in
+    (after, did.1, subst (λ (step : Step). Answers clients before c.told_answer.result step after) (sym asked.is) so)
+
+pub returns-in-Status-clause-answers : goal.returns-in-Status-clause-answers
+returns-in-Status-clause-answers g c = λ named lists before done.
+    let old = c.args.clients.now.passes.items in
+    let new = c.status.new.self.passes.items in
+    let clients = known_by c.args.runtime.now named new in
+    let asked = c.in-Status in
+    let did = stated_answers c.args.runtime.now named old new lists before asked.client asked.number c.status.result done c.status.ensures.accepted c.status.ensures.heard c.status.ensures.err in
+    let after = did.0 in
+    let told = subst (λ (a : Answer). Answers clients before a (steps.Status asked.client asked.number) after) (sym c.told_answer-in-Status.ensures) did.2 in
+    (after, did.1, subst (λ (step : Step). Answers clients before c.told_answer-in-Status.result step after) (sym asked.is) told)
+
+pub returns-in-Ok-clause-answers : goal.returns-in-Ok-clause-answers
+returns-in-Ok-clause-answers g c = λ named lists before done.
+    let move = c.in-Move in
+    let clients = known_by c.args.runtime.now named c.args.clients.now.passes.items in
+    (before, done, subst (λ (step : Step). Answers clients before (answers.Moved move.elem move.processor) step before) (sym move.is) (refl, refl, refl))
+
+pub returns-in-Err-clause-answers : goal.returns-in-Err-clause-answers
+returns-in-Err-clause-answers g c = λ named lists before done.
+    let clients = known_by c.args.runtime.now named c.args.clients.now.passes.items in
+    (before, done, subst (λ (step : Step). Answers clients before (answers.Refused c.in-Err.refusal) step before) (sym c.in-Move.is) (c.in-Err.ensures.err, refl))
+
+pub returns-in-Ok-flush-clause-answers : goal.returns-in-Ok-flush-clause-answers
+returns-in-Ok-flush-clause-answers g c = λ named lists before done.
+    let old = c.args.clients.now.passes.items in
+    let new = c.flush.new.self.passes.items in
+    let clients = known_by c.args.runtime.now named new in
+    let told : new ≡ map with_flush old = c.in-Ok-flush.ensures.told in
+    let same = subst (AreAccepted old) (sym told) (accepts_flushed old) in
+    let durable = flushed_durable c.args.runtime.now named old new lists before told c.requires.tidy.counted done in
+    let counted = were_flushed c.args.runtime.now old new lists before c.in-Ok-flush.durable same done c.in-Ok-flush.ensures.flushed in
+    (before, done_same old new lists before same done, subst (λ (step : Step). Answers clients before (answers.Flushed c.in-Ok-flush.durable) step before) (sym c.in-Flush.is) (durable, counted, refl))
+
+pub returns-in-Err-flush-clause-answers : goal.returns-in-Err-flush-clause-answers
+returns-in-Err-flush-clause-answers g c = λ named lists before done.
+    let old = c.args.clients.now.passes.items in
+    let new = c.flush.new.self.passes.items in
+    let clients = known_by c.args.runtime.now named new in
+    let same : AreAccepted old new = subst (AreAccepted old) (sym c.in-Err-flush.ensures.untold) (λ client. refl) in
+    (before, done_same old new lists before same done, subst (λ (step : Step). Answers clients before (answers.Refused c.in-Err-flush.refusal) step before) (sym c.in-Flush.is) (c.in-Err-flush.ensures.err, refl))
+
+pub returns-in-Ok-checkpoint-clause-answers : goal.returns-in-Ok-checkpoint-clause-answers
+returns-in-Ok-checkpoint-clause-answers g c = λ named lists before done.
+    let clients = known_by c.args.runtime.now named c.args.clients.now.passes.items in
+    (before, done, subst (λ (step : Step). Answers clients before (answers.Checkpointed c.in-Ok-checkpoint.generation) step before) (sym c.in-Checkpoint.is) (c.in-Ok-checkpoint.ensures.ok, refl))
+
+pub returns-in-Err-checkpoint-clause-answers : goal.returns-in-Err-checkpoint-clause-answers
+returns-in-Err-checkpoint-clause-answers g c = λ named lists before done.
+    let clients = known_by c.args.runtime.now named c.args.clients.now.passes.items in
+    (before, done, subst (λ (step : Step). Answers clients before (answers.Refused c.in-Err-checkpoint.refusal) step before) (sym c.in-Checkpoint.is) (c.in-Err-checkpoint.ensures.err, refl))
+
+pub returns-in-Ok-flush-clause-tidy : goal.returns-in-Ok-flush-clause-tidy
+returns-in-Ok-flush-clause-tidy g c =
+    let old = c.args.clients.now.passes.items in
+    let tidy = tidy_flushed old c.args.clients.now.places.entries c.requires.tidy in
+    subst (λ (ps : List HeldPass). AreTidy ps c.flush.new.self.places.entries) (sym c.in-Ok-flush.ensures.told)
+    (subst (λ places. AreTidy (map with_flush old) places.entries) (sym c.in-Ok-flush.ensures.places) tidy)
+
+pub returns-in-Err-flush-clause-tidy : goal.returns-in-Err-flush-clause-tidy
+returns-in-Err-flush-clause-tidy g c =
+    let old = c.args.clients.now.passes.items in
+    subst (λ (ps : List HeldPass). AreTidy ps c.flush.new.self.places.entries) (sym c.in-Err-flush.ensures.untold)
+    (subst (λ places. AreTidy old places.entries) (sym c.in-Err-flush.ensures.places) c.requires.tidy)

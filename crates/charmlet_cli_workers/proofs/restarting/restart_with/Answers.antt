@@ -7,12 +7,13 @@ use Rattle.charmlet_locate.specs.Locations.{is_processor_count}
 use Rattle.charmlet_stock.specs.Stock.{supplied_to}
 use Rattle.charmlet_engine.specs.Engine.{core_of, view_of}
 use Rattle.charmlet_engine.specs.Restarted.{IsTakenFrom}
-use Rattle.charmlet_cli.specs.Lines.{ledger_in}
+use Rattle.charmlet_cli.specs.Lines.{ledger_in, named_by}
+use Rattle.charmlet_cli_workers.specs.Heard.{names_in}
 use Rattle.charmlet_cli.proofs.Restarts.{all_given, counted_processors, is_back, was_not_restarted}
 use Rattle.charmlet_cli_workers.specs.Left.{IsLeft}
 use Rattle.charmlet_cli.specs.declared.restarting.RestartedLine.{RestartedLine}
 use Rattle.charmlet_cli_workers.specs.Restarts.{IsBackByWorkers, line_of}
-use Rattle.charmlet_cli_workers.proofs.Leavings.{left_of_lines, some_on}
+use Rattle.charmlet_cli_workers.proofs.Leavings.{left_of_lines, prints_of_lines, some_on}
 use Rattle.charmlet_cli_workers.proofs.Returnings.{back_early, back_ok, left_back}
 use Rattle.charmlet_cli_workers.proofs.restarting.restart_with.Goals as goal
 
@@ -27,19 +28,21 @@ returns-in-Ok-clause-ran g c =
     let blanks = c.args.prepared.blanks in
     let same = all_given blanks c.requires.unused in
     let taken = subst (λ (given : Blanks). g.D.Disk.honest first → IsTakenFrom given (bytes_on (g.D.Disk.file first)) (view_of begun)) same (λ honest. (made.files honest).taken_from) in
-    let make : (P : (back last : Core) → Type 0) → IfSome c.run_named.result.disk (IsLeft g.D.Disk (core_of begun).opening (core_of begun).before (core_of begun).processors (P (core_of begun))) → IsBackByWorkers g.D.Disk c.args.processors (supplied_to blanks) first c.run_named.result.disk P = λ P left. record {
+    let make : (P : (back last : Core) → Type 0) (S : Core → Type 0) → IfSome c.run_named.result.disk (IsLeft g.D.Disk (core_of begun).opening (core_of begun).before (core_of begun).processors (P (core_of begun))) → S (core_of begun) →
+    IsBackByWorkers g.D.Disk c.args.processors (supplied_to blanks) first c.run_named.result.disk P S = λ P S left says. record {
       counted = counted_processors (is_processor_count c.args.processors) (λ is. made.bad is);
       back = ledger_in begun;
       is_back = is_back g.D.Disk c.args.processors (supplied_to blanks) first begun made.ok.opens (λ honest. (made.files honest).found) taken made.ok.supplied_are made.remembers made.disk.counted made.disk.honest
           (λ honest. (made.leaves honest).settled refl) (λ honest. (made.files honest).now) (λ honest. (made.leaves honest).still) (λ honest. (made.leaves honest).any_moment);
       left = left_back g.D.Disk c.args.processors (core_of begun) c.run_named.result.disk made.ok.opens (P (core_of begun)) left;
       honest = some_on (λ last. g.D.Disk.honest begun.disk → g.D.Disk.honest last) (λ last. g.D.Disk.honest first → g.D.Disk.honest last) c.run_named.result.disk (λ last still honest. still (made.disk.honest.0 honest)) c.run_named.ensures.honest;
+      says = says;
     } in
     let line : RestartedLine = record { generation = c.generation.result; events = c.event_count.result; processors = c.args.processors } in
     let counted : c.args.processors ≡ (core_of begun).processors = sym (ap (λ (c : Core). c.processors) made.ok.opens) in
     let line_is : line ≡ line_of (core_of begun) = λ i. record { generation = c.generation.ensures i; events = c.event_count.ensures i; processors = counted i } in
-    back_ok g.D.Disk c.args.processors (supplied_to blanks) first c.run_named.result.disk c.args.script.now.lines (core_of begun) make (g.W.Write.contents c.args.writer.now) (g.W.Write.contents c.run_named.new.writer) c.run_named.result.result
-    (left_of_lines g.D.Disk (core_of begun).opening (core_of begun).before (core_of begun).processors c.run_named.result.disk c.run_named.result.result (Some line) (Some (line_of (core_of begun))) c.lines.result.now c.args.script.now.lines (g.W.Write.contents c.args.writer.now) (g.W.Write.contents c.run_named.new.writer) (ap Some line_is) c.lines.ensures c.run_named.ensures.left)
+    back_ok g.D.Disk c.args.processors (supplied_to blanks) first c.run_named.result.disk c.args.script.now.handlers c.args.script.now.lines (core_of begun) make (g.W.Write.contents c.args.writer.now) (g.W.Write.contents c.run_named.new.writer) c.run_named.result.result
+    (left_of_lines g.D.Disk (core_of begun).opening (core_of begun).before (core_of begun).processors c.run_named.result.disk c.run_named.result.result (Some line) (Some (line_of (core_of begun))) (names_in c.args.prepared.given.handlers) (named_by c.args.script.now.handlers) c.lines.result.now c.args.script.now.lines (g.W.Write.contents c.args.writer.now) (g.W.Write.contents c.run_named.new.writer) (ap Some line_is) (λ i name. c.requires.handlers name i) c.lines.ensures c.run_named.ensures.left)
 
 pub returns-in-Ok-clause-err : goal.returns-in-Ok-clause-err
 returns-in-Ok-clause-err g c =
@@ -49,19 +52,23 @@ returns-in-Ok-clause-err g c =
     let blanks = c.args.prepared.blanks in
     let same = all_given blanks c.requires.unused in
     let taken = subst (λ (given : Blanks). g.D.Disk.honest first → IsTakenFrom given (bytes_on (g.D.Disk.file first)) (view_of begun)) same (λ honest. (made.files honest).taken_from) in
-    let make : (P : (back last : Core) → Type 0) → IfSome c.run_named.result.disk (IsLeft g.D.Disk (core_of begun).opening (core_of begun).before (core_of begun).processors (P (core_of begun))) → IsBackByWorkers g.D.Disk c.args.processors (supplied_to blanks) first c.run_named.result.disk P = λ P left. record {
+    let make : (P : (back last : Core) → Type 0) (S : Core → Type 0) → IfSome c.run_named.result.disk (IsLeft g.D.Disk (core_of begun).opening (core_of begun).before (core_of begun).processors (P (core_of begun))) → S (core_of begun) →
+    IsBackByWorkers g.D.Disk c.args.processors (supplied_to blanks) first c.run_named.result.disk P S = λ P S left says. record {
       counted = counted_processors (is_processor_count c.args.processors) (λ is. made.bad is);
       back = ledger_in begun;
       is_back = is_back g.D.Disk c.args.processors (supplied_to blanks) first begun made.ok.opens (λ honest. (made.files honest).found) taken made.ok.supplied_are made.remembers made.disk.counted made.disk.honest
           (λ honest. (made.leaves honest).settled refl) (λ honest. (made.files honest).now) (λ honest. (made.leaves honest).still) (λ honest. (made.leaves honest).any_moment);
       left = left_back g.D.Disk c.args.processors (core_of begun) c.run_named.result.disk made.ok.opens (P (core_of begun)) left;
       honest = some_on (λ last. g.D.Disk.honest begun.disk → g.D.Disk.honest last) (λ last. g.D.Disk.honest first → g.D.Disk.honest last) c.run_named.result.disk (λ last still honest. still (made.disk.honest.0 honest)) c.run_named.ensures.honest;
+      says = says;
     } in
     let line : RestartedLine = record { generation = c.generation.result; events = c.event_count.result; processors = c.args.processors } in
     let counted : c.args.processors ≡ (core_of begun).processors = sym (ap (λ (c : Core). c.processors) made.ok.opens) in
     let line_is : line ≡ line_of (core_of begun) = λ i. record { generation = c.generation.ensures i; events = c.event_count.ensures i; processors = counted i } in
-    back_early g.D.Disk c.args.processors (supplied_to blanks) first c.run_named.result.disk c.args.script.now.lines (core_of begun) make g.W.Write.contents c.args.writer.now c.run_named.new.writer c.run_named.result.result
-    (left_of_lines g.D.Disk (core_of begun).opening (core_of begun).before (core_of begun).processors c.run_named.result.disk c.run_named.result.result (Some line) (Some (line_of (core_of begun))) c.lines.result.now c.args.script.now.lines (g.W.Write.contents c.args.writer.now) (g.W.Write.contents c.run_named.new.writer) (ap Some line_is) c.lines.ensures c.run_named.ensures.left) c.run_named.ensures.err
+    back_early g.D.Disk c.args.processors (supplied_to blanks) first c.run_named.result.disk c.args.script.now.handlers c.args.script.now.lines (core_of begun) make g.W.Write.contents c.args.writer.now c.run_named.new.writer c.run_named.result.result
+    (left_of_lines g.D.Disk (core_of begun).opening (core_of begun).before (core_of begun).processors c.run_named.result.disk c.run_named.result.result (Some line) (Some (line_of (core_of begun))) (names_in c.args.prepared.given.handlers) (named_by c.args.script.now.handlers) c.lines.result.now c.args.script.now.lines (g.W.Write.contents c.args.writer.now) (g.W.Write.contents c.run_named.new.writer) (ap Some line_is) (λ i name. c.requires.handlers name i) c.lines.ensures c.run_named.ensures.left)
+    (prints_of_lines c.run_named.result.result (Some line) (Some (line_of (core_of begun))) c.lines.result.now c.args.script.now.lines (g.W.Write.contents c.args.writer.now) (g.W.Write.contents c.run_named.new.writer) (ap Some line_is) c.lines.ensures c.run_named.ensures.prints)
+    c.run_named.ensures.err
 
 pub returns-in-Ok-write_answer-clause-err : goal.returns-in-Ok-write_answer-clause-err
 returns-in-Ok-write_answer-clause-err g c =

@@ -6,7 +6,7 @@ use Rattle.charmlet_cli.proofs.Restarts.{ok_map}
 use Rattle.charmlet_cli.proofs.Supplies.{is_enough, is_too_few}
 use Rattle.charmlet_cli_workers.specs.Lines.{has_delivery}
 use Rattle.charmlet_cli_workers.specs.Restarts.{IsBackByWorkers, line_of}
-use Rattle.charmlet_cli_workers.specs.Said.{ArePrinted, known_in}
+use Rattle.charmlet_cli_workers.specs.Said.{HaveRun}
 use Rattle.charmlet_cli_workers.proofs.Beginnings.{enough_in}
 use Rattle.charmlet_cli_workers.proofs.Leavings.{on_ok}
 use Rattle.charmlet_cli_workers.proofs.Returnings.{back_ends}
@@ -43,14 +43,14 @@ returns-in-Ok-clause-fit g c =
 pub returns-in-Ok-clause-ran : goal.returns-in-Ok-clause-ran
 returns-in-Ok-clause-ran g c =
     let same : supplied_to c.in-Ok.prepared.blanks ≡ given_of g.C.Chare.state c.args.blanks.items = λ i kind. c.in-Ok.ensures.given kind i in
-    let printed : (back last : Core) → Type 0 = λ back last. ArePrinted (Some (line_of back)) (known_in last) c.args.script.now.lines (g.W.Write.contents c.args.writer.now) (g.W.Write.contents c.restart_with.new.writer) in
-    ok_map c.restart_with.result.result (λ back. subst (λ (given : Blanks). IsBackByWorkers g.D.Disk c.args.processors given c.args.disk c.restart_with.result.disk printed) same back) c.restart_with.ensures.ran
+    let printed : (back last : Core) → Type 0 = λ back last. HaveRun (Some (line_of back)) last c.args.script.now.handlers c.args.script.now.lines (g.W.Write.contents c.args.writer.now) (g.W.Write.contents c.restart_with.new.writer) in
+    ok_map c.restart_with.result.result (λ back. subst (λ (given : Blanks). IsBackByWorkers g.D.Disk c.args.processors given c.args.disk c.restart_with.result.disk printed (λ back. Unit {0})) same back) c.restart_with.ensures.ran
 
 pub returns-in-Ok-clause-err : goal.returns-in-Ok-clause-err
 returns-in-Ok-clause-err g c =
     let same : supplied_to c.in-Ok.prepared.blanks ≡ given_of g.C.Chare.state c.args.blanks.items = λ i kind. c.in-Ok.ensures.given kind i in
     let ended = c.restart_with.result in
-    back_ends g.D.Disk g.C.Chare.state g.W.Write.contents c.args.processors (supplied_to c.in-Ok.prepared.blanks) c.args.disk ended.disk c.args.blanks.items c.args.supplies.items c.args.script.now.lines c.args.writer.now c.restart_with.new.writer ended.result same
+    back_ends g.D.Disk g.C.Chare.state g.W.Write.contents c.args.processors (supplied_to c.in-Ok.prepared.blanks) c.args.disk ended.disk c.args.blanks.items c.args.supplies.items c.args.script.now.handlers c.args.script.now.lines c.args.writer.now c.restart_with.new.writer ended.result same
     c.restart_with.ensures.err
 
 pub returns-in-Err-clause-err : goal.returns-in-Err-clause-err

@@ -3,12 +3,14 @@ use Rattle.charmlet_locate.specs.Locations.{is_processor_count}
 use Rattle.std.specs.Prelude.{IfSome}
 use Rattle.charmlet_model.specs.Core.{Core}
 use Rattle.charmlet_engine.specs.Engine.{core_of}
+use Rattle.charmlet_cli.specs.Lines.{named_by}
 use Rattle.charmlet_cli.specs.Run.{IsCreationRefusal}
+use Rattle.charmlet_cli_workers.specs.Heard.{names_in}
 use Rattle.charmlet_cli.proofs.Standings.{created, handed_back}
 use Rattle.charmlet_cli_workers.specs.Left.{IsLeft}
 use Rattle.charmlet_cli_workers.specs.Runs.{IsMade}
 use Rattle.charmlet_cli_workers.proofs.Beginnings.{left_new, made_early, made_ok}
-use Rattle.charmlet_cli_workers.proofs.Leavings.{left_of_lines, some_on}
+use Rattle.charmlet_cli_workers.proofs.Leavings.{left_of_lines, prints_of_lines, some_on}
 use Rattle.charmlet_cli_workers.proofs.running.run_in_new_store.Goals as goal
 
 pub run_named-requires-clause-keeps : goal.run_named-requires-clause-keeps
@@ -30,7 +32,7 @@ returns-in-Ok-clause-ran g c =
       honest = some_on (λ last. g.D.Disk.honest begun.disk → g.D.Disk.honest last) (λ last. g.D.Disk.honest first → g.D.Disk.honest last) c.run_named.result.disk (λ last still honest. still (new.disk.honest.0 honest)) c.run_named.ensures.honest;
     } in
     made_ok g.D.Disk first c.run_named.result.disk script (core_of begun) make (g.W.Write.contents c.args.writer.now) (g.W.Write.contents c.run_named.new.writer) c.run_named.result.result
-    (left_of_lines g.D.Disk (core_of begun).opening (core_of begun).before (core_of begun).processors c.run_named.result.disk c.run_named.result.result None None c.lines.result.now script.lines (g.W.Write.contents c.args.writer.now) (g.W.Write.contents c.run_named.new.writer) refl c.lines.ensures c.run_named.ensures.left)
+    (left_of_lines g.D.Disk (core_of begun).opening (core_of begun).before (core_of begun).processors c.run_named.result.disk c.run_named.result.result None None (names_in c.args.prepared.given.handlers) (named_by script.handlers) c.lines.result.now script.lines (g.W.Write.contents c.args.writer.now) (g.W.Write.contents c.run_named.new.writer) refl (λ i name. c.requires.handlers name i) c.lines.ensures c.run_named.ensures.left)
 
 pub returns-in-Ok-clause-err : goal.returns-in-Ok-clause-err
 returns-in-Ok-clause-err g c =
@@ -48,7 +50,9 @@ returns-in-Ok-clause-err g c =
       honest = some_on (λ last. g.D.Disk.honest begun.disk → g.D.Disk.honest last) (λ last. g.D.Disk.honest first → g.D.Disk.honest last) c.run_named.result.disk (λ last still honest. still (new.disk.honest.0 honest)) c.run_named.ensures.honest;
     } in
     made_early g.D.Disk first c.run_named.result.disk script (core_of begun) make g.W.Write.contents c.args.writer.now c.run_named.new.writer c.run_named.result.result
-    (left_of_lines g.D.Disk (core_of begun).opening (core_of begun).before (core_of begun).processors c.run_named.result.disk c.run_named.result.result None None c.lines.result.now script.lines (g.W.Write.contents c.args.writer.now) (g.W.Write.contents c.run_named.new.writer) refl c.lines.ensures c.run_named.ensures.left) c.run_named.ensures.err
+    (left_of_lines g.D.Disk (core_of begun).opening (core_of begun).before (core_of begun).processors c.run_named.result.disk c.run_named.result.result None None (names_in c.args.prepared.given.handlers) (named_by script.handlers) c.lines.result.now script.lines (g.W.Write.contents c.args.writer.now) (g.W.Write.contents c.run_named.new.writer) refl (λ i name. c.requires.handlers name i) c.lines.ensures c.run_named.ensures.left)
+    (prints_of_lines c.run_named.result.result None None c.lines.result.now script.lines (g.W.Write.contents c.args.writer.now) (g.W.Write.contents c.run_named.new.writer) refl c.lines.ensures c.run_named.ensures.prints)
+    c.run_named.ensures.err
 
 pub returns-in-Ok-write_answer-clause-err : goal.returns-in-Ok-write_answer-clause-err
 returns-in-Ok-write_answer-clause-err g c =

@@ -1,43 +1,30 @@
-use Rattle.std.proofs.Common.{◌≡◌, true, sym, ap, ◌∙◌}
-use Rattle.std.specs.Prelude.{Option, None, Some, IfErr, Result, Ok, Err, is_err, option_map}
+use Rattle.std.proofs.Common.{◌≡◌, true, List, ℕ, sym, ap, subst, ◌∙◌}
+use Rattle.std.specs.Prelude.{Some, option_map}
 use Rattle.charmlet_model.specs.declared.message.Message.{Message}
-use Rattle.charmlet_model.specs.declared.refusal.Refusal.{Refusal}
 use Rattle.charmlet_model.specs.Core.{assigned_to, blank_of_id, present}
 use Rattle.charmlet_model.specs.World.{record_of}
 use Rattle.charmlet_world.specs.declared.element.Element.{Element}
 use Rattle.charmlet_world.specs.Waiting.{shown_message}
 use Rattle.charmlet_history.specs.Kept.{assigned_message, core_in}
 use Rattle.charmlet_shelf.specs.Due.{newcomer_due}
-use Rattle.charmlet_shelf.specs.Shelf.{Assigns, is_idle, refusal_at}
+use Rattle.charmlet_shelf.specs.Shelf.{Assigns, is_idle}
 use Rattle.charmlet_shelf.specs.declared.phase.Phase.TheVariants.{Assigned}
 use Rattle.charmlet_stock.proofs.Results.{when_ok}
-use Rattle.charmlet_delivery.proofs.Delivering.{delivering_new, delivering_there, not_refused}
+use Rattle.charmlet_delivery.proofs.Delivering.{delivering_new, delivering_there}
 use Rattle.charmlet_delivery.proofs.parts.shelve.Goals as goal
-
--- what isn't refused has no refusal
-none_refused : {T E : Type 0} (refusal : E → Refusal) (Q : E → Type 0) (o : Option Refusal) (r : Result T E) → is_err r ≡ true → IfErr r (λ back. (Some (refusal back) ≡ o) × Q back) → o ≡ None → ⊥
-none_refused refusal Q o (Ok x) is h none = let never : ⊥ = cc in never
-none_refused refusal Q o (Err e) is h none = let no : Some (refusal e) ≡ None = h.0 ∙ none in let never : ⊥ = cc in never
-
-pub unreachable-requires-then-is_err : goal.unreachable-requires-then-is_err
-unreachable-requires-then-is_err g c =
-    let old = c.args.shelf.now in
-    let history = c.args.history.now in
-    let m = c.in-Ok.message in
-    let here : assigned_message (core_in history) old.number ≡ Some m =
-    ap (assigned_message (core_in history)) (sym c.number.ensures) ∙ sym c.assigned.ensures ∙ ap (option_map shown_message) c.in-Some.is ∙ ap Some (sym c.in-Ok.ensures) in
-    let none : refusal_at old m.to ≡ None = not_refused history c.facts.ensures old old c.requires.part c.requires.idle m here (c.requires.wanted ∙ c.in_default-wanted.is) in
-    none_refused (λ (back : Refusal × Message). back.0) (λ back. back.1 ≡ m) (refusal_at old m.to) c.assign.result (sym c.is_err.ensures.value ∙ c.if-is_err.true) c.assign.ensures.err none
 
 pub returns-in_default-wanted-clause-ok : goal.returns-in_default-wanted-clause-ok
 returns-in_default-wanted-clause-ok g c =
     let old = c.args.shelf.now in
     let history = c.args.history.now in
-    let m = c.in-Ok.message in
+    let letter = c.in-Some.letter.now in
+    let m : Message = record { id = c.in-Some.id; to = letter.to; entry = letter.entry; words = letter.words } in
     let here : assigned_message (core_in history) old.number ≡ Some m =
-    ap (assigned_message (core_in history)) (sym c.number.ensures) ∙ sym c.assigned.ensures ∙ ap (option_map shown_message) c.in-Some.is ∙ ap Some (sym c.in-Ok.ensures) in
-    let assigned = when_ok ((is_idle old.phase ≡ true) × Assigns old m c.assign.new.self) c.assign.result (sym c.is_err.ensures.value ∙ c.if-is_err.false) c.assign.ensures.ok in
-    delivering_there history c.facts.ensures old c.assign.new.self c.requires.part c.requires.idle m here assigned.1
+    ap (assigned_message (core_in history)) (sym c.number.ensures) ∙ sym c.assigned.ensures ∙ ap (option_map shown_message) c.in-Some.is in
+    let called = c.assign_copy-assigned in
+    let copied = when_ok ((is_idle old.phase ≡ true) × Assigns old (record m { words = c.as_slice-words.result.now }) called.new.self) called.result (sym c.is_err.ensures.value ∙ c.if-is_err.false) called.ensures.ok in
+    let assigned : Assigns old m called.new.self = subst (λ (words : List ℕ). Assigns old (record m { words = words }) called.new.self) c.as_slice-words.ensures copied.1 in
+    delivering_there history c.facts.ensures old called.new.self c.requires.part c.requires.idle m here assigned
 
 pub returns-clause-ok : goal.returns-clause-ok
 returns-clause-ok g c =

@@ -5,4 +5,4 @@ use Rattle.charmlet_running.proofs.beginning.settle_all.Given as goal
 
 -- the elements that are left settle what all of them do
 abbrev pub invariant-loop-elem : goal.invariant-loop-elem
-invariant-loop-elem l = with_all_left (risen l.table.entries) l.elem-iterator ≡ with_all_left [] l.elements.entries
+invariant-loop-elem l = with_all_left (risen l.table.entries) l.elem-iterator ≡ with_all_left [] l.left.entries

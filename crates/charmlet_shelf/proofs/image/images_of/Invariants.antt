@@ -1,10 +1,12 @@
-use Rattle.std.proofs.Common.{◌≡◌, take}
+use Rattle.std.proofs.Common.{◌≡◌, length, take}
 use Rattle.charmlet_model.specs.Shelves.{records_of}
-use Rattle.charmlet_shelf.specs.Image.{AreImages}
-use Rattle.charmlet_shelf.specs.Risen.{risen}
+use Rattle.charmlet_shelf.proofs.Images.{AreOf}
 use Rattle.charmlet_shelf.proofs.image.images_of.Given as goal
 
-abbrev pub invariant-loop-elem : goal.invariant-loop-elem
-invariant-loop-elem g l =
-    (records_of g.C.Chare.state (risen l.residents.entries) ≡ records_of g.C.Chare.state (risen l.fn.residents.entries))
-    × AreImages (records_of g.C.Chare.state (risen l.fn.residents.entries)) (take l.elem-index l.elem-items) l.images.items
+-- the first ones have their images, and all show what they showed
+abbrev pub invariant-loop-index : goal.invariant-loop-index
+invariant-loop-index g l = record {
+  long : length l.residents.entries ≡ length l.fn.residents.entries;
+  same : records_of g.C.Chare.state l.residents.entries ≡ records_of g.C.Chare.state l.fn.residents.entries;
+  so_far : AreOf (take l.index (records_of g.C.Chare.state l.fn.residents.entries)) l.images.items;
+}

@@ -1,5 +1,8 @@
 use Rattle.charmlet_cli_workers.proofs.Hearing.{same_passes}
 use Rattle.charmlet_cli_workers.proofs.clients.Clients.place_of.Goals as goal
 
+pub lend-requires-clause-none : goal.lend-requires-clause-none
+lend-requires-clause-none g c κs within = c.find.ensures.none c.in-None.is
+
 pub returns-in-Some-clause-later : goal.returns-in-Some-clause-later
 returns-in-Some-clause-later g c = same_passes c.args.self.now.passes.items

@@ -3,7 +3,7 @@ use Rattle.std.specs.Prelude.{◌==◌}
 use Rattle.std.specs.Cmp.{nat_eq_equiv}
 use Rattle.std.specs.List.{AllByRecursion}
 use Rattle.charmlet_model.specs.Core.{Core}
-use Rattle.charmlet_passes.specs.Passes.{HeldPass, IsCurrent}
+use Rattle.charmlet_passes.specs.Passes.{HaveAllAccepts, HeldPass, IsCurrent}
 use Rattle.charmlet_seats.specs.Seats.{HeldSeat, IdList}
 use Rattle.charmlet_seats.specs.Woven.{IsWoven}
 use Rattle.charmlet_hub.specs.Hub.{HubShown, deliveries_in}
@@ -59,3 +59,8 @@ returns-clause-current g c =
     let h = c.into_parts-sequencer.result in
     subst (λ core. AllByRecursion (λ (held : HeldPass). IsCurrent held core) c.args.passes.items) (sym c.take_apart-apart.ensures.core)
     (c.in-Ok-close.ensures.current h.sequencer.core c.into_parts-sequencer.ensures.hub.passes)
+
+pub returns-clause-accepts : goal.returns-clause-accepts
+returns-clause-accepts g c =
+    let h = c.into_parts-sequencer.result in
+    subst (HaveAllAccepts c.args.passes.items) (sym c.take_apart-apart.ensures.core) (c.in-Ok-close.ensures.accepts h.sequencer.core c.into_parts-sequencer.ensures.hub.passes)

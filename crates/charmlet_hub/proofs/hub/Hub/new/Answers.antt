@@ -9,7 +9,7 @@ pub invariant_of-result : goal.invariant_of-result
 invariant_of-result g c = (
   record {
     seats = subst (λ (events : List Event). HaveAll c.new.result (deliveries_in events)) (sym c.requires.history) c.new.ensures.all;
-    passes = c.new-2.ensures.current c.args.sequencer.core;
+    passes = c.new-2.ensures.current c.args.sequencer.core c.requires.history;
     room = let none = ap length c.requires.assigned in omega arith;
   },
   c.requires.processors,

@@ -68,11 +68,12 @@ returns-clause-current g c =
     let told : IsTold c.pass.inside.pass core = subst (λ (p : Pass). IsTold p core) known.is known.current.told in
     let up_to_date : IsUpToDate c.pass.inside.pass core = subst (λ (p : Pass). IsUpToDate p core) known.is known.current.up_to_date in
     let same_client : c.request.new.pass.client ≡ c.pass.inside.pass.client = search rules in
+    let same_lent : c.request.new.pass.lent_at ≡ c.pass.inside.pass.lent_at = search rules in
     let steps : Steps core plenty (Request client asked.number asked.to asked.entry asked.words.now) (record { answer = Tells c.in-Ok.told; core = after; blanks = plenty }) =
     subst (λ (x : ℕ × Result Told Refusal). Steps core plenty (Request x.0 asked.number asked.to asked.entry asked.words.now) (record { answer = told_or_refused x.1; core = after; blanks = plenty })) (λ i. (own i, c.in-Ok.is i)) (c.request.ensures.steps plenty) in
     let current : IsCurrent next after =
     own-current core plenty client asked.number asked.to asked.entry asked.words.now c.facts.ensures.sound after c.in-Ok.told steps h next refl known.current
-    (c.request.ensures.heard.holds told) (c.request.ensures.up_to_date up_to_date) (same_client ∙ own) refl refl refl in
+    (c.request.ensures.heard.holds told) (c.request.ensures.up_to_date up_to_date) (same_client ∙ own) (same_lent ∙ sym (ap (λ (p : Pass). p.lent_at) known.is)) refl refl refl in
     subst (λ l. AreCurrent (record { out = c.self.inside.out; held = l }) after) (sym new)
     (are_current-written (record { out = c.self.inside.out; held = held }) core after share.0 h next known.there (same_client ∙ own) current
     (others_go_on core plenty client asked.number asked.to asked.entry asked.words.now c.facts.ensures.sound after c.in-Ok.told steps)

@@ -39,7 +39,7 @@ returns-clause-current g c =
     let is : c.hear.new.self ≡ with_told c.pass.inside.pass c.last-last.result Accepted = search rules in
     let holds = accepted_holds core c.pass.inside.pass c.last-last.result c.last-last.ensures c.requires.durable up_to_date in
     let current : IsCurrent next core =
-    told-current core h c.pass.inside.pass c.hear.new.self c.last-last.result Accepted known.is known.current (ap (λ (p : Pass). p.client) is) (ap (λ (p : Pass). p.last) is) (c.hear.ensures.holds core sound holds told) holds in
+    told-current core h c.pass.inside.pass c.hear.new.self c.last-last.result Accepted known.is known.current (ap (λ (p : Pass). p.client) is) (ap (λ (p : Pass). p.lent_at) is) (ap (λ (p : Pass). p.last) is) (c.hear.ensures.holds core sound holds told) holds in
     subst (λ l. AreCurrent (record { out = c.self.inside.out; held = l }) core) (sym new)
     (are_current-written (record { out = c.self.inside.out; held = held }) core core share.0 h next known.there (ap (λ (p : Pass). p.client) is ∙ sym (ap (λ (p : Pass). p.client) known.is)) current
     (λ client apart. stays client core) sound sound known.are)

@@ -10,8 +10,7 @@ use Rattle.charmlet_recovery.proofs.Outcomes.{kept_is_lawful}
 use Rattle.charmlet_sequencer.specs.Sequencer.{SequencerShown, is_lawful}
 use Rattle.charmlet_sequencer.specs.Together.{shown_by}
 use Rattle.charmlet_sequencer.proofs.Books.{book_still}
-use Rattle.charmlet_sequencer.proofs.Seals.{refused_core, sealed_leaves, sealed_of}
-use Rattle.charmlet_sequencer.proofs.Lending.{sealed_same, taken_current}
+use Rattle.charmlet_sequencer.proofs.Seals.{refused_core, sealed_leaves, sealed_of, sealed_same, taken_current}
 use Rattle.charmlet_sequencer.proofs.sequencer.Sequencer.seal_running.Goals as goal
 
 pub invariant_of-self : goal.invariant_of-self

@@ -1,0 +1,143 @@
+//! A worker's commit leaves a ticket for each message that its receiver sent, in the queue of the
+//! processor that is to deliver it.
+
+ghost use Rattle.std.specs.Prelude.{◌≡◌};
+ghost use Rattle.charmlet_agreement.specs.Naming.{table_of};
+ghost use Rattle.charmlet_model.specs.Edition.{AreNewest};
+ghost use Rattle.charmlet_sequencer.specs.Sequencer.{IsOf};
+ghost use Rattle.charmlet_engine.specs.Engine.{core_of};
+
+use charmlet_history::Request;
+use charmlet_hub::{PassesOf, SeatsOf};
+use charmlet_model::{CONSTRUCT, Elem, Kind, Manifest, MsgId, Origin, Told};
+use charmlet_passes::ClientPass;
+use charmlet_probe_disk::ProbeDisk;
+use charmlet_probe_objects::{Object, Tally, blanks};
+use charmlet_runtime::UnnamedRuntime;
+use charmlet_seats::Seat;
+use charmlet_sequencer::RuntimeName;
+use charmlet_workers::{OpenGate, Runtime, UnnamedBooks};
+use std::alloc::AllocGlobal;
+use std::marker::Brand;
+use std::process::Abort;
+use std::sync::{Arc, Wait};
+
+const CLIENT: u32 = 7;
+
+// The element of the ring that stands on the processor of this number.
+fn ring(index: u64) -> Elem {
+    Elem { array: 0, index }
+}
+
+// An array of rings.
+fn rings(rt: &(impl AllocGlobal + Abort)) -> Manifest
+    ensures { AreNewest result }
+{
+    let arrays = [(0, Kind::Ring.number())];
+    Manifest::of(rt.alloc(), &arrays)
+        .expect(rt, "memory")
+        .expect(rt, "one array")
+}
+
+// A new runtime on two processors, with rings.
+fn create_rings(rt: &(impl AllocGlobal + Abort)) -> UnnamedRuntime<ProbeDisk, Object> {
+    let disk = ProbeDisk::new(rt.alloc()).expect(rt, "memory");
+    match UnnamedRuntime::create(rt.alloc(), disk, rings(rt), 2) {
+        Ok(begun) => begun,
+        Err(_) => panic!(rt; "no store is there"),
+    }
+}
+
+// The client asks something of an element, whose worker delivers it.
+fn ask<B: RuntimeName, R: Wait + Abort>(
+    rt: &R,
+    runtime: &Runtime<ProbeDisk, Object, B>,
+    pass: &mut ClientPass<PassesOf<B>>,
+    seat: &mut Seat<SeatsOf<B>>,
+    entry: u16,
+    word: u64,
+) {
+    let request = Request {
+        number: pass.last().saturating_add(1),
+        to: ring(u64::from(seat.processor())),
+        entry,
+        words: &[word],
+    };
+    assert!(rt; matches!(runtime.request(rt, pass, &request), Ok(Told::Unknown)));
+    assert_eq!(rt; runtime.work(rt, seat, &OpenGate, 1).count, 1);
+}
+
+// The tickets of a seat are taken.
+fn clear<B: RuntimeName>(rt: &impl Abort, seat: &mut Seat<SeatsOf<B>>) {
+    for _ in 0..9 {
+        let _ticket = seat.next_ticket();
+    }
+    assert!(rt; seat.next_ticket().is_none());
+}
+
+// There is one ticket at this seat: for the first message of element 0.
+fn has_ticket<B: RuntimeName>(rt: &impl Abort, seat: &mut Seat<SeatsOf<B>>) {
+    let id = MsgId {
+        origin: Origin::Element(ring(0)),
+        number: 1,
+    };
+    let ticket = seat.next_ticket().expect(rt, "a ticket is there");
+    assert_eq!(rt; ticket.processor, seat.processor());
+    assert_eq!(rt; ticket.id, id);
+    assert!(rt; seat.next_ticket().is_none());
+}
+
+// Two elements are made, each on its processor, and a token goes from the first one to the second.
+fn pass_on<B: RuntimeName, R: Wait + AllocGlobal + Abort>(
+    rt: &R,
+    runtime: Runtime<ProbeDisk, Object, B>,
+    tally: &Arc<Tally>,
+) {
+    let objects = blanks(rt.alloc(), tally, &[(Kind::Ring, 2)]).expect(rt, "memory");
+    assert!(rt; runtime.supply(rt, objects).is_ok());
+    let mut pass = runtime.client(rt, CLIENT).expect(rt, "it isn't out");
+    let mut first = runtime.seat(rt, 0).expect(rt, "it isn't out");
+    let mut second = runtime.seat(rt, 1).expect(rt, "it isn't out");
+    ask(rt, &runtime, &mut pass, &mut first, CONSTRUCT, 1);
+    ask(rt, &runtime, &mut pass, &mut second, CONSTRUCT, 0);
+    clear(rt, &mut second);
+    ask(rt, &runtime, &mut pass, &mut first, 0, 1);
+    has_ticket(rt, &mut second);
+    assert_eq!(rt; runtime.work(rt, &mut second, &OpenGate, 1).count, 1);
+}
+
+// The same under the name `B`.
+fn pass_on_named<B: RuntimeName, R: Wait + AllocGlobal + Abort>(
+    rt: &R,
+    begun: UnnamedRuntime<ProbeDisk, Object>,
+    books: UnnamedBooks,
+    tally: &Arc<Tally>,
+)
+    requires named { IsOf B.opening B.before B.processors (core_of begun) }
+    requires parts { table_of books.parts ≡ B.table }
+    requires seats { table_of books.seats ≡ B.seats }
+    requires passes { table_of books.passes ≡ B.passes }
+    requires checkpoints { table_of books.checkpoints ≡ B.checkpoints }
+    requires honest { B.honest → ⊥ }
+{
+    match begun.open::<B>(books) {
+        Ok(runtime) => pass_on(rt, runtime, tally),
+        Err(_) => panic!(rt; "memory"),
+    }
+}
+
+// The same, under a name of its own.
+fn pass_on_once<R: Wait + AllocGlobal + Abort>(
+    rt: &R,
+    begun: UnnamedRuntime<ProbeDisk, Object>,
+    tally: &Arc<Tally>,
+) {
+    let books = UnnamedBooks::new(rt.alloc()).expect(rt, "memory");
+    pass_on_named::<Brand, R>(rt, begun, books, tally)
+}
+
+#[test]
+fn a_commit_leaves_tickets_for_what_was_sent(rt: HostRuntime) {
+    let tally = Arc::new(rt.alloc(), Tally::new()).expect(&rt, "memory");
+    pass_on_once(&rt, create_rings(&rt), &tally);
+}
