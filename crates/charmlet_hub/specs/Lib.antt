@@ -22,7 +22,6 @@ pub use Rattle.charmlet_seats.specs.Seats
 pub use Rattle.charmlet_seats.specs.Woven
 pub use Rattle.charmlet_shelf.specs.Shelf as OneShelf
 pub use Rattle.charmlet_delivery.specs.Workplace
-pub use Rattle.charmlet_sequencer.specs.Sealing
 pub use Rattle.charmlet_sequencer.specs.Sequencer
 pub use Rattle.charmlet_store.specs.Store
 pub use Rattle.charmlet_sequencer.specs.Shelf
