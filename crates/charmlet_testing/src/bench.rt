@@ -106,8 +106,9 @@ impl Bench {
         &self.tally
     }
 
-    /// A line of the header for the next store.
+    /// A line of the header for the next store. Where memory is refused the header is as before.
     pub fn declare(&mut self, line: &str) -> Result<(), Failed> {
+        self.header.reserve(line.len().saturating_add(1))?;
         self.header.push_str(line)?;
         Ok(self.header.push('\n')?)
     }
