@@ -31,13 +31,16 @@ use Rattle.charmlet_script.specs.declared.script.HandlerLine.{HandlerLine}
 use Rattle.charmlet_script.specs.declared.script.Line.{Line}
 use Rattle.charmlet_script.specs.declared.script.Line.TheVariants as lines
 use Rattle.charmlet_script.specs.Printed.{drained_text, pending_text, supplied_text}
+use Rattle.charmlet_stock.specs.declared.by_kind.ByKind.{ByKind}
+use Rattle.charmlet_stock.specs.declared.pile.Tally.{Tally}
+use Rattle.charmlet_stock.specs.ByKind.{at}
 use Rattle.charmlet_store.specs.declared.look.Look.{Look}
 use Rattle.charmlet_workers.specs.Refusals.{is_flush_refusal, is_lending_refusal, is_move_refusal, is_request_refusal, is_status_refusal, is_work_refusal}
 use Rattle.charmlet_workers.specs.Sealing.{IsLaterGeneration, is_sealing_refusal}
 use Rattle.charmlet_cli.specs.declared.restarting.RestartedLine.{RestartedLine}
 use Rattle.charmlet_cli.specs.Lines.{Names, in_lines, memory_text, named_by}
 use Rattle.charmlet_cli.specs.Restarted.{restarted_line_text}
-use Rattle.charmlet_cli.specs.Shown.{counted_texts, look_text}
+use Rattle.charmlet_cli.specs.Shown.{IsWhole, all_kinds, counted_texts, look_text}
 use Rattle.charmlet_cli.specs.Writing.{AppendsBeginning, Writes}
 
 -- ---- what lines do
@@ -232,9 +235,21 @@ abbrev pub IsPendingText : List Text → Type 0
 IsPendingText texts = ((ids : List MsgId) × (texts ≡ pending_text ids ∷ []))
     ⊎ (texts ≡ memory_text ∷ [])
 
--- what a census prints, kind by kind
+-- the numbers of a kind: what is neither in the stock nor retired is on shelves
+abbrev pub counted_by : ByKind Tally → Kind → Counted
+counted_by census kind = record {
+  kind = kind;
+  supplied = (at census kind).supplied;
+  on_shelves = (at census kind).supplied - (at census kind).in_stock - (at census kind).retired;
+  in_stock = (at census kind).in_stock;
+  retired = (at census kind).retired;
+}
+
+-- What a census prints: a line for each kind that objects were supplied of, in rising order, by
+-- which each of them is on a shelf, in the stock, or retired.
 abbrev pub IsCensusText : List Text → Type 0
-IsCensusText texts = (counts : List Counted) × (texts ≡ flat_map counted_texts counts)
+IsCensusText texts = (census : ByKind Tally) × ((kind : Kind) → IsWhole (counted_by census kind))
+    × (texts ≡ flat_map (λ kind. counted_texts (counted_by census kind)) all_kinds)
 
 -- What a line prints, those texts of its own form or of a refusal, and what it does. What it isn't
 -- said to do it doesn't do: only requests are accepted, and only drains deliver.

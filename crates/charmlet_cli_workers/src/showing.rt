@@ -1,9 +1,11 @@
 //! Running lines that show something of a runtime, and change nothing.
 
+ghost use Rattle.std.specs.Prelude.{◌≡◌, map};
 ghost use Rattle.charmlet_model.specs.declared.kind.Kind as kinds;
 ghost use Rattle.charmlet_stock.specs.ByKind.{at};
 ghost use Rattle.charmlet_workers.specs.Runtime.{IsWithin};
-ghost use Rattle.charmlet_cli_workers.specs.Said.{IsCensusText, IsPendingText, IsStateText, IsWritten};
+ghost use Rattle.charmlet_cli.specs.Shown.{IsWhole, all_kinds};
+ghost use Rattle.charmlet_cli_workers.specs.Said.{IsCensusText, IsPendingText, IsStateText, IsWritten, counted_by};
 
 use charmlet_chare::Chare;
 use charmlet_cli::{shown_of, write_answer, write_counts, write_line, write_memory_refused};
@@ -74,6 +76,8 @@ pub(crate) fn census_line<D: Disk, C: Chare, B: RuntimeName, W: Write, R: Wait>(
 /// Where the objects of each kind are, in rising order of the kinds.
 fn count_each(census: &ByKind<Tally>) -> [Counted; 6]
     requires { (kind : kinds.Kind) → IsWithin (at census.now kind) }
+    ensures counts { result ≡ map (counted_by census.now) all_kinds }
+    ensures whole { (kind : kinds.Kind) → IsWhole (counted_by census.now kind) }
 {
     [
         count(census, Kind::Counter),
@@ -89,6 +93,8 @@ fn count_each(census: &ByKind<Tally>) -> [Counted; 6]
 /// neither in the stock nor retired are on shelves.
 fn count(census: &ByKind<Tally>, kind: Kind) -> Counted
     requires { IsWithin (at census.now kind) }
+    ensures counts { result ≡ counted_by census.now kind }
+    ensures whole { IsWhole (counted_by census.now kind) }
 {
     let tally = census.get(kind);
     Counted {

@@ -1,4 +1,5 @@
 use Rattle.std.proofs.Common.{sym, subst, arith}
+use Rattle.charmlet_stock.specs.ByKind.{at}
 use Rattle.charmlet_workers.specs.Runtime.{IsWithin}
 use Rattle.charmlet_cli_workers.proofs.showing.count.Goals as goal
 
@@ -7,3 +8,6 @@ overflow_sub-result c = let within : IsWithin c.get-tally.result.now = subst IsW
 
 pub overflow_sub-result-2 : goal.overflow_sub-result-2
 overflow_sub-result-2 c = let within : IsWithin c.get-tally.result.now = subst IsWithin (sym c.get-tally.ensures) c.requires in omega arith
+
+pub returns-clause-whole : goal.returns-clause-whole
+returns-clause-whole c = let within : IsWithin (at c.args.census.now c.args.kind) = c.requires in omega arith
