@@ -1,5 +1,6 @@
 mod answers;
 mod counters;
+mod long;
 mod meeting;
 mod random;
 mod refusals;

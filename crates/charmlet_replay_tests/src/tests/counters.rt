@@ -98,3 +98,19 @@ pub fn logged(rt: &(impl AllocGlobal + Abort), adds: bool) -> ProbeDisk {
     take(rt, &mut engine, &Step::Flush);
     engine.into_disk()
 }
+
+// A disk whose log makes these counters, and then has so many batches, in each of which 1 is added so
+// often to each counter.
+pub fn logged_often(rt: &(impl AllocGlobal + Abort), batches: u64, times: u64) -> ProbeDisk {
+    let mut engine = new_engine(rt);
+    ask_both(rt, &mut engine, 1, CONSTRUCT, 5);
+    let mut number = 1u64;
+    for _ in 0..batches {
+        for _ in 0..times {
+            number = number.saturating_add(1);
+            ask_both(rt, &mut engine, number, 0, 1);
+        }
+        take(rt, &mut engine, &Step::Flush);
+    }
+    engine.into_disk()
+}
