@@ -1,5 +1,5 @@
 -- Lists that are turned.
-use Rattle.std.proofs.Common.{◌≡◌, ℕ, ◌+◌, ◌-◌, ◌<◌, ◌≤◌, suc, List, [], ◌∷◌, ◌++◌, length, take, drop, refl, sym, ap, subst, ◌∙◌, arith, slice_get, append_assoc, length-append}
+use Rattle.std.proofs.Common.{◌≡◌, ℕ, ◌+◌, ◌-◌, ◌<◌, ◌≤◌, suc, List, [], ◌∷◌, ◌++◌, length, take, drop, refl, sym, ap, subst, ◌∙◌, arith, append_assoc, length-append}
 use Rattle.std.specs.List.{remove}
 use Rattle.charmlet_births.specs.Births.{in_order, turned}
 
@@ -86,13 +86,6 @@ turn_back ring behind place len is lt fits = sym (twice ring place (length ring 
 pub unturned : (ring : List ℕ) (place : ℕ) → place ≤ length ring → ring ≡ turned place (in_order place ring)
 unturned ring place fits = sym (twice ring place (length ring - place) (length ring) (omega (arith, fits)) (omega arith) ∙ whole_turn ring (length ring) refl)
 
--- of a list that is turned to a place, the rest of the turn leads back to the list
-pub turned_back : (xs : List ℕ) (place : ℕ) → place ≤ length xs → in_order place (turned place xs) ≡ xs
-turned_back xs place fits =
-    let n = length xs in
-    let same = length_turned place xs fits in
-    ap (λ k. turned (k - place) (turned place xs)) same ∙ (twice xs (n - place) place n (omega (arith, fits)) (omega arith) ∙ whole_turn xs n refl)
-
 drop_one_front : (ps qs : List ℕ) → 0 < length ps → drop 1 (ps ++ qs) ≡ drop 1 ps ++ qs
 drop_one_front [] qs h = grind arith
 drop_one_front (p ∷ ps) qs h = refl
@@ -129,38 +122,6 @@ pushed xs place next n within is =
     ap (in_order next) all
     ∙ (turned_parts rest (front ++ n ∷ []) (length (rest ++ (front ++ n ∷ [])) - next) (sym len)
     ∙ append_assoc front (n ∷ []) rest)
-
--- ---- what stands there
-
-get_behind : {X : Type 0} (ps qs : List X) (i k : ℕ) → k ≡ length ps + i → slice_get (ps ++ qs) k ≡ slice_get qs i
-get_behind [] qs i k h = let same : k ≡ i = omega (arith, h) in ap (slice_get qs) same
-get_behind (p ∷ ps) qs i Prim.Native.Nat.zero h = grind arith
-get_behind (p ∷ ps) qs i (suc k) h = get_behind ps qs i k (omega (arith, h))
-
-get_front : {X : Type 0} (ps qs : List X) (i : ℕ) → i < length ps → slice_get (ps ++ qs) i ≡ slice_get ps i
-get_front [] qs i h = grind arith
-get_front (p ∷ ps) qs Prim.Native.Nat.zero h = refl
-get_front (p ∷ ps) qs (suc i) h = get_front ps qs i (omega (arith, h))
-
--- before the cursor
-pub get_before : (ring : List ℕ) (behind place : ℕ) → behind ≤ length ring → place < behind → slice_get (in_order behind ring) place ≡ slice_get ring (length ring - behind + place)
-get_before ring behind place fits lt =
-    let k = length ring - behind in
-    let rest_is = length_of_drop k ring (omega arith) in
-    let front_is = length_of_take k ring (omega arith) in
-    get_front (drop k ring) (take k ring) place (omega (arith, rest_is, fits, lt))
-    ∙ (sym (get_behind (take k ring) (drop k ring) place (k + place) (omega (arith, front_is)))
-    ∙ ap (λ ys. slice_get ys (k + place)) (parts k ring))
-
--- from the cursor on
-pub get_from : (ring : List ℕ) (behind place : ℕ) → behind ≤ length ring → behind ≤ place → place < length ring → slice_get (in_order behind ring) place ≡ slice_get ring (place - behind)
-get_from ring behind place fits le within =
-    let k = length ring - behind in
-    let rest_is = length_of_drop k ring (omega arith) in
-    let front_is = length_of_take k ring (omega arith) in
-    get_behind (drop k ring) (take k ring) (place - behind) place (omega (arith, rest_is, fits, le))
-    ∙ (sym (get_front (take k ring) (drop k ring) (place - behind) (omega (arith, front_is, fits, le, within)))
-    ∙ ap (λ ys. slice_get ys (place - behind)) (parts k ring))
 
 pub length_in_order : (behind : ℕ) (ring : List ℕ) → length (in_order behind ring) ≡ length ring
 length_in_order behind ring = length_turned (length ring - behind) ring (omega arith)

@@ -1,5 +1,5 @@
 -- How a run ends early.
-use Rattle.std.proofs.Common.{◌≡◌, List, Option, Result, Ok, Err, OnOk, OnErr, refl, sym, subst}
+use Rattle.std.proofs.Common.{◌≡◌, List, Option, Result, Ok, Err, OnOk, OnErr, sym, subst}
 use Rattle.std.specs.Result.{IfErr, IsErrAnd}
 use Rattle.charmlet_model.specs.declared.state.State.{State}
 use Rattle.charmlet_model.specs.Texts.{Text}
@@ -25,14 +25,6 @@ memory_ends state objects script (Ok x) enough is = tt
 memory_ends state objects script (Err e) enough is = subst (Lacks state objects script) (sym is) enough
 
 module _ {D C W : Type 0} (G : disks.Ghosts D) (state : C → State) (contents : W → Option Text) where
-  -- no run began, and the disk and the output are as they were
-  pub lacks_leaves : (disk : D) (objects : List C) (script : Contents) (writer : W) (error : RunError C) →
-      Lacks state objects script error → Leaves G state contents disk disk objects script writer writer error
-  lacks_leaves disk objects script writer (TooFewBlanks back) lacks = (refl, lacks.0, refl, lacks.1)
-  lacks_leaves disk objects script writer Memory lacks = (refl, lacks, refl)
-  lacks_leaves disk objects script writer (NotCreated refusal) lacks = absurd lacks
-  lacks_leaves disk objects script writer (Output error) lacks = absurd lacks
-
   -- a run that had enough objects ended early
   pub run_ends : {T : Type 0} (first end : D) (objects : List C) (script : Contents) (before after : W) (r : Result T (RunError C)) →
       AreEnough state objects script.lines → IfErr r (EndsRun G first end script (contents before) (contents after)) → IfErr r (Leaves G state contents first end objects script before after)

@@ -187,11 +187,6 @@ pub ends_early : {D T X Y W : Type 0} (ran : Result X (WorkersError T)) (r : Res
 ends_early ran (Ok y) end before after early apart = tt
 ends_early ran (Err error) end before after early apart = apart_early ran end before after error early apart
 
--- the runtime is taken apart, or isn't
-pub apart_same : {D T X : Type 0} (ran : Result X (WorkersError T)) (end : Option D) → IfErr ran (EndsApart ran end)
-apart_same (Ok x) end = tt
-apart_same (Err e) end = inl refl
-
 pub on_ok : {T E P : Type 0} (r : Result T E) → P → OnOk r P
 on_ok (Ok x) holds = holds
 on_ok (Err e) holds = tt

@@ -1,9 +1,8 @@
 -- What a call makes of a client's two rows.
-use Rattle.std.proofs.Common.{◌≡◌, ℕ, ◌≤◌, ◌<◌, ◌∙◌, ◌&&◌, List, [], ◌∷◌, ◌++◌, length, get_or, set, replicate, refl, ap, arith, Bool, true, false}
-use Rattle.std.specs.Prelude.{drop, nat_lt, nat_le, Option, Some, None}
+use Rattle.std.proofs.Common.{◌≡◌, ℕ, ◌≤◌, ◌<◌, ◌∙◌, List, [], ◌∷◌, ◌++◌, length, get_or, set, replicate, refl, ap, arith, Bool, true, false}
+use Rattle.std.specs.Prelude.{drop, nat_lt, Option, Some, None}
 use Rattle.std.proofs.Common.{lt-ltb, le-ltb}
 use Rattle.charmlet_model.specs.declared.client.ClientRow.{ClientRow}
-use Rattle.charmlet_model.specs.declared.told.Told.TheVariants.{Past}
 use Rattle.charmlet_model.specs.Row.{below, in_window, item_of, item_place, with_place, with_reply, with_request}
 use Rattle.charmlet_model.specs.Told.{told_of, told_of_item}
 use Rattle.charmlet_model.proofs.Windows.{inside-true}
@@ -69,10 +68,3 @@ told-at p number within above =
     let known : nat_lt p.last number ≡ false = le-ltb p.last number within in
     let inside : in_window p number ≡ true = inside-true p number above within in
     rw (known, inside) refl
-
--- and of one below it
-pub told-past : (p : ClientRow) (number : ℕ) → number ≤ p.last → number ≤ below p → Past ≡ told_of p number
-told-past p number within under =
-    let known : nat_lt p.last number ≡ false = le-ltb p.last number within in
-    let out : in_window p number ≡ false = ap (λ b. b && nat_le number p.last) (le-ltb (below p) number under) in
-    rw (known, out) refl

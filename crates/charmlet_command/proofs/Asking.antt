@@ -97,15 +97,6 @@ run_is (Some (met, values)) name rows n r run =
     let same_rows : rows ≡ values = cc in
     rw (← same_name, ← same_rows, run) refl
 
-pub show_is : (found : Option (Text × List Row)) (name : Text) (rows : List Row)
-    → Some name ≡ option_map (λ p. p.0) found → Some rows ≡ option_map (λ p. p.1) found → bytes_eq name (codes "run") ≡ false → bytes_eq name (codes "show") ≡ true
-    → show_of rows ≡ option_and_then asked_by found
-show_is None name rows n r run show = absurd (cc)
-show_is (Some (met, values)) name rows n r run show =
-    let same_name : name ≡ met = cc in
-    let same_rows : rows ≡ values = cc in
-    rw (← same_name, ← same_rows, run, show) refl
-
 module _ {Z : Type 0} where
   -- the name of the subcommand, as its getter and as the rows have it
   pub name_of_rows : (o : Option (Box SubCommand Z)) → option_map (λ b. (out-SubCommand (box_value b)).name.now) o ≡ option_map (λ p. p.0) (subcommand_rows o)

@@ -1,5 +1,5 @@
 -- How deliveries end, by the steps that they take.
-use Rattle.std.proofs.Common.{◌≡◌, inr, ℕ, ◌+◌, ◌-◌, ◌<◌, ◌==◌, true, false, cond, not, ◌||◌, List, [], ◌∷◌, ◌++◌, refl, sym, ap, subst, ◌∙◌, arith}
+use Rattle.std.proofs.Common.{◌≡◌, inr, ℕ, ◌+◌, ◌-◌, ◌==◌, true, false, cond, not, ◌||◌, List, [], ◌∷◌, ◌++◌, refl, sym, ap, subst, ◌∙◌}
 use Rattle.std.specs.Prelude.{Option, Some, None, is_some, option_and_then, Result, Ok, Err, OnOk, IfErr}
 use Rattle.std.specs.Ordering.{eq_by_cmp, is_eq, nat_cmp}
 use Rattle.std.specs.Cmp.{nat_cmp_total}
@@ -18,9 +18,8 @@ use Rattle.charmlet_model.specs.declared.refusal.Refusal.{Refusal}
 use Rattle.charmlet_model.specs.declared.refusal.Refusal.TheVariants as refusals
 use Rattle.charmlet_model.specs.declared.TheConstants.{CONSTRUCT}
 use Rattle.charmlet_model.specs.Kind.{kind_number, numbered_kind}
-use Rattle.charmlet_model.specs.Edition.{edition_kind}
 use Rattle.charmlet_model.specs.World.{record_of}
-use Rattle.charmlet_model.specs.Core.{Core, present, Blanks, Check, When, MayLackMemory, CoreStep, Assign, Commit, Release, Done, Refuses, checks, assign_checks, message_checks, lacks_blank, blank_for, blank_of_id, pending_message, assigned_to, first_refusal, may_lack_memory, next_core, next_blanks, with_taken, with_given, is_present, is_processor, place_or_home, is_full, are_counts_full}
+use Rattle.charmlet_model.specs.Core.{Core, present, Blanks, Check, When, MayLackMemory, CoreStep, Assign, Commit, Release, Done, Refuses, checks, assign_checks, message_checks, lacks_blank, blank_for, blank_of_id, pending_message, assigned_to, first_refusal, may_lack_memory, next_core, next_blanks, is_present, is_processor, place_or_home, is_full, are_counts_full}
 use Rattle.charmlet_model.specs.Run.{StoreView, Goes, IsNotDelivered}
 use Rattle.charmlet_delivery.specs.UnderWay.{Ends}
 use Rattle.charmlet_model.specs.Sound.{IsSound}
@@ -137,15 +136,6 @@ kind_is kinds.Tape = refl
 -- kinds of one number are one
 pub same_kind : (a b : Kind) → (kind_number a == kind_number b) ≡ true → a ≡ b
 same_kind a b h = let same : Some a ≡ Some b = sym (kind_is a) ∙ ap numbered_kind (exact_unsigned_eq (kind_number a) (kind_number b) h) ∙ kind_is b in cc
-
-pub taken_and_given : (blanks : Blanks) (edition : Edition) → 0 < blanks (edition_kind edition) → with_given (Some edition) (with_taken (Some edition) blanks) ≡ blanks
-taken_and_given blanks edition some = λ i k. at k i
-  where
-    at : (k : Kind) → with_given (Some edition) (with_taken (Some edition) blanks) k ≡ blanks k
-    at k = elim (kind_number k == kind_number (edition_kind edition)) as (λ b. (kind_number k == kind_number (edition_kind edition)) ≡ b → cond b (cond b (blanks k - 1) (blanks k) + 1) (cond b (blanks k - 1) (blanks k)) ≡ blanks k) [
-      | true ↦ λ same. let here = ap blanks (same_kind k (edition_kind edition) same) in omega arith
-      | false ↦ λ _. refl
-    ] refl
 
 -- ---- how an assignment goes
 

@@ -82,11 +82,6 @@ module _ {C : Type 0} (state : C → State) (object : C) where
         each : (kind : Kind) → held_in last new kind ≡ held_in before old kind
         each kind = retired_held last old new gone kind ∙ in_hand old kind
 
-  -- a blank that was taken: all is held as before once it went back
-  pub back_as_before : {G : Ghosts C} (shelf : View) (old mid last : Stock C G) (wanted : Kind) → its ≡ wanted → census_of mid ≡ with_at (census_of old) wanted (with_out (tally_in old wanted) 1) → 0 < blanks_in old wanted →
-      census_of last ≡ with_at (census_of mid) its (with_one_back (tally_in mid its)) → held_in shelf last ≡ held_in shelf old
-  back_as_before shelf old mid last wanted is taken some given = λ i kind. (given_held shelf mid last given kind ∙ taken_held shelf old mid wanted is taken some kind) i
-
   -- or once it came onto the shelf
   pub placed_as_before : {G : Ghosts C} (shelf last : View) (old mid : Stock C G) (wanted : Kind) → its ≡ wanted → census_of mid ≡ with_at (census_of old) wanted (with_out (tally_in old wanted) 1) → 0 < blanks_in old wanted →
       ((kind : Kind) → objects_on last kind ≡ objects_on shelf kind + count_of state (object ∷ []) kind) → held_in last mid ≡ held_in shelf old

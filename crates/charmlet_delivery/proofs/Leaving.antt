@@ -15,7 +15,7 @@ use Rattle.charmlet_model.specs.declared.event.Event.TheVariants.{Accept}
 use Rattle.charmlet_model.specs.declared.reaction.Reaction.{Reaction}
 use Rattle.charmlet_model.specs.Names.{elem_cmp, same_id}
 use Rattle.charmlet_model.specs.World.{World, after, message_among, numbered, performed, reaction_of, record_of, request, without, world}
-use Rattle.charmlet_model.specs.Core.{Assign, Blanks, Checkpoint, Commit, Core, CoreStep, Finish, Flush, Move, Release, Request, Stepped, Steps, assigned_to, committed, is_repeat, next_core, pending_message, place_of, place_or_home, present}
+use Rattle.charmlet_model.specs.Core.{Assign, Blanks, Commit, Core, CoreStep, Flush, Move, Release, Request, Stepped, Steps, assigned_to, committed, is_repeat, next_core, pending_message, place_of, place_or_home, present}
 use Rattle.charmlet_model.specs.Sound.{IsAssigned, IsSound}
 use Rattle.charmlet_model.specs.Shelves.{if_here}
 use Rattle.charmlet_model.proofs.Deliveries.{message-append, message_of, receiver_is}
@@ -147,9 +147,6 @@ commit_leaves core sound p q apart = by (assigned_to core p) refl
         let m = message_of (present core) id its.can_be in
         committed_leaves core sound p id m.0 some m.1 q apart
 
-pub finish_leaves : (core : Core) → IsSound core → (p q : ℕ) → (p == q) ≡ false → Leaves q core (next_core core (Finish p))
-finish_leaves = commit_leaves
-
 -- ---- steps that change what is assigned, or how much is durable
 
 module _ (core next : Core) (q : ℕ) (assigned : assigned_to next q ≡ assigned_to core q) (opening : next.opening ≡ core.opening) (history : next.history ≡ core.history) (places : next.places ≡ core.places) (processors : next.processors ≡ core.processors) (before : next.before ≡ core.before) where
@@ -181,9 +178,6 @@ release_leaves core sound p q apart =
 
 pub flush_leaves : (core : Core) (q : ℕ) → Leaves q core (next_core core Flush)
 flush_leaves core q = same_leaves core (next_core core Flush) q refl refl refl refl refl refl
-
-pub checkpoint_leaves : (core : Core) (q : ℕ) → Leaves q core (next_core core Checkpoint)
-checkpoint_leaves core q = same_leaves core (next_core core Checkpoint) q refl refl refl refl refl refl
 
 -- ---- a request
 

@@ -1,19 +1,11 @@
 -- Where ranges end, as lemmas.
-use Rattle.std.proofs.Common.{◌≡◌, ℕ, ◌+◌, ◌<◌, ◌≤◌, ◌/◌, max, List, [], ◌∷◌, ◌++◌, length, take, get_or, zero, suc, refl, ◌∙◌, ap, arith}
+use Rattle.std.proofs.Common.{◌≡◌, ℕ, ◌+◌, ◌<◌, ◌≤◌, ◌/◌, max, List, [], ◌∷◌, ◌++◌, length, take, get_or, zero, suc, ◌∙◌, ap, arith}
 use Rattle.std.proofs.lemmas.List.{take_more}
 use Rattle.charmlet_disk.specs.Crash.{range_end, last_end, first_halves}
 
 pub range_end-within : (range : ℕ × ℕ) → range_end range ≤ range.0 + range.1
 range_end-within (at, zero) = omega arith
 range_end-within (at, suc n) = omega arith
-
-pub range_end-none : (at n : ℕ) → n ≡ 0 → range_end (at, n) ≡ 0
-range_end-none at zero none = refl
-range_end-none at (suc n) none = absurd (omega (arith, none))
-
-pub range_end-some : (at n : ℕ) → 0 < n → range_end (at, n) ≡ at + n
-range_end-some at zero some = absurd (omega (arith, some))
-range_end-some at (suc n) some = refl
 
 -- one range more
 last_end-push : (ranges : List (ℕ × ℕ)) (range : ℕ × ℕ) → last_end (ranges ++ range ∷ [])

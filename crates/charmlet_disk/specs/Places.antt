@@ -1,8 +1,7 @@
 -- Places within ranges. Lemmas under the laws of a disk stand with the definitions, since an impl
 -- cites no others.
-use Rattle.std.proofs.Common.{◌≡◌, ◌⊎◌, inl, inr, ⊎_elim, ℕ, suc, ◌+◌, ◌<◌, ◌≤◌, Bool, true, false, ◌&&◌, ◌||◌, List, [], ◌∷◌, ◌++◌, length, take, get_or, ◌∙◌, ap, arith}
+use Rattle.std.proofs.Common.{◌≡◌, ◌⊎◌, inl, inr, ⊎_elim, ℕ, suc, ◌+◌, ◌<◌, ◌≤◌, Bool, true, false, ◌&&◌, ◌||◌, List, [], ◌∷◌, ◌++◌, ◌∙◌, ap, arith}
 use Rattle.std.proofs.lemmas.Bool.Decides.{leb_tells}
-use Rattle.std.proofs.lemmas.List.{take_more}
 use Rattle.std.proofs.lemmas.List.Folds.{list_any-append}
 use Rattle.std.proofs.Math.Bool.{or-false}
 use Rattle.std.proofs.Math.Dec.{leb}
@@ -54,8 +53,3 @@ pub covers_push : (ranges : List (ℕ × ℕ)) (range : ℕ × ℕ) (k : ℕ) �
     ≡ (covers ranges k || is_within k range)
 covers_push ranges range k = list_any-append (is_within k) ranges (range ∷ []) ∙ ap
     (λ (t : Bool). covers ranges k || t) (covers_one range k)
-
-pub covers_more : (ranges : List (ℕ × ℕ)) (i : ℕ) (d : ℕ × ℕ) (k : ℕ) → i < length ranges →
-    covers (take (i + 1) ranges) k ≡ (covers (take i ranges) k || is_within k (get_or ranges i d))
-covers_more ranges i d k lt = ap (λ (rs : List (ℕ × ℕ)). covers rs k)
-    (take_more ranges i d lt) ∙ covers_push (take i ranges) (get_or ranges i d) k

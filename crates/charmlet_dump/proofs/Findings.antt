@@ -13,7 +13,7 @@ use Rattle.charmlet_locate.specs.Locations.{is_processor_count}
 use Rattle.charmlet_plain_recovery.specs.Views.{files}
 use Rattle.charmlet_plain_recovery.specs.Written.{as_written_from, recovered_as_written}
 use Rattle.charmlet_dump.specs.declared.finding.Found.{Found}
-use Rattle.charmlet_dump.specs.Answers.{Comes, IsAnswer, IsRefusal}
+use Rattle.charmlet_dump.specs.Answers.{Comes, IsAnswer}
 
 -- a half beside one that is shut
 beside_one : (size more : ℕ) (t : Top) (s : Saved) → found_from size t ≡ Open s → choice size t more Shut ≡ Takes Zero s
@@ -48,11 +48,6 @@ refused_so processors outcome refusals.NothingHere good is h = (good, recovered_
 refused_so processors outcome refusals.Memory good is h = (good, tt)
 refused_so processors outcome refusals.Device good is h = (good, tt)
 refused_so processors outcome _ good is h = absurd cc
-
--- of the refusals of what is read none is of the number of processors
-pub refused_of_halves : (processors : ℕ) (refusal : Refusal) → is_processor_count processors ≡ true → is_finding_refusal refusal ≡ true → IsRefusal processors refusal
-refused_of_halves processors refusals.BadPes good is = absurd cc
-refused_of_halves processors _ good is = (good, is)
 
 -- what is answered where the number of processors is good
 answered_or_refused : (processors : ℕ) (outcome : CrashBytes) (refusal : Refusal) → is_processor_count processors ≡ true → is_finding_refusal refusal ≡ true → Comes (recovered_as_written outcome) (Err refusal) →

@@ -1,15 +1,14 @@
 -- What holds while the births of an element are shifted one after another.
-use Rattle.std.proofs.Common.{◌≡◌, ◌≢◌, ℕ, ◌+◌, ◌<◌, ◌≤◌, Bool, true, false, List, [], ◌∷◌, length, refl, sym, ap, subst, ◌∙◌, arith, slice_get}
-use Rattle.std.specs.Prelude.{◌==◌, IfSome, Some}
+use Rattle.std.proofs.Common.{◌≡◌, ◌≢◌, ℕ, ◌+◌, false, List, [], ◌∷◌, length, arith, slice_get}
+use Rattle.std.specs.Prelude.{◌==◌, IfSome}
 use Rattle.std.specs.List.{AllByRecursion}
 use Rattle.std.proofs.lemmas.Option.{slice_get_within}
-use Rattle.charmlet_births.specs.Births.{Climbs}
 use Rattle.charmlet_index.specs.declared.chain.Call.{Call}
 use Rattle.charmlet_index.specs.declared.lists.Lists.{Lists}
 use Rattle.charmlet_index.specs.declared.place.Place.{Place}
 use Rattle.charmlet_index.specs.declared.place.Stand.{Stand}
-use Rattle.charmlet_index.specs.Index.{AreApart, ArePlaced, HasRoomFor, HaveRoom, IsHeld, IsIndexOf, IsRoomy, holds, moved, place_by, stood, touches}
-use Rattle.charmlet_index.proofs.Steps.{less_room, some_at, some_each}
+use Rattle.charmlet_index.specs.Index.{AreApart, ArePlaced, HaveRoom, IsIndexOf, IsRoomy, holds, moved, place_by, stood}
+use Rattle.charmlet_index.proofs.Steps.{less_room, some_at}
 
 -- the births that are left are where the old stand says; once they are where the new one says, all
 -- are
@@ -18,9 +17,6 @@ pub record Between (old new : Stand) (all left : List Call) (births : List ℕ) 
   pub index : IsIndexOf births now lists
   pub placed : ArePlaced old left births now
   pub ends : stood new left now ≡ stood new all place
-
-pub between_start : (old new : Stand) (all : List Call) (births : List ℕ) (place : ℕ → Place) (lists : List Lists) → IsIndexOf births place lists → ArePlaced old all births place → Between old new all all births place lists
-between_start old new all births place lists is placed = record { now = place; index = is; placed = placed; ends = refl }
 
 unlike : (a b : ℕ) → a ≢ b → (a == b) ≡ false
 unlike a b h = grind arith
@@ -37,12 +33,6 @@ between_step old new all c calls births place lists news apart b is = record {
   placed = others_stay old c.number (place_by new c.constructs) calls births b.now apart.0 b.placed.2;
   ends = b.ends;
 }
-
-pub between_held : (old new : Stand) (all : List Call) (c : Call) (calls : List Call) (births : List ℕ) (place : ℕ → Place) (lists : List Lists) → Climbs births → Between old new all (c ∷ calls) births place lists → IsHeld c.number (place_by old c.constructs) lists
-between_held old new all c calls births place lists climbs b = (births, b.now, b.index, climbs, b.placed.0, b.placed.1)
-
-pub room_for_one : (headroom : ℕ) (old new : Stand) (constructs : Bool) (calls : List Call) (c : Call) (lists : List Lists) → HaveRoom headroom old new (length (c ∷ calls)) lists → HasRoomFor headroom (place_by old constructs) (place_by new constructs) lists
-room_for_one headroom old new constructs calls c lists room p l there was is = less_room (headroom + 1) (headroom + length (c ∷ calls)) l (omega arith) (room p l there was is)
 
 pub room_step : (headroom : ℕ) (old new : Stand) (c : Call) (calls : List Call) (lists news : List Lists) → length news ≡ length lists → ((p n : ℕ) → IfSome (slice_get lists p) (IsRoomy (n + 1)) → IfSome (slice_get news p) (IsRoomy n)) → HaveRoom headroom old new (length (c ∷ calls)) lists → HaveRoom headroom old new (length calls) news
 room_step headroom old new c calls lists news len less room p l there was is =

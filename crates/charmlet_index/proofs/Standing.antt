@@ -1,56 +1,12 @@
 -- What a caller knows of births by where they are.
-use Rattle.std.proofs.Common.{◌≡◌, ◌≢◌, ℕ, ◌+◌, suc, Bool, true, false, ◌||◌, List, [], ◌∷◌, length, filter, refl, sym, ap, subst, ◌∙◌, arith, slice_get}
+use Rattle.std.proofs.Common.{◌≡◌, ◌≢◌, ℕ, ◌+◌, suc, Bool, true, false, ◌||◌, List, [], ◌∷◌, refl, sym, ap, subst, ◌∙◌, arith, slice_get}
 use Rattle.std.specs.Prelude.{◌==◌, Some}
 use Rattle.std.specs.List.{AllByRecursion}
 use Rattle.charmlet_index.specs.declared.lists.Lists.{Lists}
 use Rattle.charmlet_index.specs.declared.chain.Call.{Call}
 use Rattle.charmlet_index.specs.declared.place.Place.{Place}
 use Rattle.charmlet_index.specs.declared.place.Stand.{Stand}
-use Rattle.charmlet_index.specs.Index.{AreApart, HasRoomFor, HaveRoom, IsIndexOf, IsRoomy, is_away_from, is_ready_on, is_waiting_on, moved, place_by, stood, touches}
-
-filter_same : (f g : ℕ → Bool) (xs : List ℕ) → AllByRecursion (λ n. f n ≡ g n) xs → filter f xs ≡ filter g xs
-filter_same f g [] h = refl
-filter_same f g (x ∷ xs) h = rw h.0 (rw (filter_same f g xs h.1) refl)
-
-all_as : (P Q : ℕ → Type 0) → ((n : ℕ) → P n → Q n) → (xs : List ℕ) → AllByRecursion P xs → AllByRecursion Q xs
-all_as P Q f [] h = tt
-all_as P Q f (x ∷ xs) h = (f x h.0, all_as P Q f xs h.1)
-
--- the lists depend only on where the births are
-pub index_same : (births : List ℕ) (old new : ℕ → Place) (lists : List Lists) → AllByRecursion (λ n. old n ≡ new n) births → IsIndexOf births old lists → IsIndexOf births new lists
-index_same births old new lists same is p l there =
-    let was = is p l there in
-    record {
-      ready = was.ready ∙ filter_same (λ n. is_ready_on (old n) p) (λ n. is_ready_on (new n) p) births (all_as (λ n. old n ≡ new n) (λ n. is_ready_on (old n) p ≡ is_ready_on (new n) p) (λ n e. ap (λ (a : Place). is_ready_on a p) e) births same);
-      waiting = was.waiting ∙ filter_same (λ n. is_waiting_on (old n) p) (λ n. is_waiting_on (new n) p) births (all_as (λ n. old n ≡ new n) (λ n. is_waiting_on (old n) p ≡ is_waiting_on (new n) p) (λ n e. ap (λ (a : Place). is_waiting_on a p) e) births same);
-      away = was.away ∙ ap length (filter_same (λ n. is_away_from (old n) p) (λ n. is_away_from (new n) p) births (all_as (λ n. old n ≡ new n) (λ n. is_away_from (old n) p ≡ is_away_from (new n) p) (λ n e. ap (λ (a : Place). is_away_from a p) e) births same));
-    }
-
--- a birth that stays on its processor needs no room
-pub room_on_same : (headroom : ℕ) (from into : Place) (lists : List Lists) → from.on ≡ into.on → from.home ≡ into.home → HasRoomFor headroom from into lists
-room_on_same headroom from into lists on home p l there was is =
-    let same : touches from p ≡ touches into p = ap (λ o. (o == p) || (from.home == p)) on ∙ ap (λ h. (into.on == p) || (h == p)) home in
-    none (touches from p) (touches into p) same was is
-  where
-    none : (s t : Bool) → s ≡ t → s ≡ false → t ≡ true → IsRoomy (headroom + 1) l
-    none s t e f g = let bad : true ≡ false = sym g ∙ (sym e ∙ f) in cc
-
--- nor does one that comes home
-pub room_at_home : (headroom : ℕ) (from into : Place) (lists : List Lists) → from.home ≡ into.home → into.on ≡ into.home → HasRoomFor headroom from into lists
-room_at_home headroom from into lists home at p l there was is =
-    let here : (from.home == p) ≡ true = both (into.on == p) (from.home == p) (ap (λ h. h == p) (at ∙ sym home)) (ap (λ h. (into.on == p) || (h == p)) home ∙ is) in
-    none (from.on == p) (from.home == p) here was
-  where
-    both : (s t : Bool) → s ≡ t → (s || t) ≡ true → t ≡ true
-    both true true e h = refl
-    both true false e h = cc
-    both false true e h = refl
-    both false false e h = cc
-
-    none : (s t : Bool) → t ≡ true → (s || t) ≡ false → IsRoomy (headroom + 1) l
-    none true t e h = cc
-    none false true e h = cc
-    none false false e h = cc
+use Rattle.charmlet_index.specs.Index.{AreApart, HaveRoom, IsRoomy, moved, place_by, stood, touches}
 
 -- ---- the births of one element
 

@@ -1,30 +1,20 @@
 -- Trials of crashes: what they begin with, and why none is made.
-use Rattle.std.proofs.Common.{◌≡◌, ◌⊎◌, inl, inr, false, [], Result, Ok, Err, sym, ap, subst, ◌∙◌, arith}
+use Rattle.std.proofs.Common.{◌≡◌, ◌⊎◌, inl, inr, false, [], Result, Ok, Err, sym, ap, subst, ◌∙◌}
 use Rattle.std.specs.Prelude.{IfErr}
 use Rattle.std.specs.Result.{IsErrAnd}
 use Rattle.charmlet_model.specs.declared.half.Half.{Half}
-use Rattle.charmlet_model.specs.declared.half.Half.TheVariants.{Zero, One}
 use Rattle.charmlet_model.specs.declared.refusal.Refusal.{Refusal}
 use Rattle.charmlet_model.specs.declared.refusal.Refusal.TheVariants as refusals
-use Rattle.charmlet_model.specs.Core.{Blanks}
 use Rattle.charmlet_disk.specs.declared.disk.Disk as disks
 use Rattle.charmlet_disk.specs.Disk.{IsSettled, faults_after}
 use Rattle.charmlet_disk.specs.File.{File, clean}
 use Rattle.charmlet_halves.specs.Answers.{is_no_failure}
-use Rattle.charmlet_halves.specs.Bytes.{IsOpen}
 use Rattle.charmlet_script.specs.Script.{Contents}
-use Rattle.charmlet_lab.specs.Restarts.{IsNotTried}
-use Rattle.charmlet_lab.specs.Rounds.{IsNotRun, needed_by}
 use Rattle.charmlet_lab.specs.Trials.{IsNotFound}
 
 -- empty files are settled
 pub empty_is_settled : (files : Half → File) → ((half : Half) → files half ≡ clean []) → IsSettled files
 empty_is_settled files empty = λ half. empty half ∙ ap (λ (file : File). clean file.now) (sym (empty half))
-
--- and no half of them is open
-none_open : (files : Half → File) → ((half : Half) → files half ≡ clean []) → IsOpen (files Zero).now ⊎ IsOpen (files One).now → ⊥
-none_open files empty (inl here) = let no : IsOpen [] = subst (λ (file : File). IsOpen file.now) (empty Zero) here in omega (arith, no.0)
-none_open files empty (inr here) = let no : IsOpen [] = subst (λ (file : File). IsOpen file.now) (empty One) here in omega (arith, no.0)
 
 -- a call that answered `Device` counted one more failure
 pub failure_counted : {D : Type 0} (G : disks.Ghosts D) (X : Type 0) (old new : D) (refusal : Refusal) → refusal ≡ refusals.Device → G.faults new ≡ faults_after (is_no_failure {X = X} (Err refusal)) (G.faults old) →
@@ -32,21 +22,6 @@ pub failure_counted : {D : Type 0} (G : disks.Ghosts D) (X : Type 0) (old new : 
 failure_counted G X old new refusal is counted = subst (λ (r : Refusal). G.faults new ≡ faults_after (is_no_failure {X = X} (Err r)) (G.faults old)) is counted
 
 module _ {D : Type 0} (G : disks.Ghosts D) (script : Contents) where
-  -- since there was no run on a new disk
-  pub not_run : (given : Blanks) (first : D) → (G.honest first → (half : Half) → G.file first half ≡ clean []) → (refusal : Refusal) → IsNotRun G given script first refusal → IsNotFound G script refusal
-  not_run given first empty refusals.BadPes why = why
-  not_run given first empty refusals.AlreadyHere why = (first, λ honest. none_open (G.file first) (empty honest) (why honest))
-  not_run given first empty (refusals.BlanksWanted kind count) why = (given, needed_by script, why)
-  not_run given first empty refusals.Memory why = tt
-  not_run given first empty _ why = absurd why
-
-  -- since there was no restart that is judged
-  pub not_tried : (given wanted : Blanks) (disk : D) → (refusal : Refusal) → IsNotTried G script given wanted disk refusal → IsNotFound G script refusal
-  not_tried given wanted disk (refusals.BlanksWanted kind count) why = (given, wanted, why)
-  not_tried given wanted disk refusals.ImageFull why = (disk, given, why.0, why.1, why.2)
-  not_tried given wanted disk refusals.Memory why = tt
-  not_tried given wanted disk _ why = absurd why
-
   -- since a disk couldn't be read
   pub not_read : (old new : D) (refusal : Refusal) → ((refusal ≡ refusals.Memory) ⊎ ((refusal ≡ refusals.Device) × (G.faults new ≡ faults_after false (G.faults old)))) → IsNotFound G script refusal
   not_read old new refusal (inl is) = subst (IsNotFound G script) (sym is) tt

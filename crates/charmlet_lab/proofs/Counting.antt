@@ -3,7 +3,7 @@ use Rattle.std.proofs.Common.{◌≡◌, ◌<◌, ◌≤◌, ℕ, suc, ◌+◌, 
 use Rattle.std.specs.Prelude.{if◌then◌else◌}
 use Rattle.std.specs.List.{AllByRecursion, count_by}
 use Rattle.std.proofs.lemmas.List.{get_or-map, length-append, length-map, map-append, take_more}
-use Rattle.std.proofs.lemmas.List.Sums.{count_by-le-length, sum_by-append}
+use Rattle.std.proofs.lemmas.List.Sums.{sum_by-append}
 use Rattle.charmlet_disk.specs.declared.crash.CrashChoice.{CrashChoice}
 use Rattle.charmlet_disk.specs.declared.disk.Disk as disks
 use Rattle.charmlet_script.specs.Script.{Contents}
@@ -37,10 +37,6 @@ module _ {D : Type 0} (G : disks.Ghosts D) (calls_left : D → Option ℕ) (scri
   -- how many stops there were isn't counted with them
   pub same_counts : (at : List Place) (line next : LabLine) → AreTried G calls_left script at line → next.outcomes ≡ line.outcomes → next.bad ≡ line.bad → AreTried G calls_left script at next
   same_counts at line next are outcomes bad = record { tried = are.tried; each = are.each; where_they_are = are.where_they_are; outcomes = outcomes ∙ are.outcomes; bad = bad ∙ are.bad }
-
-  -- no more are bad than were tried
-  pub bad_within : (at : List Place) (line : LabLine) → AreTried G calls_left script at line → line.bad ≤ line.outcomes
-  bad_within at line are = omega (arith, are.bad, are.outcomes, count_by-le-length (λ (t : Tried D). t.bad) are.tried)
 
 -- the crashes of one stop more
 places_more : (n : ℕ) → places (n + 1) ≡ places n ++ places_at n

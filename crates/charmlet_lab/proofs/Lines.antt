@@ -4,12 +4,9 @@ use Rattle.std.proofs.lemmas.List.{drop_all}
 use Rattle.std.specs.Prelude.{if◌then◌else◌, is_some, unwrap_or}
 use Rattle.std.specs.Str.{bytes_eq}
 use Rattle.charmlet_model.specs.declared.kind.Kind.{Kind}
-use Rattle.charmlet_model.specs.declared.names.MsgId.{MsgId}
-use Rattle.charmlet_model.specs.declared.refusal.Refusal.{Refusal}
-use Rattle.charmlet_model.specs.declared.step.Answer.{Answer}
 use Rattle.charmlet_model.specs.declared.step.Answer.TheVariants as answers
 use Rattle.charmlet_model.specs.Manifest.{manifest_of}
-use Rattle.charmlet_model.specs.Run.{Delivers, IsDelivered, StoreView}
+use Rattle.charmlet_model.specs.Run.{StoreView}
 use Rattle.charmlet_journal.specs.NewStores.{new_core}
 use Rattle.charmlet_requests.specs.declared.handlers.Handlers.{Handlers}
 use Rattle.charmlet_requests.specs.Handlers.{handler_of}
@@ -39,12 +36,6 @@ named_more (l ∷ lines) line name =
     ] later
 
 -- ---- drains
-
--- a delivery that isn't refused was made
-pub was_delivered : (old new : StoreView) (processor : ℕ) (id : MsgId) (answer : Answer) → Delivers old processor id answer new → ((refusal : Refusal) → answer ≡ answers.Refused refusal → ⊥) → IsDelivered old processor id new
-was_delivered old new processor id (answers.Delivered done) delivers other = delivers.1
-was_delivered old new processor id (answers.Refused refusal) delivers other = absurd (other refusal refl)
-was_delivered old new processor id _ delivers other = absurd delivers
 
 -- what is left of a drain after one delivery more
 left_after : (most k : ℕ) → k < most → suc (most - (k + 1)) ≡ most - k

@@ -1,9 +1,8 @@
 -- Runs that began with a new store.
-use Rattle.std.proofs.Common.{◌≡◌, ◌⊎◌, inl, inr, ℕ, ◌+◌, ◌≤◌, arith, false, List, [], Option, Some, None, length, sym, ap, subst, ◌∙◌}
+use Rattle.std.proofs.Common.{◌≡◌, ℕ, ◌+◌, ◌≤◌, arith, List, [], Option, Some, None, length, sym, ap, subst, ◌∙◌}
 use Rattle.std.specs.Prelude.{Result, Ok, Err, IfErr, option_map, unwrap_or}
 use Rattle.std.specs.Result.{IsErrAnd}
 use Rattle.charmlet_model.specs.declared.event.Event.{Event}
-use Rattle.charmlet_model.specs.declared.half.Half.TheVariants.{Zero, One}
 use Rattle.charmlet_model.specs.declared.kind.Kind.{Kind}
 use Rattle.charmlet_model.specs.declared.kind.Kind.TheVariants as kinds
 use Rattle.charmlet_model.specs.declared.refusal.Refusal.{Refusal}
@@ -24,10 +23,8 @@ use Rattle.charmlet_stock.specs.Stock.{blanks_in, supplied_to}
 use Rattle.charmlet_replay.specs.Unused.{IsUnused}
 use Rattle.charmlet_disk.specs.declared.disk.Disk as disks
 use Rattle.charmlet_disk.specs.File.{CrashBytes}
-use Rattle.charmlet_halves.specs.Bytes.{IsOpen}
-use Rattle.charmlet_locate.specs.Locations.{is_processor_count}
 use Rattle.charmlet_journal.specs.NewStores.{new_core}
-use Rattle.charmlet_script.specs.Script.{Contents, blanks_of, pairs_of, processors_of}
+use Rattle.charmlet_script.specs.Script.{Contents, blanks_of, pairs_of}
 use Rattle.charmlet_engine.specs.Outcomes.{Onward, is_lawful_now}
 use Rattle.charmlet_lab.specs.Rounds.{IsNotRun, arrays_of, needed_by}
 
@@ -81,17 +78,6 @@ module _ {D : Type 0} (G : disks.Ghosts D) (given : Blanks) (script : Contents) 
       option_map (λ (lack : Kind × ℕ). refusals.BlanksWanted lack.0 lack.1) found ≡ Some refusal → IsNotRun G given script first refusal
   blanks_lack (Some lack) lacks refusal told = subst (IsNotRun G given script first) (let same : refusals.BlanksWanted lack.0 lack.1 ≡ refusal = cc in same) lacks
   blanks_lack None enough refusal told = absurd cc
-
-  -- the store can't be made
-  pub not_made : (refusal : Refusal) → (refusal ≡ refusals.Device → ⊥) →
-      ((refusal ≡ refusals.BadPes) ⊎ ((refusal ≡ refusals.AlreadyHere) ⊎ ((refusal ≡ refusals.Memory) ⊎ (refusal ≡ refusals.Device)))) →
-      (refusal ≡ refusals.BadPes → is_processor_count (processors_of script) ≡ false) →
-      (refusal ≡ refusals.AlreadyHere → G.honest first → IsOpen (G.file first Zero).now ⊎ IsOpen (G.file first One).now) →
-      IsNotRun G given script first refusal
-  not_made refusal other (inl is) bad here = subst (IsNotRun G given script first) (sym is) (bad is)
-  not_made refusal other (inr (inl is)) bad here = subst (IsNotRun G given script first) (sym is) (here is)
-  not_made refusal other (inr (inr (inl is))) bad here = subst (IsNotRun G given script first) (sym is) tt
-  not_made refusal other (inr (inr (inr is))) bad here = absurd (other is)
 
   -- memory is lacking
   pub memory_lacks : {T : Type 0} (result : Result T Refusal) → IsErrAnd result (λ told. told ≡ refusals.Memory) → IfErr result (IsNotRun G given script first)

@@ -14,10 +14,8 @@ use Rattle.charmlet_model.specs.declared.client.ClientRow.{ClientRow}
 use Rattle.charmlet_model.specs.Names.{elem_cmp}
 use Rattle.charmlet_model.specs.Packed.{IsWord}
 use Rattle.charmlet_model.specs.Fit.{AreWords, AreDistinct, IsElem, IsOrigin, IsRecord, IsRow, IsKept}
-use Rattle.charmlet_model.specs.World.{row_of, record_at, request}
+use Rattle.charmlet_model.specs.World.{row_of, record_at}
 use Rattle.charmlet_model.specs.declared.logged.CaughtUp.{CaughtUp}
-use Rattle.charmlet_model.specs.declared.logged.Logged.{Logged}
-use Rattle.charmlet_model.specs.declared.logged.Logged.TheVariants.{Accept, Deliver}
 use Rattle.charmlet_image.specs.Images.{Image}
 
 -- a message whose fields are of their types
@@ -48,11 +46,6 @@ pub record IsDelivery (manifest : Kinds) (id : MsgId) (count : ℕ) (sends : Lis
   pub small_count : IsWord count
   pub few : length sends ≤ 16
   pub each : AllByRecursion (IsSent manifest) sends
-
--- an event of the log
-abbrev pub IsGoodEvent : Kinds → Logged → Type 0
-IsGoodEvent manifest (Accept client number to entry words) = IsLetter manifest (request client number to entry words)
-IsGoodEvent manifest (Deliver id count effect sends) = IsDelivery manifest id count sends
 
 -- keys rise and are of their types, nothing is written of what was never there, ids are distinct,
 -- and all is within its limit

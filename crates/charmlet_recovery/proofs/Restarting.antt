@@ -1,5 +1,5 @@
 -- Why restarts are refused.
-use Rattle.std.proofs.Common.{◌≡◌, ◌⊎◌, inl, inr, ℕ, ◌≤◌, ◌<◌, ◌^◌, Bool, true, false, cond, List, refl, sym, ap, subst, ◌∙◌, arith, if◌then◌else◌, nat_le}
+use Rattle.std.proofs.Common.{◌≡◌, ℕ, ◌≤◌, ◌<◌, ◌^◌, Bool, true, false, cond, List, refl, sym, ap, subst, ◌∙◌, arith, if◌then◌else◌, nat_le}
 use Rattle.std.specs.Prelude.{nat_lt, Option, Some, None, option_map}
 use Rattle.std.proofs.lemmas.Bool.{ltb-true, ltb-false}
 use Rattle.charmlet_model.specs.declared.half.Half.{Half}
@@ -14,9 +14,9 @@ use Rattle.charmlet_model.specs.World.{World}
 use Rattle.charmlet_image.specs.Images.{Saved}
 use Rattle.charmlet_image.specs.Halves.{Taken, NothingHere, Takes, DamagedAt, taken}
 use Rattle.charmlet_recovery.specs.Meanings.{Meaning, Faulty, Whole}
-use Rattle.charmlet_recovery.specs.Recovered.{Found, is_current, recovered, recovered_by, recovered_from, meaning_of}
+use Rattle.charmlet_recovery.specs.Recovered.{Found, recovered, recovered_by, recovered_from, meaning_of}
 use Rattle.charmlet_recovery.specs.Blanks.{short_of, least_short}
-use Rattle.charmlet_recovery.specs.Restarts.{wanted_of, fault_refusal, short_refusal, taken_refusal, restart_refusal, either_refusal, engine_refusal, image_end, image_refusal, is_old, limit_refusal, taken_image_refusal, wants_image}
+use Rattle.charmlet_recovery.specs.Restarts.{wanted_of, fault_refusal, short_refusal, taken_refusal, restart_refusal, either_refusal, engine_refusal, image_end, is_old, limit_refusal, taken_image_refusal, wants_image}
 use Rattle.charmlet_recovery.specs.RestartLaws.{IsEnough, Lacks, LeastShortIsFound, RestartsAreTaken, IsRefused, RestartsAreRefusedForCause, FoundLacksBlanksAlone}
 use Rattle.charmlet_recovery.proofs.Stored.{recovered_is_taken}
 
@@ -166,31 +166,6 @@ limits_are_full generation w refusal e = by (nat_le (2 ^ 40) generation) (nat_le
     by true long e = cc
     by false true e = cc
     by false false e = absurd cc
-
-full-image : (s : Saved) (m : Meaning) (refusal : Refusal) → image_refusal s m ≡ Some refusal → refusal ≡ refusals.ImageFull
-full-image s (Faulty place) refusal e = absurd cc
-full-image s (Whole w count) refusal e = by (is_current s) e
-  where
-    by : (current : Bool) → (if current then None else limit_refusal s.header.generation w) ≡ Some refusal → refusal ≡ refusals.ImageFull
-    by true e = absurd cc
-    by false e = limits_are_full s.header.generation w refusal e
-
-full-taken : (t : Taken) (refusal : Refusal) → taken_image_refusal t ≡ Some refusal → refusal ≡ refusals.ImageFull
-full-taken NothingHere refusal e = absurd cc
-full-taken (DamagedAt half offset) refusal e = absurd cc
-full-taken (Takes half s) refusal e = full-image s (meaning_of s) refusal e
-
-either-cause : (first later : Option Refusal) (refusal : Refusal) → (later ≡ Some refusal → refusal ≡ refusals.ImageFull) → either_refusal first later ≡ Some refusal →
-    (first ≡ Some refusal) ⊎ (refusal ≡ refusals.ImageFull)
-either-cause None later refusal full e = inr (full e)
-either-cause (Some other) later refusal full e = inl e
-
--- a restart that writes an image is refused as one that doesn't, or since the image is full
-pub engine_is_refused_for_cause : (given : Blanks) (outcome : Half → List ℕ) (refusal : Refusal) → engine_refusal given outcome ≡ Some refusal →
-    (restart_refusal given outcome ≡ Some refusal) ⊎ (refusal ≡ refusals.ImageFull)
-engine_is_refused_for_cause given outcome refusal e =
-    either-cause (restart_refusal given outcome) (taken_image_refusal (taken (outcome Zero) (outcome One))) refusal
-    (full-taken (taken (outcome Zero) (outcome One)) refusal) (sym (engine_refusals_are_taken given outcome) ∙ e)
 
 either-first : (first later : Option Refusal) (refusal : Refusal) → first ≡ Some refusal → either_refusal first later ≡ Some refusal
 either-first None later refusal e = absurd cc

@@ -8,7 +8,7 @@ use Rattle.charmlet_model.specs.declared.told.Told.{Told}
 use Rattle.charmlet_model.specs.declared.told.Told.TheVariants.{Unknown, Accepted, Replied, Past}
 use Rattle.charmlet_model.specs.Row.{Item, awaits, below, in_window, item_of, item_place, reply_to, with_place, with_reply, with_request}
 use Rattle.charmlet_model.specs.Told.{told_of, told_of_item}
-use Rattle.charmlet_model.proofs.Windows.{inside-parts, inside-true, awaited-parts, length-with_place, below-with_request, below-with_reply, count-with_reply}
+use Rattle.charmlet_model.proofs.Windows.{inside-parts, inside-true, awaited-parts, length-with_place, below-with_request, below-with_reply}
 use Rattle.charmlet_requests.specs.Knowing.{IsWindowed, IsNoLess}
 
 -- the reply to a request stays known until the window has passed it
@@ -115,30 +115,9 @@ says row k = elim (nat_lt row.last k) as (λ b. nat_lt row.last k ≡ b → Says
 
 -- ---- no less
 
-no_less-past : (t : Told) → IsNoLess t Past
-no_less-past Unknown = tt
-no_less-past Accepted = tt
-no_less-past (Replied reply) = inr refl
-no_less-past Past = refl
-
 no_less-item : (o : Item) → IsNoLess Accepted (told_of_item o)
 no_less-item None = tt
 no_less-item (Some reply) = tt
-
-pub no_less-then : (a b c : Told) → IsNoLess a b → IsNoLess b c → IsNoLess a c
-no_less-then Unknown b c h k = tt
-no_less-then Accepted Unknown c h k = absurd h
-no_less-then Accepted Accepted c h k = k
-no_less-then Accepted (Replied reply) c h k = elim k [
-  | inl same ↦ subst (IsNoLess Accepted) (sym same) tt
-  | inr past ↦ subst (IsNoLess Accepted) (sym past) tt
-]
-no_less-then Accepted Past c h k = subst (IsNoLess Accepted) (sym k) tt
-no_less-then (Replied reply) b c h k = elim h [
-  | inl same ↦ subst (λ t. IsNoLess t c) same k
-  | inr past ↦ inr (subst (λ t. IsNoLess t c) past k)
-]
-no_less-then Past b c h k = subst (λ t. IsNoLess t c) h k
 
 pub no_less-itself : (t : Told) → IsNoLess t t
 no_less-itself Unknown = tt
@@ -271,10 +250,3 @@ module _ (row : ClientRow) (number : ℕ) (reply : List ℕ) where
 
   pub covers-reply : awaits row number ≡ true → Covers row answered_row
   covers-reply waits = let same : below answered_row ≡ below row = below-with_reply row number reply in record { last = omega arith; passed = omega arith; kept = kept-reply waits }
-
-  pub windowed-reply : IsWindowed row → IsWindowed answered_row
-  windowed-reply windowed =
-      let few = windowed.few in
-      let bounded = windowed.numbered in
-      let count = count-with_reply row number reply in
-      record { few = omega arith; numbered = omega arith }

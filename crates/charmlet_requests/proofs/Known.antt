@@ -14,7 +14,7 @@ use Rattle.charmlet_model.specs.Row.{Item, awaits, below, in_window, item_of, it
 use Rattle.charmlet_model.specs.Told.{told_of, told_of_item}
 use Rattle.charmlet_model.proofs.Windows.{inside-parts, inside-true, below-with_reply}
 use Rattle.charmlet_requests.specs.Knowing.{IsWindowed, IsNoLess, passed, gone_on, reached, with_known_reply, heard}
-use Rattle.charmlet_requests.proofs.Covering.{Keeps, Covers, covers-itself, covers-then, covers-request, covers-reply, windowed-request, windowed-reply, replied-parts, replied-true, item-past, told-inside, told-below, told-known, says, Above, Waits, HasReply, Below}
+use Rattle.charmlet_requests.proofs.Covering.{Keeps, Covers, covers-itself, covers-then, covers-request, covers-reply, windowed-request, replied-parts, replied-true, item-past, told-inside, told-below, told-known, says, Above, Waits, HasReply, Below}
 
 -- no reply of the second row is new
 abbrev pub InventsNone : ClientRow → ClientRow → Type 0
@@ -273,9 +273,6 @@ module _ (row : ClientRow) (number : ℕ) (reply : List ℕ) (windowed : IsWindo
     | false ↦ λ _. else_here
   ] refl
 
-  pub windowed-known : IsWindowed answered
-  windowed-known = either IsWindowed (λ _. windowed-reply row number reply windowed) windowed
-
   pub covers-known : Covers row answered
   covers-known = either (Covers row) (covers-reply row number reply) (covers-itself row)
 
@@ -341,12 +338,6 @@ module _ (row : ClientRow) (number : ℕ) (reply : List ℕ) (windowed : IsWindo
 -- ---- what was told
 
 module _ (row : ClientRow) (number : ℕ) (windowed : IsWindowed row) where
-  pub windowed-heard : (told : Told) → IsWindowed (heard row number told)
-  windowed-heard Unknown = windowed
-  windowed-heard Accepted = windowed-reached row number windowed
-  windowed-heard (Replied reply) = windowed-known (reached row number) number reply (windowed-reached row number windowed)
-  windowed-heard Past = windowed-passed row number windowed
-
   -- no less is known of any request
   pub covers-heard : (told : Told) → Covers row (heard row number told)
   covers-heard Unknown = covers-itself row

@@ -11,7 +11,7 @@ use Rattle.charmlet_model.specs.declared.told.Told.{Told}
 use Rattle.charmlet_model.specs.declared.refusal.Refusal.{Refusal}
 use Rattle.charmlet_model.specs.declared.refusal.Refusal.TheVariants as refusals
 use Rattle.charmlet_model.specs.Row.{with_request}
-use Rattle.charmlet_model.specs.World.{world, after, client_of}
+use Rattle.charmlet_model.specs.World.{after, client_of}
 use Rattle.charmlet_model.specs.Told.{Holds, told, told_of}
 use Rattle.charmlet_model.specs.Core.{Core, CoreStep, Request, Status, Tells, Refuses, Blanks, Stepped, Steps, Check, MayLackMemory, first_refusal, may_lack_memory, checks, has_words, is_repeat, next_core, stepped_unless, present, durable_world, new_request_checks}
 use Rattle.charmlet_model.specs.Sound.{IsSound}
@@ -115,11 +115,6 @@ module _ (core : Core) (blanks : Blanks) (client number : ℕ) (to : Elem) (entr
   pub still-told : (pass : Pass) → IsSound core → IsTold pass core → IsTold pass (next_core core asked)
   still-told pass sound all = either (IsTold pass) (λ _. all)
       (λ _ k. subst (λ es. Holds core.opening es pass.client k (told_of pass.row k)) (sym (take-append-le core.durable core.history (event ∷ []) sound.durable)) (all k))
-
-  -- the durable events
-  pub still-durable : IsSound core → durable_world (next_core core asked) ≡ durable_world core
-  still-durable sound = either (λ c. durable_world c ≡ durable_world core) (λ _. refl)
-      (λ _. ap (world core.opening) (take-append-le core.durable core.history (event ∷ []) sound.durable))
 
   -- a pass that is up to date stays so
   pub still-up_to_date : (pass : Pass) → pass.client ≡ client → IsSound core → first_refusal (checks core blanks asked) ≡ None → IsUpToDate pass core → IsUpToDate (with_accept pass number) (next_core core asked)

@@ -1,7 +1,7 @@
 -- Which refusals a step's checks allow.
-use Rattle.std.proofs.Common.{◌≡◌, ℕ, ◌<◌, ◌≤◌, ◌≢◌, ◌+◌, List, [], ◌∷◌, ◌++◌, length, inl, inr, refl, sym, ap, subst, ◌∙◌, true, false, Bool, Option, Some, None, Result, Ok, Err, arith}
+use Rattle.std.proofs.Common.{◌≡◌, ℕ, ◌<◌, ◌≤◌, ◌+◌, List, [], ◌∷◌, ◌++◌, length, inl, inr, refl, sym, ap, subst, ◌∙◌, true, false, Bool, Option, Some, None, Result, Ok, Err, arith}
 use Rattle.std.proofs.lemmas.Bool.Decides.{nat_tests}
-use Rattle.std.specs.Prelude.{IfErr, IfOk, IfSome, OnOk, if◌then◌else◌, ◌||◌, ◌==◌, ◌^◌, is_some, nat_le, not}
+use Rattle.std.specs.Prelude.{IfErr, IfSome, OnOk, if◌then◌else◌, ◌||◌, ◌==◌, is_some, not}
 use Rattle.charmlet_model.specs.declared.edition.Edition.{Edition}
 use Rattle.charmlet_model.specs.declared.names.Elem.{Elem}
 use Rattle.charmlet_model.specs.declared.names.MsgId.{MsgId}
@@ -10,20 +10,19 @@ use Rattle.charmlet_model.specs.declared.refusal.Refusal.TheVariants as refusals
 use Rattle.charmlet_model.specs.declared.message.Message.{Message}
 use Rattle.charmlet_model.specs.declared.told.Told.{Told}
 use Rattle.charmlet_model.specs.declared.TheConstants.{CONSTRUCT}
-use Rattle.charmlet_model.specs.Core.{Blanks, Check, When, MayLackMemory, MayFail, Core, CoreStep, Refuses, Counts, Stepped, Steps, Request, Status, Assign, Commit, Finish, Release, Move, Flush, Checkpoint, assign_checks, assigned_to, blank_for, checks, end_of_flush, durable_world, first_refusal, flush_checks, has_words, is_present, is_processor, is_repeat, lacks_blank, may_fail, may_lack_memory, message_checks, new_request_checks, pending_message, place_or_home, present, request_checks, status_checks, stepped_unless}
-use Rattle.charmlet_model.specs.Told.{told}
+use Rattle.charmlet_model.specs.Core.{Blanks, Check, When, MayLackMemory, MayFail, Core, CoreStep, Refuses, Counts, Stepped, Steps, Request, Status, Assign, Commit, Finish, Release, Move, Flush, Checkpoint, assign_checks, assigned_to, blank_for, checks, first_refusal, is_present, is_processor, is_repeat, lacks_blank, may_fail, may_lack_memory, message_checks, new_request_checks, pending_message, place_or_home, present, request_checks, stepped_unless}
 use Rattle.charmlet_model.specs.World.{client_of}
 use Rattle.charmlet_model.specs.Edition.{edition_kind}
 use Rattle.charmlet_model.specs.Run.{Goes, StoreView}
 use Rattle.charmlet_model.specs.Sound.{IsSound}
-use Rattle.charmlet_history.specs.Kept.{counts_or_refused, oldest_on_in, told_or_refused}
+use Rattle.charmlet_history.specs.Kept.{oldest_on_in, told_or_refused}
 use Rattle.charmlet_migrate.specs.Moving.{IsIdle}
 use Rattle.charmlet_shelf.specs.Shelf.{View}
 use Rattle.charmlet_shelf.specs.declared.phase.Phase.{Phase}
 use Rattle.charmlet_delivery.specs.UnderWay.{due_in}
 use Rattle.charmlet_sequencer.specs.Book.{IsDueOn}
 use Rattle.charmlet_hub.specs.Hub.{HubShown, store_in}
-use Rattle.charmlet_workers.specs.Refusals.{is_flush_refusal, is_lending_refusal, is_request_refusal, is_status_refusal, is_work_refusal}
+use Rattle.charmlet_workers.specs.Refusals.{is_lending_refusal, is_request_refusal, is_work_refusal}
 use Rattle.charmlet_workers.proofs.Oldest.{oldest_is_deliverable}
 
 -- ---- checks
@@ -115,27 +114,6 @@ request_fit core client number to words = (
   ],
 )
 
-status_fit : (core : Core) (client number : ℕ) → Fit (Is is_status_refusal) (status_checks core client number)
-status_fit core client number = (
-  λ _. refl,
-  λ _. elim (has_words (told (durable_world core) client number)) as (λ b. Fit (Is is_status_refusal) (if b then MayLackMemory ∷ [] else [])) [
-    | true ↦ (refl, tt)
-    | false ↦ tt
-  ],
-)
-
-abbrev is_flush_or_memory : Refusal → Bool
-is_flush_or_memory refusal = is_flush_refusal refusal || is_memory refusal
-
-flush_fit : (core : Core) → Fit (Is is_flush_or_memory) (flush_checks core)
-flush_fit core = (
-  λ _. refl,
-  λ _. elim (core.durable == length core.history) as (λ b. Fit (Is is_flush_or_memory) (if b then [] else When (nat_le (2 ^ 31) (end_of_flush core)) refusals.LogFull ∷ MayLackMemory ∷ MayFail ∷ [])) [
-    | true ↦ tt
-    | false ↦ (λ _. refl, λ _. (refl, (refl, tt)))
-  ],
-)
-
 -- blanks that lack, and then memory
 pub blank_fit : (P : Refusal → Type 0) (blanks : Blanks) (o : Option Edition) → ((edition : Edition) → o ≡ Some edition → P (refusals.NoBlank (edition_kind edition))) → P refusals.Memory → Fit P (lacks_blank blanks o ++ MayLackMemory ∷ [])
 blank_fit P blanks None blank memory = (memory, tt)
@@ -167,22 +145,6 @@ assign_fit core blanks processor id m on none pending there here = (
 pub request_refused : (store next : StoreView) (client number : ℕ) (to : Elem) (entry : ℕ) (words : List ℕ) (r : Result Told Refusal) → Goes store (Request client number to entry words) (told_or_refused r) next → IfErr r (λ refusal. is_request_refusal refusal ≡ true)
 request_refused store next client number to entry words (Ok x) goes = tt
 request_refused store next client number to entry words (Err refusal) goes = refusal_fits (Is is_request_refusal) store.core store.blanks (Request client number to entry words) _ refusal (request_fit store.core client number to words) goes refl
-
-pub status_refused : (store next : StoreView) (client number : ℕ) (r : Result Told Refusal) → Goes store (Status client number) (told_or_refused r) next → IfErr r (λ refusal. is_status_refusal refusal ≡ true)
-status_refused store next client number (Ok x) goes = tt
-status_refused store next client number (Err refusal) goes = refusal_fits (Is is_status_refusal) store.core store.blanks (Status client number) _ refusal (status_fit store.core client number) goes refl
-
--- a flush isn't refused memory by a runtime
-without_memory : (refusal : Refusal) → is_flush_or_memory refusal ≡ true → refusal ≢ refusals.Memory → is_flush_refusal refusal ≡ true
-without_memory refusals.Memory is other = absurd (other refl)
-without_memory refusals.Device is other = refl
-without_memory refusals.Halted is other = refl
-without_memory refusals.LogFull is other = refl
-without_memory refusal is other = is
-
-pub flush_refused : (store next : StoreView) (r : Result ℕ Refusal) → Goes store Flush (counts_or_refused r) next → IfErr r (λ refusal. refusal ≢ refusals.Memory) → IfErr r (λ refusal. is_flush_refusal refusal ≡ true)
-flush_refused store next (Ok x) goes other = tt
-flush_refused store next (Err refusal) goes other = without_memory refusal (refusal_fits (Is is_flush_or_memory) store.core store.blanks Flush _ refusal (flush_fit store.core) goes refl) other
 
 -- ---- assignments
 
@@ -243,7 +205,3 @@ count_of store next count goes = elim goes.1 [
     | inr device ↦ let is : Counts count ≡ Refuses refusals.Device = ap (λ (n : Stepped). n.answer) device.1 in let never : ⊥ = cc in absurd never
   ]
 ]
-
-pub flush_counts : (before : ℕ) (store next : StoreView) (r : Result ℕ Refusal) → store.core.before ≡ before → Goes store Flush (counts_or_refused r) next → IfOk r (λ count. before ≤ count)
-flush_counts before store next (Ok count) is goes = subst (λ n. n ≤ count) is (count_of store next count goes)
-flush_counts before store next (Err refusal) is goes = tt

@@ -1,5 +1,5 @@
 -- What is kept of the receivers of messages.
-use Rattle.std.proofs.Common.{◌≡◌, ℕ, suc, Bool, true, false, cond, List, [], ◌∷◌, ◌++◌, length, refl, sym, ap, ◌∙◌, if◌then◌else◌, slice_get}
+use Rattle.std.proofs.Common.{◌≡◌, ℕ, suc, Bool, true, false, cond, List, [], ◌∷◌, ◌++◌, refl, sym, ap, ◌∙◌, if◌then◌else◌, slice_get}
 use Rattle.std.specs.Prelude.{Some, None, unwrap_or}
 use Rattle.std.specs.List.{IsDistinct}
 use Rattle.std.specs.Map.{keys_of, lookup, values_of}
@@ -10,15 +10,11 @@ use Rattle.charmlet_model.proofs.Maps.{same_from_test}
 use Rattle.charmlet_world.specs.declared.receivers.Receiver.{Receiver}
 use Rattle.charmlet_world.specs.Envelopes.{no_receiver, receiver_in}
 use Rattle.charmlet_world.proofs.Risen.{lookup-append}
-use Rattle.charmlet_world.proofs.Rows.{changed, last_row}
+use Rattle.charmlet_world.proofs.Rows.{changed}
 use Rattle.charmlet_world.proofs.Ties.{same_itself}
 
 abbrev pub Received : Type 0
 Received = List (Elem × Receiver)
-
--- a new one is the last
-pub new_found : (x : Elem) (es : Received) → lookup (same_elem x) es ≡ None → slice_get (es ++ (x, no_receiver) ∷ []) (length es) ≡ Some (x, receiver_in es x)
-new_found x es none = last_row es (x, no_receiver) ∙ ap (λ o. Some (x, unwrap_or o no_receiver)) (sym none)
 
 -- and says what no entry says
 pub new_same : (x : Elem) (es : Received) → lookup (same_elem x) es ≡ None → (y : Elem) → receiver_in (es ++ (x, no_receiver) ∷ []) y ≡ receiver_in es y

@@ -23,11 +23,6 @@ same_other_way a b = by (same_elem a b) refl (same_elem b a) refl
     by false h true k = let p = same_from_test b a k in λ i. same_elem (sym p i) (p i)
     by false h false k = h ∙ sym k
 
--- a new row is the last
-pub last_row : {V : Type 0} (es : List (Elem × V)) (e : Elem × V) → slice_get (es ++ e ∷ []) (length es) ≡ Some e
-last_row [] e = refl
-last_row (f ∷ es) e = last_row es e
-
 -- the first row that passes
 at_first : {V : Type 0} (d : V) (x : Elem) (es : List (Elem × V)) → position_or_len (same_elem x) (keys_of es) < length (keys_of es) → slice_get es (position_or_len (same_elem x) (keys_of es)) ≡ Some (x, unwrap_or (lookup (same_elem x) es) d)
 at_first d x [] h = absurd (omega arith)
@@ -55,18 +50,11 @@ pub at_position : (x : Elem) (es : Rows) (i : ℕ) → position (same_elem x) (k
 at_position x es i is = position_there no_element x es i is
 
 -- an element that has no row gets one at the end
-pub none_found : {V : Type 0} (o : Option V) → false ≡ is_some o → o ≡ None
-none_found None h = refl
-none_found (Some e) h = absurd (let no : ⊥ = cc in no)
-
 pub with_new_row : (x : Elem) (es : Rows) → lookup (same_elem x) es ≡ None → es ++ (x, no_element) ∷ [] ≡ with_row es x
 with_new_row x es none = rw none refl
 
 pub with_same_row : (x : Elem) (es : Rows) → is_some (lookup (same_elem x) es) ≡ true → es ≡ with_row es x
 with_same_row x es there = rw there refl
-
-pub new_row : (x : Elem) (es : Rows) → lookup (same_elem x) es ≡ None → slice_get (es ++ (x, no_element) ∷ []) (length es) ≡ Some (x, element_in es x)
-new_row x es none = rw none (last_row es (x, no_element))
 
 -- the element of a row is not one that no row has
 pub apart_at : {V : Type 0} (x z : Elem) (es : List (Elem × V)) (i : ℕ) (e : V) → AllByRecursion (λ k. same_elem z k ≡ false) (keys_of es) → slice_get es i ≡ Some (x, e) → same_elem z x ≡ false

@@ -74,17 +74,6 @@ module _ (h v : Held) (same : v ≡ h) (id : MsgId) (m : Message) (is : Some m �
   pub from_some : IfSome (message_among id h.pending) (P h) → P v m
   from_some p = subst (λ o. IfSome o (P v)) (sym is) (subst (λ (h : Held). IfSome (message_among id h.pending) (P h)) (sym same) p)
 
--- an element that stands somewhere has a row
-pub never_absent : (h v : Held) → v ≡ h → (x : Elem) → is_some (element_at (risen h.rows) x).place ≡ true → false ≡ is_some (lookup (same_elem x) v.rows) → ⊥
-never_absent h v same x there none =
-    let here : is_some (element_in v.rows x).place ≡ true =
-    ap (λ (e : Element). is_some e.place) (sym (element_risen x v.rows)) ∙ ap (λ (h : Held). is_some (element_at (risen h.rows) x).place) same ∙ there in
-    absent (lookup (same_elem x) v.rows) none here
-  where
-    absent : (o : Option Element) → false ≡ is_some o → is_some (unwrap_or o no_element).place ≡ true → ⊥
-    absent None n t = let no : ⊥ = cc in no
-    absent (Some e) n t = let no : ⊥ = cc in no
-
 -- ---- one element
 
 -- an entry is made, and not seen

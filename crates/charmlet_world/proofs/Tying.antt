@@ -354,12 +354,6 @@ module _ (d v : Dispatched) (same : v ≡ d) (id : MsgId) (m : Message) (is : So
 
 -- ---- room
 
-pub smaller_first : (m n : ℕ) → smaller m n ≤ m
-smaller_first m n = elim (nat_le m n) as (λ b. nat_le m n ≡ b → (if b then m else n) ≤ m) [
-  | true ↦ λ e. omega arith
-  | false ↦ λ e. let less : n < m = grind arith in omega (arith, less)
-] refl
-
 pub smaller_second : (m n : ℕ) → smaller m n ≤ n
 smaller_second m n = elim (nat_le m n) as (λ b. nat_le m n ≡ b → (if b then m else n) ≤ n) [
   | true ↦ λ e. let le : m ≤ n = grind arith in omega (arith, le)
