@@ -282,6 +282,7 @@ module _ (core : Core) (run : Run) (is : IsRunning core run) (all : AreAllSettle
       record {
         saved = saved;
         text = text_is;
+        no_batch = refl;
         good = subst (λ (n : ℕ). IsSaved (half_with image_taken n (core.generation + 1))) all_count done.0;
         means = subst (λ (n : ℕ). meaning image_taken n [] ≡ Whole v n) all_count (done.1 ∙ (λ i. Whole (now_is core run is i) (core.before + at + length es)));
         has_generation = refl;
