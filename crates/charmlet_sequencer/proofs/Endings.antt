@@ -1,23 +1,29 @@
 -- Shelves that are handed back, one after another.
 use Rattle.std.proofs.Common.{◌≡◌, ◌⊎◌, ℕ, zero, suc, ◌+◌, ◌<◌, ◌≤◌, List, [], ◌∷◌, ◌++◌, length, get_or, inl, inr, refl, ap, sym, ◌∙◌, arith, subst}
-use Rattle.std.specs.Prelude.{Option, Some, None, slice_get, slice_set}
+use Rattle.std.specs.Prelude.{Option, Some, None, IfSome, slice_get, slice_set}
 use Rattle.std.specs.List.{AllByRecursion}
+use Rattle.std.proofs.lemmas.Bool.{cases_lt}
+use Rattle.std.proofs.lemmas.Cmp.{eq_by_cmp_equiv, nat_cmp_total}
 use Rattle.std.proofs.lemmas.List.Elements.{All-from_recursion}
 use Rattle.std.proofs.lemmas.List.Sums.{sum_by-cons}
+use Rattle.std.proofs.lemmas.Map.Made.{nil_from_lookup}
 use Rattle.charmlet_model.specs.declared.kind.Kind.{Kind}
+use Rattle.charmlet_model.specs.declared.names.MsgId.{MsgId}
 use Rattle.charmlet_shelf.specs.Count.{objects_on}
 use Rattle.charmlet_shelf.specs.Shelf.{View}
 use Rattle.charmlet_shelf.specs.declared.phase.Phase.TheVariants.{Idle}
 use Rattle.charmlet_migrate.specs.Moving.{IsIdle, objects_among, records_on}
 use Rattle.charmlet_chare.specs.declared.chare.Chare.{Ghosts}
-use Rattle.charmlet_model.specs.Core.{present}
+use Rattle.charmlet_model.specs.Core.{Core, assigned_to, present}
 use Rattle.charmlet_model.specs.Shelves.{Shows}
+use Rattle.charmlet_model.specs.Sound.{IsAssigned, IsSound}
 use Rattle.charmlet_history.specs.Kept.{core_in}
 use Rattle.charmlet_stock.specs.Stock.{blanks_in, tally_in}
 use Rattle.charmlet_history.specs.declared.history.History.{History}
 use Rattle.charmlet_stock.specs.declared.stock.Stock.{Stock}
 use Rattle.charmlet_migrate.specs.StoreParts.{FitTogether}
-use Rattle.charmlet_sequencer.specs.Book.{IsBookOf, objects_in_all, part_in, records_in}
+use Rattle.charmlet_delivery.specs.UnderWay.{due_in}
+use Rattle.charmlet_sequencer.specs.Book.{IsBookOf, IsDueOn, objects_in_all, part_at, part_in, records_in}
 use Rattle.charmlet_sequencer.specs.Part.{Part, objects_in, part_on}
 use Rattle.charmlet_sequencer.proofs.Books.{objects_are}
 
@@ -151,6 +157,28 @@ closed_fits history shelves stock parts book back =
       objects = subst (λ rows. Shows rows places w) (sym (back_rows 0 parts shelves back)) book.shows;
       census = λ kind. book.census kind ∙ ap (λ n. n + blanks_in stock kind + (tally_in stock kind).retired) (sym (back_objects 0 parts shelves kind back));
     }
+
+-- ---- nothing is assigned then
+
+back_due : (n : ℕ) (os : List (Option Part)) (ss : List View) (p : ℕ) → AllBack n os ss → p < length os → (part_at os p).due ≡ None
+back_due n [] [] p b less = absurd (omega arith)
+back_due n [] (s ∷ ss) p b less = absurd b
+back_due n (o ∷ os) [] p b less = absurd b
+back_due n (o ∷ os) (s ∷ ss) zero b less = ap (λ (o : Option Part). (part_in o).due) b.0.part_is ∙ ap due_in b.0.idle
+back_due n (o ∷ os) (s ∷ ss) (suc p) b less = back_due (suc n) os ss p b.1 (omega arith)
+
+-- nor to a processor that there isn't
+none_past : (core : Core) (p : ℕ) → core.processors ≤ p → (o : Option MsgId) → IfSome o (IsAssigned core p) → o ≡ None
+none_past core p past None assigned = refl
+none_past core p past (Some id) assigned = absurd (let on = assigned.on_processor in omega arith)
+
+pub back_unassigned : {C : Type 0} {G : Ghosts C} (history : History) (shelves : List View) (stock : Stock C G) (parts : List (Option Part)) → IsSound (core_in history) → IsBookOf history stock parts → AllBack 0 parts shelves → (core_in history).assigned ≡ []
+back_unassigned history shelves stock parts sound book back =
+    let core = core_in history in
+    nil_from_lookup (eq_by_cmp_equiv nat_cmp_total) core.assigned (λ p. elim (cases_lt p core.processors) [
+      | inl on ↦ (let less : p < length parts = omega (arith, book.count, on) in subst (IsDueOn core p) (back_due 0 parts shelves p back less) (book.dues p less))
+      | inr past ↦ none_past core p past (assigned_to core p) (sound.assigned p)
+    ])
 
 -- ---- shelves that are idle
 

@@ -1,6 +1,6 @@
 //! The end of a sequencer and its shelves.
 
-ghost use Rattle.std.specs.Prelude.{◌≡◌, false, None, Some, length, slice_get, slice_set, vec_len};
+ghost use Rattle.std.specs.Prelude.{◌≡◌, [], false, None, Some, length, slice_get, slice_set, vec_len};
 ghost use Rattle.std.specs.List.{All};
 ghost use Rattle.charmlet_disk.specs.File.{CrashBytes, MayLeave};
 ghost use Rattle.charmlet_halves.specs.Halves.{disk_of};
@@ -31,8 +31,8 @@ pub struct TakenApart<D: Disk, C: Chare> {
 }
 
 impl<D: Disk, C: Chare, B: RuntimeName> Sequencer<D, C, B> {
-    /// Takes all apart where no delivery is under way, also when halted. It makes no call of the
-    /// disk, and takes no memory. The shelves are handed in all at once, in any order; the store
+    /// Takes all apart where no delivery is under way, also when halted: then nothing is assigned. It
+    /// makes no call of the disk, and takes no memory. The shelves are handed in all at once, in any order; the store
     /// has each in the place of its processor, for which an empty one is handed in.
     pub fn take_apart(
         self,
@@ -43,6 +43,7 @@ impl<D: Disk, C: Chare, B: RuntimeName> Sequencer<D, C, B> {
         requires idle { All IsIdle shelves.items }
         requires empty { AreEmpty B.processors empty.items }
         ensures core { core_in result.store.history ≡ self.core }
+        ensures unassigned { (core_in result.store.history).assigned ≡ [] }
         ensures census { result.store.census ≡ self.census }
         ensures keeping { result.store.keeping ≡ for_all false }
         ensures disk { disk_of result.halves ≡ self.disk }

@@ -5,7 +5,7 @@ use Rattle.charmlet_disk.specs.Disk.{LeavesOnly}
 use Rattle.charmlet_disk.proofs.Moments.{weaker}
 use Rattle.charmlet_halves.specs.Halves.{disk_of}
 use Rattle.charmlet_history.specs.Kept.{core_in, sealed_at}
-use Rattle.charmlet_journal.specs.Rest.{HasOldOrSealed, keeps_durable}
+use Rattle.charmlet_journal.specs.Rest.{HasOldOrSealed, HasSealed, keeps_durable}
 use Rattle.charmlet_recovery.proofs.Outcomes.{kept_is_lawful}
 use Rattle.charmlet_sequencer.specs.Sequencer.{SequencerShown, is_lawful}
 use Rattle.charmlet_sequencer.specs.Together.{shown_by}
@@ -56,3 +56,8 @@ pub returns-clause-sealed : goal.returns-clause-sealed
 returns-clause-sealed g c =
     let done = c.write_running-sealed in
     subst (λ (v : SequencerShown _). OnOk done.result ((n : ℕ) × (core_in done.new.history ≡ sealed_at v.core n))) c.self.view_is done.ensures.sealed
+
+pub returns-clause-image : goal.returns-clause-image
+returns-clause-image g c =
+    let done = c.write_running-sealed in
+    subst (λ (v : SequencerShown _). g.D.Disk.honest v.disk → OnOk done.result (HasSealed g.D.Disk (core_in done.new.history) (disk_of done.new.halves))) c.self.view_is done.ensures.image

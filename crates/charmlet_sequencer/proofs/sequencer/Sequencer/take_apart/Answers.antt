@@ -2,12 +2,13 @@ use Rattle.std.proofs.Common.{◌≡◌, ◌+◌, ◌≤◌, List, [], ◌∷◌
 use Rattle.std.specs.Prelude.{Option, Some, None, slice_get, slice_set}
 use Rattle.std.specs.List.{AllByRecursion}
 use Rattle.std.proofs.lemmas.List.Elements.{recursion_from_All}
+use Rattle.charmlet_model.specs.Sound.{IsSound}
 use Rattle.charmlet_history.specs.Kept.{core_in}
 use Rattle.charmlet_migrate.specs.Moving.{IsIdle}
 use Rattle.charmlet_recovery.proofs.Outcomes.{kept_is_lawful}
 use Rattle.charmlet_sequencer.specs.Part.{Part, part_on}
 use Rattle.charmlet_sequencer.specs.Sequencer.{SequencerShown}
-use Rattle.charmlet_sequencer.proofs.Endings.{AreBack, back_end, back_slots, back_start, back_step, closed_fits, last_idle, left_in, left_most, left_step}
+use Rattle.charmlet_sequencer.proofs.Endings.{AreBack, back_end, back_slots, back_start, back_step, back_unassigned, closed_fits, last_idle, left_in, left_most, left_step}
 use Rattle.charmlet_sequencer.proofs.sequencer.Sequencer.take_apart.Goals as goal
 
 pub loop-locked-init : goal.loop-locked-init
@@ -65,6 +66,22 @@ invariant_of-store g c =
     let gone : left_in parts ≡ 0 = omega (arith, none, many, most, so_far.count) in
     let slots = c.loop-locked.slots.items in
     closed_fits h.history slots h.stock h.parts book (back_end 0 h.parts parts slots all gone so_far.back)
+
+pub returns-clause-unassigned : goal.returns-clause-unassigned
+returns-clause-unassigned g c =
+    let h = c.into_parts-history.result in
+    let of = c.into_parts-history.ensures.of in
+    let book = c.into_parts-history.ensures.tied.book in
+    let parts = c.loop-locked.parts in
+    let so_far = c.loop-locked.invariant in
+    let none : vec_len c.loop-locked.shelves ≡ 0 = search rules in
+    let many : vec_len c.args.shelves ≡ length h.parts = c.requires.count ∙ sym of.processors_are ∙ sym book.count in
+    let most = left_most h.parts in
+    let all : length h.parts ≤ left_in h.parts = omega (arith, none, many, most, so_far.count) in
+    let gone : left_in parts ≡ 0 = omega (arith, none, many, most, so_far.count) in
+    let slots = c.loop-locked.slots.items in
+    let core : core_in c.self.inside.history ≡ core_in h.history = ap (λ (v : SequencerShown _). v.core) (c.self.view_is ∙ sym c.into_parts-history.ensures.shown) in
+    back_unassigned h.history slots h.stock h.parts (subst IsSound core c.facts.ensures.sound) book (back_end 0 h.parts parts slots all gone so_far.back)
 
 pub returns-clause-agrees : goal.returns-clause-agrees
 returns-clause-agrees g c = c.into_parts-history.ensures.tied.agrees
