@@ -8,7 +8,7 @@ ghost use Rattle.charmlet_disk.specs.Calls.{AfterCall};
 ghost use Rattle.charmlet_disk.specs.Disk.{LeavesOnly};
 ghost use Rattle.charmlet_halves.specs.Answers.{is_no_failure};
 ghost use Rattle.charmlet_history.specs.Kept.{core_in, sealed_at};
-ghost use Rattle.charmlet_journal.specs.Rest.{HasOldOrSealed};
+ghost use Rattle.charmlet_journal.specs.Rest.{HasOldOrSealed, HasSealed};
 ghost use Rattle.charmlet_running.specs.Running.{AreAllSettled, IsRunning, IsShownBy};
 ghost use Rattle.charmlet_shelf.specs.Image.{AreImages};
 ghost use Rattle.charmlet_sequencer.specs.Checkpointing.{IsSealRefusal};
@@ -142,7 +142,9 @@ impl<D: Disk, C: Chare, B: RuntimeName> Hub<D, C, B> {
     /// Ends the checkpoint, to which each shelf was handed in: makes all events durable by an image
     /// that means the present world, which takes the place of the store in the spare half, and
     /// answers its generation. The image has each element as it was at a moment since the
-    /// checkpoint began, and the deliveries since then. No client is told anything.
+    /// checkpoint began, and the deliveries since then. On an honest disk the half that is taken is
+    /// then that one: it counts all events, and its log has no batch yet. No client is told
+    /// anything.
     ///
     /// `Halted`; `Memory`; `ImageFull` if the generation would be past 2^40 or the file past 2^31
     /// bytes: then nothing changes. `Device` halts the store. When refused, the checkpoint still
@@ -165,6 +167,8 @@ impl<D: Disk, C: Chare, B: RuntimeName> Hub<D, C, B> {
             ≡ record self.old { core = halted_core self.old.core; disk = self.new.disk }) }
         ensures back { IfErr result (λ back. back.checkpoint ≡ checkpoint) }
         ensures ran { self.old.busy ≡ true }
+        ensures image { D.honest self.old.disk →
+            OnOk result (HasSealed D.Disk self.new.core self.new.disk) }
         ensures any_moment { D.honest self.old.disk → LeavesOnly D.moment D.since self.old.disk
             self.new.disk (is_lawful self.old.core) }
         ensures stored { D.honest self.old.disk → self.old.core.halted ≡ false →
@@ -250,6 +254,8 @@ fn seal_running<D: Disk, C: Chare, B: RuntimeName>(
         sequencer.new.core ≡ halted_core sequencer.old.core) }
     ensures refused { IfErr result (λ refusal. refusal ≢ refusals.Device →
         sequencer.new ≡ sequencer.old) }
+    ensures image { D.honest sequencer.old.disk →
+        OnOk result (HasSealed D.Disk sequencer.new.core sequencer.new.disk) }
     ensures any_moment { D.honest sequencer.old.disk → LeavesOnly D.moment D.since
         sequencer.old.disk sequencer.new.disk (is_lawful sequencer.old.core) }
     ensures stored { D.honest sequencer.old.disk → sequencer.old.core.halted ≡ false →

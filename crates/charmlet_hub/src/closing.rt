@@ -1,6 +1,6 @@
 //! The end of a hub and its shelves.
 
-ghost use Rattle.std.specs.Prelude.{◌≡◌, ◌∷◌, false, true, IfErr, IfOk, OnErr, OnOk, map, vec_len};
+ghost use Rattle.std.specs.Prelude.{◌≡◌, [], ◌∷◌, false, true, IfErr, IfOk, OnErr, OnOk, map, vec_len};
 ghost use Rattle.std.specs.List.{AllByRecursion};
 ghost use Rattle.charmlet_model.specs.declared.refusal.Refusal.TheVariants as refusals;
 ghost use Rattle.charmlet_disk.specs.File.{CrashBytes, MayLeave};
@@ -51,7 +51,7 @@ pub struct NotClosed<D: Disk, C: Chare, B: RuntimeName> {
 impl<D: Disk, C: Chare, B: RuntimeName> Hub<D, C, B> {
     /// Takes all apart, also when halted, and makes no call of the disk. All shelves are handed in,
     /// in any order. What is under way on each of them ends first, as [`settle`](Self::settle) ends
-    /// it. The objects show the world after the history. The ids that the seats hold and those of
+    /// it, and nothing is assigned then. The objects show the world after the history. The ids that the seats hold and those of
     /// the commits without a seat are all deliveries of the history: each stands in one of these
     /// lists, in the history's order. Each pass has exactly its client's accepts, and all that it
     /// knows of its client's requests is true of the durable events; a client without a pass has no
@@ -77,6 +77,8 @@ impl<D: Disk, C: Chare, B: RuntimeName> Hub<D, C, B> {
             × (closed.store.census ≡ last.census)
             × (disk_of closed.halves ≡ last.disk)
             × (closed.own ≡ last.seats.own)) }
+        ensures unassigned { IfOk result (λ closed.
+            (core_in closed.store.history).assigned ≡ []) }
         ensures agrees { IfOk result (λ closed. Agrees (core_in closed.store.history)
             closed.halves) }
         ensures keeping { IfOk result (λ closed. closed.store.keeping ≡ for_all false) }
