@@ -1,5 +1,5 @@
-# Makes counters `from` to `to` - 1 of array 0: by the script of a run if it begins at 0, and else by
-# one of a restart.
+# Makes counters `from` to `to` - 1 of array 0: by the script of a run if it begins at 0, and else
+# by one of a restart.
 BEGIN {
   if (from == 0) print "array 0 1"
   for (left = to - from; left > 0; left -= 10000) print "supply 1", left < 10000 ? left : 10000
