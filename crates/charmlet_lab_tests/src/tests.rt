@@ -2,3 +2,5 @@ mod counters;
 mod forgetful;
 mod found;
 mod judged;
+mod passing;
+mod stepping;

@@ -3,5 +3,6 @@ mod crossing;
 mod hinting;
 mod moving;
 mod opening;
+mod packing;
 mod pausing;
 mod random;

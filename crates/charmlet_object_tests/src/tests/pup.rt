@@ -199,6 +199,40 @@ fn modes_are_told_apart(rt: HostRuntime) {
     is_mode(&rt, &Er::Unpacking(&[], Pass::Test), (false, false, true));
 }
 
+// A visit had this fault.
+fn is_fault(rt: &impl Abort, visited: Result<(), PupFault>, fault: PupFault) {
+    let found = visited.err().expect(rt, "a fault");
+    assert_eq!(rt; found, fault);
+}
+
+// One word of a list, in the pass that writes.
+const ONE: [u8; 12] = [1, 0, 0, 0, 7, 0, 0, 0, 0, 0, 0, 0];
+
+#[test]
+fn faults_leave_what_is_written(rt: HostRuntime) {
+    let mut number = 5u64;
+    let mut er = Er::Unpacking(&ONE[..7], Pass::Write);
+    is_fault(&rt, er.u64(&mut number), PupFault::Short);
+    are_words(&rt, &[number], &[5]);
+    let mut flag = true;
+    let mut er = Er::Unpacking(&ONE[4..], Pass::Write);
+    is_fault(&rt, er.flag(&mut flag), PupFault::BadFlag);
+    is_set(&rt, flag);
+    // A list without room for its items, and one with a byte too few.
+    let mut words = Vec::new(rt.alloc());
+    let mut er = Er::Unpacking(&ONE, Pass::Write);
+    is_fault(&rt, er.words(&mut words, 64), PupFault::Memory);
+    let mut er = Er::Unpacking(&ONE[..11], Pass::Write);
+    is_fault(&rt, er.words(&mut words, 64), PupFault::Short);
+    let mut er = Er::Unpacking(&ONE, Pass::Write);
+    is_fault(&rt, er.words(&mut words, 0), PupFault::TooMany);
+    are_words(&rt, &words, &[]);
+    let mut bytes = Vec::new(rt.alloc());
+    let mut er = Er::Unpacking(&ONE, Pass::Write);
+    is_fault(&rt, er.bytes(&mut bytes, 4), PupFault::Memory);
+    are_bytes(&rt, &bytes, &[]);
+}
+
 // The fault is told in these words.
 fn is_told(rt: &(impl AllocGlobal + Abort), fault: PupFault, text: &str) {
     let said = format!(in rt.alloc(); "{fault}").expect(rt, "memory");

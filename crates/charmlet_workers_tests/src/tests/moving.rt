@@ -32,14 +32,23 @@ const ELEM: Elem = Elem { array: 0, index: 0 };
 // A counter that has 9, and never had more.
 const NINE: [u8; 16] = [9, 0, 0, 0, 0, 0, 0, 0, 9, 0, 0, 0, 0, 0, 0, 0];
 
-// One more blank counter is there.
+// One more blank counter is there. It counts for itself what is done with it.
 fn give<B: RuntimeName, R: Wait + AllocGlobal + Abort>(
     rt: &R,
     runtime: &Runtime<ProbeDisk, Object, B>,
-    tally: &Arc<Tally>,
-) {
-    let counter = blanks(rt.alloc(), tally, &[(Kind::Counter, 1)]).expect(rt, "memory");
+) -> Arc<Tally> {
+    let tally = Arc::new(rt.alloc(), Tally::new()).expect(rt, "memory");
+    let counter = blanks(rt.alloc(), &tally, &[(Kind::Counter, 1)]).expect(rt, "memory");
     assert!(rt; runtime.supply(rt, counter).is_ok());
+    tally
+}
+
+// One object was packed and is gone, and the other one was unpacked and stands in its place, and
+// has been entered so often.
+fn has_followed(rt: &impl Abort, before: &Tally, after: &Tally, entries: u64) {
+    let [_, packs, _, drops] = before.counts();
+    assert_eq!(rt; [packs, drops], [1, 1]);
+    assert_eq!(rt; after.counts(), [entries, 0, 1, 0]);
 }
 
 // The client asks something of the counter, whose message is then the only one.
@@ -106,31 +115,34 @@ fn flush<B: RuntimeName, R: Wait + AllocGlobal + Abort>(
 }
 
 // The counter is made on processor 0, and goes to 1, back to 0, and to 1 again. What is asked of it
-// is delivered where it stands.
+// is delivered where it stands, to the object that was its last blank.
 fn roam<B: RuntimeName, R: Wait + AllocGlobal + Abort>(
     rt: &R,
     runtime: &Runtime<ProbeDisk, Object, B>,
-    tally: &Arc<Tally>,
     pass: &mut ClientPass<PassesOf<B>>,
     seats: &mut [Seat<SeatsOf<B>>],
 ) {
     assert!(rt; matches!(runtime.look(rt, ELEM), Ok(look) if look.standing.is_none()));
     go(rt, runtime, 1, Some(Refusal::Absent));
     go(rt, runtime, 2, Some(Refusal::BadPes));
-    give(rt, runtime, tally);
+    let mut standing = give(rt, runtime);
     ask(rt, runtime, pass, 1, CONSTRUCT, 5);
     work(rt, runtime, seats, 0);
+    assert_eq!(rt; standing.counts(), [1, 0, 0, 0]);
     flush(rt, runtime);
     go(rt, runtime, 0, None);
     go(rt, runtime, 1, Some(Refusal::NoBlank(Kind::Counter)));
     for (number, word, processor) in &[(2, 3, 1), (3, 1, 0)] {
-        give(rt, runtime, tally);
+        let blank = give(rt, runtime);
         go(rt, runtime, *processor, None);
         ask(rt, runtime, pass, *number, 0, *word);
         work(rt, runtime, seats, *processor);
+        has_followed(rt, &standing, &blank, 1);
+        standing = blank;
     }
-    give(rt, runtime, tally);
+    let blank = give(rt, runtime);
     go(rt, runtime, 1, None);
+    has_followed(rt, &standing, &blank, 0);
     let counters = runtime.census(rt).counters;
     assert_eq!(rt;
         [counters.supplied, counters.in_stock, counters.retired],
@@ -237,7 +249,6 @@ fn end<B: RuntimeName>(
 fn live<B: RuntimeName, R: Wait + AllocGlobal + Abort>(
     rt: &R,
     runtime: Runtime<ProbeDisk, Object, B>,
-    tally: &Arc<Tally>,
     first: Option<&Switches>,
 ) -> ProbeDisk {
     let mut pass = runtime.client(rt, CLIENT).expect(rt, "it isn't out");
@@ -247,7 +258,7 @@ fn live<B: RuntimeName, R: Wait + AllocGlobal + Abort>(
         seats.push(seat).expect(rt, "memory");
     }
     if let Some(switches) = first {
-        roam(rt, &runtime, tally, &mut pass, seats.as_mut_slice());
+        roam(rt, &runtime, &mut pass, seats.as_mut_slice());
         seal(rt, &runtime, switches, &mut pass);
     } else {
         is_durable(rt, &runtime, &mut pass);
@@ -264,7 +275,6 @@ fn live_named<B: RuntimeName, R: Wait + AllocGlobal + Abort>(
     rt: &R,
     begun: UnnamedRuntime<ProbeDisk, Object>,
     books: UnnamedBooks,
-    tally: &Arc<Tally>,
     first: Option<&Switches>,
 ) -> ProbeDisk
     requires named { IsOf B.opening B.before B.processors (core_of begun) }
@@ -275,7 +285,7 @@ fn live_named<B: RuntimeName, R: Wait + AllocGlobal + Abort>(
     requires honest { B.honest → ⊥ }
 {
     match begun.open::<B>(books) {
-        Ok(runtime) => live(rt, runtime, tally, first),
+        Ok(runtime) => live(rt, runtime, first),
         Err(_) => panic!(rt; "memory"),
     }
 }
@@ -284,11 +294,10 @@ fn live_named<B: RuntimeName, R: Wait + AllocGlobal + Abort>(
 fn live_once<R: Wait + AllocGlobal + Abort>(
     rt: &R,
     begun: UnnamedRuntime<ProbeDisk, Object>,
-    tally: &Arc<Tally>,
     first: Option<&Switches>,
 ) -> ProbeDisk {
     let books = UnnamedBooks::new(rt.alloc()).expect(rt, "memory");
-    live_named::<Brand, R>(rt, begun, books, tally, first)
+    live_named::<Brand, R>(rt, begun, books, first)
 }
 
 #[test]
@@ -297,7 +306,7 @@ fn a_counter_moves_and_comes_back(rt: HostRuntime) {
     let tally = Arc::new(alloc, Tally::new()).expect(&rt, "memory");
     let disk = ProbeDisk::new(alloc).expect(&rt, "memory");
     let switches = disk.switches().expect(&rt, "memory");
-    let disk = live_once(&rt, create_on(&rt, disk), &tally, Some(&switches));
+    let disk = live_once(&rt, create_on(&rt, disk), Some(&switches));
     let disk = disk.crash(CrashChoice::New);
-    let _disk = live_once(&rt, restart_on(&rt, disk, &tally), &tally, None);
+    let _disk = live_once(&rt, restart_on(&rt, disk, &tally), None);
 }

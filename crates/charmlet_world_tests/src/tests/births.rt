@@ -7,6 +7,7 @@ use rand_core::utils::NextWord;
 use rand_pcg::Pcg32;
 use std::alloc::{AllocError, AllocGlobal, Global};
 use std::marker::Brand;
+use std::mem::size_of;
 use std::process::Abort;
 use std::sync::ledger::{Blank, Ledger};
 use std::test::Fail;
@@ -110,6 +111,21 @@ fn run<L: Ledger, R: AllocGlobal + Abort>(rt: &R, blank: Blank, choice: Choice)
         step(rt, &mut rng, &mut lists, choice);
         are_same(rt, &lists, &mut ticks);
     }
+}
+
+// A count takes no bytes, whatever it counts.
+fn has_no_bytes<L: Ledger, R: Abort>(rt: &R, blank: Blank)
+    requires name { blank.name ≡ L.name }
+    requires parts { blank.parts ≡ L.parts }
+    requires some { 0 < blank.parts }
+{
+    let _ticks = Ticks::<L>::new(blank);
+    assert_eq!(rt; size_of::<Ticks<L>>(), 0);
+}
+
+#[test]
+fn a_count_takes_no_bytes(rt: HostRuntime) {
+    has_no_bytes::<Brand, HostRuntime>(&rt, Blank::new(1));
 }
 
 #[test]
