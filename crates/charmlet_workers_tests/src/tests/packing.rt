@@ -1,5 +1,5 @@
-//! A checkpoint in the midst of one shelf, while which the worker of another one delivers: an object
-//! that is packed waits until the other one's delivery is committed, or long enough.
+//! A checkpoint in the midst of one shelf, while the worker of another one delivers: an object that
+//! is packed waits until the other one's delivery is committed, or long enough.
 
 ghost use Rattle.std.specs.Prelude.{◌≡◌};
 ghost use Rattle.charmlet_agreement.specs.Naming.{table_of};
