@@ -1,0 +1,2 @@
+-- Lemmas on what is kept.
+pub mod Delivering
