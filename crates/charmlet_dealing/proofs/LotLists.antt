@@ -32,6 +32,7 @@ module _ {C : Type 0} {G : Ghosts C} (kinds : Kinds) where
     tasks = sym (append-nil lot.tasks.items);
     blanks = λ kind. omega arith;
     rest = refl;
+    replies = refl;
     held = λ held. held;
   }
 
@@ -44,6 +45,7 @@ module _ {C : Type 0} {G : Ghosts C} (kinds : Kinds) where
         let sum = taken-append kinds kind f g in
         omega (arith, first, second, sum);
     rest = two.rest ∙ ap (λ (r : Restored C G). record r { stock = c.restored.stock }) one.rest;
+    replies = two.replies ∙ one.replies;
     held = λ held. two.held (one.held held);
   }
 

@@ -22,6 +22,7 @@ pub record HasMore {C : Type 0} {G : Ghosts C} (manifest : Kinds) (more : List T
   pub blanks : (kind : Kind) → blanks_in new.restored.stock kind
       ≡ blanks_in old.restored.stock kind + taken_by_all manifest more kind
   pub rest : new.restored ≡ record old.restored { stock = new.restored.stock }
+  pub replies : new.replies ≡ old.replies
   pub held : IsHeld old.restored → IsHeld new.restored
 
 -- these blanks went out of the stock

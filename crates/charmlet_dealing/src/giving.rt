@@ -15,11 +15,11 @@ ghost use Rattle.charmlet_dealing.specs.Sharing.{worker_of};
 use crate::blank::deal_blank;
 use crate::worker::worker_of;
 use charmlet_chare::Chare;
+use charmlet_kept::KeptWorld;
 use charmlet_lots::Lot;
 use charmlet_model::Manifest;
 use charmlet_partition::Task;
 use charmlet_stock::Stock;
-use charmlet_world::PresentWorld;
 use std::alloc::AllocError;
 
 /// Gives a worker one more task, and a blank from the stock where it is written that the task
@@ -86,7 +86,7 @@ fn give_one<C: Chare>(
 /// from the stock where it is written that the task constructs its receiver. `Ok(false)` if the
 /// stock has none: then nothing changes. It fails only when out of memory.
 pub(crate) fn give_if<C: Chare>(
-    world: &PresentWorld,
+    world: &KeptWorld,
     stock: &mut Stock<C>,
     lots: &mut [Lot<C>],
     task: Option<Task>,

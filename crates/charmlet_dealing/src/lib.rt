@@ -9,7 +9,7 @@ mod reached;
 mod worker;
 
 pub use crate::blank::deal_blank;
-pub use crate::dealing::deal_log;
+pub use crate::dealing::deal_portion;
 pub use crate::giving::give_task;
-pub use crate::reached::Reached;
+pub use crate::reached::{Portion, Reached};
 pub use crate::worker::worker_of;

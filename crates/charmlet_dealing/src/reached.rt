@@ -13,3 +13,14 @@ pub enum Reached {
     /// It is written that a record constructs its receiver, and no blank was left for that.
     Lack,
 }
+
+/// Some records of a log that were dealt.
+#[derive(Clone, Copy, Debug, PartialEq, Eq)]
+pub struct Portion {
+    /// How far the pass came over them.
+    pub reached: Reached,
+    /// How many events there are up to the last one of them, where it came to their end.
+    pub so_far: u64,
+    /// Whether they are the log's last ones.
+    pub is_last: bool,
+}

@@ -1,5 +1,5 @@
 -- What becomes of a lot.
-use Rattle.std.proofs.Common.{◌≡◌, ◌+◌, List, sym, ap, subst, ◌∙◌, Result, Ok, Err, OnOk}
+use Rattle.std.proofs.Common.{◌≡◌, ◌+◌, ◌++◌, List, sym, ap, subst, ◌∙◌, Result, Ok, Err, OnOk}
 use Rattle.std.specs.Prelude.{Some, None}
 use Rattle.charmlet_model.specs.declared.kind.Kind.{Kind}
 use Rattle.charmlet_model.specs.declared.names.Elem.{Elem}
@@ -21,7 +21,7 @@ use Rattle.charmlet_replay.specs.Lists.{IsFirstFault}
 use Rattle.charmlet_replies.specs.Replies.{replies_of}
 use Rattle.charmlet_lots.specs.Lots.{IsCaughtUpLot, IsKnownBy}
 use Rattle.charmlet_replay.specs.Restored.{AreRedelivered, IsHeld}
-use Rattle.charmlet_lots.specs.Tasks.{AreDone, CanDo, IsDoneLot, taken_by_all}
+use Rattle.charmlet_lots.specs.Tasks.{AreDone, CanDo, HasNoTask, IsDoneLot, taken_by_all}
 use Rattle.charmlet_lots.specs.Workers.{stop_from}
 use Rattle.charmlet_lots.specs.declared.lot.Lot.{Lot}
 
@@ -57,18 +57,19 @@ module _ {C : Type 0} {G : Ghosts C} {T : Type 0} (manifest : Kinds) (old new : 
       ((records : List (Elem × Record)) → CanDo manifest old.restored ts records → OnOk result (AreDone manifest records ts new.restored)) →
       OnOk result ((kind : Kind) → blanks_in new.restored.stock kind + taken_by_all manifest ts kind ≡ blanks_in old.restored.stock kind) →
       ((records : List (Elem × Record)) → CanDo manifest old.restored ts records → (fault : Fault) → result ≡ Err (Damaged fault) → worked manifest records ts ≡ Stopped fault.left) →
-      ((records : List (Elem × Record)) → CanDo manifest old.restored ts records → OnOk result (new.replies.items ≡ replies_of manifest records ts)) → IsDoneLot manifest old new
-  done_again ts is ok taken fault said =
+      ((records : List (Elem × Record)) → CanDo manifest old.restored ts records → OnOk result (new.replies.items ≡ old.replies.items ++ replies_of manifest records ts)) → HasNoTask new → IsDoneLot manifest old new
+  done_again ts is ok taken fault said idle =
       let oks = subst (λ us. (records : List (Elem × Record)) → CanDo manifest old.restored us records → OnOk result (AreDone manifest records us new.restored)) is ok in
       let takens = subst (λ us. OnOk result ((kind : Kind) → blanks_in new.restored.stock kind + taken_by_all manifest us kind ≡ blanks_in old.restored.stock kind)) is taken in
       let faults = subst (λ us. (records : List (Elem × Record)) → CanDo manifest old.restored us records → (f : Fault) → result ≡ Err (Damaged f) → worked manifest records us ≡ Stopped f.left) is fault in
-      let saids = subst (λ us. (records : List (Elem × Record)) → CanDo manifest old.restored us records → OnOk result (new.replies.items ≡ replies_of manifest records us)) is said in
+      let saids = subst (λ us. (records : List (Elem × Record)) → CanDo manifest old.restored us records → OnOk result (new.replies.items ≡ old.replies.items ++ replies_of manifest records us)) is said in
       record {
         held = held;
         done = λ none records can. ok_from result (AreDone manifest records old.tasks.items new.restored) (sym stopped ∙ none) (oks records can);
-        replies = λ none records can. ok_from result (new.replies.items ≡ replies_of manifest records old.tasks.items) (sym stopped ∙ none) (saids records can);
+        replies = λ none records can. ok_from result (new.replies.items ≡ old.replies.items ++ replies_of manifest records old.tasks.items) (sym stopped ∙ none) (saids records can);
         taken = λ none. ok_from result ((kind : Kind) → blanks_in new.restored.stock kind + taken_by_all manifest old.tasks.items kind ≡ blanks_in old.restored.stock kind) (sym stopped ∙ none) takens;
         fault = λ f at records can. faults records can f (err_from result f (sym stopped ∙ at));
+        idle = idle;
         processors = processors;
         supplied = supplied;
       }

@@ -3,7 +3,7 @@ use Rattle.std.proofs.Common.{◌≡◌, ℕ, zero, suc, ◌<◌, true, false, L
 use Rattle.std.specs.Prelude.{Option, Some, None, nat_lt, slice_get, unwrap_or}
 use Rattle.std.specs.List.{All, AllZip}
 use Rattle.std.proofs.lemmas.Bool.{ltb-true, ltb-false}
-use Rattle.std.proofs.lemmas.List.Elements.{All-head, All-tail}
+use Rattle.std.proofs.lemmas.List.Elements.{All-cons, All-head, All-nil, All-tail}
 use Rattle.charmlet_record.specs.declared.reader.ReadError.{ReadError}
 use Rattle.charmlet_record.specs.declared.reader.ReadError.TheVariants.{Damaged, Memory}
 use Rattle.charmlet_chare.specs.declared.chare.Chare.{Ghosts}
@@ -99,3 +99,10 @@ module _ {C : Type 0} {G : Ghosts C} (R S : Lot C G → Lot C G → Type 0) wher
   zip-map [] (new ∷ news) zip each = absurd zip
   zip-map (old ∷ olds) [] zip each = absurd zip
   zip-map (old ∷ olds) (new ∷ news) zip each = (each old new zip.0, zip-map olds news zip.1 each)
+
+module _ {C : Type 0} {G : Ghosts C} (R : Lot C G → Lot C G → Type 0) (P : Lot C G → Type 0) where
+  pub zip-all : (olds news : List (Lot C G)) → AllZip R olds news → ((old new : Lot C G) → R old new → P new) → All P news
+  zip-all [] [] zip each = All-nil P
+  zip-all [] (new ∷ news) zip each = absurd zip
+  zip-all (old ∷ olds) [] zip each = absurd zip
+  zip-all (old ∷ olds) (new ∷ news) zip each = All-cons P new news (each old new zip.0) (zip-all olds news zip.1 each)

@@ -1,6 +1,6 @@
 -- Several workers do the tasks of a log.
-use Rattle.std.proofs.Common.{◌≡◌, ℕ, suc, ◌+◌, ◌<◌, Bool, false, List, [], ◌∷◌, length, refl, sym, ap, subst, ◌∙◌}
-use Rattle.std.specs.Prelude.{Option, Some, None, slice_get}
+use Rattle.std.proofs.Common.{◌≡◌, ℕ, suc, ◌+◌, ◌<◌, Bool, false, List, [], ◌∷◌, ◌++◌, length, refl, sym, ap, subst, ◌∙◌}
+use Rattle.std.specs.Prelude.{Option, Some, None, slice_get, unwrap_or}
 use Rattle.std.specs.List.{All, AllZip}
 use Rattle.charmlet_model.specs.declared.names.Elem.{Elem}
 use Rattle.charmlet_model.specs.declared.logged.Logged.{Logged}
@@ -23,7 +23,7 @@ use Rattle.charmlet_partition.proofs.Stops.{AreStopsOf, earliest-first}
 use Rattle.charmlet_replay.specs.Lists.{IsFirstFault}
 use Rattle.charmlet_replay.specs.Restored.{IsRestored}
 use Rattle.charmlet_replies.specs.Replies.{replies_of}
-use Rattle.charmlet_lots.specs.Tasks.{AreDealtTasks, CanDo, HaveReplies, IsDoneLot}
+use Rattle.charmlet_lots.specs.Tasks.{AreDealtTasks, CanDo, HaveMoreReplies, IsDoneLot}
 use Rattle.charmlet_lots.specs.Workers.{AreParts, IsSpared, is_refused, left_at, left_of}
 use Rattle.charmlet_lots.specs.declared.lot.Lot.{Lot}
 use Rattle.charmlet_lots.proofs.ByWorkers.{first-fault, none-fails}
@@ -105,11 +105,13 @@ module _ {C : Type 0} {G : Ghosts C} (worker : Elem → ℕ) (w : World) (count 
       let last : did.0 ≡ part (mine v) (world w (events_of (items_of log))).records = same ∙ ap (part (mine v)) (ends-alike w pass count (items_of log) dealt.begin (passes is)).1 in
       subst (λ rs. IsRestored rs new.restored) last did.2
 
-  pub replies-are : earliest_stop (length news) (left_at news) ≡ None → HaveReplies worker w pass log news
-  replies-are is v new at =
+  pub replies-are : earliest_stop (length news) (left_at news) ≡ None → HaveMoreReplies worker w pass log olds news
+  replies-are is v old new there at =
       let was = before (IsDoneLot w.manifest) olds news zip spared v new at in
+      let same : Some was.old ≡ Some old = sym was.at ∙ there in
+      let it : was.old ≡ old = ap (λ (o : Option (Lot C G)). unwrap_or o old) same in
       let can = dealt.can v was.old was.at in
       let whole = stops.whole (sym first-of-pass ∙ is) (mine v) in
       let halts : left_of new.stopped ≡ None = each-stop v was.old new was.at was.related was.spared ∙ ap stop_of whole in
       was.related.replies (no-stop new.stopped halts was.spared) (part (mine v) w.records) can
-      ∙ ap (replies_of w.manifest (part (mine v) w.records)) (dealt.tasks v was.old was.at)
+      ∙ (λ i. (it i).replies.items ++ replies_of w.manifest (part (mine v) w.records) (dealt.tasks v was.old was.at i))

@@ -20,13 +20,11 @@ pub(crate) fn catch_up_lot<C: Chare>(manifest: &Manifest, lot: &mut Lot<C>)
 }
 
 /// Does the tasks of a lot, up to the first one that does something else than is written. The lot
-/// then has what they reply to clients.
+/// then has what they reply to clients, besides the replies that it had, and no task.
 pub(crate) fn redo_lot<C: Chare>(manifest: &Manifest, lot: &mut Lot<C>)
     requires { IsReadyToDo manifest.now lot.old }
     ensures { IsDoneLot manifest.now lot.old lot.new }
 {
     let tasks = mem::replace(&mut lot.tasks, Vec::new(lot.alloc));
-    let mut replies = Vec::new(lot.alloc);
-    lot.stopped = stop_of(redo_all(&mut lot.restored, manifest, tasks, &mut replies));
-    lot.replies = replies;
+    lot.stopped = stop_of(redo_all(&mut lot.restored, manifest, tasks, &mut lot.replies));
 }

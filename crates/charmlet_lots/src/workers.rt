@@ -16,7 +16,7 @@ ghost use Rattle.charmlet_recovery.specs.Faults.{catch_up_tests, event_tests, fi
 ghost use Rattle.charmlet_recovery.specs.Replays.{IsBeginning, LogPass, pass_after};
 ghost use Rattle.charmlet_replay.specs.Lists.{IsFirstFault};
 ghost use Rattle.charmlet_lots.specs.Lots.{HasTakenAgain, IsReadyLot};
-ghost use Rattle.charmlet_lots.specs.Tasks.{AreDealtTasks, HasTaken, HaveReplies, IsReadyToDo};
+ghost use Rattle.charmlet_lots.specs.Tasks.{AreDealtTasks, HasNoTask, HasTaken, HaveMoreReplies, IsReadyToDo};
 ghost use Rattle.charmlet_lots.specs.Workers.{AreDealt, AreParts, HasSameTasks, IsWhole};
 
 use crate::lending::{lend_deliveries, lend_tasks};
@@ -55,9 +55,9 @@ pub fn catch_up_by_workers<R: Threads + Sync, C: Chare>(
 }
 
 /// Does the tasks of a log, each by the worker that has its receiver, in as many threads as can be
-/// started. Each worker then has what its tasks reply to clients. `Damaged` has the place of the
-/// first one of the log that does something else than is written, whichever worker finds it;
-/// `Memory`.
+/// started. Each worker then has what its tasks reply to clients, after the replies that it had,
+/// and no task. `Damaged` has the place of the first one of the log that does something else than
+/// is written, whichever worker finds it; `Memory`.
 pub fn redo_by_workers<R: Threads + Sync, C: Chare>(
     rt: &R,
     manifest: &Manifest,
@@ -78,8 +78,9 @@ pub fn redo_by_workers<R: Threads + Sync, C: Chare>(
     ensures replies { (worker : Elem → ℕ) (w : World) (before : ℕ) (pass : LogPass)
         (log : List (placed.Placed logs.Logged)) → w.manifest ≡ manifest.now →
         AreDealtTasks worker w before pass log lots.old →
-        OnOk result (HaveReplies worker w pass log lots.new) }
+        OnOk result (HaveMoreReplies worker w pass log lots.old lots.new) }
     ensures taken { OnOk result (AllZip (HasTaken manifest.now) lots.old lots.new) }
+    ensures idle { All HasNoTask lots.new }
     ensures whole { AllZip IsWhole lots.old lots.new }
 {
     lend_tasks(rt, manifest, lots);

@@ -32,7 +32,7 @@ use Rattle.charmlet_recovery.proofs.Good.{image-good, log-events}
 use Rattle.charmlet_recovery.proofs.Sound.{log-legal}
 use Rattle.charmlet_chare.specs.declared.chare.Chare.{Ghosts}
 use Rattle.charmlet_stock.specs.Stock.{blanks_in}
-use Rattle.charmlet_world.specs.Seen.{Held, Seen, present_rows, seen}
+use Rattle.charmlet_world.specs.Seen.{Seen, present_rows}
 use Rattle.charmlet_partition.specs.Parts.{Falls}
 use Rattle.charmlet_partition.proofs.Falling.{catch-ups-fall}
 use Rattle.charmlet_replies.specs.Filled.{AreButForReplies}
@@ -46,11 +46,11 @@ use Rattle.charmlet_replay.proofs.Faulty.{events_faulty, no_fault, offset_at}
 use Rattle.charmlet_replay.proofs.OpenHalves.{blanks_for_image, few_before, good_events, image_good, log_is, means_are, read_is, saved}
 use Rattle.charmlet_replay.proofs.Whole.{base_is_fit, log_has_blanks}
 use Rattle.charmlet_lots.specs.declared.lot.Lot.{Lot}
-use Rattle.charmlet_lots.specs.Tasks.{HaveReplies}
+use Rattle.charmlet_lots.specs.Tasks.{HasNoTask, HaveReplies}
 use Rattle.charmlet_lots.specs.Workers.{AreParts}
 use Rattle.charmlet_dealing.specs.Sharing.{worker_of}
 use Rattle.charmlet_dealing.proofs.One.{shows_follows}
-use Rattle.charmlet_rounds.specs.LogRound.{HasNoTask, HasRedone, IsReadyForLog}
+use Rattle.charmlet_rounds.specs.LogRound.{HasRedone, IsReadyForLog}
 use Rattle.charmlet_rounds.proofs.LogPlaces.{items_are}
 use Rattle.charmlet_recalling.specs.Recalled.{IsRecalled}
 use Rattle.charmlet_parallel.specs.Redone.{IsRedone}
@@ -143,7 +143,7 @@ module _ (bytes : List ℕ) (s : Saved) (half : OpenHalf) (is : IsOpenIn bytes s
 
     -- ---- and what comes of it
 
-    module _ (next : Held) (after : Blanks) (news : List (Lot C G)) (many : length news ≡ length lots) (on : next.processors ≡ k.processors) (done : HasRedone (base image) before log k (seen next) left after lots news)
+    module _ (next : Seen) (after : Blanks) (news : List (Lot C G)) (many : length news ≡ length lots) (on : next.processors ≡ k.processors) (done : HasRedone (base image) before log k next left after lots news)
         (replies : (pass : LogPass) → IsAsPass k pass → HaveReplies (worker_of k.processors (length lots)) (base image) pass placed news) where
       abbrev pass : LogPass
       pass = pass_of k

@@ -32,7 +32,7 @@ use Rattle.charmlet_stock.specs.declared.stock.Stock.{Stock}
 use Rattle.charmlet_stock.specs.Stock.{blanks_in, supplied_to}
 use Rattle.charmlet_store.specs.Store.{AreEmpty, StoreShown, blanks_of}
 use Rattle.charmlet_pouring.specs.Poured.{retired_in}
-use Rattle.charmlet_world.specs.Seen.{Held}
+use Rattle.charmlet_world.specs.Seen.{Seen}
 use Rattle.charmlet_replay.specs.Lists.{events_in, places_in}
 use Rattle.charmlet_replay.specs.Ready.{IsReady}
 use Rattle.charmlet_replay.specs.Replayed.{IsOpenIn, IsRepeated}
@@ -64,7 +64,7 @@ none_spare {C} {G} (lot ∷ lots) kind none =
     let rest = none_spare lots kind (λ v l at. none (suc v) l at) in
     omega (arith, sum, here, rest)
 
-module _ {C : Type 0} {G : Ghosts C} (half : OpenHalf) (n : ℕ) (given left : Blanks) (kept : Held) (news : List (Lot C G)) where
+module _ {C : Type 0} {G : Ghosts C} (half : OpenHalf) (n : ℕ) (given left : Blanks) (kept : Seen) (news : List (Lot C G)) where
   abbrev image : Image
   image = image_said half.image
 

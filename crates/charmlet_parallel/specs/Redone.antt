@@ -12,7 +12,7 @@ use Rattle.charmlet_recovery.specs.Faults.{first_fault}
 use Rattle.charmlet_recovery.specs.Replays.{LogPass}
 use Rattle.charmlet_chare.specs.declared.chare.Chare.{Ghosts}
 use Rattle.charmlet_stock.specs.Stock.{blanks_in}
-use Rattle.charmlet_world.specs.Seen.{Held}
+use Rattle.charmlet_world.specs.Seen.{Seen}
 use Rattle.charmlet_lots.specs.Workers.{AreParts}
 use Rattle.charmlet_lots.specs.declared.lot.Lot.{Lot}
 use Rattle.charmlet_dealing.specs.Sharing.{worker_of}
@@ -22,7 +22,7 @@ use Rattle.charmlet_reopening.specs.Done.{AreAllDone}
 -- world after the log, and what its tasks reply; what is kept is that world but for the words of the
 -- log's replies; and the blanks that the objects took are gone, of which no worker has one left.
 pub record IsRedone {C : Type 0} {G : Ghosts C} (image : Image) (before : ℕ)
-    (log : List (Placed Logged)) (processors : ℕ) (given left : Blanks) (kept : Held)
+    (log : List (Placed Logged)) (processors : ℕ) (given left : Blanks) (kept : Seen)
     (lots : List (Lot C G)) : Type 0 where
   pub faultless : first_fault image before (items_of log) ≡ None
   pub pass : LogPass

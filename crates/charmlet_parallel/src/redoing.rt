@@ -19,13 +19,13 @@ ghost use Rattle.charmlet_parallel.specs.Redone.{IsRedone};
 
 use charmlet_chare::Chare;
 use charmlet_image::{Header, ImageView, LogView};
+use charmlet_kept::KeptWorld;
 use charmlet_lots::Lot;
 use charmlet_model::Manifest;
 use charmlet_recalling::recall;
 use charmlet_record::ReadError;
 use charmlet_rounds::redo_log;
 use charmlet_stock::Stock;
-use charmlet_world::PresentWorld;
 use std::alloc::Global;
 use std::thread::Threads;
 
@@ -44,7 +44,7 @@ pub(crate) fn redo_half<R: Threads + Sync, C: Chare>(
     image: ImageView<'_>,
     log: &LogView<'_>,
     processors: u16,
-) -> Result<(Manifest, PresentWorld), ReadError>
+) -> Result<(Manifest, KeptWorld), ReadError>
     requires half { (bytes : List ℕ) × (s : Saved)
         × IsOpenIn bytes s (record { header = header.now; image = image; log = log.now })
         × ((kind : kinds.Kind) → wanted_of s kind ≤ blanks_in stock.old kind) }

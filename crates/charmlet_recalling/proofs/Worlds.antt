@@ -1,41 +1,19 @@
 -- The world of elements that came back, and of what waits.
-use Rattle.std.proofs.Common.{◌≡◌, ℕ, ◌<◌, Bool, true, false, List, [], ◌∷◌, map, refl, sym, ap, subst, ◌∙◌, if◌then◌else◌}
-use Rattle.std.specs.Prelude.{Some, None, IfSome, is_some, unwrap_or}
-use Rattle.std.specs.BTreeMap.{is_at}
-use Rattle.std.specs.Map.{lookup}
+use Rattle.std.proofs.Common.{◌≡◌, ℕ, Bool, true, false, List, [], ◌∷◌, refl, sym, ap, subst, ◌∙◌, if◌then◌else◌}
+use Rattle.std.specs.Prelude.{Some, None, is_some}
 use Rattle.charmlet_model.specs.declared.client.ClientRow.{ClientRow}
 use Rattle.charmlet_model.specs.declared.message.Message.{Message}
 use Rattle.charmlet_model.specs.declared.names.Elem.{Elem}
 use Rattle.charmlet_model.specs.declared.state.Record.{Record}
 use Rattle.charmlet_model.specs.Core.{home}
-use Rattle.charmlet_model.specs.Names.{elem_cmp}
 use Rattle.charmlet_model.specs.World.{record_at}
-use Rattle.charmlet_locate.specs.Locations.{is_processor_count}
 use Rattle.charmlet_record.specs.Reading.{Kinds}
 use Rattle.charmlet_world.specs.declared.element.Element.{Element}
-use Rattle.charmlet_world.specs.Seen.{IsCountedBy, Seen, Shows, element_at, no_element, present_rows}
-use Rattle.charmlet_world.proofs.Tying.{home_within}
+use Rattle.charmlet_world.specs.Seen.{IsCountedBy, Seen, Shows, element_at, present_rows}
 use Rattle.charmlet_history.specs.Opened.{opened_clients, opened_element, opened_elements}
 use Rattle.charmlet_replay.specs.Counted.{IsCountedWith}
 use Rattle.charmlet_replay.proofs.Redelivered.{known_element}
 use Rattle.charmlet_recalling.specs.Recalled.{world_with}
-
--- each element stands on its home
-at_home : (n : ℕ) → is_processor_count n ≡ true → (rs : List (Elem × Record)) (x : Elem) → IfSome (element_at (opened_elements n rs) x).place (λ p. p < n)
-at_home n some [] x = tt
-at_home n some (e ∷ rs) x =
-    let more = at_home n some rs x in
-    elim (is_at (elem_cmp x) e.0) as (λ b. IfSome (unwrap_or (if b then Some (opened_element n e.0 e.1) else lookup (is_at (elem_cmp x)) (opened_elements n rs)) no_element).place (λ p. p < n)) [
-      | true ↦ by (is_some e.1.state)
-      | false ↦ more
-    ]
-  where
-    by : (t : Bool) → IfSome (if t then Some (home e.0 n) else None) (λ p. p < n)
-    by true = home_within n some e.0
-    by false = tt
-
-pub each_at_home : (n : ℕ) (elements : List (Elem × Element)) (records : List (Elem × Record)) → is_processor_count n ≡ true → elements ≡ opened_elements n records → (x : Elem) → IfSome (element_at elements x).place (λ p. p < n)
-each_at_home n elements records some are x = subst (λ es. IfSome (element_at es x).place (λ p. p < n)) (sym are) (at_home n some records x)
 
 there_if : (n : ℕ) (x : Elem) (t : Bool) → is_some (if t then Some (home x n) else None) ≡ t
 there_if n x true = refl

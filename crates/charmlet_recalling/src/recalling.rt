@@ -11,7 +11,6 @@ ghost use Rattle.charmlet_recovery.specs.Bases.{redelivered_all};
 ghost use Rattle.charmlet_recovery.specs.Faults.{catch_up_tests};
 ghost use Rattle.charmlet_history.specs.Opened.{opened_elements};
 ghost use Rattle.charmlet_stock.specs.Stock.{blanks_in};
-ghost use Rattle.charmlet_world.specs.Seen.{seen};
 ghost use Rattle.charmlet_partition.specs.Parts.{Falls};
 ghost use Rattle.charmlet_replay.specs.Images.{AreOfImage};
 ghost use Rattle.charmlet_replay.specs.Lists.{IsFirstFault};
@@ -27,11 +26,12 @@ use crate::waiting::world_of;
 use charmlet_chare::Chare;
 use charmlet_image::{Entry, ImageView};
 use charmlet_joining::elements_of;
+use charmlet_kept::KeptWorld;
 use charmlet_lots::{Lot, catch_up_by_workers};
 use charmlet_model::{CaughtUp, Elem, Manifest};
 use charmlet_record::{Placed, ReadError};
 use charmlet_stock::Stock;
-use charmlet_world::{Element, PresentWorld};
+use charmlet_world::Element;
 use std::alloc::{AllocError, Global};
 use std::collections::BTreeMap;
 use std::thread::Threads;
@@ -115,7 +115,7 @@ pub fn recall<R: Threads + Sync, C: Chare>(
     lots: &mut [Lot<C>],
     image: ImageView<'_>,
     processors: u16,
-) -> Result<(Manifest, PresentWorld), ReadError>
+) -> Result<(Manifest, KeptWorld), ReadError>
     requires processors { is_processor_count processors ≡ true }
     requires some { 0 < length lots.old }
     requires empty { All (IsEmptyLot processors) lots.old }
@@ -126,8 +126,7 @@ pub fn recall<R: Threads + Sync, C: Chare>(
     ensures manifest { IfOk result (λ back. back.0 ≡ image.entry.manifest) }
     ensures ok { IfOk result (λ back. IsRecalled (worker_of processors (length lots.old))
         (image_said image.entry) processors (blanks_in stock.old) (blanks_in stock.new)
-        (seen back.1) lots.new) }
-    ensures promised { IfOk result (λ back. back.1.promised ≡ 0) }
+        back.1 lots.new) }
     ensures fault { (fault : faults.Fault) → result ≡ Err (Damaged fault) →
         IsFaultInImage image.entry fault.left }
 {

@@ -12,15 +12,16 @@ ghost use Rattle.charmlet_record.specs.declared.reader.Fault as faults;
 ghost use Rattle.charmlet_record.specs.declared.reader.ReadError.TheVariants.{Damaged};
 ghost use Rattle.charmlet_image.specs.Placed.{items_of};
 ghost use Rattle.charmlet_recovery.specs.Faults.{first_failure, pending_tests};
-ghost use Rattle.charmlet_world.specs.Seen.{Shows, seen};
+ghost use Rattle.charmlet_world.specs.Seen.{Shows};
 ghost use Rattle.charmlet_history.specs.Opened.{opened_elements};
 ghost use Rattle.charmlet_replay.specs.Lists.{IsFirstFault};
 ghost use Rattle.charmlet_recalling.specs.Recalled.{world_with};
 
+use charmlet_kept::KeptWorld;
 use charmlet_model::{ClientRow, Elem, Manifest, Message};
 use charmlet_record::{Placed, ReadError};
 use charmlet_replay::{Waiting, waiting_of};
-use charmlet_world::{Element, PresentWorld};
+use charmlet_world::Element;
 use std::alloc::{AllocError, Global};
 use std::collections::BTreeMap;
 
@@ -44,18 +45,15 @@ pub(crate) fn world_of(
     rows: Vec<(u32, ClientRow)>,
     pending: Vec<Placed<Message>>,
     processors: u16,
-) -> Result<PresentWorld, ReadError>
+) -> Result<KeptWorld, ReadError>
     requires processors { is_processor_count processors ≡ true }
     requires rising { IsStrictlySortedBy nat_cmp (keys_of rows.items) }
     requires distinct { AreDistinct (items_of pending.items) }
-    requires elements { (records : List (names.Elem × Record))
-        × (elements.entries ≡ opened_elements processors records) }
     ensures shows { (records : List (names.Elem × Record)) →
         elements.entries ≡ opened_elements processors records →
-        IfOk result (λ world. Shows (seen world)
+        IfOk result (λ world. Shows world
         (world_with manifest.now records (items_of pending.items) rows.items)) }
     ensures on { IfOk result (λ world. world.processors ≡ processors) }
-    ensures promised { IfOk result (λ world. world.promised ≡ 0) }
     ensures ok { (records : List (names.Elem × Record)) →
         elements.entries ≡ opened_elements processors records →
         OnOk result (first_failure (pending_tests
@@ -70,6 +68,6 @@ pub(crate) fn world_of(
     let waiting = waiting_of(alloc, &elements, rows, pending)?;
     let manifest = copy_of(alloc, manifest)?;
     let Waiting { pending, clients } = waiting;
-    let world = PresentWorld::of(alloc, manifest, processors, elements, pending, clients)?;
+    let world = KeptWorld::of(alloc, manifest, processors, elements, pending, clients)?;
     Ok(world)
 }

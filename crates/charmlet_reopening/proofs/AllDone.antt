@@ -11,14 +11,14 @@ use Rattle.charmlet_recovery.specs.Replays.{LogPass}
 use Rattle.charmlet_chare.specs.declared.chare.Chare.{Ghosts}
 use Rattle.charmlet_shelf.specs.Shelf.{View}
 use Rattle.charmlet_stock.specs.declared.stock.Stock.{Stock}
-use Rattle.charmlet_world.specs.Seen.{Held}
+use Rattle.charmlet_world.specs.Seen.{Seen}
 use Rattle.charmlet_replies.proofs.OfEvents.{all-can}
 use Rattle.charmlet_lots.specs.declared.lot.Lot.{Lot}
 use Rattle.charmlet_joining.specs.Joined.{IsJoinable, worker_at_home}
 use Rattle.charmlet_joining.specs.Merged.{ArePartsOn}
 use Rattle.charmlet_reopening.specs.Done.{AreAllDone}
 
-module _ {C : Type 0} {G : Ghosts C} (w : World) (count : ℕ) (pass : LogPass) (log : List (Placed Logged)) (seen : World) (kept : Held) (lots : List (Lot C G)) (done : AreAllDone w count pass log seen kept lots) where
+module _ {C : Type 0} {G : Ghosts C} (w : World) (count : ℕ) (pass : LogPass) (log : List (Placed Logged)) (seen : World) (kept : Seen) (lots : List (Lot C G)) (done : AreAllDone w count pass log seen kept lots) where
   -- the world is fit
   pub is_fit : IsFit seen
   is_fit =

@@ -18,12 +18,12 @@ use crate::opening::opening_of_lots;
 use charmlet_chare::Chare;
 use charmlet_history::SeenWorld;
 use charmlet_joining::reopen;
+use charmlet_kept::KeptWorld;
 use charmlet_lots::Lot;
 use charmlet_model::Manifest;
 use charmlet_shelf::Shelf;
 use charmlet_stock::Stock;
 use charmlet_store::Store;
-use charmlet_world::PresentWorld;
 use std::alloc::Global;
 
 /// What was to become a store when memory was refused: the workers' lots, and the stock from which
@@ -44,7 +44,7 @@ pub fn join<C: Chare>(
     alloc: Global,
     seen: SeenWorld,
     manifest: Manifest,
-    kept: &PresentWorld,
+    kept: &KeptWorld,
     lots: Vec<Lot<C>>,
     shelves: Vec<Shelf<C>>,
     stock: Stock<C>,

@@ -13,10 +13,10 @@ ghost use Rattle.charmlet_reopening.specs.Done.{AreAllDone};
 use charmlet_chare::Chare;
 use charmlet_history::{Opening, SeenWorld};
 use charmlet_joining::{elements_of, fill_rows};
+use charmlet_kept::KeptWorld;
 use charmlet_lots::Lot;
 use charmlet_model::Manifest;
 use charmlet_resuming::{opening_of, rows_of};
-use charmlet_world::PresentWorld;
 use std::alloc::{AllocError, Global};
 
 /// The opening with the world after a log, whose tasks all workers have done, given its arrays, and
@@ -25,7 +25,7 @@ pub(crate) fn opening_of_lots<C: Chare>(
     alloc: Global,
     seen: SeenWorld,
     manifest: Manifest,
-    kept: &PresentWorld,
+    kept: &KeptWorld,
     lots: &[Lot<C>],
 ) -> Result<Opening, AllocError>
     requires done { (w : World) × (count : ℕ) × (pass : LogPass)

@@ -7,8 +7,9 @@ ghost use Rattle.charmlet_history.specs.Opened.{IsOpening, opened_elements};
 use crate::pending::pending_of;
 use crate::rows::clients_of;
 use charmlet_history::{Opening, SeenWorld};
+use charmlet_kept::KeptWorld;
 use charmlet_model::{ClientRow, Elem, Manifest};
-use charmlet_world::{Element, PresentWorld};
+use charmlet_world::Element;
 use std::alloc::{AllocError, Global};
 use std::collections::BTreeMap;
 
@@ -19,7 +20,7 @@ pub fn opening_of(
     alloc: Global,
     seen: SeenWorld,
     manifest: Manifest,
-    kept: &PresentWorld,
+    kept: &KeptWorld,
     elements: BTreeMap<Elem, Element>,
     rows: BTreeMap<u32, ClientRow>,
 ) -> Result<Opening, AllocError>

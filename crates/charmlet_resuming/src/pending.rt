@@ -2,12 +2,12 @@
 
 ghost use Rattle.std.specs.Prelude.{◌≡◌, IfOk};
 
+use charmlet_kept::KeptWorld;
 use charmlet_model::Message;
-use charmlet_world::PresentWorld;
 use std::alloc::{AllocError, Global};
 
 /// A copy of each pending message, in order of birth. It fails only when out of memory.
-pub(crate) fn pending_of(alloc: Global, world: &PresentWorld) -> Result<Vec<Message>, AllocError>
+pub(crate) fn pending_of(alloc: Global, world: &KeptWorld) -> Result<Vec<Message>, AllocError>
     ensures { IfOk result (λ messages. messages.items ≡ world.now.pending) }
 {
     let mut pending = Vec::with_capacity(alloc, world.pending_count())?;

@@ -5,13 +5,13 @@ ghost use Rattle.charmlet_world.specs.Seen.{present_rows};
 ghost use Rattle.charmlet_history.specs.Opened.{opened_clients};
 
 use charmlet_client::Client;
+use charmlet_kept::KeptWorld;
 use charmlet_model::ClientRow;
-use charmlet_world::PresentWorld;
 use std::alloc::{AllocError, Global};
 use std::collections::BTreeMap;
 
 /// A copy of each client's row in the present world. It fails only when out of memory.
-pub fn rows_of(alloc: Global, world: &PresentWorld) -> Result<BTreeMap<u32, ClientRow>, AllocError>
+pub fn rows_of(alloc: Global, world: &KeptWorld) -> Result<BTreeMap<u32, ClientRow>, AllocError>
     ensures { IfOk result (λ rows. rows.entries ≡ present_rows world.now.clients) }
 {
     copies_of(alloc, world.clients())

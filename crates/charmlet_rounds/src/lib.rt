@@ -1,6 +1,8 @@
 //! Rounds: several workers replay a log, and answer what one would.
 #![tactic(auto)]
 
+mod forgetting;
 mod log_round;
+mod portions;
 
 pub use crate::log_round::redo_log;

@@ -1,8 +1,5 @@
-use Rattle.std.proofs.Common.{rules, ◌≡◌, List, [], ◌++◌, sym, subst}
-use Rattle.std.specs.Prelude.{OnOk}
+use Rattle.std.proofs.Common.{rules, ◌≡◌, List, [], sym, subst}
 use Rattle.charmlet_partition.specs.declared.task.Task.{Task}
-use Rattle.charmlet_replies.specs.declared.reply.Reply.{Reply}
-use Rattle.charmlet_replies.specs.Replies.{replies_of}
 use Rattle.charmlet_lots.specs.Tasks.{CanDo}
 use Rattle.charmlet_lots.proofs.LotLemmas.{done_again}
 use Rattle.charmlet_lots.proofs.lots.redo_lot.Goals as goal
@@ -14,10 +11,11 @@ redo_all-requires-clause-can g c κs within =
 
 pub returns : goal.returns
 returns g c =
-    let none : c.new-replies.result.items ≡ [] = search rules in
+    let none : c.replace-tasks.new.dest.items ≡ [] = search rules in
     done_again c.args.manifest.now c.args.lot.now _ c.redo_all.result c.stop_of-lot.ensures c.redo_all.ensures.held c.redo_all.ensures.processors c.redo_all.ensures.supplied
     c.replace-tasks.result.items (λ i. (c.replace-tasks.ensures.value i).items)
     (λ records can. c.redo_all.ensures.ok records can)
     c.redo_all.ensures.blanks
     (λ records can fault is. c.redo_all.ensures.fault records can fault is)
-    (λ records can. subst (λ (first : List Reply). OnOk c.redo_all.result (c.redo_all.new.replies.items ≡ first ++ replies_of c.args.manifest.now records c.replace-tasks.result.items)) none (c.redo_all.ensures.replies records can))
+    (λ records can. c.redo_all.ensures.replies records can)
+    none

@@ -1,8 +1,8 @@
 use Rattle.std.proofs.Common.{sym, subst}
 use Rattle.std.specs.List.{AllZip}
-use Rattle.charmlet_lots.specs.Tasks.{HasTaken, IsDoneLot}
+use Rattle.charmlet_lots.specs.Tasks.{HasNoTask, HasTaken, IsDoneLot}
 use Rattle.charmlet_lots.specs.Workers.{IsWhole}
-use Rattle.charmlet_lots.proofs.LotStops.{go-on, zip-map}
+use Rattle.charmlet_lots.proofs.LotStops.{go-on, zip-all, zip-map}
 use Rattle.charmlet_replay.proofs.Results.{ok_then}
 use Rattle.charmlet_lots.proofs.TasksByWorkers.{begins, fault-is, parts-are, passes, replies-are}
 use Rattle.charmlet_lots.proofs.workers.redo_by_workers.Goals as goal
@@ -37,6 +37,9 @@ returns-clause-taken g c =
     ok_then _ _ c.stop_of_lots.result
     (λ found. go-on (IsDoneLot manifest) (HasTaken manifest) c.args.lots.now c.lend_tasks.new.lots c.lend_tasks.ensures found.1 found.0 (λ old new done none. done.taken none))
     c.stop_of_lots.ensures.ok
+
+pub returns-clause-idle : goal.returns-clause-idle
+returns-clause-idle g c = zip-all (IsDoneLot c.args.manifest.now) HasNoTask c.args.lots.now c.lend_tasks.new.lots c.lend_tasks.ensures (λ old new done. done.idle)
 
 pub returns-clause-whole : goal.returns-clause-whole
 returns-clause-whole g c =

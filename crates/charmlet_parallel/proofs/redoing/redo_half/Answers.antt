@@ -5,7 +5,6 @@ use Rattle.charmlet_image.specs.Views.{image_said}
 use Rattle.charmlet_record.specs.declared.reader.ReadError.TheVariants.{Damaged}
 use Rattle.charmlet_recovery.specs.Bases.{base}
 use Rattle.charmlet_stock.specs.Stock.{blanks_in}
-use Rattle.charmlet_world.specs.Seen.{seen}
 use Rattle.charmlet_dealing.specs.Sharing.{worker_of}
 use Rattle.charmlet_dealing.proofs.LotLists.{keeps_then}
 use Rattle.charmlet_replay.proofs.OpenHalves.{few_before, good_bytes, image_at_fault}
@@ -37,7 +36,7 @@ redo_log-requires-clause-some_world g c κs within =
     let olds = c.args.lots.now in
     let lots = c.recall.new.lots in
     let count = c.recall.ensures.keeps.count in
-    let k = seen c.in_ok-manifest.world in
+    let k = c.in_ok-manifest.world in
     let back = c.in_ok-manifest.ensures.ok in
     let kinds = c.in_ok-manifest.world.manifest in
     let same : kinds ≡ half.image.manifest = back.shows.manifest in
@@ -59,7 +58,7 @@ redo_log-requires-clause-good g c κs within =
     let olds = c.args.lots.now in
     let lots = c.recall.new.lots in
     let count = c.recall.ensures.keeps.count in
-    let k = seen c.in_ok-manifest.world in
+    let k = c.in_ok-manifest.world in
     let back = c.in_ok-manifest.ensures.ok in
     let kinds = c.in_ok-manifest.world.manifest in
     let same : kinds ≡ half.image.manifest = back.shows.manifest in
@@ -75,7 +74,7 @@ redo_log-requires-clause-logged g c κs within =
     let olds = c.args.lots.now in
     let lots = c.recall.new.lots in
     let count = c.recall.ensures.keeps.count in
-    let k = seen c.in_ok-manifest.world in
+    let k = c.in_ok-manifest.world in
     let back = c.in_ok-manifest.ensures.ok in
     let kinds = c.in_ok-manifest.world.manifest in
     let same : kinds ≡ half.image.manifest = back.shows.manifest in
@@ -91,7 +90,7 @@ redo_log-requires-clause-idle g c κs within =
     let olds = c.args.lots.now in
     let lots = c.recall.new.lots in
     let count = c.recall.ensures.keeps.count in
-    let k = seen c.in_ok-manifest.world in
+    let k = c.in_ok-manifest.world in
     let back = c.in_ok-manifest.ensures.ok in
     let kinds = c.in_ok-manifest.world.manifest in
     let same : kinds ≡ half.image.manifest = back.shows.manifest in
@@ -107,7 +106,7 @@ redo_log-requires-clause-ready g c κs within =
     let olds = c.args.lots.now in
     let lots = c.recall.new.lots in
     let count = c.recall.ensures.keeps.count in
-    let k = seen c.in_ok-manifest.world in
+    let k = c.in_ok-manifest.world in
     let back = c.in_ok-manifest.ensures.ok in
     let kinds = c.in_ok-manifest.world.manifest in
     let same : kinds ≡ half.image.manifest = back.shows.manifest in
@@ -126,7 +125,7 @@ returns-in_err-redo_log-clause-fault g c = λ bytes s is fault why.
     let olds = c.args.lots.now in
     let lots = c.recall.new.lots in
     let count = c.recall.ensures.keeps.count in
-    let k = seen c.in_ok-manifest.world in
+    let k = c.in_ok-manifest.world in
     let back = c.in_ok-manifest.ensures.ok in
     let kinds = c.in_ok-manifest.world.manifest in
     let same : kinds ≡ half.image.manifest = back.shows.manifest in
@@ -148,7 +147,7 @@ returns-clause-ok g c =
     let olds = c.args.lots.now in
     let lots = c.recall.new.lots in
     let count = c.recall.ensures.keeps.count in
-    let k = seen c.in_ok-manifest.world in
+    let k = c.in_ok-manifest.world in
     let back = c.in_ok-manifest.ensures.ok in
     let kinds = c.in_ok-manifest.world.manifest in
     let same : kinds ≡ half.image.manifest = back.shows.manifest in
@@ -157,5 +156,5 @@ returns-clause-ok g c =
     let next = c.redo_log.new.world in
     let news = c.redo_log.new.lots in
     is_redone its.0 its.1 half its.2 n given left olds lots c.requires.some count k back next (blanks_in c.redo_log.new.stock) news c.redo_log.ensures.keeps.count c.redo_log.ensures.processors
-    (redone_kept its.0 its.1 half its.2 n given left olds lots c.requires.some count k back kinds same (seen next) (blanks_in c.redo_log.new.stock) news (c.in_ok-redo_log.ensures.ok w ready))
+    (redone_kept its.0 its.1 half its.2 n given left olds lots c.requires.some count k back kinds same next (blanks_in c.redo_log.new.stock) news (c.in_ok-redo_log.ensures.ok w ready))
     (λ pass so. replies_kept its.0 its.1 half its.2 n given left olds lots c.requires.some count k back kinds same (worker_of k.processors (length lots)) news pass (c.in_ok-redo_log.ensures.replies w ready pass so))

@@ -26,9 +26,6 @@ world_of-requires-clause-rising g c = c.requires.blanks.good.clients.rising
 pub world_of-requires-clause-distinct : goal.world_of-requires-clause-distinct
 world_of-requires-clause-distinct g c = c.requires.blanks.good.pending.distinct
 
-pub world_of-requires-clause-elements : goal.world_of-requires-clause-elements
-world_of-requires-clause-elements g c = (_, c.in_ok-elements.ensures.elements)
-
 pub returns-in_err-world-clause-fault : goal.returns-in_err-world-clause-fault
 returns-in_err-world-clause-fault g c = λ fault is.
     let n = c.args.processors in

@@ -3,16 +3,12 @@ use Rattle.std.specs.Prelude.{Err}
 use Rattle.charmlet_model.specs.Fit.{AreDistinct}
 use Rattle.charmlet_record.specs.declared.reader.ReadError.TheVariants.{Damaged}
 use Rattle.charmlet_image.specs.Placed.{items_of}
-use Rattle.charmlet_world.specs.Seen.{Seen, seen}
 use Rattle.charmlet_recalling.specs.Recalled.{world_with}
-use Rattle.charmlet_recalling.proofs.Worlds.{are_counted, each_at_home, shows_world}
+use Rattle.charmlet_recalling.proofs.Worlds.{are_counted, shows_world}
 use Rattle.charmlet_recalling.proofs.waiting.world_of.Goals as goal
 
 pub of-requires-clause-distinct : goal.of-requires-clause-distinct
 of-requires-clause-distinct c = subst AreDistinct (sym c.in_ok-waiting.ensures.pending) c.requires.distinct
-
-pub of-requires-clause-places : goal.of-requires-clause-places
-of-requires-clause-places c = each_at_home c.args.processors c.args.elements.entries c.requires.elements.0 c.requires.processors c.requires.elements.1
 
 pub returns-in_err-waiting-clause-fault : goal.returns-in_err-waiting-clause-fault
 returns-in_err-waiting-clause-fault c = λ records are fault is.
@@ -27,8 +23,8 @@ returns-clause-shows c = λ records are.
     let pending = items_of c.args.pending.items in
     let same = c.in_ok-manifest.ensures in
     let waits = c.in_ok-waiting.ensures in
-    shows_world kinds c.args.processors c.args.elements.entries records pending c.args.rows.items are (seen c.in_ok-world.world)
-    (c.in_ok-world.ensures.seen ∙ (λ i. record { manifest = same i; processors = c.args.processors; elements = c.args.elements.entries; pending = waits.pending i; clients = waits.clients i }))
+    shows_world kinds c.args.processors c.args.elements.entries records pending c.args.rows.items are c.in_ok-world.world
+    (c.in_ok-world.ensures ∙ (λ i. record { manifest = same i; processors = c.args.processors; elements = c.args.elements.entries; pending = waits.pending i; clients = waits.clients i }))
 
 pub returns-clause-ok : goal.returns-clause-ok
 returns-clause-ok c = λ records are.
