@@ -51,12 +51,12 @@ pub struct NotClosed<D: Disk, C: Chare, B: RuntimeName> {
 impl<D: Disk, C: Chare, B: RuntimeName> Hub<D, C, B> {
     /// Takes all apart, also when halted, and makes no call of the disk. All shelves are handed in,
     /// in any order. What is under way on each of them ends first, as [`settle`](Self::settle) ends
-    /// it, and nothing is assigned then. The objects show the world after the history. The ids that the seats hold and those of
-    /// the commits without a seat are all deliveries of the history: each stands in one of these
-    /// lists, in the history's order. Each pass has exactly its client's accepts, and all that it
-    /// knows of its client's requests is true of the durable events; a client without a pass has no
-    /// accepts. It takes no memory: an empty shelf for each processor, in whose place the store has
-    /// its shelf, is handed in too.
+    /// it, and nothing is assigned then. The objects show the world after the history. The ids that
+    /// the seats hold and those of the commits without a seat are all deliveries of the history:
+    /// each stands in one of these lists, in the history's order. Each pass has exactly its
+    /// client's accepts, and all that it knows of its client's requests is true of the durable
+    /// events; a client without a pass has no accepts. It takes no memory: an empty shelf for each
+    /// processor, in whose place the store has its shelf, is handed in too.
     ///
     /// The only refusal is `PassOut`, if a seat or a pass that is out isn't handed in. Then all
     /// comes back as it was.

@@ -31,9 +31,10 @@ pub struct TakenApart<D: Disk, C: Chare> {
 }
 
 impl<D: Disk, C: Chare, B: RuntimeName> Sequencer<D, C, B> {
-    /// Takes all apart where no delivery is under way, also when halted: then nothing is assigned. It
-    /// makes no call of the disk, and takes no memory. The shelves are handed in all at once, in any order; the store
-    /// has each in the place of its processor, for which an empty one is handed in.
+    /// Takes all apart where no delivery is under way, also when halted: then nothing is assigned.
+    /// It makes no call of the disk, and takes no memory. The shelves are handed in all at once, in
+    /// any order; the store has each in the place of its processor, for which an empty one is
+    /// handed in.
     pub fn take_apart(
         self,
         shelves: Vec<LockedShelf<C, B>>,
