@@ -1,5 +1,5 @@
 -- The rows in rising order of their elements.
-use Rattle.std.proofs.Common.{◌≡◌, ℕ, true, false, cond, List, [], ◌∷◌, ◌++◌, refl, sym, ap, ◌∙◌, if◌then◌else◌, slice_get}
+use Rattle.std.proofs.Common.{◌≡◌, ℕ, ◌+◌, true, false, cond, List, [], ◌∷◌, ◌++◌, length, refl, sym, ap, ◌∙◌, if◌then◌else◌, slice_get, arith}
 use Rattle.std.specs.Prelude.{Option, Some, None, unwrap_or, is_some}
 use Rattle.std.proofs.Common.{drop, suc}
 use Rattle.std.specs.BTreeMap.{insert_entry, is_at}
@@ -10,7 +10,7 @@ use Rattle.std.specs.Map.{keys_of, lookup}
 use Rattle.indexmap.specs.IndexMap.{set_value_at}
 use Rattle.charmlet_model.specs.declared.names.Elem.{Elem}
 use Rattle.charmlet_model.specs.Names.{elem_cmp, same_elem}
-use Rattle.charmlet_model.proofs.Maps.{elem_total, elem_exact, same_elem-is, same_from_test, lookup-insert_entry, rising-insert_entry, same_maps}
+use Rattle.charmlet_model.proofs.Maps.{absent, elem_total, elem_exact, same_elem-is, same_from_test, length-insert_entry, lookup-insert_entry, rising-insert_entry, same_maps}
 use Rattle.charmlet_world.specs.declared.element.Element.{Element}
 use Rattle.charmlet_world.specs.Standing.{element_in, no_element, risen}
 use Rattle.charmlet_world.proofs.Rows.{Rows, changed, same_other_way}
@@ -26,6 +26,17 @@ found_risen q [] = refl
 found_risen q (e ∷ es) =
     lookup-insert_entry elem_cmp elem_total q e.0 e.1 (risen es)
     ∙ (λ i. cond (sym (same_elem-is q e.0) i) (Some e.1) (found_risen q es i))
+
+-- there are as many of them as rows, each of another element
+pub risen_long : (es : Rows) → IsDistinct same_elem (keys_of es) → length (risen es) ≡ length es
+unfolding IsDistinct
+risen_long [] distinct = refl
+risen_long (e ∷ es) distinct =
+    let put = length-insert_entry elem_cmp elem_total e.0 e.1 (risen es) (rising es) in
+    let none : is_some (lookup (is_at (elem_cmp e.0)) (risen es)) ≡ false = ap is_some (found_risen e.0 es ∙ absent (same_elem e.0) es distinct.0) in
+    let rest = risen_long es distinct.1 in
+    let longer : length (risen es) + 1 ≡ length (e ∷ es) = omega arith in
+    put ∙ ap (λ b. cond b (length (risen es)) (length (risen es) + 1)) none ∙ longer
 
 -- rows that find the same are one
 same_risen : (es fs : Rows) (x : Elem) (w : Element) → ((q : Elem) → lookup (same_elem q) fs ≡ cond (same_elem q x) (Some w) (lookup (same_elem q) es)) → risen fs ≡ insert_entry elem_cmp (risen es) x w

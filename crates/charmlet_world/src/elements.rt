@@ -150,9 +150,10 @@ impl Elements {
         }
     }
 
-    /// How many elements ever received a message.
+    /// How many rows there are, each of another element.
     pub fn len(&self) -> usize
-        ensures { result ≡ length self.now.entries }
+        ensures rows { result ≡ length self.now.entries }
+        ensures elements { result ≡ length (risen self.now.entries) }
     {
         self.rows.len()
     }

@@ -210,9 +210,11 @@ impl PresentWorld {
         place_in(self.dispatch.processors(), elem, self.element(elem).place)
     }
 
-    /// How many elements ever received a message. Those that are there are among them.
+    /// Of how many elements something is kept: of each that is there, and of each that ever
+    /// received a message.
     pub fn element_count(&self) -> usize
-        ensures { result ≡ length self.now.rows }
+        ensures rows { result ≡ length self.now.rows }
+        ensures elements { result ≡ length (seen self.now).elements }
     {
         self.dispatch.elements().len()
     }
