@@ -1,7 +1,7 @@
 //! Writes and syncs that any disk passes on to the one in memory beneath it, once each.
 
 use charmlet_any_disk::AnyDisk;
-use charmlet_disk::{Call, Disk, FuseDisk, MemDisk};
+use charmlet_disk::{Call, Disk, MemDisk};
 use charmlet_model::Half;
 use std::process::Abort;
 
@@ -28,21 +28,28 @@ fn has_passed(rt: &impl Abort, disk: &MemDisk) {
     );
 }
 
+// The disk in memory that is beneath.
+fn beneath(rt: &impl Abort, disk: AnyDisk) -> MemDisk {
+    match disk {
+        AnyDisk::Memory(memory) => memory,
+        AnyDisk::Failing(fuse) => fuse.inner(),
+        AnyDisk::Folder(_folder) => panic!(rt; "it is in memory"),
+    }
+}
+
 #[test]
 fn writes_and_syncs_are_passed_on_once(rt: HostRuntime) {
     let mut disk = AnyDisk::memory(rt.alloc());
     passes(&rt, &mut disk);
-    let AnyDisk::Memory(memory) = disk else {
-        panic!(&rt; "it is in memory")
-    };
-    has_passed(&rt, &memory);
+    has_passed(&rt, &beneath(&rt, disk));
+}
+
+#[test]
+fn failing_disks_pass_writes_and_syncs_on_once(rt: HostRuntime) {
     let mut disk = AnyDisk::failing(rt.alloc(), 4);
     passes(&rt, &mut disk);
-    assert!(&rt; disk.sync(Half::Zero).is_err());
-    assert!(&rt; disk.write_at(Half::One, 1, &[7]).is_err());
-    assert_eq!(&rt; disk.failures(), 2);
-    let AnyDisk::Failing(fuse) = disk else {
-        panic!(&rt; "it fails")
-    };
-    has_passed(&rt, &fuse.inner());
+    assert!(rt; disk.sync(Half::Zero).is_err());
+    assert!(rt; disk.write_at(Half::One, 0, &[7]).is_err());
+    assert_eq!(rt; disk.failures(), 2);
+    has_passed(&rt, &beneath(&rt, disk));
 }

@@ -63,27 +63,29 @@ fn counters(rt: &(impl AllocGlobal + Abort)) -> Manifest
         .expect(rt, "one array")
 }
 
-// The steps are answered as ever up to an image at which the disk failed, and then refused.
-fn are_answered(rt: &impl Abort, answers: &[Answer], images: usize) {
+// The steps are answered as ever up to the image in this place, at which the disk failed, and then
+// refused.
+fn are_answered(rt: &impl Abort, answers: &[Answer], failed: usize) {
     assert_eq!(rt; answers.len(), 6);
     for (place, answer) in answers.iter().enumerate() {
         let is_so = match answer {
-            Answer::Refused(Refusal::Halted) => place > 3 * images + 2,
-            Answer::Refused(Refusal::Device) => place == 3 * images + 2,
-            Answer::Checkpointed(generation) => {
-                place < 3 * images && place as u64 + 4 == 3 * generation
-            }
-            Answer::Told(Told::Unknown) | Answer::Delivered(_) => place < 3 * images + 2,
+            Answer::Refused(Refusal::Halted) => place > failed,
+            Answer::Refused(Refusal::Device) => place == failed,
+            Answer::Checkpointed(2) => place == 2 && place < failed,
+            Answer::Checkpointed(3) => place == 5 && place < failed,
+            Answer::Told(Told::Unknown) | Answer::Delivered(_) => place < failed,
             _ => false,
         };
         assert!(rt; is_so, "{answer} at {place}");
     }
 }
 
-// What a crash leaves of a run whose disk failed after so many calls. As many images were answered.
+// What a crash leaves of a run whose disk failed after so many calls, in the midst of the image in
+// this place.
 fn left_by(
     rt: &(impl AllocGlobal + Abort),
     calls: u64,
+    failed: usize,
     choice: CrashChoice,
 ) -> Result<AnyDisk, Fail> {
     let alloc = rt.alloc();
@@ -93,15 +95,17 @@ fn left_by(
     };
     assert!(rt; engine.supply(blank_counters(alloc, 1)?).is_ok());
     let answers = engine.run(&steps(alloc)?)?;
-    are_answered(rt, &answers, (calls / CALLS).saturating_sub(1) as usize);
+    are_answered(rt, &answers, failed);
     Ok(engine.into_disk().crash(choice))
 }
 
-// The store that a crash leaves has the world of so many images, after two events for each.
+// The store that a crash leaves has this generation, and so many events, of which every other one
+// is a delivery to the counter.
 fn comes_back<R: Threads + Sync + AllocGlobal + Abort>(
     rt: &R,
     disk: AnyDisk,
-    images: u64,
+    generation: u64,
+    events: u64,
 ) -> Result<(), Fail> {
     let Ok(blanks) = stock_of(rt.alloc(), blank_counters(rt.alloc(), 1)?) else {
         panic!(rt; "memory")
@@ -109,30 +113,50 @@ fn comes_back<R: Threads + Sync + AllocGlobal + Abort>(
     let Ok(mut engine) = Engine::restart(rt, rt.alloc(), disk, blanks, 1) else {
         panic!(rt; "no store comes back")
     };
-    assert_eq!(rt; engine.generation(), 1 + images);
-    assert_eq!(rt;
-        [engine.durable(), engine.event_count()],
-        [2 * images, 2 * images]
-    );
+    assert_eq!(rt; engine.generation(), generation);
+    assert_eq!(rt; [engine.durable(), engine.event_count()], [events, events]);
     let look = engine.look(Elem { array: 0, index: 0 })?;
-    assert_eq!(rt; look.received, images);
-    assert_eq!(rt; look.standing.is_some(), images > 0);
+    assert_eq!(rt; look.received, events / 2);
+    assert_eq!(rt; look.standing.is_some(), events > 0);
     Ok(())
 }
 
-// Until the gate of an image is written the store is the one before it. Where the gate wasn't
-// synced, it is that one, or the image, by what the crash makes of the gate.
-#[test]
-fn a_run_leaves_the_old_store_or_the_image(rt: HostRuntime) -> Result<(), Fail> {
-    let rt = &rt;
-    for calls in CALLS..3 * CALLS + 1 {
-        let images = calls / CALLS - 1;
-        for choice in CrashChoice::ALL {
-            let is_open = calls % CALLS == CALLS - 1
-                && matches!(choice, CrashChoice::New | CrashChoice::Ones);
-            let disk = left_by(rt, calls, choice)?;
-            comes_back(rt, disk, images + u64::from(is_open))?;
+// The disk fails after so many calls, in the midst of the image in this place, and crashes in each
+// way. Until the gate of the image is written the store is the one before it, of this generation
+// and with so many events. Where the gate wasn't synced, it is that one, or the image, by what the
+// crash makes of the gate.
+fn leaves<R: Threads + Sync + AllocGlobal + Abort>(
+    rt: &R,
+    calls: u64,
+    failed: usize,
+    generation: u64,
+    events: u64,
+) -> Result<(), Fail> {
+    for choice in CrashChoice::ALL {
+        let disk = left_by(rt, calls, failed, choice)?;
+        if calls % CALLS == CALLS - 1 && matches!(choice, CrashChoice::New | CrashChoice::Ones) {
+            comes_back(
+                rt,
+                disk,
+                generation.saturating_add(1),
+                events.saturating_add(2),
+            )?;
+        } else {
+            comes_back(rt, disk, generation, events)?;
         }
     }
     Ok(())
+}
+
+#[test]
+fn a_run_leaves_the_old_store_or_the_image(rt: HostRuntime) -> Result<(), Fail> {
+    let rt = &rt;
+    for calls in CALLS..2 * CALLS {
+        leaves(rt, calls, 2, 1, 0)?;
+    }
+    for calls in 2 * CALLS..3 * CALLS {
+        leaves(rt, calls, 5, 2, 2)?;
+    }
+    // None fails.
+    leaves(rt, 3 * CALLS, 6, 3, 4)
 }

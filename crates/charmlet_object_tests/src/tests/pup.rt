@@ -205,8 +205,20 @@ fn is_fault(rt: &impl Abort, visited: Result<(), PupFault>, fault: PupFault) {
     assert_eq!(rt; found, fault);
 }
 
-// One word of a list, in the pass that writes.
+// A list of one item, 7.
 const ONE: [u8; 12] = [1, 0, 0, 0, 7, 0, 0, 0, 0, 0, 0, 0];
+
+// These bytes have this fault for an empty list without room, which they leave so.
+fn has_list_fault(rt: &(impl AllocGlobal + Abort), bytes: &[u8], limit: u32, fault: PupFault) {
+    let mut words = Vec::new(rt.alloc());
+    let mut er = Er::Unpacking(bytes, Pass::Write);
+    is_fault(rt, er.words(&mut words, limit), fault);
+    are_words(rt, &words, &[]);
+    let mut letters = Vec::new(rt.alloc());
+    let mut er = Er::Unpacking(bytes, Pass::Write);
+    is_fault(rt, er.bytes(&mut letters, limit), fault);
+    are_bytes(rt, &letters, &[]);
+}
 
 #[test]
 fn faults_leave_what_is_written(rt: HostRuntime) {
@@ -218,19 +230,9 @@ fn faults_leave_what_is_written(rt: HostRuntime) {
     let mut er = Er::Unpacking(&ONE[4..], Pass::Write);
     is_fault(&rt, er.flag(&mut flag), PupFault::BadFlag);
     is_set(&rt, flag);
-    // A list without room for its items, and one with a byte too few.
-    let mut words = Vec::new(rt.alloc());
-    let mut er = Er::Unpacking(&ONE, Pass::Write);
-    is_fault(&rt, er.words(&mut words, 64), PupFault::Memory);
-    let mut er = Er::Unpacking(&ONE[..11], Pass::Write);
-    is_fault(&rt, er.words(&mut words, 64), PupFault::Short);
-    let mut er = Er::Unpacking(&ONE, Pass::Write);
-    is_fault(&rt, er.words(&mut words, 0), PupFault::TooMany);
-    are_words(&rt, &words, &[]);
-    let mut bytes = Vec::new(rt.alloc());
-    let mut er = Er::Unpacking(&ONE, Pass::Write);
-    is_fault(&rt, er.bytes(&mut bytes, 4), PupFault::Memory);
-    are_bytes(&rt, &bytes, &[]);
+    has_list_fault(&rt, &ONE[..3], 1, PupFault::Short);
+    has_list_fault(&rt, &ONE, 0, PupFault::TooMany);
+    has_list_fault(&rt, &ONE, 1, PupFault::Memory);
 }
 
 // The fault is told in these words.
