@@ -143,6 +143,8 @@ current-later old new h on sound sound' is =
     let within = is.within in
     record {
       heard = all-later old new h.pass.client on sound sound' h.heard is.heard;
+      rising = is.rising;
+      is_known = is.is_known;
       told = λ number. holds-later old new h.pass.client on sound sound' number (known h.pass number) (is.told number);
       lent_at = is.lent_at ∙ ap (λ w. (client_of w h.pass.client).last) (sym on.opening);
       up_to_date = last-later old new h.pass.client on sound sound' ∙ is.up_to_date;

@@ -23,13 +23,15 @@ use Rattle.charmlet_model.specs.World.{client_of, world}
 use Rattle.charmlet_model.specs.Sound.{IsSound}
 use Rattle.charmlet_model.proofs.ToldLemmas.{told_durable}
 use Rattle.charmlet_model.proofs.Windows.{inside-parts}
-use Rattle.charmlet_requests.specs.Pass.{Pass, IsTold, IsUpToDate, IsHeard, is_out}
+use Rattle.charmlet_requests.specs.Knowing.{IsNoLess}
+use Rattle.charmlet_requests.specs.Pass.{Pass, IsTold, IsUpToDate, IsHeard, is_out, known}
 use Rattle.charmlet_requests.proofs.Covering.{told-above, told-below}
 use Rattle.charmlet_requests.proofs.Turns.{IsAnswered, answered, follows}
-use Rattle.charmlet_passes.specs.Passes.{HasNone, HeldPass, LentPasses, AreTrue, IsCurrent, AreCurrent, accepts_in, lent_since, held_by, with_answer}
+use Rattle.charmlet_passes.specs.Passes.{HasNone, HeldPass, LentPasses, AreKnown, AreRising, AreTrue, IsCurrent, AreCurrent, accepts_in, lent_since, held_by, with_answer}
 use Rattle.charmlet_passes.specs.Passes as answers
 use Rattle.charmlet_passes.proofs.Lasting.{GoesOnWithout, accepts_in-append, current-later, history-later, last-without}
 use Rattle.charmlet_passes.proofs.Places.{at_end, at_set, was_at}
+use Rattle.charmlet_passes.proofs.Rising.{known-answered, rising-answered}
 use Rattle.charmlet_passes.proofs.Sets.{out-put, out-still}
 use Rattle.charmlet_passes.proofs.OtherSteps.{stays}
 
@@ -50,6 +52,8 @@ nothing_told core client number =
 lent_current : (core : Core) (client : ℕ) → accepts_in client core.history ≡ [] → IsCurrent (lent_since client (client_of (present core) client).last (core.before + length core.history)) core
 lent_current core client none = record {
   heard = tt;
+  rising = tt;
+  is_known = tt;
   told = nothing_told core client;
   lent_at = last-without core.opening core.history client none;
   up_to_date = refl;
@@ -190,8 +194,8 @@ module _ (core : Core) (blanks : Blanks) (client number : ℕ) (to : Elem) (entr
 
   -- what the pass then holds
   pub own-current : (h g : HeldPass) → h.pass.client ≡ client → IsCurrent h core → IsTold g.pass new → IsUpToDate g.pass new → g.pass.client ≡ client → g.pass.lent_at ≡ h.pass.lent_at → g.since ≡ h.since → g.accepts ≡ accepts_with h →
-      g.heard ≡ h.heard ++ (number, t) ∷ [] → IsCurrent g new
-  own-current h g own is told up_to_date own' lent' since' accepts' heard' =
+      g.heard ≡ h.heard ++ (number, t) ∷ [] → IsNoLess (known h.pass number) t → IsNoLess t (known g.pass number) → ((other : ℕ) → IsNoLess (known h.pass other) (known g.pass other)) → IsCurrent g new
+  own-current h g own is told up_to_date own' lent' since' accepts' heard' more less kept =
       let last : (client_of (present core) client).last ≡ h.pass.last = subst (λ c. (client_of (present core) c).last ≡ h.pass.last) own is.up_to_date in
       let Whole : Core → Type 0 = λ c. (c.before ≤ h.since) × (h.since ≤ c.before + length c.history) × (accepts_with h ≡ accepts_in client (drop (h.since - c.before) c.history)) × (accepts_with h ≡ accepts_in client c.history) in
       let had_all : h.accepts ≡ accepts_in client core.history = is.all ∙ ap (λ c. accepts_in c core.history) own in
@@ -237,6 +241,8 @@ module _ (core : Core) (blanks : Blanks) (client number : ℕ) (to : Elem) (entr
       let had_heard : AreTrue core client h.heard = subst (λ c. AreTrue core c h.heard) own is.heard in
       record {
         heard = subst (λ (x : ℕ × List (ℕ × Told)). AreTrue new x.0 x.1) (λ i. (sym own' i, sym heard' i)) (true-append new client h.heard ((number, t) ∷ []) (true_still h.heard had_heard) answer_true);
+        rising = subst AreRising (sym heard') (rising-answered h g.pass number t more less kept is.is_known is.rising);
+        is_known = subst (AreKnown g.pass) (sym heard') (known-answered h g.pass number t more less kept is.is_known);
         told = told;
         lent_at = lent' ∙ is.lent_at ∙ (λ i. (client_of (sym same_opening i) ((own ∙ sym own') i)).last);
         up_to_date = up_to_date;
@@ -339,12 +345,16 @@ module _ (core : Core) (blanks : Blanks) (client number : ℕ) where
 
 -- what a pass is told of durable events
 pub told-current : (core : Core) (h : HeldPass) (p q : Pass) (number : ℕ) (t : Told) → h.pass ≡ p → IsCurrent h core → q.client ≡ p.client → q.lent_at ≡ p.lent_at → q.last ≡ p.last → IsTold q core →
-    Holds core.opening (take core.durable core.history) p.client number t → IsCurrent (with_answer h q number t) core
-told-current core h p q number t is current client lent last told holds =
+    Holds core.opening (take core.durable core.history) p.client number t → IsNoLess (known p number) t → IsNoLess t (known q number) → ((other : ℕ) → IsNoLess (known p other) (known q other)) → IsCurrent (with_answer h q number t) core
+told-current core h p q number t is current client lent last told holds more less kept =
+    let more' : IsNoLess (known h.pass number) t = subst (λ (x : Pass). IsNoLess (known x number) t) (sym is) more in
+    let kept' : (other : ℕ) → IsNoLess (known h.pass other) (known q other) = subst (λ (x : Pass). (other : ℕ) → IsNoLess (known x other) (known q other)) (sym is) kept in
     let own : h.pass.client ≡ q.client = ap (λ (x : Pass). x.client) is ∙ sym client in
     record {
       heard = true-append core q.client h.heard ((number, t) ∷ []) (subst (λ c. AreTrue core c h.heard) own current.heard)
           (subst (λ c. Holds core.opening (take core.durable core.history) c number t) (sym client) holds, tt);
+      rising = rising-answered h q number t more' less kept' current.is_known current.rising;
+      is_known = known-answered h q number t more' less kept' current.is_known;
       told = told;
       lent_at = lent ∙ sym (ap (λ (x : Pass). x.lent_at) is) ∙ current.lent_at ∙ ap (λ c. (client_of core.opening c).last) own;
       up_to_date = ap (λ c. (client_of (present core) c).last) (sym own) ∙ current.up_to_date ∙ ap (λ (x : Pass). x.last) is ∙ sym last;

@@ -1,5 +1,5 @@
 -- What passes hold, and what their book has of them.
-use Rattle.std.specs.Prelude.{◌≡◌, ◌≢◌, ℕ, ◌+◌, ◌-◌, ◌≤◌, ◌==◌, nat_lt, true, List, [], ◌∷◌, ◌++◌, length, drop, take, if◌then◌else◌, Option, Some, None, slice_get, slice_set, Contains, Result, IfOk, IfErr, OnErr}
+use Rattle.std.specs.Prelude.{◌≡◌, ◌≢◌, ℕ, ◌+◌, ◌-◌, ◌≤◌, ◌==◌, nat_lt, ◌&&◌, true, List, [], ◌∷◌, ◌++◌, length, drop, take, if◌then◌else◌, Option, Some, None, slice_get, slice_set, Contains, Result, IfOk, IfErr, OnErr}
 use Rattle.std.specs.List.{AllByRecursion}
 use Rattle.charmlet_model.specs.declared.event.Event.{Event}
 use Rattle.charmlet_model.specs.declared.event.Event.TheVariants.{Accept, Deliver}
@@ -12,7 +12,7 @@ use Rattle.charmlet_model.specs.Reaction.{capped}
 use Rattle.charmlet_model.specs.Told.{Holds}
 use Rattle.charmlet_model.specs.World.{client_of}
 use Rattle.charmlet_history.specs.declared.request.Request.{Request}
-use Rattle.charmlet_requests.specs.Knowing.{IsNoLess}
+use Rattle.charmlet_requests.specs.Knowing.{IsNoLess, is_unknown}
 use Rattle.charmlet_requests.specs.Pass.{Pass, known, lent, with_told, is_out, IsTold, IsUpToDate}
 
 -- A pass was lent after so many events, those before the opening world among them. It knows the
@@ -51,11 +51,25 @@ abbrev pub AreTrue : Core → ℕ → List (ℕ × Told) → Type 0
 AreTrue core client answers = AllByRecursion (λ (answer : ℕ × Told).
     Holds core.opening (take core.durable core.history) client answer.0 answer.1) answers
 
--- All that the pass's client was told is true of the durable events, and so is what the pass knows
--- by it. It was lent at its client's last number in the opening world, and its last number is its
--- client's now. Its accepts are exactly its client's since it was lent, and all of this history.
+-- of two answers about one request the later says no less, and no other words
+abbrev pub AreRising : List (ℕ × Told) → Type 0
+AreRising [] = Unit {0}
+AreRising (answer ∷ later) = AllByRecursion (λ (next : ℕ × Told).
+    next.0 ≡ answer.0 → IsNoLess answer.1 next.1) later × AreRising later
+
+-- the pass knows no less of any request than these answers say
+abbrev pub AreKnown : Pass → List (ℕ × Told) → Type 0
+AreKnown pass answers = AllByRecursion (λ (answer : ℕ × Told).
+    IsNoLess answer.1 (known pass answer.0)) answers
+
+-- All that the pass's client was told is true of the durable events, and of no request it was told
+-- less than before. What the pass knows by it is true too, and no less. It was lent at its client's
+-- last number in the opening world, and its last number is its client's now. Its accepts are
+-- exactly its client's since it was lent, and all of this history.
 pub record IsCurrent (held : HeldPass) (core : Core) : Type 0 where
   pub heard : AreTrue core held.pass.client held.heard
+  pub rising : AreRising held.heard
+  pub is_known : AreKnown held.pass held.heard
   pub told : IsTold held.pass core
   pub lent_at : held.pass.lent_at ≡ (client_of core.opening held.pass.client).last
   pub up_to_date : IsUpToDate held.pass core
@@ -151,9 +165,11 @@ pub record IsAnswered (old new : HeldPass) (number : ℕ)
   pub wanted : IfErr result (λ refusal. (wanted : ℕ) → refusal ≡ refusals.OutOfTurn wanted →
       wanted ≡ capped old.pass.last 1)
 
--- a flush tells the pass's client that the last of its accepts is accepted, if there is one
+-- a flush tells the pass's client that the last of its accepts is accepted, if there is one of
+-- which nothing is known yet
 abbrev pub with_flush : HeldPass → HeldPass
-with_flush held = if nat_lt held.pass.lent_at held.pass.last
+with_flush held =
+    if nat_lt held.pass.lent_at held.pass.last && is_unknown (known held.pass held.pass.last)
     then with_answer held (with_told held.pass held.pass.last Accepted) held.pass.last Accepted
     else held
 

@@ -177,8 +177,8 @@ impl<B: BookName> PassBook<B> {
     }
 
     /// Tells the clients of these passes that the last of their requests is accepted, once a flush
-    /// has made all events durable. One that made none since its pass was lent is told nothing. It
-    /// takes no memory.
+    /// has made all events durable. One that made none since its pass was lent, or was told more of
+    /// it than `Unknown` before, is told nothing. It takes no memory.
     pub fn tell(&mut self, history: &History, passes: &mut [ClientPass<B>])
         requires current { AreCurrent self.old (core_in history.now) }
         requires durable { (core_in history.now).durable ≡ length (core_in history.now).history }
@@ -192,7 +192,8 @@ impl<B: BookName> PassBook<B> {
         }
     }
 
-    /// Tells a pass's client that the last of its requests is accepted, if it made one.
+    /// Tells a pass's client that the last of its requests is accepted, if it made one of which it
+    /// knows nothing yet.
     fn tell_one(&mut self, history: &History, pass: &mut ClientPass<B>)
         requires current { AreCurrent self.old (core_in history.now) }
         requires durable { (core_in history.now).durable ≡ length (core_in history.now).history }
@@ -204,8 +205,11 @@ impl<B: BookName> PassBook<B> {
         if pass.pass.accept_count() == 0 {
             return;
         }
-        history.facts();
         let last = pass.pass.last();
+        if pass.pass.knows(last) {
+            return;
+        }
+        history.facts();
         let Ok(()) = pass.pass.hear(last, &Told::Accepted) else {
             unreachable!()
         };

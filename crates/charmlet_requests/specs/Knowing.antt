@@ -1,5 +1,5 @@
 -- What a client knows about its requests, as a row of its own.
-use Rattle.std.specs.Prelude.{◌≡◌, ◌⊎◌, ℕ, zero, suc, ◌+◌, ◌-◌, ◌≤◌, nat_lt, List, length, drop, if◌then◌else◌}
+use Rattle.std.specs.Prelude.{◌≡◌, ◌⊎◌, ℕ, zero, suc, ◌+◌, ◌-◌, ◌≤◌, nat_lt, Bool, true, false, List, length, drop, if◌then◌else◌}
 use Rattle.charmlet_model.specs.declared.client.ClientRow.{ClientRow}
 use Rattle.charmlet_model.specs.declared.told.Told.{Told}
 use Rattle.charmlet_model.specs.declared.told.Told.TheVariants.{Unknown, Accepted, Replied, Past}
@@ -49,3 +49,8 @@ IsNoLess Accepted Unknown = ⊥
 IsNoLess Accepted later = Unit {0}
 IsNoLess (Replied reply) later = (later ≡ Replied reply) ⊎ (later ≡ Past)
 IsNoLess Past later = later ≡ Past
+
+-- the answer says nothing of the request
+abbrev pub is_unknown : Told → Bool
+is_unknown Unknown = true
+is_unknown _ = false

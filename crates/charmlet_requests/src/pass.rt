@@ -38,11 +38,11 @@ impl Model for ClientPass {
 }
 
 impl ClientPass {
-    ghost use Rattle.std.specs.Prelude.{◌≡◌, ◌-◌, ℕ, length, take, true, IfOk, OnErr, OnOk};
+    ghost use Rattle.std.specs.Prelude.{◌≡◌, ◌-◌, ℕ, length, not, take, true, IfOk, OnErr, OnOk};
     ghost use Rattle.charmlet_model.specs.Core.{Core, has_words};
     ghost use Rattle.charmlet_model.specs.Sound.{IsSound};
     ghost use Rattle.charmlet_model.specs.Told.{Holds};
-    ghost use Rattle.charmlet_requests.specs.Knowing.{IsNoLess};
+    ghost use Rattle.charmlet_requests.specs.Knowing.{IsNoLess, is_unknown};
     ghost use Rattle.charmlet_requests.specs.Pass.{IsTold, accepts_of, known, lent, with_accept, with_told};
 
     /// A pass that is lent to a client whose last number is `last`. It takes no memory.
@@ -91,6 +91,13 @@ impl ClientPass {
         ensures words { OnErr result (has_words (known self.now number) ≡ true) }
     {
         self.row.told(self.alloc, number)
+    }
+
+    /// Whether anything is known about request `number`. It takes no memory.
+    pub fn knows(&self, number: u64) -> bool
+        ensures { result ≡ not (is_unknown (known self.now number)) }
+    {
+        number <= self.row.last
     }
 
     /// Records what the client was told about request `number`. No less is then known about any

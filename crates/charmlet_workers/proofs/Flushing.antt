@@ -1,5 +1,5 @@
 -- What a flush makes durable, and what passes hold then.
-use Rattle.std.proofs.Common.{◌≡◌, ℕ, zero, suc, ◌+◌, true, false, List, [], ◌∷◌, length, map, inl, inr, refl, sym, ap, subst, ◌∙◌, Option, Some, None, Result, Ok, Err, if◌then◌else◌, nat_lt}
+use Rattle.std.proofs.Common.{◌≡◌, ℕ, zero, suc, ◌+◌, true, false, List, [], ◌∷◌, length, map, inl, inr, refl, sym, ap, subst, ◌∙◌, Option, Some, None, Result, Ok, Err, if◌then◌else◌, ◌&&◌, nat_lt}
 use Rattle.std.specs.Prelude.{IfOk, OnOk, slice_get, slice_set}
 use Rattle.std.specs.List.{AllByRecursion}
 use Rattle.charmlet_model.specs.declared.refusal.Refusal.{Refusal}
@@ -8,7 +8,8 @@ use Rattle.charmlet_model.specs.declared.told.Told.TheVariants.{Accepted}
 use Rattle.charmlet_model.specs.Core.{Core, Counts, Flush, Refuses, Stepped, checks, first_refusal, stepped_unless}
 use Rattle.charmlet_model.specs.Run.{Goes, StoreView}
 use Rattle.charmlet_history.specs.Kept.{counts_or_refused}
-use Rattle.charmlet_requests.specs.Pass.{with_told}
+use Rattle.charmlet_requests.specs.Knowing.{is_unknown}
+use Rattle.charmlet_requests.specs.Pass.{known, with_told}
 use Rattle.charmlet_passes.specs.Passes.{HeldPass, IsKept, LentPasses, TellAll, accepts_in, with_answer, with_flush}
 use Rattle.charmlet_hub.specs.Hub.{HubShown, store_in}
 use Rattle.charmlet_workers.specs.Runtime.{AreFlushed, HasAccepts, IsMoment, RuntimeShown}
@@ -53,7 +54,7 @@ then_same a b c one two = record { client = two.client ∙ one.client; accepts =
 
 told_same : (held : HeldPass) → IsSame held (with_flush held)
 told_same held =
-    elim (nat_lt held.pass.lent_at held.pass.last) as (λ b. IsSame held (if b then with_answer held (with_told held.pass held.pass.last Accepted) held.pass.last Accepted else held)) [
+    elim (nat_lt held.pass.lent_at held.pass.last && is_unknown (known held.pass held.pass.last)) as (λ b. IsSame held (if b then with_answer held (with_told held.pass held.pass.last Accepted) held.pass.last Accepted else held)) [
       | true ↦ record { client = refl; accepts = refl }
       | false ↦ itself held
     ]

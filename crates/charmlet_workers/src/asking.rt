@@ -73,8 +73,8 @@ impl<D: Disk, C: Chare, B: RuntimeName> Runtime<D, C, B> {
 
     /// Makes all events durable, in one hold of the hub, and answers how many there are at that
     /// moment, those before the opening world among them. Then it tells each client whose pass is
-    /// handed in that the last of its accepts is accepted. It takes no memory; where no events are
-    /// to be written it makes no call of the disk.
+    /// handed in that the last of its accepts is accepted, where the pass knows nothing of it yet.
+    /// It takes no memory; where no events are to be written it makes no call of the disk.
     ///
     /// `Halted`; `LogFull` if the file would have more than 2^31 bytes, the closed gate after its
     /// log among them: then nothing changes. `Device` halts the store. When refused, no client is

@@ -21,6 +21,7 @@ fn replied(rt: &(impl AllocGlobal + Abort)) -> Told {
 // Writes what the pass knows about this request.
 fn write_known(rt: &impl Abort, text: &mut String, pass: &ClientPass, number: u64) {
     let known = pass.known(number).expect(rt, "memory");
+    assert_eq!(rt; pass.knows(number), !matches!(&known, Told::Unknown));
     write!(text, "{known}, ").expect(rt, "memory");
 }
 

@@ -71,9 +71,12 @@ returns-clause-current g c =
     let same_lent : c.request.new.pass.lent_at ≡ c.pass.inside.pass.lent_at = search rules in
     let steps : Steps core plenty (Request client asked.number asked.to asked.entry asked.words.now) (record { answer = Tells c.in-Ok.told; core = after; blanks = plenty }) =
     subst (λ (x : ℕ × Result Told Refusal). Steps core plenty (Request x.0 asked.number asked.to asked.entry asked.words.now) (record { answer = told_or_refused x.1; core = after; blanks = plenty })) (λ i. (own i, c.in-Ok.is i)) (c.request.ensures.steps plenty) in
+    let heard : IsHeard c.pass.inside.pass c.request.new.pass core after asked.number (Ok c.in-Ok.told) = subst (IsHeard c.pass.inside.pass c.request.new.pass core after asked.number) c.in-Ok.is c.request.ensures.heard in
+    let heard' : IsHeard h.pass c.request.new.pass core after asked.number (Ok c.in-Ok.told) = subst (λ (p : Pass). IsHeard p c.request.new.pass core after asked.number (Ok c.in-Ok.told)) (sym known.is) heard in
+    let no_less = heard'.no_less known.current.told in
     let current : IsCurrent next after =
     own-current core plenty client asked.number asked.to asked.entry asked.words.now c.facts.ensures.sound after c.in-Ok.told steps h next refl known.current
-    (c.request.ensures.heard.holds told) (c.request.ensures.up_to_date up_to_date) (same_client ∙ own) (same_lent ∙ sym (ap (λ (p : Pass). p.lent_at) known.is)) refl refl refl in
+    (c.request.ensures.heard.holds told) (c.request.ensures.up_to_date up_to_date) (same_client ∙ own) (same_lent ∙ sym (ap (λ (p : Pass). p.lent_at) known.is)) refl refl refl no_less.0 no_less.1 heard'.kept in
     subst (λ l. AreCurrent (record { out = c.self.inside.out; held = l }) after) (sym new)
     (are_current-written (record { out = c.self.inside.out; held = held }) core after share.0 h next known.there (same_client ∙ own) current
     (others_go_on core plenty client asked.number asked.to asked.entry asked.words.now c.facts.ensures.sound after c.in-Ok.told steps)

@@ -67,7 +67,9 @@ returns-clause-current g c =
     let steps : Steps core plenty (Status c.pass.inside.pass.client c.args.number) (record { answer = Tells c.in-Ok.told; core = core; blanks = plenty }) =
     subst (λ (r : Result Told Refusal). Steps core plenty (Status c.pass.inside.pass.client c.args.number) (record { answer = told_or_refused r; core = core; blanks = plenty })) c.in-Ok.is (c.status.ensures.steps plenty) in
     let true_now = told_durable core plenty (Status c.pass.inside.pass.client c.args.number) (record { answer = Tells c.in-Ok.told; core = core; blanks = plenty }) c.pass.inside.pass.client c.args.number c.in-Ok.told (refl, refl) steps refl in
-    told-current core h c.pass.inside.pass c.status.new.pass c.args.number c.in-Ok.told known.is known.current (ap (λ (p : Pass). p.client) is) (ap (λ (p : Pass). p.lent_at) is) (ap (λ (p : Pass). p.last) is) (c.status.ensures.heard.holds told) true_now in
+    let heard : IsHeard c.pass.inside.pass c.status.new.pass core core c.args.number (Ok c.in-Ok.told) = subst (IsHeard c.pass.inside.pass c.status.new.pass core core c.args.number) c.in-Ok.is c.status.ensures.heard in
+    let no_less = heard.no_less told in
+    told-current core h c.pass.inside.pass c.status.new.pass c.args.number c.in-Ok.told known.is known.current (ap (λ (p : Pass). p.client) is) (ap (λ (p : Pass). p.lent_at) is) (ap (λ (p : Pass). p.last) is) (c.status.ensures.heard.holds told) true_now no_less.0 no_less.1 heard.kept in
     subst (λ l. AreCurrent (record { out = c.self.inside.out; held = l }) core) (sym new)
     (are_current-written (record { out = c.self.inside.out; held = held }) core core share.0 h next known.there (ap (λ (p : Pass). p.client) is ∙ sym (ap (λ (p : Pass). p.client) known.is)) current
     (λ client apart. stays client core) c.facts.ensures.sound c.facts.ensures.sound known.are)
