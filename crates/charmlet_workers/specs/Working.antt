@@ -1,5 +1,5 @@
 -- What workers commit with their seats.
-use Rattle.std.specs.Prelude.{◌≡◌, ℕ, ◌≤◌, true, List, [], ◌∷◌, ◌++◌, length, Option, Some, None, IfSome}
+use Rattle.std.specs.Prelude.{◌≡◌, ℕ, ◌+◌, ◌≤◌, true, List, [], ◌∷◌, ◌++◌, length, if◌then◌else◌, Option, Some, None, is_some, IfSome}
 use Rattle.charmlet_model.specs.declared.names.MsgId.{MsgId}
 use Rattle.charmlet_seats.specs.Seats.{HeldSeat}
 use Rattle.charmlet_workers.specs.declared.working.Worked.{Worked}
@@ -16,9 +16,9 @@ pub record HasWorked (old new : HeldSeat) (count : ℕ) : Type 0 where
   pub seat : new ≡ record old { ids = old.ids ++ ids; room = new.room }
   pub counted : length ids ≡ count
 
--- A worker took at most so many turns. As many ids as it counts are in its seat, and a refusal that
--- ended its work is a worker's.
+-- A worker took at most so many turns. As many ids as it counts are in its seat. A refusal that
+-- ended its work is a worker's, and took a turn of its own.
 pub record HasServed (old new : HeldSeat) (turns : ℕ) (worked : Worked) : Type 0 where
   pub seat : HasWorked old new worked.count
-  pub most : worked.count ≤ turns
+  pub most : worked.count + (if is_some worked.refusal then 1 else 0) ≤ turns
   pub refusal : IfSome worked.refusal (λ refusal. is_work_refusal refusal ≡ true)
