@@ -1,12 +1,14 @@
 -- What a runtime lends and shows.
-use Rattle.std.proofs.Common.{◌≡◌, ℕ, ◌+◌, ◌≤◌, Bool, true, false, List, [], ◌∷◌, inl, inr, refl, sym, ap, subst, ◌∙◌, arith, Option, Some, None, Result, Ok, Err}
+use Rattle.std.proofs.Common.{◌≡◌, ℕ, ◌+◌, ◌≤◌, Bool, true, false, List, [], ◌∷◌, map, inl, inr, refl, sym, ap, subst, ◌∙◌, arith, Option, Some, None, Result, Ok, Err}
 use Rattle.std.specs.Prelude.{◌⊎◌, IfOk, if◌then◌else◌}
 use Rattle.std.specs.BTreeMap.{is_at}
+use Rattle.std.specs.Global.{Vec}
 use Rattle.std.specs.Map.{lookup}
 use Rattle.std.specs.Ordering.{nat_cmp}
 use Rattle.charmlet_model.specs.declared.edition.Edition.{Edition}
 use Rattle.charmlet_model.specs.declared.event.Event.{Event}
 use Rattle.charmlet_model.specs.declared.names.Elem.{Elem}
+use Rattle.charmlet_model.specs.declared.names.MsgId.{MsgId}
 use Rattle.charmlet_model.specs.Core.{Core, present}
 use Rattle.charmlet_model.specs.World.{World, after, world}
 use Rattle.charmlet_model.proofs.Histories.{manifest-after}
@@ -15,7 +17,7 @@ use Rattle.charmlet_requests.specs.Handlers.{IsTarget}
 use Rattle.charmlet_model.specs.declared.refusal.Refusal.{Refusal}
 use Rattle.charmlet_model.specs.declared.refusal.Refusal.TheVariants as refusals
 use Rattle.charmlet_passes.specs.Passes.{HeldPass, lent_since}
-use Rattle.charmlet_workers.specs.Runtime.{IsLent}
+use Rattle.charmlet_workers.specs.Runtime.{ArePendingIds, IsLent, IsMoment, RuntimeShown}
 
 -- a pass that is lent after no fewer events
 pub lent_if : (client before last since : ℕ) (r : Result HeldPass Refusal) → before ≤ since → IfOk r (λ pass. pass ≡ lent_since client last since) → IfOk r (IsLent client before)
@@ -27,6 +29,11 @@ lent_if client before last since (Ok pass) least is =
       since = subst (λ n. before ≤ n) (sym same) least;
     }
 lent_if client before last since (Err refusal) least is = tt
+
+-- the ids of messages that are pending at a moment
+pub pending_if : {E : Type 0} (shown : RuntimeShown) (core : Core) (r : Result (Vec MsgId) E) → IsMoment shown core → IfOk r (λ ids. ids.items ≡ map (λ m. m.id) (present core).pending) → IfOk r (λ ids. ArePendingIds shown ids.items)
+pending_if shown core (Ok ids) moment are = record { core = core; moment = moment; ids_are = are }
+pending_if shown core (Err e) moment are = tt
 
 -- no event changes the arrays
 pub kept_arrays : (w : World) (history : List Event) → (world w history).manifest ≡ w.manifest

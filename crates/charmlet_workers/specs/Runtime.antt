@@ -1,6 +1,7 @@
 -- What is seen of a runtime, and what it opens with.
-use Rattle.std.specs.Prelude.{◌≡◌, ℕ, ◌+◌, ◌≤◌, false, List, [], length}
+use Rattle.std.specs.Prelude.{◌≡◌, ℕ, ◌+◌, ◌≤◌, false, List, [], length, map}
 use Rattle.std.specs.List.{AllByRecursion}
+use Rattle.charmlet_model.specs.declared.names.MsgId.{MsgId}
 use Rattle.charmlet_model.specs.Core.{Core, present}
 use Rattle.charmlet_model.specs.Sound.{IsSound}
 use Rattle.charmlet_model.specs.World.{World}
@@ -47,6 +48,12 @@ pub record ArePending (shown : RuntimeShown) (count : ℕ) : Type 0 where
   pub core : Core
   pub moment : IsMoment shown core
   pub counted : count ≡ length (present core).pending
+
+-- at a moment just these messages were pending, in order of birth
+pub record ArePendingIds (shown : RuntimeShown) (ids : List MsgId) : Type 0 where
+  pub core : Core
+  pub moment : IsMoment shown core
+  pub ids_are : ids ≡ map (λ m. m.id) (present core).pending
 
 -- At a moment all events were durable, and they were so many, with those before the opening world.
 -- Each of these passes had its client's accepts among them, and no others.

@@ -4,7 +4,7 @@ ghost use Rattle.std.specs.Prelude.{◌≡◌, ◌≤◌, ◌⊎◌, IfErr, IfOk
 ghost use Rattle.charmlet_model.specs.declared.refusal.Refusal.TheVariants as refusals;
 ghost use Rattle.charmlet_model.specs.Core.{present};
 ghost use Rattle.charmlet_history.specs.Kept.{core_in};
-ghost use Rattle.charmlet_workers.specs.Runtime.{ArePending};
+ghost use Rattle.charmlet_workers.specs.Runtime.{ArePending, ArePendingIds};
 
 use crate::runtime::Runtime;
 use charmlet_chare::Chare;
@@ -61,8 +61,12 @@ impl<D: Disk, C: Chare, B: RuntimeName> Runtime<D, C, B> {
     }
 
     /// The ids of the pending messages, in order of birth. It fails only when out of memory.
-    pub fn pending<R: Wait>(&self, rt: &R, alloc: Global) -> Result<Vec<MsgId>, AllocError> {
-        pending_in(alloc, self.hub.lock(rt).history())
+    pub fn pending<R: Wait>(&self, rt: &R, alloc: Global) -> Result<Vec<MsgId>, AllocError>
+        ensures { IfOk result (λ ids. ArePendingIds self.now ids.items) }
+    {
+        let hub = self.hub.lock(rt);
+        hub.facts();
+        pending_in(alloc, hub.history())
     }
 
     /// What is seen of an element: its counts, and, if it is there, where it stands and its packed
