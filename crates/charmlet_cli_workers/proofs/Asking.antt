@@ -1,6 +1,6 @@
 -- What clients' passes hold as accepted requests, line after line.
 use Rattle.std.proofs.Common.{◌≡◌, ◌≢◌, ◌⊎◌, ℕ, zero, suc, ◌<◌, ◌≤◌, ◌==◌, Bool, true, false, List, [], ◌∷◌, ◌++◌, length, map, inl, inr, ⊎_elim, refl, sym, ap, subst, ◌∙◌, arith, le_refl, Some, Result, Ok, Err, if◌then◌else◌, cond, nat_lt}
-use Rattle.std.specs.Prelude.{IfErr, IfOk, OnErr, OnOk, Contains, slice_get, slice_set}
+use Rattle.std.specs.Prelude.{IfErr, IfOk, OnErr, OnOk, slice_get, slice_set}
 use Rattle.std.specs.List.{AllByRecursion}
 use Rattle.std.specs.Map.{lookup}
 use Rattle.std.specs.BTreeMap.{insert_entry, is_at}
@@ -8,32 +8,38 @@ use Rattle.std.specs.Cmp.{nat_cmp_total, nat_eq_equiv}
 use Rattle.std.specs.Ordering.{eq_by_cmp, nat_cmp}
 use Rattle.std.proofs.lemmas.Bool.{ltb-false, ltb-true}
 use Rattle.std.proofs.lemmas.List.{append-nil}
-use Rattle.std.proofs.lemmas.List.Elements.{Contains-push}
 use Rattle.std.proofs.lemmas.Map.Views.{exact_unsigned_eq}
 use Rattle.charmlet_model.specs.declared.event.Event.{Event}
 use Rattle.charmlet_model.specs.declared.event.Event.TheVariants.{Accept, Deliver}
 use Rattle.charmlet_model.specs.declared.names.Elem.{Elem}
 use Rattle.charmlet_model.specs.declared.names.MsgId.{MsgId}
 use Rattle.charmlet_model.specs.declared.refusal.Refusal.{Refusal}
+use Rattle.charmlet_model.specs.declared.refusal.Refusal.TheVariants as refusals
+use Rattle.charmlet_model.specs.declared.step.Step.{Step}
 use Rattle.charmlet_model.specs.declared.step.Step.TheVariants as steps
 use Rattle.charmlet_model.specs.declared.told.Told.{Told}
 use Rattle.charmlet_model.specs.declared.told.Told.TheVariants.{Accepted}
 use Rattle.charmlet_model.specs.Core.{Core}
-use Rattle.charmlet_model.specs.World.{client_of}
+use Rattle.charmlet_model.specs.Reaction.{capped}
+use Rattle.charmlet_model.specs.Row.{no_client}
+use Rattle.charmlet_model.specs.Told.{told_of}
+use Rattle.charmlet_model.specs.World.{World, client_of}
 use Rattle.charmlet_model.proofs.Fits.{tied_itself-nat}
 use Rattle.charmlet_model.proofs.Maps.{lookup-insert_entry}
 use Rattle.charmlet_history.specs.declared.request.Request.{Request}
+use Rattle.charmlet_requests.specs.Knowing.{IsNoLess, heard as hears}
 use Rattle.charmlet_requests.specs.Pass.{Pass, with_accept, with_told}
 use Rattle.charmlet_passes.specs.Passes.{HaveAllAccepts, HeldPass, IsAnswered, IsCurrent, accept_of, accepts_after, accepts_in, lent_since, with_answer, with_flush}
 use Rattle.charmlet_passes.proofs.Lasting.{accepts_in-append, untied}
 use Rattle.charmlet_passes.proofs.Places.{all-last, at_end, at_set}
 use Rattle.charmlet_engine.specs.Engine.{client_answer}
-use Rattle.charmlet_workers.specs.Refusals.{is_lending_refusal, is_request_refusal, is_status_refusal}
+use Rattle.charmlet_workers.specs.Refusals.{IsRequestCause, is_lending_refusal, is_request_refusal, is_status_refusal}
 use Rattle.std.specs.Prelude.{◌||◌}
 use Rattle.charmlet_cli.specs.Lines.{Names}
-use Rattle.charmlet_workers.specs.Runtime.{AreFlushed, HasAccepts, RuntimeShown}
-use Rattle.charmlet_cli_workers.specs.Heard.{AreAccepted, AreRising, AreTidy, HaveNone, IsAsked, IsCounted, IsDoneBy, IsHeard, IsLentAfter, IsPassOf, IsReached, IsSure, accepts_by, known_by}
-use Rattle.charmlet_cli_workers.specs.Said.{Answers, AreDurable, Deeds, WereFlushed, last_of}
+use Rattle.charmlet_workers.specs.Runtime.{AreFlushed, HasAccepts, RuntimeShown, shown_of}
+use Rattle.charmlet_cli_workers.specs.Heard.{AreAccepted, AreRising, AreTidy, HaveNone, IsAsked, IsCounted, IsAskingCauseBy, IsDoneBy, IsHeard, IsLentAt, IsPassOf, IsReached, IsStepCauseBy, IsSure, IsToldBy, KnowTheSame, accepts_by, known_by, row_by}
+use Rattle.charmlet_cli_workers.proofs.Rows.{reached_least}
+use Rattle.charmlet_cli_workers.specs.Said.{Answers, AreDurable, Deeds, IsAskingCause, IsStatusCause, IsStepCause, IsTold, WereFlushed, having_told, last_of}
 
 -- ---- numbers of accepts
 
@@ -53,7 +59,7 @@ rising_last from (Deliver id ∷ events) rising = rising_last from events rising
 rising_last from (Accept c n t e w ∷ events) rising = omega (arith, rising.0, rising_last n events rising.1)
 
 -- there is no accept, or the last one's number is above the first
-last_cases : (from : ℕ) (events : List Event) → AreRising from events → ((last_of from events ≡ from) × (last_of 0 events ≡ 0)) ⊎ ((from < last_of from events) × (last_of 0 events ≡ last_of from events))
+pub last_cases : (from : ℕ) (events : List Event) → AreRising from events → ((last_of from events ≡ from) × (last_of 0 events ≡ 0)) ⊎ ((from < last_of from events) × (last_of 0 events ≡ last_of from events))
 last_cases from [] rising = inl (refl, refl)
 last_cases from (Deliver id ∷ events) rising = last_cases from events rising
 last_cases from (Accept c n t e w ∷ events) rising = inr (omega (arith, rising.0, rising_last n events rising.1), refl)
@@ -69,7 +75,7 @@ pub record IsAlike (old new : HeldPass) : Type 0 where
 alike : (held : HeldPass) → IsAlike held held
 alike held = record { client = refl; lent_at = refl; last = refl; accepts = refl }
 
-flushed_alike : (held : HeldPass) → IsAlike held (with_flush held)
+pub flushed_alike : (held : HeldPass) → IsAlike held (with_flush held)
 flushed_alike held =
     elim (nat_lt held.pass.lent_at held.pass.last) as (λ b. IsAlike held (if b then with_answer held (with_told held.pass held.pass.last Accepted) held.pass.last Accepted else held)) [
       | true ↦ record { client = refl; lent_at = refl; last = refl; accepts = refl }
@@ -114,10 +120,10 @@ asked_cases request old new told is accepts = asked_by request old new told is (
 
 -- ---- the client's pass among others
 
-differs : (a b : ℕ) → (a ≡ b → ⊥) → (a == b) ≡ false
+pub differs : (a b : ℕ) → (a ≡ b → ⊥) → (a == b) ≡ false
 differs a b apart = elim (a == b) as (λ t. (a == b) ≡ t → t ≡ false) [ true ↦ λ same. absurd (apart (exact_unsigned_eq a b same)) | false ↦ λ _. refl ] refl
 
-ties : (a b : ℕ) → a ≡ b → (a == b) ≡ true
+pub ties : (a b : ℕ) → a ≡ b → (a == b) ≡ true
 ties a b same = subst (λ x. (a == x) ≡ true) same (nat_eq_equiv.refl a)
 
 -- the first one of the client's has this place
@@ -296,11 +302,11 @@ no_place client passes places tidy never = λ place is. never place (subst (λ c
 
 -- ---- a flush
 
-flushed_heard : (held : HeldPass) → held.pass.lent_at < held.pass.last → Contains (with_flush held).heard (held.pass.last, Accepted)
-flushed_heard held less =
+flushed_reaches : (held : HeldPass) → held.pass.lent_at < held.pass.last → held.pass.last ≤ (with_flush held).pass.row.last
+flushed_reaches held less =
     elim (nat_lt held.pass.lent_at held.pass.last) as (λ b. nat_lt held.pass.lent_at held.pass.last ≡ b →
-    Contains (if b then with_answer held (with_told held.pass held.pass.last Accepted) held.pass.last Accepted else held).heard (held.pass.last, Accepted)) [
-      | true ↦ λ _. Contains-push held.heard (held.pass.last, Accepted)
+    held.pass.last ≤ (if b then with_answer held (with_told held.pass held.pass.last Accepted) held.pass.last Accepted else held).pass.row.last) [
+      | true ↦ λ _. (reached_least held.pass.row held.pass.last).0
       | false ↦ λ none. let more = ltb-false held.pass.lent_at held.pass.last none in absurd (omega (arith, less, more))
     ] refl
 
@@ -320,25 +326,37 @@ flushed_sure (held ∷ passes) client number all some within =
           let there = above.1 in
           let less : held.pass.lent_at < held.pass.last = omega (arith, last, up) in
           let reached : number ≤ held.pass.last = omega (arith, within, there, last) in
-          inl ((flushed_alike held).client ∙ is, (held.pass.last, reached, flushed_heard held less)))
+          let sure : held.pass.last ≤ (with_flush held).pass.row.last = flushed_reaches held less in
+          inl ((flushed_alike held).client ∙ is, omega (arith, reached, sure)))
           (last_cases held.pass.lent_at held.accepts all.0.rising)
       | false ↦ λ _ within. inr (flushed_sure passes client number all.1 some within)
     ] refl within
 
 -- ---- what lines did
 
-pub nothing_done : (lists : List (List MsgId)) → IsDoneBy [] lists (record { accepts = []; delivered = lists })
-nothing_done lists = record { accepts = λ client. refl; delivered = refl }
+pub nothing_done : (lists : List (List MsgId)) → IsDoneBy [] lists (record { accepts = []; delivered = lists; knows = λ client. no_client })
+nothing_done lists = record { accepts = λ client. refl; delivered = refl; knows = λ client. refl }
 
-pub done_same : (old new : List HeldPass) (lists : List (List MsgId)) (deeds : Deeds) → AreAccepted old new → IsDoneBy old lists deeds → IsDoneBy new lists deeds
-done_same old new lists deeds same done = record { accepts = λ client. done.accepts client ∙ sym (same client); delivered = done.delivered }
+pub done_same : (old new : List HeldPass) (lists : List (List MsgId)) (deeds : Deeds) → AreAccepted old new → KnowTheSame old new → IsDoneBy old lists deeds → IsDoneBy new lists deeds
+done_same old new lists deeds same known done = record { accepts = λ client. done.accepts client ∙ sym (same client); delivered = done.delivered; knows = λ client. done.knows client ∙ sym (known client) }
 
-done_more : (old new : List HeldPass) (lists : List (List MsgId)) (deeds : Deeds) (event : Event) → ((client : ℕ) → accepts_by client new ≡ accepts_by client old ++ accepts_in client (event ∷ [])) → IsDoneBy old lists deeds →
-    IsDoneBy new lists (record deeds { accepts = deeds.accepts ++ event ∷ [] })
-done_more old new lists deeds event more done = record {
-  accepts = λ client. accepts_in-append client deeds.accepts (event ∷ []) ∙ ap (λ es. es ++ accepts_in client (event ∷ [])) (done.accepts client) ∙ sym (more client);
-  delivered = done.delivered;
-}
+-- a client was told something
+module _ (old new : List HeldPass) (lists : List (List MsgId)) (deeds : Deeds) (client number : ℕ) (told : Told) (is : IsToldBy client number old new told) (done : IsDoneBy old lists deeds) where
+  pub told_no_less : IsNoLess (told_of (deeds.knows client) number) told
+  told_no_less = subst (λ row. IsNoLess (told_of row number) told) (sym (done.knows client)) is.0
+
+  told_knows : (other : ℕ) → (having_told deeds client number told).knows other ≡ row_by other new
+  told_knows other = ap (λ row. if client == other then hears row number told else row) (done.knows other) ∙ sym (is.1 other)
+
+  pub done_told : AreAccepted old new → IsDoneBy new lists (having_told deeds client number told)
+  done_told same = record { accepts = λ other. done.accepts other ∙ sym (same other); delivered = done.delivered; knows = told_knows }
+
+  pub done_more : (event : Event) → ((other : ℕ) → accepts_by other new ≡ accepts_by other old ++ accepts_in other (event ∷ [])) → IsDoneBy new lists (record (having_told deeds client number told) { accepts = deeds.accepts ++ event ∷ [] })
+  done_more event more = record {
+    accepts = λ other. accepts_in-append other deeds.accepts (event ∷ []) ∙ ap (λ es. es ++ accepts_in other (event ∷ [])) (done.accepts other) ∙ sym (more other);
+    delivered = done.delivered;
+    knows = told_knows;
+  }
 
 -- a flush leaves what was done, and makes it durable
 pub flushed_durable : (shown : RuntimeShown) (names : Names) (passes new : List HeldPass) (lists : List (List MsgId)) (deeds : Deeds) → new ≡ map with_flush passes → AllByRecursion IsCounted passes → IsDoneBy passes lists deeds → AreDurable (known_by shown names new) deeds.accepts
@@ -378,32 +396,89 @@ were_flushed shown old new lists deeds count same done are = record {
 
 -- what a request was answered, and what it did
 pub told_answers : (shown : RuntimeShown) (names : Names) (old new : List HeldPass) (lists : List (List MsgId)) (deeds : Deeds) (client : ℕ) (request : Request) (r : Result Told Refusal) → IsDoneBy old lists deeds → OnOk r (IsAsked client request old new) → OnErr r (AreAccepted old new) →
-    IfOk r (IsHeard new client request.number) → OnOk r (IsReached new client request.number) → IfErr r (λ refusal. (is_request_refusal refusal || is_lending_refusal refusal) ≡ true) →
+    IfOk r (IsToldBy client request.number old new) → OnErr r (KnowTheSame old new) → IfOk r (IsHeard new client request.number) → OnOk r (IsReached new client request.number) → IfErr r (λ refusal. (is_request_refusal refusal || is_lending_refusal refusal) ≡ true) →
+    IfErr r (IsAskingCauseBy shown.opening new (accepts_by client old) client request.number request.to request.words.now) →
     (after : Deeds) × IsDoneBy new lists after × Answers (known_by shown names new) deeds (client_answer r) (steps.Request client request.number request.to request.entry request.words.now) after
-told_answers shown names old new lists deeds client request (Ok told) done asked unasked heard reached refused =
+told_answers shown names old new lists deeds client request (Ok told) done asked unasked told_is untold heard reached refused cause =
+    let so : IsTold (known_by shown names new) deeds client request.number told = (heard, told_no_less old new lists deeds client request.number told told_is done) in
     ⊎_elim
-    (λ more. (record deeds { accepts = deeds.accepts ++ accept_of client request ∷ [] }, done_more old new lists deeds (accept_of client request) more done, (heard, reached, inl refl)))
+    (λ more. (
+      record (having_told deeds client request.number told) { accepts = deeds.accepts ++ accept_of client request ∷ [] },
+      done_more old new lists deeds client request.number told told_is done (accept_of client request) more,
+      (so, reached, inl refl),
+    ))
     (λ repeat. (
-      deeds,
-      done_same old new lists deeds repeat.0 done,
-      (heard, reached, inr (refl, ⊎_elim (λ line. inl (subst (λ es. request.number ≤ last_of 0 es) (sym (done.accepts client)) line)) (λ earlier. inr earlier) repeat.1)),
+      having_told deeds client request.number told,
+      done_told old new lists deeds client request.number told told_is done repeat.0,
+      (so, reached, inr (refl, ⊎_elim (λ line. inl (subst (λ es. request.number ≤ last_of 0 es) (sym (done.accepts client)) line)) (λ earlier. inr earlier) repeat.1)),
     ))
     asked
-told_answers shown names old new lists deeds client request (Err refusal) done asked unasked heard reached refused = (deeds, done_same old new lists deeds unasked done, (refused, refl))
+told_answers shown names old new lists deeds client request (Err refusal) done asked unasked told_is untold heard reached refused cause =
+    let its = subst (λ es. IsAskingCauseBy shown.opening new es client request.number request.to request.words.now refusal) (sym (done.accepts client)) cause in
+    (deeds, done_same old new lists deeds unasked untold done, (refused, its, refl))
 
 -- and a question
-pub stated_answers : (shown : RuntimeShown) (names : Names) (old new : List HeldPass) (lists : List (List MsgId)) (deeds : Deeds) (client number : ℕ) (r : Result Told Refusal) → IsDoneBy old lists deeds → AreAccepted old new → IfOk r (IsHeard new client number) →
-    IfErr r (λ refusal. (is_status_refusal refusal || is_lending_refusal refusal) ≡ true) →
+pub stated_answers : (shown : RuntimeShown) (names : Names) (old new : List HeldPass) (lists : List (List MsgId)) (deeds : Deeds) (client number : ℕ) (r : Result Told Refusal) → IsDoneBy old lists deeds → AreAccepted old new →
+    IfOk r (IsToldBy client number old new) → OnErr r (KnowTheSame old new) → IfOk r (IsHeard new client number) →
+    IfErr r (λ refusal. (is_status_refusal refusal || is_lending_refusal refusal) ≡ true) → IfErr r (IsStatusCause (accepts_by client old)) →
     (after : Deeds) × IsDoneBy new lists after × Answers (known_by shown names new) deeds (client_answer r) (steps.Status client number) after
-stated_answers shown names old new lists deeds client number (Ok told) done same heard refused = (deeds, done_same old new lists deeds same done, (heard, refl))
-stated_answers shown names old new lists deeds client number (Err refusal) done same heard refused = (deeds, done_same old new lists deeds same done, (refused, refl))
+stated_answers shown names old new lists deeds client number (Ok told) done same told_is untold heard refused cause =
+    (having_told deeds client number told, done_told old new lists deeds client number told told_is done same, ((heard, told_no_less old new lists deeds client number told told_is done), refl))
+stated_answers shown names old new lists deeds client number (Err refusal) done same told_is untold heard refused cause =
+    (deeds, done_same old new lists deeds same untold done, (refused, subst (λ es. IsStatusCause es refusal) (sym (done.accepts client)) cause, refl))
+
+-- ---- why a request is refused
+
+-- a client without a pass has no accepts
+none_accepts : (client : ℕ) (passes : List HeldPass) → HaveNone client passes → accepts_by client passes ≡ []
+none_accepts client [] none = refl
+none_accepts client (held ∷ passes) none =
+    ap (λ b. if b then held.accepts else accepts_by client passes) (differs held.pass.client client (λ same. none 0 (held, refl, same))) ∙ none_accepts client passes (λ place is. none (suc place) (is.0, is.1, is.2))
+
+unlent_asking : (opening : World) (accepts : List Event) (last number : ℕ) (to : Elem) (words : List ℕ) (refusal : Refusal) → is_lending_refusal refusal ≡ true → accepts ≡ [] → IsAskingCause opening accepts last number to words refusal
+unlent_asking opening accepts last number to words refusals.Memory lends none = tt
+unlent_asking opening accepts last number to words refusals.PassOut lends none = none
+unlent_asking opening accepts last number to words refusal lends none = let never : ⊥ = cc in absurd never
+
+-- none is lent to it
+pub unlent_cause : (opening : World) (first new : List HeldPass) (client number : ℕ) (to : Elem) (words : List ℕ) (refusal : Refusal) → is_lending_refusal refusal ≡ true → HaveNone client first → IsAskingCauseBy opening new (accepts_by client first) client number to words refusal
+unlent_cause opening first new client number to words refusal lends none =
+    inl (λ last. unlent_asking opening (accepts_by client first) (last_of last (accepts_by client first)) number to words refusal lends (none_accepts client first none))
+
+unlent_question : (accepts : List Event) (refusal : Refusal) → accepts ≡ [] → IsStatusCause accepts refusal
+unlent_question accepts refusals.PassOut none = none
+unlent_question accepts refusal none = tt
+
+pub unlent_status : (first : List HeldPass) (client : ℕ) (refusal : Refusal) → HaveNone client first → IsStatusCause (accepts_by client first) refusal
+unlent_status first client refusal none = unlent_question (accepts_by client first) refusal (none_accepts client first none)
+
+lent_question : (accepts : List Event) (refusal : Refusal) → is_status_refusal refusal ≡ true → IsStatusCause accepts refusal
+lent_question accepts refusals.PassOut is = let never : ⊥ = cc in absurd never
+lent_question accepts refusal is = tt
+
+pub lent_status : (accepts : List Event) (r : Result Told Refusal) → IfErr r (λ refusal. is_status_refusal refusal ≡ true) → IfErr r (IsStatusCause accepts)
+lent_status accepts (Ok told) is = tt
+lent_status accepts (Err refusal) is = lent_question accepts refusal is
+
+-- what is known by a pass is so of its last number
+asking_cause : (opening : World) (accepts : List Event) (held : HeldPass) (request : Request) (refusal : Refusal) → IsRequestCause opening held request refusal → ((wanted : ℕ) → refusal ≡ refusals.OutOfTurn wanted → wanted ≡ capped held.pass.last 1) →
+    IsAskingCause opening accepts held.pass.last request.number request.to request.words.now refusal
+asking_cause opening accepts held request refusals.Memory cause wants = tt
+asking_cause opening accepts held request refusals.Halted cause wants = tt
+asking_cause opening accepts held request (refusals.OutOfTurn wanted) cause wants = (wants wanted refl, cause.0, cause.1)
+asking_cause opening accepts held request refusals.Waiting cause wants = cause
+asking_cause opening accepts held request refusals.NoArray cause wants = cause
+asking_cause opening accepts held request refusals.TooLong cause wants = cause
+asking_cause opening accepts held request refusals.ClientsFull cause wants = cause
+asking_cause opening accepts held request refusals.HistoryFull cause wants = cause
+asking_cause opening accepts held request refusal cause wants = absurd cause
 
 -- ---- a request by a pass
 
-lent_there : (passes : List HeldPass) (place : ℕ) (old new : HeldPass) (client number : ℕ) → slice_get passes place ≡ Some old → new.pass.client ≡ client → number ≤ new.pass.lent_at → IsLentAfter (slice_set passes place new) client number
-lent_there [] place old new client number is its lent = let never : ⊥ = cc in absurd never
-lent_there (h ∷ passes) zero old new client number is its lent = inl (its, lent)
-lent_there (h ∷ passes) (suc place) old new client number is its lent = inr (lent_there passes place old new client number is its lent)
+lent_there : (passes : List HeldPass) (place : ℕ) (old new : HeldPass) (client : ℕ) (is : ℕ → Type 0) → slice_get passes place ≡ Some old → new.pass.client ≡ client → is new.pass.lent_at → IsLentAt (slice_set passes place new) client is
+lent_there [] place old new client is got its lent = let never : ⊥ = cc in absurd never
+lent_there (h ∷ passes) zero old new client is got its lent = inl (its, lent)
+lent_there (h ∷ passes) (suc place) old new client is got its lent = inr (lent_there passes place old new client is got its lent)
 
 module _ (first passes : List HeldPass) (places : List (ℕ × ℕ)) (place : ℕ) (old new : HeldPass) (client : ℕ) (tidy : AreTidy passes places) (got : slice_get passes place ≡ Some old) (of : old.pass.client ≡ client) (since : AreAccepted first passes) where
   is_first : IsAt client passes place
@@ -416,7 +491,7 @@ module _ (first passes : List HeldPass) (places : List (ℕ × ℕ)) (place : �
   same_accepts same = λ other. accepts_set_same passes place old new got same other ∙ since other
 
   -- it repeats one of the client's
-  repeated : (request : Request) → IsAlike old new → request.number ≤ old.pass.last → (request.number ≤ last_of 0 (accepts_by client first)) ⊎ IsLentAfter (slice_set passes place new) client request.number
+  repeated : (request : Request) → IsAlike old new → request.number ≤ old.pass.last → (request.number ≤ last_of 0 (accepts_by client first)) ⊎ IsLentAt (slice_set passes place new) client (λ last. request.number ≤ last)
   repeated request same within =
       let last = counted_old.last in
       ⊎_elim
@@ -424,7 +499,7 @@ module _ (first passes : List HeldPass) (places : List (ℕ × ℕ)) (place : �
       let none_last = none.0 in
       let lent = same.lent_at in
       let up : request.number ≤ new.pass.lent_at = omega (arith, within, last, none_last, lent) in
-      inr (lent_there passes place old new client request.number got (same.client ∙ of) up))
+      inr (lent_there passes place old new client (λ last. request.number ≤ last) got (same.client ∙ of) up))
       (λ above.
       let there = above.1 in
       let up : request.number ≤ last_of 0 old.accepts = omega (arith, within, last, there) in
@@ -439,6 +514,17 @@ module _ (first passes : List HeldPass) (places : List (ℕ × ℕ)) (place : �
       accepts_set_more client request passes place old new is_first got (more.client ∙ of) (more.accepts ∙ ap (λ c. old.accepts ++ accept_of c request ∷ []) of) other
       ∙ ap (λ es. es ++ accepts_in other (accept_of client request ∷ [])) (since other)))
       cases
+
+  pub asked_cause : (opening : World) (request : Request) (r : Result Told Refusal) → IfErr r (IsRequestCause opening old request) → IsAnswered old new request.number r →
+      IfErr r (IsAskingCauseBy opening (slice_set passes place new) (accepts_by client first) client request.number request.to request.words.now)
+  asked_cause opening request (Ok told) cause answered = tt
+  asked_cause opening request (Err refusal) cause answered =
+      let mine = accepts_by client first in
+      let Is : ℕ → Type 0 = λ last. IsAskingCause opening mine last request.number request.to request.words.now refusal in
+      let same : old.accepts ≡ mine = sym (accepts_at client passes place old is_first got) ∙ since client in
+      let last : old.pass.last ≡ last_of new.pass.lent_at mine = counted_old.last ∙ ap (last_of old.pass.lent_at) same ∙ ap (λ (h : HeldPass). last_of h.pass.lent_at mine) (sym answered.err) in
+      let its : new.pass.client ≡ client = ap (λ (h : HeldPass). h.pass.client) answered.err ∙ of in
+      inr (lent_there passes place old new client (λ from. Is (last_of from mine)) got its (subst Is last (asking_cause opening mine old request refusal cause answered.wanted)))
 
   asked_tidy_is : (request : Request) → ((IsAlike old new × (request.number ≤ old.pass.last)) ⊎ IsMore request old new) → AreTidy (slice_set passes place new) places
   asked_tidy_is request cases =
@@ -476,8 +562,15 @@ module _ (first passes : List HeldPass) (places : List (ℕ × ℕ)) (place : �
 
 -- ---- in the end
 
--- a request that its client's pass was lent after was accepted before the store opened
-pub lent_before : (core : Core) (passes : List HeldPass) (client number : ℕ) → AllByRecursion (λ (held : HeldPass). IsCurrent held core) passes → IsLentAfter passes client number → number ≤ (client_of core.opening client).last
-lent_before core [] client number all lent = absurd lent
-lent_before core (held ∷ passes) client number all lent =
-    ⊎_elim (λ here. subst (λ c. number ≤ (client_of core.opening c).last) here.0 (subst (λ n. number ≤ n) all.0.lent_at here.1)) (λ there. lent_before core passes client number all.1 there) lent
+-- what is so of the number at which a client's pass was lent is so of its last one in the opening
+pub lent_in : (core : Core) (passes : List HeldPass) (client : ℕ) (is : ℕ → Type 0) → AllByRecursion (λ (held : HeldPass). IsCurrent held core) passes → IsLentAt passes client is → is (client_of core.opening client).last
+lent_in core [] client is all lent = absurd lent
+lent_in core (held ∷ passes) client is all lent =
+    ⊎_elim (λ here. subst (λ c. is (client_of core.opening c).last) here.0 (subst is all.0.lent_at here.1)) (λ there. lent_in core passes client is all.1 there) lent
+
+-- and so is what a step is refused for
+pub cause_in : (core : Core) (passes : List HeldPass) (accepts : List Event) (step : Step) (refusal : Refusal) → AllByRecursion (λ (held : HeldPass). IsCurrent held core) passes → IsStepCauseBy (shown_of core) passes accepts step refusal → IsStepCause (shown_of core) accepts step refusal
+cause_in core passes accepts (steps.Request client number to entry words) refusal all cause =
+    let mine = accepts_in client accepts in
+    ⊎_elim (λ any. any (client_of core.opening client).last) (λ lent. lent_in core passes client (λ last. IsAskingCause core.opening mine (last_of last mine) number to words refusal) all lent) cause
+cause_in core passes accepts step refusal all cause = cause

@@ -57,6 +57,7 @@ module _ {S : Type 0} (seat : S → HeldSeat) (worked : S → Worked) where
     count = sum_by (λ s. (worked s).count) new;
     delivered = subst (λ ids. HaveDelivered turns ids (map (λ s. (seat s).ids) new) (sum_by (λ s. (worked s).count) new)) (sym is) (all_served turns old new same each);
     accepts = refl;
+    knows = refl;
     drained = drained;
     counts = counts;
     left = left;

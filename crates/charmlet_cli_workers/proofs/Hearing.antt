@@ -5,27 +5,33 @@ use Rattle.std.specs.Prelude.{IfOk, OnOk, Some, Contains, slice_get, slice_set, 
 use Rattle.std.specs.List.{AllByRecursion}
 use Rattle.std.proofs.lemmas.List.{append-nil, append_assoc, take-take}
 use Rattle.std.proofs.lemmas.List.Elements.{All-contains, All-from_recursion, Contains-append_left, Contains-push}
+use Rattle.charmlet_model.specs.declared.client.ClientRow.{ClientRow}
+use Rattle.charmlet_model.specs.declared.event.Event.{Event}
 use Rattle.charmlet_model.specs.declared.refusal.Refusal.{Refusal}
+use Rattle.charmlet_model.specs.declared.step.Step.{Step}
+use Rattle.charmlet_model.specs.declared.step.Step.TheVariants as steps
 use Rattle.charmlet_model.specs.declared.told.Told.{Told}
 use Rattle.charmlet_model.specs.declared.told.Told.TheVariants.{Accepted}
 use Rattle.charmlet_model.specs.Core.{Core, present}
 use Rattle.charmlet_model.specs.Sound.{IsSound}
-use Rattle.charmlet_model.specs.Told.{Holds}
+use Rattle.charmlet_model.specs.Told.{Holds, told_of}
 use Rattle.charmlet_model.specs.World.{can_all, client_of}
 use Rattle.charmlet_model.proofs.Lasts.{holds_later}
 use Rattle.charmlet_recovery.proofs.Sealed.{can-take}
+use Rattle.charmlet_requests.specs.Knowing.{heard as hears}
 use Rattle.charmlet_requests.specs.Pass.{Pass, with_accept, with_told}
-use Rattle.charmlet_passes.specs.Passes.{AreTrue, HeldPass, IsAnswered, IsCurrent, with_answer, with_flush}
+use Rattle.charmlet_passes.specs.Passes.{AreTrue, HeldPass, IsAnswered, IsCurrent, accepts_in, with_answer, with_flush}
 use Rattle.charmlet_workers.specs.Runtime.{RuntimeShown}
 use Rattle.charmlet_cli.specs.Lines.{Names}
-use Rattle.charmlet_cli_workers.specs.Heard.{AreLater, IsHeard, IsLater, IsLentAfter, IsReached, IsSure, known_by}
-use Rattle.charmlet_cli_workers.specs.Said.{StaysTrue}
+use Rattle.charmlet_cli_workers.specs.Heard.{AreLater, IsHeard, IsLater, IsLentAt, IsReached, IsStepCauseBy, IsSure, known_by}
+use Rattle.charmlet_cli_workers.specs.Said.{IsAskingCause, StaysTrue, last_of}
+use Rattle.charmlet_cli_workers.proofs.Rows.{accepted_of, heard_least, last_known}
 use Rattle.charmlet_cli_workers.proofs.Sayings.{KnowsMore}
 
 -- ---- later passes
 
 pub same_pass : (held : HeldPass) → IsLater held held
-same_pass held = record { more = []; client = refl; lent_at = refl; last = le_refl held.pass.last; heard = sym (append-nil held.heard) }
+same_pass held = record { more = []; client = refl; lent_at = refl; last = le_refl held.pass.last; told = le_refl held.pass.row.last; heard = sym (append-nil held.heard) }
 
 pub same_passes : (passes : List HeldPass) → AreLater passes passes
 same_passes [] = tt
@@ -37,6 +43,7 @@ then_later a b c one two = record {
   client = two.client ∙ one.client;
   lent_at = two.lent_at ∙ one.lent_at;
   last = omega (arith, one.last, two.last);
+  told = omega (arith, one.told, two.told);
   heard = two.heard ∙ ap (λ xs. xs ++ two.more) one.heard ∙ append_assoc a.heard one.more two.more;
 }
 
@@ -55,7 +62,7 @@ one_more (h ∷ passes) held = (same_pass h, one_more passes held)
 flushed_pass : (held : HeldPass) → IsLater held (with_flush held)
 flushed_pass held =
     elim (nat_lt held.pass.lent_at held.pass.last) as (λ b. IsLater held (if b then with_answer held (with_told held.pass held.pass.last Accepted) held.pass.last Accepted else held)) [
-      | true ↦ record { more = (held.pass.last, Accepted) ∷ []; client = refl; lent_at = refl; last = le_refl held.pass.last; heard = refl }
+      | true ↦ record { more = (held.pass.last, Accepted) ∷ []; client = refl; lent_at = refl; last = le_refl held.pass.last; told = heard_least held.pass.row held.pass.last Accepted; heard = refl }
       | false ↦ same_pass held
     ]
 
@@ -82,25 +89,32 @@ still_reached (h ∷ old) [] client number later reached = absurd later
 still_reached (h ∷ old) (k ∷ new) client number later reached =
     ⊎_elim (λ here. inl (later.0.client ∙ here.0, omega (arith, here.1, later.0.last))) (λ there. inr (still_reached old new client number later.1 there)) reached
 
-pub still_lent : (old new : List HeldPass) (client number : ℕ) → AreLater old new → IsLentAfter old client number → IsLentAfter new client number
-still_lent [] new client number later lent = absurd lent
-still_lent (h ∷ old) [] client number later lent = absurd later
-still_lent (h ∷ old) (k ∷ new) client number later lent =
-    ⊎_elim (λ here. inl (later.0.client ∙ here.0, omega (arith, here.1, later.0.lent_at))) (λ there. inr (still_lent old new client number later.1 there)) lent
+pub still_lent : (old new : List HeldPass) (client : ℕ) (is : ℕ → Type 0) → AreLater old new → IsLentAt old client is → IsLentAt new client is
+still_lent [] new client is later lent = absurd lent
+still_lent (h ∷ old) [] client is later lent = absurd later
+still_lent (h ∷ old) (k ∷ new) client is later lent =
+    ⊎_elim (λ here. inl (later.0.client ∙ here.0, subst is (sym later.0.lent_at) here.1)) (λ there. inr (still_lent old new client is later.1 there)) lent
 
 pub still_sure : (old new : List HeldPass) (client number : ℕ) → AreLater old new → IsSure old client number → IsSure new client number
 still_sure [] new client number later sure = absurd sure
 still_sure (h ∷ old) [] client number later sure = absurd later
 still_sure (h ∷ old) (k ∷ new) client number later sure =
-    ⊎_elim (λ here. inl (later.0.client ∙ here.0, (here.1.0, here.1.1, heard_by_later h k here.1.0 Accepted later.0 here.1.2))) (λ there. inr (still_sure old new client number later.1 there)) sure
+    ⊎_elim (λ here. inl (later.0.client ∙ here.0, omega (arith, here.1, later.0.told))) (λ there. inr (still_sure old new client number later.1 there)) sure
+
+still_cause : (shown : RuntimeShown) (old new : List HeldPass) (accepts : List Event) (step : Step) (refusal : Refusal) → AreLater old new → IsStepCauseBy shown old accepts step refusal → IsStepCauseBy shown new accepts step refusal
+still_cause shown old new accepts (steps.Request client number to entry words) refusal later cause =
+    let mine = accepts_in client accepts in
+    ⊎_elim (λ any. inl any) (λ lent. inr (still_lent old new client (λ last. IsAskingCause shown.opening mine (last_of last mine) number to words refusal) later lent)) cause
+still_cause shown old new accepts step refusal later cause = cause
 
 -- later passes know more
 pub knows_later : (shown : RuntimeShown) (names : Names) (old new : List HeldPass) → AreLater old new → KnowsMore (known_by shown names old) (known_by shown names new)
 knows_later shown names old new later = record {
   told = λ client number told heard. still_heard old new client number told later heard;
   accepted = λ client number reached. still_reached old new client number later reached;
-  earlier = λ client number lent. still_lent old new client number later lent;
+  earlier = λ client number lent. still_lent old new client (λ last. number ≤ last) later lent;
   durable = λ client number sure. still_sure old new client number later sure;
+  refused = λ accepts step refusal cause. still_cause shown old new accepts step refusal later cause;
   target = λ name index to entry is. is;
   flushed = λ accepts count is. is;
   pending = λ count is. is;
@@ -141,7 +155,10 @@ pub sure_stays_true : (core : Core) (passes : List HeldPass) (client number : �
 sure_stays_true core [] client number sound all sure = absurd sure
 sure_stays_true core (held ∷ passes) client number sound all sure =
     ⊎_elim
-    (λ here. up_to core client number here.1.0 here.1.1 (heard_stays_true core (held ∷ passes) client here.1.0 Accepted sound all (inl (here.0, here.1.2))))
+    (λ here.
+    let row = held.pass.row in
+    let accepted = accepted_of core held.pass.client row.last (told_of row row.last) sound (last_known row) (all.0.told row.last) in
+    up_to core client number row.last here.1 (stays_true core client row.last Accepted sound (subst (λ c. Holds core.opening (take core.durable core.history) c row.last Accepted) here.0 accepted)))
     (λ there. sure_stays_true core passes client number sound all.1 there) sure
 
 -- and what was accepted is so in the present world
@@ -184,8 +201,8 @@ reached_at (h ∷ passes) (suc place) old new client number is its reached = inr
 -- ---- answers
 
 -- a pass is told one thing more
-pub told_pass : (old new : HeldPass) (number : ℕ) (told : Told) → new.pass.client ≡ old.pass.client → new.pass.lent_at ≡ old.pass.lent_at → old.pass.last ≤ new.pass.last → new.heard ≡ old.heard ++ (number, told) ∷ [] → IsLater old new
-told_pass old new number told client lent_at last heard = record { more = (number, told) ∷ []; client = client; lent_at = lent_at; last = last; heard = heard }
+pub told_pass : (old new : HeldPass) (number : ℕ) (told : Told) → new.pass.client ≡ old.pass.client → new.pass.lent_at ≡ old.pass.lent_at → old.pass.last ≤ new.pass.last → old.pass.row.last ≤ new.pass.row.last → new.heard ≡ old.heard ++ (number, told) ∷ [] → IsLater old new
+told_pass old new number told client lent_at last more heard = record { more = (number, told) ∷ []; client = client; lent_at = lent_at; last = last; told = more; heard = heard }
 
 reaches : (last number : ℕ) (b : Bool) → nat_lt last number ≡ b → (last ≤ (if b then number else last)) × (number ≤ (if b then number else last))
 reaches last number true is = (grind (arith, nat_tests), le_refl number)
@@ -204,8 +221,11 @@ module _ (passes : List HeldPass) (place : ℕ) (old new : HeldPass) (client num
   heard_new (Ok told) its answered = heard_at passes place old new client number told got (its ∙ of) (answer_is_heard old new number told answered.heard)
   heard_new (Err refusal) its answered = tt
 
-  later_new : (r : Result Told Refusal) → IfOk r (λ told. (new.pass.client ≡ old.pass.client) × (new.pass.lent_at ≡ old.pass.lent_at) × (old.pass.last ≤ new.pass.last)) → IsAnswered old new number r → AreLater passes (slice_set passes place new)
-  later_new (Ok told) its answered = later_at passes place old new got (told_pass old new number told its.0 its.1 its.2 answered.heard)
+  knows_more : (told : Told) → new.pass.row ≡ hears old.pass.row number told → old.pass.row.last ≤ new.pass.row.last
+  knows_more told row = subst (λ (r : ClientRow). old.pass.row.last ≤ r.last) (sym row) (heard_least old.pass.row number told)
+
+  later_new : (r : Result Told Refusal) → IfOk r (λ told. (new.pass.client ≡ old.pass.client) × (new.pass.lent_at ≡ old.pass.lent_at) × (old.pass.last ≤ new.pass.last) × (old.pass.row.last ≤ new.pass.row.last)) → IsAnswered old new number r → AreLater passes (slice_set passes place new)
+  later_new (Ok told) its answered = later_at passes place old new got (told_pass old new number told its.0 its.1 its.2 its.3 answered.heard)
   later_new (Err refusal) its answered = later_at passes place old new got (subst (λ (held : HeldPass). IsLater old held) (sym answered.err) (same_pass old))
 
   pub asked_heard : (r : Result Told Refusal) → IfOk r (λ told. new.pass ≡ with_accept (with_told old.pass number told) number) → IsAnswered old new number r → IfOk r (IsHeard (slice_set passes place new) client number)
@@ -218,7 +238,7 @@ module _ (passes : List HeldPass) (place : ℕ) (old new : HeldPass) (client num
 
   pub asked_later : (r : Result Told Refusal) → IfOk r (λ told. new.pass ≡ with_accept (with_told old.pass number told) number) → IsAnswered old new number r → AreLater passes (slice_set passes place new)
   asked_later (Ok told) is answered =
-      later_new (Ok told) (ap (λ (p : Pass). p.client) is, ap (λ (p : Pass). p.lent_at) is, subst (λ n. old.pass.last ≤ n) (sym (ap (λ (p : Pass). p.last) is)) (accept_reaches (with_told old.pass number told) number).0) answered
+      later_new (Ok told) (ap (λ (p : Pass). p.client) is, ap (λ (p : Pass). p.lent_at) is, subst (λ n. old.pass.last ≤ n) (sym (ap (λ (p : Pass). p.last) is)) (accept_reaches (with_told old.pass number told) number).0, knows_more told (ap (λ (p : Pass). p.row) is)) answered
   asked_later (Err refusal) is answered = later_new (Err refusal) tt answered
 
   pub stated_heard : (r : Result Told Refusal) → IfOk r (λ told. new.pass ≡ with_told old.pass number told) → IsAnswered old new number r → IfOk r (IsHeard (slice_set passes place new) client number)
@@ -227,5 +247,5 @@ module _ (passes : List HeldPass) (place : ℕ) (old new : HeldPass) (client num
 
   pub stated_later : (r : Result Told Refusal) → IfOk r (λ told. new.pass ≡ with_told old.pass number told) → IsAnswered old new number r → AreLater passes (slice_set passes place new)
   stated_later (Ok told) is answered =
-      later_new (Ok told) (ap (λ (p : Pass). p.client) is, ap (λ (p : Pass). p.lent_at) is, subst (λ n. old.pass.last ≤ n) (sym (ap (λ (p : Pass). p.last) is)) (le_refl old.pass.last)) answered
+      later_new (Ok told) (ap (λ (p : Pass). p.client) is, ap (λ (p : Pass). p.lent_at) is, subst (λ n. old.pass.last ≤ n) (sym (ap (λ (p : Pass). p.last) is)) (le_refl old.pass.last), knows_more told (ap (λ (p : Pass). p.row) is)) answered
   stated_later (Err refusal) is answered = later_new (Err refusal) tt answered

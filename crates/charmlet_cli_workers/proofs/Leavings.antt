@@ -1,5 +1,5 @@
 -- What runs by workers leave, and how they end.
-use Rattle.std.proofs.Common.{◌≡◌, ℕ, List, [], ◌∷◌, inl, inr, ⊎_elim, refl, sym, subst, ◌∙◌, Option, Some, None, Result, Ok, Err, OnOk}
+use Rattle.std.proofs.Common.{◌≡◌, ℕ, ◌≤◌, List, [], ◌∷◌, inl, inr, ⊎_elim, refl, sym, subst, ◌∙◌, Option, Some, None, Result, Ok, Err, OnOk}
 use Rattle.std.specs.Prelude.{IfErr, IfSome, IsErr, IsOk, IsSome}
 use Rattle.std.specs.List.{AllByRecursion}
 use Rattle.charmlet_model.specs.declared.names.MsgId.{MsgId}
@@ -15,9 +15,9 @@ use Rattle.charmlet_cli.specs.declared.restarting.RestartedLine.{RestartedLine}
 use Rattle.charmlet_requests.specs.Handlers.{IsTarget}
 use Rattle.charmlet_cli.specs.Lines.{Names}
 use Rattle.charmlet_workers.specs.Runtime.{HasAccepts, RuntimeShown, shown_of}
-use Rattle.charmlet_cli_workers.specs.Heard.{IsDoneBy, known_by}
+use Rattle.charmlet_cli_workers.specs.Heard.{IsDoneBy, IsStepCauseBy, known_by}
 use Rattle.charmlet_cli_workers.specs.Said.{ArePrinted, AreCutOff, AreSaid, Clients, Deeds, HaveDone, IsBrokenOff, WereFlushed, WerePending, known_in, unknown}
-use Rattle.charmlet_cli_workers.proofs.Asking.{accepts_are, lent_before}
+use Rattle.charmlet_cli_workers.proofs.Asking.{accepts_are, cause_in, lent_in}
 use Rattle.charmlet_cli_workers.proofs.Hearing.{heard_stays_true, reached_is_accepted, sure_stays_true}
 use Rattle.charmlet_cli_workers.proofs.Sayings.{KnowsMore, said_all_on, said_on}
 use Rattle.charmlet_disk.specs.declared.disk.Disk.{Ghosts}
@@ -76,8 +76,9 @@ knows_more : (shown : RuntimeShown) (names : Names) (core : Core) (passes : List
 knows_more shown names core passes of sound current = record {
   told = λ client number told heard. heard_stays_true core passes client number told sound current heard;
   accepted = λ client number reached. reached_is_accepted core passes client number current reached;
-  earlier = λ client number lent. lent_before core passes client number current lent;
+  earlier = λ client number lent. lent_in core passes client (λ last. number ≤ last) current lent;
   durable = λ client number sure. sure_stays_true core passes client number sound current sure;
+  refused = λ accepts step refusal cause. cause_in core passes accepts step refusal current (subst (λ (v : RuntimeShown). IsStepCauseBy v passes accepts step refusal) (shown_is shown core of) cause);
   target = λ name index to entry is. subst (λ (v : RuntimeShown). IsTarget v.opening index (names name) to entry) (shown_is shown core of) is;
   flushed = λ accepts count is. subst (λ (v : RuntimeShown). WereFlushed v.opening v.before v.processors accepts count) (shown_is shown core of) is;
   pending = λ count is. subst (λ (v : RuntimeShown). WerePending v.opening v.before v.processors count) (shown_is shown core of) is;
@@ -90,6 +91,7 @@ knows_nothing here = record {
   accepted = λ client number is. tt;
   earlier = λ client number is. tt;
   durable = λ client number is. tt;
+  refused = λ accepts step refusal is. tt;
   target = λ name index to entry is. tt;
   flushed = λ accepts count is. tt;
   pending = λ count is. tt;

@@ -3,7 +3,9 @@ pub mod Enough
 pub mod Leavings
 pub mod Beginnings
 pub mod Returnings
+pub mod Rows
 pub mod Hearing
 pub mod Sayings
 pub mod Asking
+pub mod Knowing
 pub mod Delivering

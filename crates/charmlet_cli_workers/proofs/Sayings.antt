@@ -13,7 +13,7 @@ use Rattle.charmlet_model.specs.declared.told.Told.{Told}
 use Rattle.charmlet_model.specs.Texts.{Text}
 use Rattle.charmlet_script.specs.declared.script.Line.{Line}
 use Rattle.charmlet_script.specs.declared.script.Line.TheVariants as lines
-use Rattle.charmlet_cli_workers.specs.Said.{Answers, Clients, Deeds, IsAccepted, IsDrained, SayInTurn, Says, SaysStep}
+use Rattle.charmlet_cli_workers.specs.Said.{Answers, Clients, Deeds, IsAccepted, IsDrained, SayInTurn, Says, SaysStep, having_told}
 
 -- all that is known of clients here is known there
 pub record KnowsMore (here there : Clients) : Type 0 where
@@ -21,6 +21,7 @@ pub record KnowsMore (here there : Clients) : Type 0 where
   pub accepted : (client number : ℕ) → here.accepted client number → there.accepted client number
   pub earlier : (client number : ℕ) → here.earlier client number → there.earlier client number
   pub durable : (client number : ℕ) → here.durable client number → there.durable client number
+  pub refused : (accepts : List Event) (step : Step) (refusal : Refusal) → here.refused accepts step refusal → there.refused accepts step refusal
   pub target : (name : Text) (index : ℕ) (to : Elem) (entry : ℕ) → here.target name index to entry → there.target name index to entry
   pub flushed : (accepts : List Event) (count : ℕ) → here.flushed accepts count → there.flushed accepts count
   pub pending : (count : ℕ) → here.pending count → there.pending count
@@ -31,9 +32,9 @@ module _ (here there : Clients) (more : KnowsMore here there) where
       ⊎_elim (λ new. inl new) (λ old. inr (old.0, ⊎_elim (λ lines. inl lines) (λ earlier. inr (more.earlier client number earlier)) old.1)) is
 
   answers_on : (before : Deeds) (answer : Answer) (step : Step) (after : Deeds) → Answers here before answer step after → Answers there before answer step after
-  answers_on before (answers.Refused refusal) step after is = is
-  answers_on before (answers.Told told) (steps.Request client number to entry words) after is = (more.told client number told is.0, more.accepted client number is.1, accepted_on before client number to entry words after is.2)
-  answers_on before (answers.Told told) (steps.Status client number) after is = (more.told client number told is.0, is.1)
+  answers_on before (answers.Refused refusal) step after is = (is.0, more.refused before.accepts step refusal is.1, is.2)
+  answers_on before (answers.Told told) (steps.Request client number to entry words) after is = ((more.told client number told is.0.0, is.0.1), more.accepted client number is.1, accepted_on (having_told before client number told) client number to entry words after is.2)
+  answers_on before (answers.Told told) (steps.Status client number) after is = ((more.told client number told is.0.0, is.0.1), is.1)
   answers_on before (answers.Told told) (steps.Deliver processor id) after is = absurd is
   answers_on before (answers.Told told) (steps.Move elem processor) after is = absurd is
   answers_on before (answers.Told told) steps.Flush after is = absurd is
@@ -66,6 +67,7 @@ module _ (here there : Clients) (more : KnowsMore here there) where
     count = is.count;
     delivered = is.delivered;
     accepts = is.accepts;
+    knows = is.knows;
     drained = is.drained;
     counts = is.counts;
     left = more.pending is.drained.left is.left;

@@ -1,9 +1,10 @@
 -- What lines of a run by workers print.
-use Rattle.std.specs.Prelude.{◌≡◌, ◌⊎◌, ℕ, ◌+◌, ◌-◌, ◌^◌, ◌<◌, ◌≤◌, min, Bool, true, false, ◌||◌, List, [], ◌∷◌, ◌++◌, length, take, Option, Some, None, IfSome, Result}
+use Rattle.std.specs.Prelude.{◌≡◌, ◌⊎◌, ℕ, ◌+◌, ◌-◌, ◌^◌, ◌<◌, ◌≤◌, ◌==◌, nat_lt, min, Bool, if◌then◌else◌, true, false, ◌||◌, List, [], ◌∷◌, ◌++◌, length, take, Option, Some, None, IfSome, Result}
 use Rattle.std.specs.Io.KnownBytes.{Appends}
 use Rattle.std.specs.List.{AllByRecursion, flat_map}
 use Rattle.charmlet_model.specs.declared.event.Event.{Event}
 use Rattle.charmlet_model.specs.declared.event.Event.TheVariants.{Accept, Deliver}
+use Rattle.charmlet_model.specs.declared.client.ClientRow.{ClientRow}
 use Rattle.charmlet_model.specs.declared.kind.Kind.{Kind}
 use Rattle.charmlet_model.specs.declared.names.Elem.{Elem}
 use Rattle.charmlet_model.specs.declared.names.MsgId.{MsgId}
@@ -17,12 +18,15 @@ use Rattle.charmlet_model.specs.declared.told.Told.{Told}
 use Rattle.charmlet_model.specs.declared.told.Told.TheVariants.{Accepted}
 use Rattle.charmlet_model.specs.Core.{Core, present}
 use Rattle.charmlet_model.specs.Sound.{IsSound}
-use Rattle.charmlet_model.specs.World.{World, client_of}
+use Rattle.charmlet_model.specs.Reaction.{capped, greatest}
+use Rattle.charmlet_model.specs.World.{World, client_of, edition_of_array}
 use Rattle.charmlet_model.specs.Texts.{Text, answer_text}
-use Rattle.charmlet_model.specs.Told.{Holds}
+use Rattle.charmlet_model.specs.Row.{no_client}
+use Rattle.charmlet_model.specs.Told.{Holds, told_of}
 use Rattle.charmlet_hub.specs.Hub.{deliveries_in}
 use Rattle.charmlet_passes.specs.Passes.{accepts_in}
 use Rattle.charmlet_requests.specs.Handlers.{IsTarget}
+use Rattle.charmlet_requests.specs.Knowing.{IsNoLess, heard}
 use Rattle.charmlet_seats.specs.Woven.{IsWoven}
 use Rattle.charmlet_sequencer.specs.Sequencer.{IsOf}
 use Rattle.charmlet_script.specs.declared.printed.Counted.{Counted}
@@ -35,7 +39,8 @@ use Rattle.charmlet_stock.specs.declared.by_kind.ByKind.{ByKind}
 use Rattle.charmlet_stock.specs.declared.pile.Tally.{Tally}
 use Rattle.charmlet_stock.specs.ByKind.{at}
 use Rattle.charmlet_store.specs.declared.look.Look.{Look}
-use Rattle.charmlet_workers.specs.Refusals.{is_flush_refusal, is_lending_refusal, is_move_refusal, is_request_refusal, is_status_refusal, is_work_refusal}
+use Rattle.charmlet_workers.specs.Refusals.{IsMoveCause, is_flush_refusal, is_lending_refusal, is_move_refusal, is_request_refusal, is_status_refusal, is_work_refusal}
+use Rattle.charmlet_workers.specs.Runtime.{RuntimeShown, shown_of}
 use Rattle.charmlet_workers.specs.Sealing.{IsLaterGeneration, is_sealing_refusal}
 use Rattle.charmlet_cli.specs.declared.restarting.RestartedLine.{RestartedLine}
 use Rattle.charmlet_cli.specs.Lines.{Names, in_lines, memory_text, named_by}
@@ -45,15 +50,17 @@ use Rattle.charmlet_cli.specs.Writing.{AppendsBeginning, Writes}
 
 -- ---- what lines do
 
--- What lines have done: the requests that were accepted, in order, and for each worker the ids of
--- the messages that it delivered, in order.
+-- What lines have done: the requests that were accepted, in order; for each worker the ids of the
+-- messages that it delivered, in order; and what each client knows by all that it was told.
 pub record Deeds : Type 0 where
   pub accepts : List Event
   pub delivered : List (List MsgId)
+  pub knows : ℕ → ClientRow
 
--- nothing was done
+-- nothing was done, and no client was told anything
 abbrev pub IsNothing : Deeds → Type 0
 IsNothing deeds = (deeds.accepts ≡ []) × AllByRecursion (λ ids. ids ≡ []) deeds.delivered
+    × ((client : ℕ) → deeds.knows client ≡ no_client)
 
 -- the number of the last of these accepts, or this one if there is none
 abbrev pub last_of : ℕ → List Event → ℕ
@@ -64,6 +71,23 @@ last_of number (Accept client other to entry words ∷ events) = last_of other e
 -- the number of the client's last accept among these, or 0
 abbrev pub last_by : ℕ → List Event → ℕ
 last_by client events = last_of 0 (accepts_in client events)
+
+-- a client was told this about a request
+abbrev pub having_told : Deeds → ℕ → ℕ → Told → Deeds
+having_told deeds client number told = record deeds {
+  knows = λ other. if client == other then heard (deeds.knows other) number told
+      else deeds.knows other;
+}
+
+-- what a client with this last accept knows after a flush, which tells it that this is accepted
+abbrev pub flushed_row : ClientRow → ℕ → ClientRow
+flushed_row row last = if nat_lt 0 last then heard row last Accepted else row
+
+-- a flush told each client that has accepts
+abbrev pub having_flushed : Deeds → Deeds
+having_flushed deeds = record deeds {
+  knows = λ client. flushed_row (deeds.knows client) (last_by client deeds.accepts);
+}
 
 -- In this history the accepts of each client are those of the lines, in order, and no others. Each
 -- of its deliveries was made by a worker in these lines, or without a seat: each of these lists is
@@ -92,17 +116,64 @@ pub record WerePending (opening : World) (before processors : ℕ) (count : ℕ)
   pub sound : IsSound core
   pub counted : count ≡ length (present core).pending
 
+-- ---- why steps are refused
+
+-- Why a request is refused to a client that has had these accepts since the store opened, and whose
+-- last number is this one. For want of a pass that is out it is refused only to a client that has
+-- had none. One that is out of turn isn't the next one, unless there are no more numbers, and not
+-- the last one; and it says the next one, or the greatest number. For all else it is the next one
+-- that is refused: there is no such array, or it has too many words; the client waits only after
+-- eight requests, and is one too many only before its first.
+abbrev pub IsAskingCause : World → List Event → (last : ℕ) → ℕ → Elem → List ℕ → Refusal →
+    Type 0
+IsAskingCause opening accepts last number to words refusals.Memory = Unit {0}
+IsAskingCause opening accepts last number to words refusals.Halted = Unit {0}
+IsAskingCause opening accepts last number to words refusals.PassOut = accepts ≡ []
+IsAskingCause opening accepts last number to words (refusals.OutOfTurn wanted) =
+    (wanted ≡ capped last 1) × (number ≡ last + 1 → greatest ≤ last)
+    × (number ≡ last → number ≡ 0)
+IsAskingCause opening accepts last number to words refusals.Waiting = (number ≡ last + 1)
+    × (8 ≤ last)
+IsAskingCause opening accepts last number to words refusals.NoArray = (number ≡ last + 1)
+    × (edition_of_array opening to.array ≡ None)
+IsAskingCause opening accepts last number to words refusals.TooLong = (number ≡ last + 1)
+    × (512 < length words)
+IsAskingCause opening accepts last number to words refusals.ClientsFull = (number ≡ last + 1)
+    × (last ≡ 0)
+IsAskingCause opening accepts last number to words refusals.HistoryFull = number ≡ last + 1
+IsAskingCause opening accepts last number to words _ = ⊥
+
+-- why a question is refused to a client that has had these accepts since the store opened
+abbrev pub IsStatusCause : List Event → Refusal → Type 0
+IsStatusCause accepts refusals.PassOut = accepts ≡ []
+IsStatusCause accepts _ = Unit {0}
+
+-- Why a step is refused after these accepts since a runtime opened, by what the lines and the
+-- arrays say; of a flush and of a checkpoint they say nothing.
+abbrev pub IsStepCause : RuntimeShown → List Event → Step → Refusal → Type 0
+IsStepCause shown accepts (steps.Request client number to entry words) refusal =
+    IsAskingCause shown.opening (accepts_in client accepts)
+    (last_of (client_of shown.opening client).last (accepts_in client accepts)) number to words
+    refusal
+IsStepCause shown accepts (steps.Status client number) refusal =
+    IsStatusCause (accepts_in client accepts) refusal
+IsStepCause shown accepts (steps.Move elem processor) refusal =
+    IsMoveCause shown elem processor refusal
+IsStepCause shown accepts step refusal = Unit {0}
+
 -- ---- what is known of it
 
 -- What is known of clients: what a client was told about which of its requests, which of them were
--- accepted, which before the store opened, and which are durable. Where a call of a name goes, to
--- the element with this index, and at which entry. And how many events there were when they were
--- flushed after these accepts, and how many pending messages at some moment.
+-- accepted, which before the store opened, and which are durable. Why a step is refused after these
+-- accepts. Where a call of a name goes, to the element with this index, and at which entry. And how
+-- many events there were when they were flushed after these accepts, and how many pending messages
+-- at some moment.
 pub record Clients : Type 1 where
   pub told : ℕ → ℕ → Told → Type 0
   pub accepted : ℕ → ℕ → Type 0
   pub earlier : ℕ → ℕ → Type 0
   pub durable : ℕ → ℕ → Type 0
+  pub refused : List Event → Step → Refusal → Type 0
   pub target : Text → ℕ → Elem → ℕ → Type 0
   pub flushed : List Event → ℕ → Type 0
   pub pending : ℕ → Type 0
@@ -113,14 +184,15 @@ abbrev pub StaysTrue : Core → ℕ → ℕ → Told → Type 0
 StaysTrue core client number told = (kept : ℕ) → core.durable ≤ kept → kept ≤ length core.history →
     Holds core.opening (take kept core.history) client number told
 
--- What was told stays true of this core, what was accepted is so in its present world, and what is
--- durable is so whichever events a crash leaves.
+-- What was told stays true of this core, what was accepted is so in its present world, what is
+-- durable is so whichever events a crash leaves, and steps are refused for their causes.
 abbrev pub known_in : Core → Names → Clients
 known_in core names = record {
   told = StaysTrue core;
   accepted = λ client number. Holds core.opening core.history client number Accepted;
   earlier = λ client number. number ≤ (client_of core.opening client).last;
   durable = λ client number. StaysTrue core client number Accepted;
+  refused = IsStepCause (shown_of core);
   target = λ name index to entry. IsTarget core.opening index (names name) to entry;
   flushed = WereFlushed core.opening core.before core.processors;
   pending = WerePending core.opening core.before core.processors;
@@ -133,6 +205,7 @@ unknown = record {
   accepted = λ client number. Unit {0};
   earlier = λ client number. Unit {0};
   durable = λ client number. Unit {0};
+  refused = λ accepts step refusal. Unit {0};
   target = λ name index to entry. Unit {0};
   flushed = λ accepts count. Unit {0};
   pending = λ count. Unit {0};
@@ -162,26 +235,34 @@ IsAccepted clients before client number to entry words after =
     ⊎ ((after ≡ before)
     × ((number ≤ last_by client before.accepts) ⊎ clients.earlier client number))
 
+-- A client is told what is so, and no less about the request than follows from all that it was told
+-- before, and no other words.
+abbrev pub IsTold : Clients → (before : Deeds) → ℕ → ℕ → Told → Type 0
+IsTold clients before client number told = clients.told client number told
+    × IsNoLess (told_of (before.knows client) number) told
+
 -- each of these accepts is durable, and so is each request before it
 abbrev pub AreDurable : Clients → List Event → Type 0
 AreDurable clients accepts = (client number : ℕ) → 0 < number → number ≤ last_by client accepts →
     clients.durable client number
 
--- An answer of a step's own form, or one of its refusals. A client was told what it says, a request
--- that isn't refused was accepted, and after a flush that isn't refused all accepts of the lines so
--- far are durable, and it tells how many events there were at that moment.
+-- An answer of a step's own form, or one of its refusals, for a cause. A client was told what it
+-- says, a request that isn't refused was accepted, and after a flush that isn't refused all accepts
+-- of the lines so far are durable, and it tells how many events there were at that moment.
 abbrev pub Answers : Clients → (before : Deeds) → Answer → Step → (after : Deeds) → Type 0
 Answers clients before (answers.Refused refusal) step after =
-    (is_refusal_of step refusal ≡ true) × (after ≡ before)
+    (is_refusal_of step refusal ≡ true) × clients.refused before.accepts step refusal
+    × (after ≡ before)
 Answers clients before (answers.Told told) (steps.Request client number to entry words) after =
-    clients.told client number told × clients.accepted client number
-    × IsAccepted clients before client number to entry words after
+    IsTold clients before client number told × clients.accepted client number
+    × IsAccepted clients (having_told before client number told) client number to entry words after
 Answers clients before (answers.Told told) (steps.Status client number) after =
-    clients.told client number told × (after ≡ before)
+    IsTold clients before client number told × (after ≡ having_told before client number told)
 Answers clients before (answers.Moved moved place) (steps.Move elem processor) after =
     (moved ≡ elem) × (place ≡ processor) × (after ≡ before)
 Answers clients before (answers.Flushed durable) steps.Flush after =
-    AreDurable clients before.accepts × clients.flushed before.accepts durable × (after ≡ before)
+    AreDurable clients before.accepts × clients.flushed before.accepts durable
+    × (after ≡ having_flushed before)
 Answers clients before (answers.Checkpointed generation) steps.Checkpoint after =
     IsLaterGeneration generation × (after ≡ before)
 Answers clients before answer step after = ⊥
@@ -217,6 +298,7 @@ pub record IsDrained (clients : Clients) (turns : ℕ) (before after : Deeds) (t
   pub count : ℕ
   pub delivered : HaveDelivered turns before.delivered after.delivered count
   pub accepts : after.accepts ≡ before.accepts
+  pub knows : after.knows ≡ before.knows
   pub drained : Drained
   pub counts : drained.delivered ≡ min count (2 ^ 32 - 1)
   pub left : clients.pending drained.left

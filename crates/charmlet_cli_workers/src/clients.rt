@@ -25,7 +25,8 @@ impl<B: RuntimeName> Clients<B> {
     ghost use Rattle.charmlet_passes.specs.Passes.{with_flush};
     ghost use Rattle.charmlet_workers.specs.Runtime.{AreFlushed};
     ghost use Rattle.charmlet_workers.specs.Refusals.{is_flush_refusal, is_lending_refusal, is_request_refusal, is_status_refusal};
-    ghost use Rattle.charmlet_cli_workers.specs.Heard.{AreAccepted, AreLater, AreTidy, HaveNone, IsAsked, IsHeard, IsPassOf, IsReached};
+    ghost use Rattle.charmlet_cli_workers.specs.Heard.{AreAccepted, AreLater, AreTidy, HaveNone, IsAsked, IsAskingCauseBy, IsHeard, IsPassOf, IsReached, IsToldBy, KnowTheSame, accepts_by};
+    ghost use Rattle.charmlet_cli_workers.specs.Said.{IsStatusCause};
 
     /// No client yet. It takes no memory.
     pub(crate) fn new(alloc: Global) -> Self
@@ -62,12 +63,19 @@ impl<B: RuntimeName> Clients<B> {
             self.new.passes.items) }
         ensures unasked { OnErr result (AreAccepted self.old.passes.items
             self.new.passes.items) }
+        ensures told { IfOk result (IsToldBy client request.now.number self.old.passes.items
+            self.new.passes.items) }
+        ensures untold { OnErr result (KnowTheSame self.old.passes.items
+            self.new.passes.items) }
         ensures heard { IfOk result (IsHeard self.new.passes.items client request.now.number) }
         ensures reached { OnOk result
             (IsReached self.new.passes.items client request.now.number) }
         ensures later { AreLater self.old.passes.items self.new.passes.items }
         ensures err { IfErr result (λ refusal.
             (is_request_refusal refusal || is_lending_refusal refusal) ≡ true) }
+        ensures cause { IfErr result (IsAskingCauseBy runtime.now.opening self.new.passes.items
+            (accepts_by client self.old.passes.items) client request.now.number request.now.to
+            request.now.words.now) }
     {
         match self.place_of(rt, runtime, client) {
             Ok(place) => runtime.request(rt, &mut self.passes[place], request),
@@ -87,10 +95,16 @@ impl<B: RuntimeName> Clients<B> {
         requires tidy { AreTidy self.old.passes.items self.old.places.entries }
         ensures tidy { AreTidy self.new.passes.items self.new.places.entries }
         ensures accepted { AreAccepted self.old.passes.items self.new.passes.items }
+        ensures told { IfOk result (IsToldBy client number self.old.passes.items
+            self.new.passes.items) }
+        ensures untold { OnErr result (KnowTheSame self.old.passes.items
+            self.new.passes.items) }
         ensures heard { IfOk result (IsHeard self.new.passes.items client number) }
         ensures later { AreLater self.old.passes.items self.new.passes.items }
         ensures err { IfErr result (λ refusal.
             (is_status_refusal refusal || is_lending_refusal refusal) ≡ true) }
+        ensures cause { IfErr result
+            (IsStatusCause (accepts_by client self.old.passes.items)) }
     {
         match self.place_of(rt, runtime, client) {
             Ok(place) => runtime.status(rt, &mut self.passes[place], number),
@@ -126,7 +140,9 @@ impl<B: RuntimeName> Clients<B> {
         requires tidy { AreTidy self.old.passes.items self.old.places.entries }
         ensures tidy { AreTidy self.new.passes.items self.new.places.entries }
         ensures accepted { AreAccepted self.old.passes.items self.new.passes.items }
+        ensures untold { KnowTheSame self.old.passes.items self.new.passes.items }
         ensures place { IfOk result (IsPassOf client self.new.passes.items) }
+        ensures none { OnErr result (HaveNone client self.old.passes.items) }
         ensures later { AreLater self.old.passes.items self.new.passes.items }
         ensures err { IfErr result (λ refusal. is_lending_refusal refusal ≡ true) }
     {
@@ -175,6 +191,7 @@ impl<B: RuntimeName> Clients<B> {
         requires tidy { AreTidy self.old.passes.items self.old.places.entries }
         ensures tidy { AreTidy self.new.passes.items self.new.places.entries }
         ensures accepted { AreAccepted self.old.passes.items self.new.passes.items }
+        ensures untold { KnowTheSame self.old.passes.items self.new.passes.items }
         ensures place { IfOk result (IsPassOf client self.new.passes.items) }
         ensures later { AreLater self.old.passes.items self.new.passes.items }
         ensures err { IfErr result (λ refusal. is_lending_refusal refusal ≡ true) }

@@ -42,9 +42,10 @@ use std::thread::Threads;
 /// all of them are told of each flush.
 ///
 /// The disk that comes back has a store that went on from the new one. Each line has printed an
-/// answer of its own form, or a refusal. What it told a client is true of that store whichever
-/// events a crash leaves, all durable ones among them; and a request that wasn't refused is
-/// accepted in it.
+/// answer of its own form, or a refusal, with its cause as far as the lines and the arrays say it.
+/// What it told a client is true of that store whichever events a crash leaves, all durable ones
+/// among them, and no less than follows from what the client was told before; and a request that
+/// wasn't refused is accepted in it.
 pub fn run_workers<D: Disk, C: Chare, W: Write, R: Threads + Wait + Sync>(
     rt: &R,
     alloc: Global,

@@ -5,10 +5,11 @@ use Rattle.charmlet_model.specs.declared.step.Step.{Step}
 use Rattle.charmlet_model.specs.declared.step.Step.TheVariants as steps
 use Rattle.charmlet_history.specs.declared.request.Request.{Request}
 use Rattle.charmlet_passes.specs.Passes.{HeldPass, with_flush}
-use Rattle.charmlet_cli_workers.specs.Heard.{AreAccepted, AreLater, AreTidy, known_by}
-use Rattle.charmlet_cli_workers.specs.Said.{Answers}
-use Rattle.charmlet_cli_workers.proofs.Asking.{accepts_flushed, done_same, flushed_durable, stated_answers, tidy_flushed, told_answers, were_flushed}
+use Rattle.charmlet_cli_workers.specs.Heard.{AreAccepted, AreLater, AreTidy, IsDoneBy, known_by}
+use Rattle.charmlet_cli_workers.specs.Said.{Answers, having_flushed}
+use Rattle.charmlet_cli_workers.proofs.Asking.{accepts_flushed, flushed_durable, stated_answers, tidy_flushed, told_answers, were_flushed}
 use Rattle.charmlet_cli_workers.proofs.Hearing.{flushed_passes, same_passes}
+use Rattle.charmlet_cli_workers.proofs.Knowing.{done_flushed}
 use Rattle.charmlet_cli_workers.proofs.lines.answer_to.Goals as goal
 
 pub returns-in-Ok-clause-later : goal.returns-in-Ok-clause-later
@@ -37,7 +38,7 @@ returns-in-Request-clause-answers g c = λ named lists before done.
     let asked = c.in-Request in
     let request : Request = record { number = asked.number; to = asked.to; entry = asked.entry; words = c.as_slice.result } in
     let words : c.as_slice.result.now ≡ asked.words = c.as_slice.ensures in
-    let did = told_answers c.args.runtime.now named old new lists before asked.client request c.request.result done c.request.ensures.asked c.request.ensures.unasked c.request.ensures.heard c.request.ensures.reached c.request.ensures.err in
+    let did = told_answers c.args.runtime.now named old new lists before asked.client request c.request.result done c.request.ensures.asked c.request.ensures.unasked c.request.ensures.told c.request.ensures.untold c.request.ensures.heard c.request.ensures.reached c.request.ensures.err c.request.ensures.cause in
     let after = did.0 in
     let told = subst (λ (a : Answer). Answers clients before a (steps.Request asked.client asked.number asked.to asked.entry c.as_slice.result.now) after) (sym c.told_answer.ensures) did.2 in
     let so = subst (λ (ws : List ℕ). Answers clients before c.told_answer.result (steps.Request asked.client asked.number asked.to asked.entry ws) after) words told in
@@ -49,7 +50,7 @@ returns-in-Status-clause-answers g c = λ named lists before done.
     let new = c.status.new.self.passes.items in
     let clients = known_by c.args.runtime.now named new in
     let asked = c.in-Status in
-    let did = stated_answers c.args.runtime.now named old new lists before asked.client asked.number c.status.result done c.status.ensures.accepted c.status.ensures.heard c.status.ensures.err in
+    let did = stated_answers c.args.runtime.now named old new lists before asked.client asked.number c.status.result done c.status.ensures.accepted c.status.ensures.told c.status.ensures.untold c.status.ensures.heard c.status.ensures.err c.status.ensures.cause in
     let after = did.0 in
     let told = subst (λ (a : Answer). Answers clients before a (steps.Status asked.client asked.number) after) (sym c.told_answer-in-Status.ensures) did.2 in
     (after, did.1, subst (λ (step : Step). Answers clients before c.told_answer-in-Status.result step after) (sym asked.is) told)
@@ -63,7 +64,7 @@ returns-in-Ok-clause-answers g c = λ named lists before done.
 pub returns-in-Err-clause-answers : goal.returns-in-Err-clause-answers
 returns-in-Err-clause-answers g c = λ named lists before done.
     let clients = known_by c.args.runtime.now named c.args.clients.now.passes.items in
-    (before, done, subst (λ (step : Step). Answers clients before (answers.Refused c.in-Err.refusal) step before) (sym c.in-Move.is) (c.in-Err.ensures.err, refl))
+    (before, done, subst (λ (step : Step). Answers clients before (answers.Refused c.in-Err.refusal) step before) (sym c.in-Move.is) (c.in-Err.ensures.err, c.in-Err.ensures.cause, refl))
 
 pub returns-in-Ok-flush-clause-answers : goal.returns-in-Ok-flush-clause-answers
 returns-in-Ok-flush-clause-answers g c = λ named lists before done.
@@ -74,15 +75,14 @@ returns-in-Ok-flush-clause-answers g c = λ named lists before done.
     let same = subst (AreAccepted old) (sym told) (accepts_flushed old) in
     let durable = flushed_durable c.args.runtime.now named old new lists before told c.requires.tidy.counted done in
     let counted = were_flushed c.args.runtime.now old new lists before c.in-Ok-flush.durable same done c.in-Ok-flush.ensures.flushed in
-    (before, done_same old new lists before same done, subst (λ (step : Step). Answers clients before (answers.Flushed c.in-Ok-flush.durable) step before) (sym c.in-Flush.is) (durable, counted, refl))
+    let after = having_flushed before in
+    let did = subst (λ (ps : List HeldPass). IsDoneBy ps lists after) (sym told) (done_flushed old lists before c.requires.tidy.counted done) in
+    (after, did, subst (λ (step : Step). Answers clients before (answers.Flushed c.in-Ok-flush.durable) step after) (sym c.in-Flush.is) (durable, counted, refl))
 
 pub returns-in-Err-flush-clause-answers : goal.returns-in-Err-flush-clause-answers
 returns-in-Err-flush-clause-answers g c = λ named lists before done.
-    let old = c.args.clients.now.passes.items in
-    let new = c.flush.new.self.passes.items in
-    let clients = known_by c.args.runtime.now named new in
-    let same : AreAccepted old new = subst (AreAccepted old) (sym c.in-Err-flush.ensures.untold) (λ client. refl) in
-    (before, done_same old new lists before same done, subst (λ (step : Step). Answers clients before (answers.Refused c.in-Err-flush.refusal) step before) (sym c.in-Flush.is) (c.in-Err-flush.ensures.err, refl))
+    let clients = known_by c.args.runtime.now named c.flush.new.self.passes.items in
+    (before, subst (λ (ps : List HeldPass). IsDoneBy ps lists before) (sym c.in-Err-flush.ensures.untold) done, subst (λ (step : Step). Answers clients before (answers.Refused c.in-Err-flush.refusal) step before) (sym c.in-Flush.is) (c.in-Err-flush.ensures.err, tt, refl))
 
 pub returns-in-Ok-checkpoint-clause-answers : goal.returns-in-Ok-checkpoint-clause-answers
 returns-in-Ok-checkpoint-clause-answers g c = λ named lists before done.
@@ -92,7 +92,7 @@ returns-in-Ok-checkpoint-clause-answers g c = λ named lists before done.
 pub returns-in-Err-checkpoint-clause-answers : goal.returns-in-Err-checkpoint-clause-answers
 returns-in-Err-checkpoint-clause-answers g c = λ named lists before done.
     let clients = known_by c.args.runtime.now named c.args.clients.now.passes.items in
-    (before, done, subst (λ (step : Step). Answers clients before (answers.Refused c.in-Err-checkpoint.refusal) step before) (sym c.in-Checkpoint.is) (c.in-Err-checkpoint.ensures.err, refl))
+    (before, done, subst (λ (step : Step). Answers clients before (answers.Refused c.in-Err-checkpoint.refusal) step before) (sym c.in-Checkpoint.is) (c.in-Err-checkpoint.ensures.err, tt, refl))
 
 pub returns-in-Ok-flush-clause-tidy : goal.returns-in-Ok-flush-clause-tidy
 returns-in-Ok-flush-clause-tidy g c =

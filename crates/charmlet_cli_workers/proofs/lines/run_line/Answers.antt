@@ -74,7 +74,7 @@ returns-in-Drain-clause-said g c = λ before done.
     let whole : take c.args.floor.now.stations.len (new ++ drop (length new) items) ≡ new =
     ap (λ ss. take c.args.floor.now.stations.len (new ++ ss)) (drop_all (length new) items (omega (arith, same))) ∙ ap (take c.args.floor.now.stations.len) (append-nil new) ∙ take_all c.args.floor.now.stations.len new (omega (arith, same, long)) in
     let after = record before { delivered = map (λ (s : Station g.row.B.Denot). s.seat.ids) c.drain_line.new.stations } in
-    (after, (record { accepts = done.accepts; delivered = ap (λ ss. map (λ (s : Station g.row.B.Denot). s.seat.ids) ss) (sym whole) }), (written.0, subst (λ (line : Line). Says clients before line written.0 after) (sym c.in-Drain.is) written.1, written.2))
+    (after, (record { accepts = done.accepts; delivered = ap (λ ss. map (λ (s : Station g.row.B.Denot). s.seat.ids) ss) (sym whole); knows = done.knows }), (written.0, subst (λ (line : Line). Says clients before line written.0 after) (sym c.in-Drain.is) written.1, written.2))
 
 pub returns-in-Call-clause-said : goal.returns-in-Call-clause-said
 returns-in-Call-clause-said g c = λ before done.

@@ -3,9 +3,10 @@ use Rattle.std.specs.Prelude.{length, slice_get, vec_len}
 use Rattle.charmlet_passes.specs.Passes.{HeldPass}
 use Rattle.std.specs.BTreeMap.{insert_entry}
 use Rattle.std.specs.Ordering.{nat_cmp}
-use Rattle.charmlet_cli_workers.specs.Heard.{AreAccepted, AreLater, AreTidy}
+use Rattle.charmlet_cli_workers.specs.Heard.{AreAccepted, AreLater, AreTidy, KnowTheSame}
 use Rattle.charmlet_cli_workers.proofs.Asking.{accepts_pushed, tidy_lent, tidy_placed}
 use Rattle.charmlet_cli_workers.proofs.Hearing.{last_pass, one_more, same_passes}
+use Rattle.charmlet_cli_workers.proofs.Knowing.{rows_pushed}
 use Rattle.charmlet_cli_workers.proofs.clients.Clients.lend.Goals as goal
 
 pub returns-then-is_err-clause-later : goal.returns-then-is_err-clause-later
@@ -80,3 +81,19 @@ returns-in-Ok-clause-tidy g c =
     let tidy = tidy_lent c.args.client lent.last pass.since passes places pass lent.new c.requires.none c.requires.tidy in
     subst (λ items. AreTidy items c.insert.new.self.entries) (sym items)
     (subst (AreTidy (passes ++ pass ∷ [])) (sym (put ∙ ap (insert_entry nat_cmp places c.args.client) place)) tidy)
+
+pub returns-then-is_err-clause-untold : goal.returns-then-is_err-clause-untold
+returns-then-is_err-clause-untold g c = subst (KnowTheSame c.args.self.now.passes.items) (sym c.reserve.ensures.items) (λ client. refl)
+
+pub returns-then-is_err-2-clause-untold : goal.returns-then-is_err-2-clause-untold
+returns-then-is_err-2-clause-untold g c = subst (KnowTheSame c.args.self.now.passes.items) (sym c.reserve.ensures.items) (λ client. refl)
+
+pub returns-in-Err-clause-untold : goal.returns-in-Err-clause-untold
+returns-in-Err-clause-untold g c = subst (KnowTheSame c.args.self.now.passes.items) (sym c.reserve.ensures.items) (λ client. refl)
+
+pub returns-in-Ok-clause-untold : goal.returns-in-Ok-clause-untold
+returns-in-Ok-clause-untold g c =
+    let passes = c.args.self.now.passes.items in
+    let pass = c.in-Ok.pass in
+    let items : c.push_reserved.new.self.items ≡ passes ++ pass ∷ [] = c.push_reserved.ensures.items ∙ ap (λ xs. xs ++ pass ∷ []) c.reserve.ensures.items in
+    subst (KnowTheSame passes) (sym items) (rows_pushed passes pass (ap (λ (held : HeldPass). held.pass.row) c.in-Ok.ensures.lent.new))
