@@ -1,6 +1,6 @@
 //! The end of a runtime.
 
-ghost use Rattle.std.specs.Prelude.{◌≡◌, ◌∷◌, ◌≤◌, false, IfErr, IfOk, map, vec_len};
+ghost use Rattle.std.specs.Prelude.{◌≡◌, [], ◌∷◌, ◌≤◌, false, IfErr, IfOk, map, vec_len};
 ghost use Rattle.std.specs.List.{AllByRecursion};
 ghost use Rattle.std.specs.Vec.{vec_capacity};
 ghost use Rattle.charmlet_model.specs.declared.refusal.Refusal.TheVariants as refusals;
@@ -37,13 +37,14 @@ pub struct NotClosed<D: Disk, C: Chare, B: RuntimeName> {
 
 impl<D: Disk, C: Chare, B: RuntimeName> Runtime<D, C, B> {
     /// Takes all apart, also when halted, and makes no call of the disk. A delivery that was made
-    /// and isn't committed is finished first. The objects of the store show the world after the
-    /// history, and the world with which it opened is the runtime's own. The ids that the seats
-    /// hold and those of the commits without a seat are all deliveries of the history: each stands
-    /// in one of these lists, in the history's order. Each pass has exactly its client's accepts,
-    /// and all that it knows of its client's requests is true of the durable events; a client
-    /// without a pass has no accepts. The disk is honest if the first one was; and then a crash
-    /// leaves the world after some of the history, with all durable events among it.
+    /// and isn't committed is finished first, and nothing is assigned then. The objects of the
+    /// store show the world after the history, and the world with which it opened is the runtime's
+    /// own. The ids that the seats hold and those of the commits without a seat are all deliveries
+    /// of the history: each stands in one of these lists, in the history's order. Each pass has
+    /// exactly its client's accepts, and all that it knows of its client's requests is true of the
+    /// durable events; a client without a pass has no accepts. The disk is honest if the first one
+    /// was; and then a crash leaves the world after some of the history, with all durable events
+    /// among it.
     ///
     /// It takes no memory. The only refusal is `PassOut`, if a seat or a pass that is out isn't handed
     /// in. Then the runtime, the seats and the passes come back.
@@ -54,6 +55,8 @@ impl<D: Disk, C: Chare, B: RuntimeName> Runtime<D, C, B> {
     ) -> Result<Closed<D, C>, NotClosed<D, C, B>>
         ensures of { IfOk result (λ closed. IsOf self.opening self.before self.processors
             (core_in closed.store.history)) }
+        ensures unassigned { IfOk result (λ closed.
+            (core_in closed.store.history).assigned ≡ []) }
         ensures agrees { IfOk result (λ closed. Agrees (core_in closed.store.history)
             closed.halves) }
         ensures keeping { IfOk result (λ closed. closed.store.keeping ≡ for_all false) }
