@@ -1,6 +1,6 @@
 -- What clients' passes hold as accepted requests, line after line.
 use Rattle.std.proofs.Common.{◌≡◌, ◌≢◌, ◌⊎◌, ℕ, zero, suc, ◌<◌, ◌≤◌, ◌==◌, Bool, true, false, List, [], ◌∷◌, ◌++◌, length, map, inl, inr, ⊎_elim, refl, sym, ap, subst, ◌∙◌, arith, le_refl, Some, Result, Ok, Err, if◌then◌else◌, cond, nat_lt}
-use Rattle.std.specs.Prelude.{IfErr, IfOk, OnErr, OnOk, slice_get, slice_set}
+use Rattle.std.specs.Prelude.{◌&&◌, IfErr, IfOk, OnErr, OnOk, slice_get, slice_set}
 use Rattle.std.specs.List.{AllByRecursion}
 use Rattle.std.specs.Map.{lookup}
 use Rattle.std.specs.BTreeMap.{insert_entry, is_at}
@@ -27,8 +27,8 @@ use Rattle.charmlet_model.specs.World.{World, client_of}
 use Rattle.charmlet_model.proofs.Fits.{tied_itself-nat}
 use Rattle.charmlet_model.proofs.Maps.{lookup-insert_entry}
 use Rattle.charmlet_history.specs.declared.request.Request.{Request}
-use Rattle.charmlet_requests.specs.Knowing.{IsNoLess, heard as hears}
-use Rattle.charmlet_requests.specs.Pass.{Pass, with_accept, with_told}
+use Rattle.charmlet_requests.specs.Knowing.{IsNoLess, heard as hears, is_unknown}
+use Rattle.charmlet_requests.specs.Pass.{Pass, known, with_accept, with_told}
 use Rattle.charmlet_passes.specs.Passes.{HaveAllAccepts, HeldPass, IsAnswered, IsCurrent, accept_of, accepts_after, accepts_in, lent_since, with_answer, with_flush}
 use Rattle.charmlet_passes.proofs.Lasting.{accepts_in-append, untied}
 use Rattle.charmlet_passes.proofs.Places.{all-last, at_end, at_set}
@@ -38,7 +38,7 @@ use Rattle.std.specs.Prelude.{◌||◌}
 use Rattle.charmlet_cli.specs.Lines.{Names}
 use Rattle.charmlet_workers.specs.Runtime.{AreFlushed, HasAccepts, RuntimeShown, shown_of}
 use Rattle.charmlet_cli_workers.specs.Heard.{AreAccepted, AreRising, AreTidy, HaveNone, IsAsked, IsCounted, IsAskingCauseBy, IsDoneBy, IsHeard, IsLentAt, IsPassOf, IsReached, IsStepCauseBy, IsSure, IsToldBy, KnowTheSame, accepts_by, known_by, row_by}
-use Rattle.charmlet_cli_workers.proofs.Rows.{reached_least}
+use Rattle.charmlet_cli_workers.proofs.Rows.{reached_least, test_true, told_within}
 use Rattle.charmlet_cli_workers.specs.Said.{Answers, AreDurable, Deeds, IsAskingCause, IsStatusCause, IsStepCause, IsTold, WereFlushed, having_told, last_of}
 
 -- ---- numbers of accepts
@@ -77,7 +77,7 @@ alike held = record { client = refl; lent_at = refl; last = refl; accepts = refl
 
 pub flushed_alike : (held : HeldPass) → IsAlike held (with_flush held)
 flushed_alike held =
-    elim (nat_lt held.pass.lent_at held.pass.last) as (λ b. IsAlike held (if b then with_answer held (with_told held.pass held.pass.last Accepted) held.pass.last Accepted else held)) [
+    elim (nat_lt held.pass.lent_at held.pass.last && is_unknown (known held.pass held.pass.last)) as (λ b. IsAlike held (if b then with_answer held (with_told held.pass held.pass.last Accepted) held.pass.last Accepted else held)) [
       | true ↦ record { client = refl; lent_at = refl; last = refl; accepts = refl }
       | false ↦ alike held
     ]
@@ -304,10 +304,12 @@ no_place client passes places tidy never = λ place is. never place (subst (λ c
 
 flushed_reaches : (held : HeldPass) → held.pass.lent_at < held.pass.last → held.pass.last ≤ (with_flush held).pass.row.last
 flushed_reaches held less =
-    elim (nat_lt held.pass.lent_at held.pass.last) as (λ b. nat_lt held.pass.lent_at held.pass.last ≡ b →
-    held.pass.last ≤ (if b then with_answer held (with_told held.pass held.pass.last Accepted) held.pass.last Accepted else held).pass.row.last) [
-      | true ↦ λ _. (reached_least held.pass.row held.pass.last).0
-      | false ↦ λ none. let more = ltb-false held.pass.lent_at held.pass.last none in absurd (omega (arith, less, more))
+    let row = held.pass.row in
+    let last = held.pass.last in
+    elim (nat_lt held.pass.lent_at held.pass.last && is_unknown (known held.pass held.pass.last)) as (λ b. (nat_lt held.pass.lent_at held.pass.last && is_unknown (known held.pass held.pass.last)) ≡ b →
+    last ≤ (if b then with_answer held (with_told held.pass last Accepted) last Accepted else held).pass.row.last) [
+      | true ↦ λ _. (reached_least row last).0
+      | false ↦ λ off. told_within row last (ap (λ b. b && is_unknown (told_of row last)) (sym (test_true held.pass.lent_at last less)) ∙ off)
     ] refl
 
 -- all accepts of its client are durable after it

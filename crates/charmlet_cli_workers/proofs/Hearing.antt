@@ -1,7 +1,7 @@
 -- What clients' passes know, and that it stays true.
 use Rattle.std.proofs.Common.{◌≡◌, ℕ, zero, suc, ◌≤◌, List, [], ◌∷◌, ◌++◌, Bool, length, map, take, drop, inl, inr, ⊎_elim, refl, sym, ap, subst, ◌∙◌, true, false, Result, Ok, Err, le_refl, arith, take-append-drop}
 use Rattle.std.proofs.lemmas.Bool.Decides.{nat_tests}
-use Rattle.std.specs.Prelude.{IfOk, OnOk, Some, Contains, slice_get, slice_set, nat_lt, if◌then◌else◌}
+use Rattle.std.specs.Prelude.{◌&&◌, IfOk, OnOk, Some, Contains, slice_get, slice_set, nat_lt, if◌then◌else◌}
 use Rattle.std.specs.List.{AllByRecursion}
 use Rattle.std.proofs.lemmas.List.{append-nil, append_assoc, take-take}
 use Rattle.std.proofs.lemmas.List.Elements.{All-contains, All-from_recursion, Contains-append_left, Contains-push}
@@ -18,8 +18,8 @@ use Rattle.charmlet_model.specs.Told.{Holds, told_of}
 use Rattle.charmlet_model.specs.World.{can_all, client_of}
 use Rattle.charmlet_model.proofs.Lasts.{holds_later}
 use Rattle.charmlet_recovery.proofs.Sealed.{can-take}
-use Rattle.charmlet_requests.specs.Knowing.{heard as hears}
-use Rattle.charmlet_requests.specs.Pass.{Pass, with_accept, with_told}
+use Rattle.charmlet_requests.specs.Knowing.{heard as hears, is_unknown}
+use Rattle.charmlet_requests.specs.Pass.{Pass, known, with_accept, with_told}
 use Rattle.charmlet_passes.specs.Passes.{AreTrue, HeldPass, IsAnswered, IsCurrent, accepts_in, with_answer, with_flush}
 use Rattle.charmlet_workers.specs.Runtime.{RuntimeShown}
 use Rattle.charmlet_cli.specs.Lines.{Names}
@@ -61,7 +61,7 @@ one_more (h ∷ passes) held = (same_pass h, one_more passes held)
 -- a flush tells each of them
 flushed_pass : (held : HeldPass) → IsLater held (with_flush held)
 flushed_pass held =
-    elim (nat_lt held.pass.lent_at held.pass.last) as (λ b. IsLater held (if b then with_answer held (with_told held.pass held.pass.last Accepted) held.pass.last Accepted else held)) [
+    elim (nat_lt held.pass.lent_at held.pass.last && is_unknown (known held.pass held.pass.last)) as (λ b. IsLater held (if b then with_answer held (with_told held.pass held.pass.last Accepted) held.pass.last Accepted else held)) [
       | true ↦ record { more = (held.pass.last, Accepted) ∷ []; client = refl; lent_at = refl; last = le_refl held.pass.last; told = heard_least held.pass.row held.pass.last Accepted; heard = refl }
       | false ↦ same_pass held
     ]

@@ -1,6 +1,6 @@
 -- What clients know by their passes, line after line.
 use Rattle.std.proofs.Common.{◌≡◌, ℕ, zero, suc, ◌==◌, Bool, true, false, List, [], ◌∷◌, ◌++◌, map, ⊎_elim, refl, sym, ap, subst, ◌∙◌, arith, Some, Result, Ok, Err, if◌then◌else◌, nat_lt}
-use Rattle.std.specs.Prelude.{IfOk, OnErr, slice_get, slice_set}
+use Rattle.std.specs.Prelude.{◌&&◌, IfOk, OnErr, slice_get, slice_set}
 use Rattle.std.specs.List.{AllByRecursion}
 use Rattle.std.proofs.lemmas.Map.Views.{exact_unsigned_eq}
 use Rattle.charmlet_model.specs.declared.client.ClientRow.{ClientRow}
@@ -10,7 +10,7 @@ use Rattle.charmlet_model.specs.declared.told.Told.{Told}
 use Rattle.charmlet_model.specs.declared.told.Told.TheVariants.{Accepted}
 use Rattle.charmlet_model.specs.Row.{no_client}
 use Rattle.charmlet_model.specs.Told.{told_of}
-use Rattle.charmlet_requests.specs.Knowing.{IsNoLess, heard}
+use Rattle.charmlet_requests.specs.Knowing.{IsNoLess, heard, is_unknown}
 use Rattle.charmlet_requests.specs.Pass.{Pass, known, with_accept, with_told}
 use Rattle.charmlet_passes.specs.Passes.{HeldPass, IsAnswered, with_answer, with_flush}
 use Rattle.charmlet_cli_workers.specs.Heard.{AreTidy, IsCounted, IsDoneBy, IsToldBy, KnowTheSame, accepts_by, row_by}
@@ -95,7 +95,7 @@ module _ (first passes : List HeldPass) (places : List (ℕ × ℕ)) (place : �
 
 -- what is known where a flush tells, or doesn't
 abbrev row_if : Bool → ClientRow → ℕ → ClientRow
-row_if b row number = if b then heard row number Accepted else row
+row_if b row number = if b && is_unknown (told_of row number) then heard row number Accepted else row
 
 row_flushed : (held : HeldPass) → IsCounted held → (with_flush held).pass.row ≡ flushed_row held.pass.row (last_of 0 held.accepts)
 row_flushed held counted =
@@ -105,7 +105,7 @@ row_flushed held counted =
     let mine = last_of 0 held.accepts in
     let last_is = counted.last in
     let told : (with_flush held).pass.row ≡ row_if (nat_lt from last) row last =
-    elim (nat_lt from last) as (λ b. (if b then with_answer held (with_told held.pass last Accepted) last Accepted else held).pass.row ≡ row_if b row last) [ true ↦ refl | false ↦ refl ] in
+    elim (nat_lt from last && is_unknown (told_of row last)) as (λ b. (if b then with_answer held (with_told held.pass last Accepted) last Accepted else held).pass.row ≡ (if b then heard row last Accepted else row)) [ true ↦ refl | false ↦ refl ] in
     told
     ∙ ⊎_elim
     (λ none.

@@ -12,7 +12,7 @@ use Rattle.charmlet_model.specs.World.{can_all, client_of, world}
 use Rattle.charmlet_model.proofs.Lasts.{holds_later}
 use Rattle.charmlet_model.proofs.Windows.{inside-parts}
 use Rattle.charmlet_recovery.proofs.Sealed.{can-take}
-use Rattle.charmlet_requests.specs.Knowing.{IsNoLess, gone_on, greater, heard, passed, reached}
+use Rattle.charmlet_requests.specs.Knowing.{IsNoLess, gone_on, greater, heard, is_unknown, passed, reached}
 use Rattle.charmlet_requests.proofs.Covering.{replied-parts}
 
 pub test_true : (a b : ℕ) → a < b → nat_lt a b ≡ true
@@ -55,6 +55,14 @@ last_known row =
       | true ↦ elim (reply_to row row.last) as (λ item. IsNoLess Accepted (told_of_item item)) [ None ↦ tt | Some reply ↦ tt ]
       | false ↦ tt
     ])
+
+-- and so was each of which it knows anything
+pub told_within : (row : ClientRow) (number : ℕ) → is_unknown (told_of row number) ≡ false → number ≤ row.last
+told_within row number known =
+    elim (nat_lt row.last number) as (λ b. nat_lt row.last number ≡ b → is_unknown (if b then Unknown else if in_window row number then told_of_item (reply_to row number) else Past) ≡ false → number ≤ row.last) [
+      | true ↦ λ _ no. let never : ⊥ = cc in absurd never
+      | false ↦ λ off _. ltb-false row.last number off
+    ] refl known
 
 -- what is so of a request that isn't unknown: it is accepted
 pub accepted_of : (core : Core) (client number : ℕ) (told : Told) → IsSound core → IsNoLess Accepted told → Holds core.opening (take core.durable core.history) client number told → Holds core.opening (take core.durable core.history) client number Accepted

@@ -1,5 +1,5 @@
 -- What lines of a run by workers print.
-use Rattle.std.specs.Prelude.{◌≡◌, ◌⊎◌, ℕ, ◌+◌, ◌-◌, ◌^◌, ◌<◌, ◌≤◌, ◌==◌, nat_lt, min, Bool, if◌then◌else◌, true, false, ◌||◌, List, [], ◌∷◌, ◌++◌, length, take, Option, Some, None, IfSome, Result}
+use Rattle.std.specs.Prelude.{◌≡◌, ◌⊎◌, ℕ, ◌+◌, ◌-◌, ◌^◌, ◌<◌, ◌≤◌, ◌==◌, nat_lt, min, Bool, if◌then◌else◌, true, false, ◌||◌, ◌&&◌, List, [], ◌∷◌, ◌++◌, length, take, Option, Some, None, IfSome, Result}
 use Rattle.std.specs.Io.KnownBytes.{Appends}
 use Rattle.std.specs.List.{AllByRecursion, flat_map}
 use Rattle.charmlet_model.specs.declared.event.Event.{Event}
@@ -26,7 +26,7 @@ use Rattle.charmlet_model.specs.Told.{Holds, told_of}
 use Rattle.charmlet_hub.specs.Hub.{deliveries_in}
 use Rattle.charmlet_passes.specs.Passes.{accepts_in}
 use Rattle.charmlet_requests.specs.Handlers.{IsTarget}
-use Rattle.charmlet_requests.specs.Knowing.{IsNoLess, heard}
+use Rattle.charmlet_requests.specs.Knowing.{IsNoLess, heard, is_unknown}
 use Rattle.charmlet_seats.specs.Woven.{IsWoven}
 use Rattle.charmlet_sequencer.specs.Sequencer.{IsOf}
 use Rattle.charmlet_script.specs.declared.printed.Counted.{Counted}
@@ -80,8 +80,10 @@ having_told deeds client number told = record deeds {
 }
 
 -- what a client with this last accept knows after a flush, which tells it that this is accepted
+-- where it knew nothing of it
 abbrev pub flushed_row : ClientRow → ℕ → ClientRow
-flushed_row row last = if nat_lt 0 last then heard row last Accepted else row
+flushed_row row last =
+    if nat_lt 0 last && is_unknown (told_of row last) then heard row last Accepted else row
 
 -- a flush told each client that has accepts
 abbrev pub having_flushed : Deeds → Deeds
