@@ -26,9 +26,9 @@ pub enum WorkersError<T: Drop> {
     /// A line couldn't be written: the output failed, or there was no memory for its text. A
     /// beginning of what is printed was written.
     Output(io::Error),
-    /// Each line was run and written, and the runtime wasn't taken apart, since a seat or a pass that
-    /// it lent wasn't handed in. So the disk doesn't come back. All are handed in, but who is out
-    /// stands under a lock, and so no clause says it.
+    /// Each line was run and written, and the runtime wasn't taken apart, since a seat or a pass
+    /// that it lent wasn't handed in. So the disk doesn't come back. All are handed in, but who is
+    /// out stands under a lock, and so no clause says it.
     NotClosed,
 }
 

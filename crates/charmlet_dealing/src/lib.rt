@@ -1,5 +1,5 @@
-//! Dealing: a pass over a log gives each worker its tasks, and a blank for each construction that is
-//! written.
+//! Dealing: a pass over a log gives each worker its tasks, and a blank for each construction that
+//! is written.
 #![tactic(auto)]
 
 mod blank;

@@ -82,9 +82,9 @@ impl<D: Disk, C: Chare, B: RuntimeName> Hub<D, C, B> {
 
     /// Adds the delivery that the receiver on the shelf has made to the history, and its id to
     /// those that the seat holds, which has to have room for it. It answers the id. An object that
-    /// is destroyed by the delivery is retired. The processors that are to deliver what the receiver
-    /// sent have tickets for it. It takes no memory. The only refusal is `Halted`: then all is as
-    /// before, and the delivery can still be [finished](Self::finish).
+    /// is destroyed by the delivery is retired. The processors that are to deliver what the
+    /// receiver sent have tickets for it. It takes no memory. The only refusal is `Halted`: then
+    /// all is as before, and the delivery can still be [finished](Self::finish).
     pub fn commit(
         &mut self,
         locked: &mut LockedShelf<C, B>,

@@ -60,7 +60,8 @@ impl<D: Disk, C: Chare, B: RuntimeName> Hub<D, C, B> {
     /// shelves were locked.
     ///
     /// The refusal is the first that applies of `Halted`, `Checkpointing`, `Uncommitted` where one
-    /// of the two processors has an assigned message, `NoBlank` and `Memory`. Then all is as before.
+    /// of the two processors has an assigned message, `NoBlank` and `Memory`. Then all is as
+    /// before.
     pub fn relocate(
         &mut self,
         from: &mut LockedShelf<C, B>,

@@ -54,8 +54,8 @@ impl Model for KeptWorld {
     ghost invariant = { λ w. is_processor_count w.processors ≡ true };
 }
 
-// Written by hand, so that dropping all that it has is proved here, and not in each crate that drops
-// one.
+// Written by hand, so that dropping all that it has is proved here, and not in each crate that
+// drops one.
 impl Drop for KeptWorld {
     fn drop(self) {
         let KeptWorld {

@@ -46,8 +46,8 @@ impl<D: Disk, C: Chare, B: RuntimeName> Runtime<D, C, B> {
     /// was; and then a crash leaves the world after some of the history, with all durable events
     /// among it.
     ///
-    /// It takes no memory. The only refusal is `PassOut`, if a seat or a pass that is out isn't handed
-    /// in. Then the runtime, the seats and the passes come back.
+    /// It takes no memory. The only refusal is `PassOut`, if a seat or a pass that is out isn't
+    /// handed in. Then the runtime, the seats and the passes come back.
     pub fn close(
         self,
         seats: Vec<Seat<SeatsOf<B>>>,

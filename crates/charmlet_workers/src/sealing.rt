@@ -19,11 +19,11 @@ use std::sync::Wait;
 
 impl<D: Disk, C: Chare, B: RuntimeName> Runtime<D, C, B> {
     /// Makes all events durable by an image that means the present world, which takes the place of
-    /// the store in the spare half, and answers its generation. It takes the lock of one shelf after
-    /// another, for as long as packing what stands there takes, and then the hub's, under which it
-    /// writes. Meanwhile others work: requests, deliveries, questions and flushes go on, but moves
-    /// and other checkpoints are refused `Checkpointing`. A delivery that was made on a shelf and
-    /// isn't committed is committed first. No client is told anything.
+    /// the store in the spare half, and answers its generation. It takes the lock of one shelf
+    /// after another, for as long as packing what stands there takes, and then the hub's, under
+    /// which it writes. Meanwhile others work: requests, deliveries, questions and flushes go on,
+    /// but moves and other checkpoints are refused `Checkpointing`. A delivery that was made on a
+    /// shelf and isn't committed is committed first. No client is told anything.
     ///
     /// `Halted`; `Checkpointing` if one runs already; `Memory`; `ImageFull` if the generation would
     /// be past 2^40 or the file past 2^31 bytes: then nothing becomes durable, and it has ended.

@@ -205,9 +205,9 @@ impl<D: Disk, C: Chare, B: RuntimeName> Runtime<D, C, B> {
     ///
     /// Each try takes the bytes of the lock, and of the hub beside it, from the processor that has
     /// them; and a worker that waits has to be woken by another one. So one that finds the lock
-    /// taken stays away for longer and longer, in which another worker makes several deliveries, and
-    /// waits only after many tries. It begins with half of what it stayed away before it had the
-    /// lock the last time, so that it comes back soon where others seldom take the lock.
+    /// taken stays away for longer and longer, in which another worker makes several deliveries,
+    /// and waits only after many tries. It begins with half of what it stayed away before it had
+    /// the lock the last time, so that it comes back soon where others seldom take the lock.
     fn lock_hub<R: Wait>(&self, rt: &R, pace: &mut Pace) -> MutexGuard<'_, Hub<D, C, B>> {
         if let Some(guard) = self.hub.try_lock() {
             return guard;
