@@ -27,11 +27,11 @@ use Rattle.charmlet_recovery.specs.Faults.{InEvents, catch_up_tests, event_tests
 use Rattle.charmlet_recovery.specs.Recovered.{upgraded}
 use Rattle.charmlet_recovery.proofs.FirstFaults.{places}
 use Rattle.charmlet_recovery.specs.Replays.{IsBeginning, LogPass, pass_after}
+use Rattle.charmlet_recovery.specs.RestartLaws.{IsEnough}
 use Rattle.charmlet_recovery.specs.Restarts.{wanted_of}
 use Rattle.charmlet_recovery.proofs.Good.{image-good, log-events}
 use Rattle.charmlet_recovery.proofs.Sound.{log-legal}
 use Rattle.charmlet_chare.specs.declared.chare.Chare.{Ghosts}
-use Rattle.charmlet_stock.specs.Stock.{blanks_in}
 use Rattle.charmlet_world.specs.Seen.{Seen, present_rows}
 use Rattle.charmlet_partition.specs.Parts.{Falls}
 use Rattle.charmlet_partition.proofs.Falling.{catch-ups-fall}
@@ -39,11 +39,11 @@ use Rattle.charmlet_replies.specs.Filled.{AreButForReplies}
 use Rattle.charmlet_replies.proofs.Kept.{keeps-others}
 use Rattle.charmlet_routing.specs.Kept.{IsAsPass, IsSomeWorld}
 use Rattle.charmlet_routing.proofs.Following.{follows_begins, is_pass, pass_of}
-use Rattle.charmlet_replay.specs.Lists.{IsFirstFault, events_in, places_in}
+use Rattle.charmlet_replay.specs.Lists.{HasBlanksFor, IsFirstFault, events_in, places_in}
 use Rattle.charmlet_replay.specs.Replayed.{HasBlanksForImage, IsFaultAt, IsOpenIn}
 use Rattle.charmlet_replay.proofs.Offsets.{event_at}
 use Rattle.charmlet_replay.proofs.Faulty.{events_faulty, no_fault, offset_at}
-use Rattle.charmlet_replay.proofs.OpenHalves.{blanks_for_image, few_before, good_events, image_good, log_is, means_are, read_is, saved}
+use Rattle.charmlet_replay.proofs.OpenHalves.{few_before, good_events, image_good, log_is, means_are, read_is, saved}
 use Rattle.charmlet_replay.proofs.Whole.{base_is_fit, log_has_blanks}
 use Rattle.charmlet_lots.specs.declared.lot.Lot.{Lot}
 use Rattle.charmlet_lots.specs.Tasks.{HasNoTask, HaveReplies}
@@ -83,8 +83,13 @@ module _ (bytes : List ℕ) (s : Saved) (half : OpenHalf) (is : IsOpenIn bytes s
   pub packed : ArePacked half.image.manifest half.image.entries.items
   packed = subst (λ (i : Image). ArePacked i.manifest half.image.entries.items) (sym is.view.image) is.view.packed
 
-  pub for_image : (given : Blanks) → ((kind : Kind) → wanted_of s kind ≤ given kind) → HasBlanksForImage image given
-  for_image given enough = blanks_for_image bytes s half is given enough
+  pub for_image : (given : Blanks) → IsEnough given (wanted s.image []) → HasBlanksForImage image given
+  for_image given enough = record {
+    mark = s.header.mark;
+    log = [];
+    good = image_good bytes s half is;
+    enough = λ kind. subst (λ i. wanted i [] kind ≤ given kind) (sym is.view.image) (enough kind);
+  }
 
   enough_for : (given : Blanks) → ((kind : Kind) → wanted_of s kind ≤ given kind) → (kind : Kind) → wanted image log kind ≤ given kind
   enough_for given enough kind = subst (λ i. wanted i log kind ≤ given kind) (sym is.view.image) (subst (λ ls. wanted s.image ls kind ≤ given kind) (sym (log_is bytes s half is)) (enough kind))
@@ -110,13 +115,17 @@ module _ (bytes : List ℕ) (s : Saved) (half : OpenHalf) (is : IsOpenIn bytes s
     pub idle : All HasNoTask lots
     idle v d less = (back.caught_up.rest v (get_or lots v d) (slice_get-get_or lots v d less)).tasks
 
-    pub ready : ((kind : Kind) → wanted_of s kind ≤ given kind) → IsReadyForLog (base image) before log k left lots
-    ready enough = record {
+    pub ready : IsReadyForLog (base image) k lots
+    ready = record {
       fit = fit;
       follows = shows_follows k (base image) back.shows;
       parts = subst (λ (w : Elem → ℕ). AreParts w (base image).records lots) (sym worker_is) back.caught_up.parts;
-      blanks = log_has_blanks image before log given left (image-good s.header.mark image (image_good bytes s half is)) typed back.caught_up.pass back.was_sent back.caught_up.taken (enough_for given enough);
     }
+
+    -- where there are enough blanks for the half, there are for its log
+    has_blanks : IsEnough given (wanted_of s) → HasBlanksFor left (base image) before log
+    has_blanks enough =
+        log_has_blanks image before log given left (image-good s.header.mark image (image_good bytes s half is)) typed back.caught_up.pass back.was_sent back.caught_up.taken (enough_for given enough)
 
     -- the same with the arrays of what is kept
     module _ (kinds : Kinds) (same : kinds ≡ half.image.manifest) where
@@ -129,8 +138,8 @@ module _ (bytes : List ℕ) (s : Saved) (half : OpenHalf) (is : IsOpenIn bytes s
       pub logged_kept : AllByRecursion (IsLogged kinds) (events_in kinds rest)
       logged_kept = subst (λ ks. AllByRecursion (IsLogged ks) (events_in ks rest)) (sym same) (good_events bytes s half is)
 
-      pub ready_kept : ((kind : Kind) → wanted_of s kind ≤ given kind) → IsReadyForLog (base image) before (events_in kinds rest) k left lots
-      ready_kept enough = subst (λ ks. IsReadyForLog (base image) before (events_in ks rest) k left lots) (sym same) (ready enough)
+      pub blanks_kept : IsEnough given (wanted_of s) → HasBlanksFor left (base image) before (events_in kinds rest)
+      blanks_kept enough = subst (λ ks. HasBlanksFor left (base image) before (events_in ks rest)) (sym same) (has_blanks enough)
 
       pub fault_kept : (n : ℕ) → IsFirstFault (event_tests (base image) before (events_in kinds rest)) (places_in (read_log kinds rest)) n → IsFirstFault (event_tests (base image) before log) placed n
       fault_kept n h = subst (λ ks. IsFirstFault (event_tests (base image) before (events_in ks rest)) (places_in (read_log ks rest)) n) same h

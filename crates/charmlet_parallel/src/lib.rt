@@ -5,4 +5,4 @@
 mod redoing;
 mod replaying;
 
-pub use crate::replaying::replay_by;
+pub use crate::replaying::{NotRepeated, replay_by};

@@ -1,19 +1,21 @@
 //! The three rounds of a recovery, by several workers.
 
-ghost use Rattle.std.specs.Prelude.{◌≡◌, ◌-◌, ◌<◌, ◌≤◌, ℕ, List, Err, IfOk, length, true};
+ghost use Rattle.std.specs.Prelude.{◌≡◌, ◌-◌, ◌<◌, ℕ, [], List, Err, IfOk, length, true};
 ghost use Rattle.std.specs.List.{All};
-ghost use Rattle.charmlet_model.specs.declared.kind.Kind as kinds;
 ghost use Rattle.charmlet_locate.specs.Locations.{is_processor_count};
 ghost use Rattle.charmlet_record.specs.declared.reader.Fault as faults;
 ghost use Rattle.charmlet_record.specs.declared.reader.ReadError.TheVariants.{Damaged};
 ghost use Rattle.charmlet_record.specs.Reading.{read_log};
 ghost use Rattle.charmlet_image.specs.Images.{Saved};
 ghost use Rattle.charmlet_image.specs.Views.{image_said};
+ghost use Rattle.charmlet_recovery.specs.Blanks.{wanted};
+ghost use Rattle.charmlet_recovery.specs.RestartLaws.{IsEnough};
 ghost use Rattle.charmlet_recovery.specs.Restarts.{wanted_of};
 ghost use Rattle.charmlet_stock.specs.Stock.{blanks_in};
 ghost use Rattle.charmlet_replay.specs.Lists.{places_in};
 ghost use Rattle.charmlet_replay.specs.Replayed.{IsFaultAt, IsOpenIn};
 ghost use Rattle.charmlet_dealing.specs.Keeping.{KeepsAll};
+ghost use Rattle.charmlet_rounds.specs.declared.unfinished.Unfinished.TheVariants.{Lack, Read};
 ghost use Rattle.charmlet_recalling.specs.Filled.{IsEmptyLot};
 ghost use Rattle.charmlet_parallel.specs.Redone.{IsRedone};
 
@@ -23,8 +25,7 @@ use charmlet_kept::KeptWorld;
 use charmlet_lots::Lot;
 use charmlet_model::Manifest;
 use charmlet_recalling::recall;
-use charmlet_record::ReadError;
-use charmlet_rounds::redo_log;
+use charmlet_rounds::{Unfinished, redo_log};
 use charmlet_stock::Stock;
 use std::alloc::Global;
 use std::thread::Threads;
@@ -34,7 +35,9 @@ use std::thread::Threads;
 /// have.
 ///
 /// `Damaged` has the place of the first record that is at fault, in the catch-up list, else among
-/// the pending messages, else in the log; `Memory`. Whatever it answers, no object is lost.
+/// the pending messages, else in the log; `Memory`. `Lack` where the stock has no blank for an
+/// event of the log that is written to construct its receiver. Whatever it answers, no object is
+/// lost.
 pub(crate) fn redo_half<R: Threads + Sync, C: Chare>(
     rt: &R,
     alloc: Global,
@@ -44,10 +47,10 @@ pub(crate) fn redo_half<R: Threads + Sync, C: Chare>(
     image: ImageView<'_>,
     log: &LogView<'_>,
     processors: u16,
-) -> Result<(Manifest, KeptWorld), ReadError>
+) -> Result<(Manifest, KeptWorld), Unfinished>
     requires half { (bytes : List ℕ) × (s : Saved)
         × IsOpenIn bytes s (record { header = header.now; image = image; log = log.now })
-        × ((kind : kinds.Kind) → wanted_of s kind ≤ blanks_in stock.old kind) }
+        × IsEnough (blanks_in stock.old) (wanted s.image []) }
     requires processors { is_processor_count processors ≡ true }
     requires some { 0 < length lots.old }
     requires empty { All (IsEmptyLot processors) lots.old }
@@ -58,8 +61,11 @@ pub(crate) fn redo_half<R: Threads + Sync, C: Chare>(
         (blanks_in stock.old) (blanks_in stock.new) back.1 lots.new) }
     ensures fault { (bytes : List ℕ) (s : Saved) →
         IsOpenIn bytes s (record { header = header.now; image = image.entry; log = log.now }) →
-        (fault : faults.Fault) → result ≡ Err (Damaged fault) →
+        (fault : faults.Fault) → result ≡ Err (Read (Damaged fault)) →
         IsFaultAt s (length bytes - fault.left) }
+    ensures lack { (bytes : List ℕ) (s : Saved) →
+        IsOpenIn bytes s (record { header = header.now; image = image.entry; log = log.now }) →
+        result ≡ Err Lack → IsEnough (blanks_in stock.old) (wanted_of s) → ⊥ }
 {
     let (manifest, mut world) = recall(rt, alloc, stock, lots, image, processors)?;
     redo_log(rt, alloc, &mut world, header.events, log, stock, lots)?;

@@ -1,5 +1,5 @@
 -- What a restart answers is what the files say, and the blanks that are given.
-use Rattle.std.proofs.Common.{◌≡◌, ◌≤◌, ◌⊎◌, ⊎_elim, inl, inr, ℕ, ◌-◌, List, refl, sym, ap, subst, ◌∙◌}
+use Rattle.std.proofs.Common.{◌≡◌, ◌≤◌, ◌⊎◌, ⊎_elim, inl, inr, ℕ, ◌-◌, List, refl, sym, ap, subst, ◌∙◌, arith}
 use Rattle.std.specs.Prelude.{Option, Some, None, option_map, Result, Ok, Err, true}
 use Rattle.charmlet_model.specs.declared.half.Half.{Half}
 use Rattle.charmlet_model.specs.declared.half.Half.TheVariants.{Zero, One}
@@ -18,7 +18,6 @@ use Rattle.charmlet_recovery.specs.Blanks.{least_short}
 use Rattle.charmlet_record.specs.declared.reader.Fault.{Fault}
 use Rattle.charmlet_record.specs.declared.reader.ReadError.{ReadError}
 use Rattle.charmlet_record.specs.declared.reader.ReadError.TheVariants.{Damaged, Memory}
-use Rattle.charmlet_recovery.specs.Faults.{Place}
 use Rattle.charmlet_recovery.specs.Meanings.{Meaning, Faulty, Whole}
 use Rattle.charmlet_recovery.specs.Recovered as files
 use Rattle.charmlet_recovery.specs.Recovered.{meaning_of, recovered, recovered_by, recovered_from}
@@ -60,6 +59,12 @@ has_cause X why refusals.Memory e = inl refl
 has_cause X why refusals.Device e = inr (inl refl)
 has_cause X why _ e = inr (inr e)
 
+-- whatever would have been answered in its place
+pub answers_as : (X Y : Type 0) (why : Option Refusal) (refusal : Refusal) → AnswersBy {X = X} why (Err refusal) → AnswersBy {X = Y} why (Err refusal)
+answers_as X Y why refusals.Memory e = tt
+answers_as X Y why refusals.Device e = tt
+answers_as X Y why _ e = e
+
 -- ---- answers of halves
 
 -- why a restart is refused, by what is taken
@@ -98,6 +103,16 @@ short_first (Some lack) refusal later e = e
 -- what was counted is what is wanted, and so is what lacks of it
 pub same_lack : (given needed wanted : Blanks) → ((kind : Kind) → needed kind ≡ wanted kind) → lack_refusal (least_short given needed) ≡ short_refusal (least_short given wanted) None
 same_lack given needed wanted same = short_alone (least_short given needed) ∙ ap (λ (counted : Blanks). short_refusal (least_short given counted) None) (λ i kind. same kind i)
+
+none_lacks : (given needed : Blanks) → IsEnough given needed → (lack : Option (Kind × ℕ)) → Lacks given needed lack → lack ≡ None
+none_lacks given needed enough None h = refl
+none_lacks given needed enough (Some lack) h = absurd (let short = h.short in let all = enough lack.0 in let no : ⊥ = omega (arith, short, all) in no)
+
+-- where there are enough blanks and no record is at fault
+pub whole_answers : {X : Type 0} (given : Blanks) (half : Half) (s : Saved) → IsEnough given (wanted_of s) → (w : World) (count : ℕ) (back : X) → meaning_of s ≡ Whole w count → AnswersBy (taken_refusal given (Takes half s)) (Ok back)
+whole_answers given half s enough w count back means =
+    ap (λ (lack : Option (Kind × ℕ)). short_refusal lack (fault_refusal half s (meaning_of s))) (none_lacks given (wanted_of s) enough (least_short given (wanted_of s)) (least_short_is_found given (wanted_of s)))
+    ∙ ap (fault_refusal half s) means
 
 module _ (given : Blanks) (half : Half) (s : Saved) where
   -- where blanks lack, or memory is refused before they are counted

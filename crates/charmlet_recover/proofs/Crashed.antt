@@ -8,7 +8,6 @@ use Rattle.charmlet_model.specs.declared.refusal.Refusal.{Refusal}
 use Rattle.charmlet_model.specs.declared.refusal.Refusal.TheVariants as refusals
 use Rattle.charmlet_model.specs.Core.{Blanks}
 use Rattle.charmlet_model.specs.World.{World, world}
-use Rattle.charmlet_chare.specs.declared.chare.Chare as chares
 use Rattle.charmlet_disk.specs.declared.disk.Disk as disks
 use Rattle.charmlet_recovery.specs.Blanks.{least_short}
 use Rattle.charmlet_recovery.specs.Outcomes.{IsLawful}

@@ -1,5 +1,5 @@
 -- What is left of the blanks that a restart was given.
-use Rattle.std.proofs.Common.{◌≡◌, ℕ, ◌+◌, List, [], ◌∷◌, Option, Some, None, refl, ap, ◌∙◌}
+use Rattle.std.proofs.Common.{◌≡◌, ℕ, ◌+◌, List, [], ◌∷◌, Option, Some, None, refl, ap, ◌∙◌, arith}
 use Rattle.std.specs.List.{AllByRecursion, flat_map}
 use Rattle.charmlet_model.specs.declared.kind.Kind.{Kind}
 use Rattle.charmlet_model.specs.declared.logged.Logged.{Logged}
@@ -15,6 +15,7 @@ use Rattle.charmlet_recovery.specs.Faults.{Place, first_fault}
 use Rattle.charmlet_recovery.specs.Meanings.{Whole, meaning, unless_faulty}
 use Rattle.charmlet_recovery.specs.Recovered.{log_of, meaning_of}
 use Rattle.charmlet_recovery.proofs.Saving.{went_on}
+use Rattle.charmlet_recovery.specs.RestartLaws.{IsEnough}
 use Rattle.charmlet_recovery.specs.Restarts.{wanted_of}
 use Rattle.charmlet_recovery.proofs.Good.{image-good, log-events}
 use Rattle.charmlet_recovery.proofs.BlankLogs.{blanks-made}
@@ -44,3 +45,7 @@ wanted_are_made s w count good means kind =
 pub left_unwanted : (s : Saved) (w : World) (count : ℕ) → IsSaved s → meaning_of s ≡ Whole w count → (given left : Blanks) →
     ((kind : Kind) → left kind + made s.image (log_of s) kind ≡ given kind) → (kind : Kind) → left kind + wanted_of s kind ≡ given kind
 left_unwanted s w count good means given left taken kind = ap (λ (n : ℕ). left kind + n) (wanted_are_made s w count good means kind) ∙ taken kind
+
+-- so there were enough
+pub were_enough : (s : Saved) (w : World) (count : ℕ) → IsSaved s → meaning_of s ≡ Whole w count → (given left : Blanks) → ((kind : Kind) → left kind + made s.image (log_of s) kind ≡ given kind) → IsEnough given (wanted_of s)
+were_enough s w count good means given left taken kind = let sum = left_unwanted s w count good means given left taken kind in omega (arith, sum)

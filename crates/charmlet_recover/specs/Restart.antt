@@ -30,6 +30,7 @@ use Rattle.charmlet_stock.specs.Stock.{blanks_in, census_of, keeping_of}
 use Rattle.charmlet_record.specs.declared.reader.ReadError.{ReadError}
 use Rattle.charmlet_record.specs.declared.reader.ReadError.TheVariants.{Damaged, Memory}
 use Rattle.charmlet_replay.specs.declared.replaying.Replayed.{Replayed}
+use Rattle.charmlet_recover.specs.declared.replaying.NotReopened.{NotReopened}
 use Rattle.charmlet_recover.specs.declared.restarting.Recovered.{Recovered}
 use Rattle.charmlet_recover.specs.declared.restarting.NotRestarted.{NotRestarted}
 use Rattle.charmlet_store.specs.Store.{blanks_of, supplied_in}
@@ -188,6 +189,12 @@ IsShortOfSome given (refusals.BlanksWanted kind count) = (bytes : List ℕ) × (
 IsShortOfSome given _ = Unit {0}
 
 -- ---- one half
+
+-- that the store came back, or why not
+abbrev pub reopened_or_refused : {C : Type 0} {H : chares.Ghosts C} →
+    Result (Replayed C) (NotReopened C H) → Result (Replayed C) Refusal
+reopened_or_refused (Ok back) = Ok back
+reopened_or_refused (Err refused) = Err refused.refusal
 
 -- a fault of a half of so many bytes, by how many are left from its record on, is damage at its
 -- offset

@@ -10,6 +10,7 @@ mod half;
 mod lack;
 mod logged;
 mod reopening;
+mod replaying;
 mod restarting;
 mod settled;
 mod wanted;

@@ -4,5 +4,7 @@
 mod forgetting;
 mod log_round;
 mod portions;
+mod unfinished;
 
 pub use crate::log_round::redo_log;
+pub use crate::unfinished::Unfinished;

@@ -6,7 +6,7 @@ ghost use Rattle.charmlet_replay.specs.Unused.{IsUnused};
 use charmlet_halves::{Surveyed, survey};
 use charmlet_locate::is_processor_count;
 use charmlet_model::{Answer, Elem, Half, Kind, Refusal};
-use charmlet_parallel::replay_by;
+use charmlet_parallel::{NotRepeated, replay_by};
 use charmlet_plain_recovery::{Recovered as Plain, recover};
 use charmlet_probe_disk::ProbeDisk;
 use charmlet_probe_objects::{Object, Tally, blanks};
@@ -14,6 +14,7 @@ use charmlet_probe_store::wanted_objects;
 use charmlet_record::{Fault, ReadError};
 use charmlet_recover::{NotRestarted, Recovered, replayable_half, restart_by, stock_of};
 use charmlet_replay::{NotReplayed, Replayed, replay};
+use charmlet_rounds::Unfinished;
 use charmlet_stock::Stock;
 use charmlet_store::Store;
 use std::alloc::{AllocError, AllocGlobal, Global};
@@ -221,7 +222,13 @@ fn replay_by_workers<R: Threads + Sync + AllocGlobal + Abort>(
     assert!(rt; is_processor_count(processors));
     assert!(rt; is_processor_count(workers));
     match replayable_half(rt.alloc(), found, &stock) {
-        Ok(half) => replay_by(rt, rt.alloc(), half, stock, processors, workers),
+        Ok(half) => match replay_by(rt, rt.alloc(), half, stock, processors, workers) {
+            Ok(replayed) => Ok(replayed),
+            Err(NotRepeated { why, blanks }) => match why {
+                Unfinished::Read(why) => Err(NotReplayed { why, blanks }),
+                Unfinished::Lack => panic!(rt; "there are blanks enough"),
+            },
+        },
         Err(_) => panic!(rt; "there are blanks enough"),
     }
 }

@@ -1,18 +1,19 @@
-use Rattle.std.proofs.Common.{rules, ◌≡◌, ◌+◌, ◌<◌, ◌≤◌, ◌^◌, ℕ, List, [], ◌++◌, length, take, drop, refl, sym, ap, subst, ◌∙◌, arith}
+use Rattle.std.proofs.Common.{rules, ◌≡◌, ◌<◌, ◌≤◌, ℕ, List, [], ◌++◌, length, take, drop, refl, sym, ap, subst, ◌∙◌, arith}
+use Rattle.std.specs.Prelude.{Err}
 use Rattle.std.specs.List.{All}
 use Rattle.charmlet_model.specs.declared.kind.Kind.{Kind}
-use Rattle.charmlet_model.specs.World.{World}
-use Rattle.charmlet_image.specs.declared.half.OpenHalf.{OpenHalf}
-use Rattle.charmlet_image.specs.Views.{image_said}
+use Rattle.charmlet_recovery.specs.Blanks.{wanted}
 use Rattle.charmlet_recovery.specs.Restarts.{wanted_of}
 use Rattle.charmlet_stock.specs.declared.stock.Stock.{Stock}
 use Rattle.charmlet_stock.specs.Stock.{blanks_in, supplied_to}
-use Rattle.charmlet_store.specs.Store.{supplied_in}
 use Rattle.charmlet_lots.specs.declared.lot.Lot.{Lot}
 use Rattle.charmlet_dealing.specs.Keeping.{IsHeldLot, KeepsAll}
 use Rattle.charmlet_recalling.specs.Filled.{IsEmptyLot}
-use Rattle.charmlet_replay.proofs.Begun.{unused_counts}
 use Rattle.charmlet_replay.proofs.OpenHalves.{few_generations, some_generation}
+use Rattle.charmlet_record.specs.declared.reader.ReadError.TheVariants as errors
+use Rattle.charmlet_recovery.specs.RestartLaws.{IsEnough}
+use Rattle.charmlet_rounds.specs.declared.unfinished.Unfinished.{Unfinished}
+use Rattle.charmlet_rounds.specs.declared.unfinished.Unfinished.TheVariants.{Lack, Read}
 use Rattle.charmlet_parallel.proofs.Redone.{few_events}
 use Rattle.charmlet_parallel.proofs.Repeating.{all_done, arrays_are, given_back, joinable, repeated, shared_back, some_workers, written_back}
 use Rattle.charmlet_parallel.proofs.Sharing.{all_held, none_supplied, same_blanks, same_supplied, shared_left, shared_none, supplied_left}
@@ -63,7 +64,7 @@ redo_half-done-requires-clause-half g c κs within =
     let unused = c.requires.unused in
     let census = c.keep_retired.ensures.census in
     let its = c.requires.half in
-    (its.0, its.1, its.2, λ kind. subst (λ (k : ℕ). wanted_of its.1 kind ≤ k) (sym (same_blanks blanks first unused census kind)) (its.3 kind))
+    (its.0, its.1, its.2, λ kind. subst (λ (k : ℕ). wanted its.1.image [] kind ≤ k) (sym (same_blanks blanks first unused census kind)) (its.3 kind))
 
 pub redo_half-done-requires-clause-empty : goal.redo_half-done-requires-clause-empty
 redo_half-done-requires-clause-empty g c κs within =
@@ -284,6 +285,20 @@ refuse-requires-in-Err-clause-shared g c κs within =
     let all = take c.in-Ok.lots.len (news ++ drop (length news) lots) in
     let back : all ≡ news = written_back c.in-Ok.lots.len news lots many keeps.count in
     shared_back all stock news stock back refl (shared_left blanks first unused census stock lots news none keeps)
+
+pub returns-clause-fault : goal.returns-clause-fault
+returns-clause-fault g c = λ bytes s is fault why.
+    let failed : c.in-Err.why ≡ Read (errors.Damaged fault) = sym c.refuse-in-Err.ensures.why ∙ why in
+    c.in-Err.ensures.fault bytes s is fault (ap (λ (u : Unfinished). Err u) failed)
+
+pub returns-clause-lack : goal.returns-clause-lack
+returns-clause-lack g c = λ bytes s is why enough.
+    let blanks = c.args.blanks in
+    let first = c.keep_retired.new.self in
+    let same = same_blanks blanks first c.requires.unused c.keep_retired.ensures.census in
+    let lack : c.in-Err.why ≡ Lack = sym c.refuse-in-Err.ensures.why ∙ why in
+    let still : IsEnough (blanks_in first) (wanted_of s) = λ (kind : Kind). subst (λ (k : ℕ). wanted_of s kind ≤ k) (sym (same kind)) (enough kind) in
+    c.in-Err.ensures.lack bytes s is (ap (λ (u : Unfinished). Err u) lack) still
 
 pub returns-clause-kept : goal.returns-clause-kept
 returns-clause-kept g c =
