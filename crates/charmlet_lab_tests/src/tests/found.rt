@@ -13,15 +13,33 @@ use std::test::Fail;
 const SCRIPT: &str = "array 0 1\nsupply 1 1\nreq 7 1 0 0 65535 5\ndeliver 0 c7.1\nflush\n\
     status 7 1\nreq 7 2 0 0 0 3\ndeliver 0 c7.2\nstatus 7 2\nflush\nstatus 7 2\nstatus 7 1\n";
 
-// Counts how often it is told something.
+// Two counters are asked for, and drained at once.
+const DRAINED: &str = "array 0 1\nsupply 1 2\nreq 7 1 0 0 65535 5\nreq 8 1 0 1 65535 5\n\
+    drain 9\nflush\n";
+
+// What it was told, and how often.
 #[derive(Drop)]
 struct Told {
     times: u64,
+    first: Option<LabLine>,
+    last: Option<LabLine>,
+}
+
+impl Told {
+    fn nothing() -> Self {
+        Told {
+            times: 0,
+            first: None,
+            last: None,
+        }
+    }
 }
 
 impl Watch for Told {
-    fn tell(&mut self, _line: &LabLine) {
+    fn tell(&mut self, line: &LabLine) {
         self.times = self.times.saturating_add(1);
+        self.first = Some(self.first.unwrap_or(*line));
+        self.last = Some(*line);
     }
 }
 
@@ -30,7 +48,7 @@ fn an_honest_disk_is_found_good(rt: HostRuntime) -> Result<(), Fail> {
     let rt = &rt;
     let alloc = rt.alloc();
     let script = read_script(alloc, &mut SCRIPT.as_bytes(), Runner::Engine)?;
-    let mut told = Told { times: 0 };
+    let mut told = Told::nothing();
     let counters = Counters::new(rt);
     let found = try_crashes::<AnyDisk, Counters<'_, HostRuntime>, Told>(
         alloc, &script, &counters, &mut told,
@@ -41,7 +59,15 @@ fn an_honest_disk_is_found_good(rt: HostRuntime) -> Result<(), Fail> {
         bad: 0,
     };
     assert_eq!(rt; found, good);
+    // It is told of what was found so far, after each stop.
     assert_eq!(rt; told.times, 14);
+    let first = LabLine {
+        stops: 1,
+        outcomes: 6,
+        bad: 0,
+    };
+    assert_eq!(rt; told.first, Some(first));
+    assert_eq!(rt; told.last, Some(good));
     // Each of the six crashes of a stop has a run and a restart of its own, and one run isn't
     // stopped.
     assert_eq!(rt; counters.counts(), [85, 84]);
@@ -54,7 +80,7 @@ fn a_disk_that_forgets_is_found_bad(rt: HostRuntime) -> Result<(), Fail> {
     let rt = &rt;
     let alloc = rt.alloc();
     let script = read_script(alloc, &mut SCRIPT.as_bytes(), Runner::Engine)?;
-    let mut told = Told { times: 0 };
+    let mut told = Told::nothing();
     let counters = Counters::new(rt);
     let found = try_crashes::<ForgetfulDisk, Counters<'_, HostRuntime>, Told>(
         alloc, &script, &counters, &mut told,
@@ -88,6 +114,18 @@ fn no_call_comes_after_one_that_failed(rt: HostRuntime) -> Result<(), Fail> {
         assert_eq!(rt; failures_after(rt.alloc(), calls)?, 1);
     }
     assert_eq!(rt; failures_after(rt.alloc(), 14)?, 0);
+    Ok(())
+}
+
+// A drain delivers as many messages as wait.
+#[test]
+fn a_drain_of_the_laboratory_delivers_all(rt: HostRuntime) -> Result<(), Fail> {
+    let rt = &rt;
+    let alloc = rt.alloc();
+    let script = read_script(alloc, &mut DRAINED.as_bytes(), Runner::Engine)?;
+    let blanks = blank_counters(alloc, 2)?;
+    let round = lab_round(alloc, &script, blanks, AnyDisk::memory(alloc))?;
+    assert_eq!(rt; round.durable, Some(4));
     Ok(())
 }
 

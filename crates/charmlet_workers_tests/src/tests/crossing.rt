@@ -28,15 +28,37 @@ use std::thread::Threads;
 // The calls of the disk that a flush makes: a batch and its sync, a gate and its sync.
 const FLUSH: u64 = 4;
 
-// Processor 1 may go on once processor 0 has asked, and 0 once 1 has committed.
+// Processor 1 may go on once processor 0 has asked, and 0 once 1 has committed. Each has one
+// message, of client 7 or 8.
 #[derive(Drop)]
 struct Crossing {
     asks_of_zero: AtomicU64,
+    commits_of_zero: AtomicU64,
     commits_of_one: AtomicU64,
+    /// How often it was asked or told of another message.
+    others: AtomicU64,
+}
+
+impl Crossing {
+    fn new() -> Self {
+        Crossing {
+            asks_of_zero: AtomicU64::new(0),
+            commits_of_zero: AtomicU64::new(0),
+            commits_of_one: AtomicU64::new(0),
+            others: AtomicU64::new(0),
+        }
+    }
+
+    fn note(&self, processor: u16, id: &MsgId) {
+        if *id != first_of(7 + u32::from(processor)) {
+            self.others.fetch_add(1, Ordering::SeqCst);
+        }
+    }
 }
 
 impl Gate for Crossing {
-    fn open(&self, processor: u16, _id: &MsgId) -> bool {
+    fn open(&self, processor: u16, id: &MsgId) -> bool {
+        self.note(processor, id);
         if processor == 0 {
             self.asks_of_zero.fetch_add(1, Ordering::SeqCst);
             self.commits_of_one.load(Ordering::SeqCst) > 0
@@ -45,8 +67,11 @@ impl Gate for Crossing {
         }
     }
 
-    fn committed(&self, processor: u16, _id: &MsgId) {
-        if processor == 1 {
+    fn committed(&self, processor: u16, id: &MsgId) {
+        self.note(processor, id);
+        if processor == 0 {
+            self.commits_of_zero.fetch_add(1, Ordering::SeqCst);
+        } else {
             self.commits_of_one.fetch_add(1, Ordering::SeqCst);
         }
     }
@@ -265,12 +290,13 @@ fn crosses_and_fails<R: Threads + Wait + Sync + AllocGlobal + Abort>(
     call: u64,
     choice: CrashChoice,
 ) {
-    let gate = Crossing {
-        asks_of_zero: AtomicU64::new(0),
-        commits_of_one: AtomicU64::new(0),
-    };
+    let gate = Crossing::new();
     let disk = cross_once(rt, Start::new(rt, rt.alloc(), tally), &gate, call);
     assert!(rt; gate.asks_of_zero.load(Ordering::SeqCst) < u64::from(MOST_ASKS));
+    // It was told of each commit once, and of no other message.
+    assert_eq!(rt; gate.commits_of_zero.load(Ordering::SeqCst), 1);
+    assert_eq!(rt; gate.commits_of_one.load(Ordering::SeqCst), 1);
+    assert_eq!(rt; gate.others.load(Ordering::SeqCst), 0);
     let is_there = matches!(choice, CrashChoice::New | CrashChoice::Ones);
     let events = if call + 1 == FLUSH && is_there { 4 } else { 0 };
     restarts(rt, tally, disk, choice, events);
