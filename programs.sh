@@ -87,16 +87,17 @@ copy_of_tree() { echo "$top/out/tree"; }
 # has to prove.
 crates_of_tests() { sed -n 's/^\(charmlet_[a-z]*_tests\):.*/\1/p' "$top/crates.txt" | grep -vx charmlet_pup_tests; }
 
-# Copies the crates into an empty folder, without their edits and without those of tests that are run, so that it is the top of a
-# repository for rt.
+# Copies these crates, or else all but those of tests that are run, into an empty folder, without their edits, so that it is the
+# top of a repository for rt: `copy_crates FOLDER [CRATE..]`.
 copy_crates() {
-  local crate excluded=(--exclude=out --exclude='must-fail*') lines=()
-  for crate in $(crates_of_tests); do
-    excluded+=(--exclude="crates/$crate")
-    lines+=(-e "^$crate:")
-  done
-  mkdir -p "$1/.git"
-  tar -C "$top" -cf - "${excluded[@]}" HANDLES crates | tar -C "$1" -xf - && grep -v "${lines[@]}" "$top/crates.txt" >"$1/crates.txt"
+  local tree=$1 crate
+  shift
+  [ $# -gt 0 ] || set -- $(sed -n 's/^\(charmlet[a-z_]*\):.*/\1/p' "$top/crates.txt" | grep -vxF "$(crates_of_tests)")
+  mkdir -p "$tree/.git"
+  tar -C "$top" -cf - --exclude=out --exclude='must-fail*' HANDLES "${@/#/crates/}" | tar -C "$tree" -xf - || return
+  for crate in "$@"; do
+    grep "^$crate:" "$top/crates.txt"
+  done >"$tree/crates.txt"
 }
 
 # Proves all crates from nothing, and builds and runs the programs, by `rt ci`, in a copy of the tree, which has no edits since
