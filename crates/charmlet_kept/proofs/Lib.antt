@@ -1,2 +1,3 @@
 -- Lemmas on what is kept.
 pub mod Delivering
+pub mod RisenClients

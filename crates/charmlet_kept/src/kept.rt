@@ -9,15 +9,15 @@ ghost use Rattle.charmlet_model.specs.declared.names.Origin.TheVariants as origi
 ghost use Rattle.charmlet_model.specs.Fit.{AreDistinct};
 ghost use Rattle.charmlet_model.specs.World.{message_among};
 ghost use Rattle.charmlet_world.specs.Changed.{accepted};
-ghost use Rattle.charmlet_world.specs.Seen.{element_at};
+ghost use Rattle.charmlet_world.specs.Seen.{element_at, present_rows};
 ghost use Rattle.charmlet_world.specs.Waiting.{message_of};
 ghost use Rattle.charmlet_kept.specs.Deliverable.{CanBeDelivered, delivered_to};
 
 use crate::advancing::advance;
-use crate::clients::{keep_reply, note_request};
 use crate::queue::{make_room, push, push_sends, queue_of};
+use crate::rows::ClientRows;
 use charmlet_client::Client;
-use charmlet_model::{Elem, MAX_SENDS, Manifest, Message, MsgId, Origin, Sends, Words};
+use charmlet_model::{ClientRow, Elem, MAX_SENDS, Manifest, Message, MsgId, Origin, Sends, Words};
 use charmlet_world::{Element, Elements, Letter, Messages, Pending, Taken};
 use std::alloc::{AllocError, Global};
 use std::collections::BTreeMap;
@@ -32,7 +32,7 @@ pub struct KeptWorld {
     processors: u16,
     elements: Elements,
     pending: Pending,
-    clients: BTreeMap<u32, Client>,
+    clients: ClientRows,
 }
 
 impl Model for KeptWorld {
@@ -48,7 +48,7 @@ impl Model for KeptWorld {
       processors = w.processors;
       elements = risen w.elements.entries;
       pending = w.pending.messages;
-      clients = w.clients.entries;
+      clients = w.clients;
     } };
 
     ghost invariant = { λ w. is_processor_count w.processors ≡ true };
@@ -96,6 +96,7 @@ impl KeptWorld {
     {
         let elements = Elements::of_tree(alloc, elements)?;
         let pending = queue_of(alloc, pending)?;
+        let clients = ClientRows::of_tree(alloc, clients)?;
         Ok(KeptWorld {
             manifest,
             processors,
@@ -153,14 +154,22 @@ impl KeptWorld {
     pub fn client(&self, client: u32) -> Option<&Client>
         ensures { option_copied result ≡ lookup (is_at (nat_cmp client)) self.now.clients }
     {
-        self.clients.get(&client)
+        self.clients.get(client)
     }
 
-    /// Each client that made a request, with its rows.
-    pub fn clients(&self) -> &BTreeMap<u32, Client>
-        ensures { result.now.entries ≡ self.now.clients }
+    /// How many clients made a request.
+    pub fn client_count(&self) -> usize
+        ensures { result ≡ length self.now.clients }
     {
-        &self.clients
+        self.clients.len()
+    }
+
+    /// A copy of each client's row in the present world, in rising order of the clients. It fails
+    /// only when out of memory.
+    pub fn present_rows(&self, alloc: Global) -> Result<BTreeMap<u32, ClientRow>, AllocError>
+        ensures { IfOk result (λ rows. rows.entries ≡ present_rows self.now.clients) }
+    {
+        self.clients.present(alloc)
     }
 
     /// Accepts a client's request, whose id no pending message may have. When out of memory,
@@ -179,7 +188,7 @@ impl KeptWorld {
         ensures err { OnErr result (self.new ≡ self.old) }
     {
         make_room(&mut self.pending, 1)?;
-        note_request(&mut self.clients, client, number)?;
+        self.clients.note_request(client, number)?;
         let origin = Origin::Client(client);
         let id = MsgId { origin, number };
         push(
@@ -219,6 +228,8 @@ impl KeptWorld {
         let Some(taken) = self.pending.take(id) else {
             unreachable!()
         };
+        // A log mostly delivers the oldest message.
+        self.pending.expect_oldest();
         let Taken { message, .. } = taken;
         let sends = sends.into_vec();
         let count = sends.len() as u64;
@@ -231,7 +242,8 @@ impl KeptWorld {
             is_destroyed,
         );
         push_sends(&mut self.pending, to, sent, sends);
-        keep_reply(&mut self.clients, message.id, Words::new(Vec::new(alloc)));
+        let no_words = Words::new(Vec::new(alloc));
+        self.clients.keep_reply(message.id, no_words);
         Ok(message)
     }
 }

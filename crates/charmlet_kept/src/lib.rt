@@ -3,8 +3,8 @@
 #![tactic(auto)]
 
 mod advancing;
-mod clients;
 mod kept;
 mod queue;
+mod rows;
 
 pub use crate::kept::KeptWorld;

@@ -14,23 +14,7 @@ use std::collections::BTreeMap;
 pub fn rows_of(alloc: Global, world: &KeptWorld) -> Result<BTreeMap<u32, ClientRow>, AllocError>
     ensures { IfOk result (λ rows. rows.entries ≡ present_rows world.now.clients) }
 {
-    copies_of(alloc, world.clients())
-}
-
-/// A copy of each client's present row. It fails only when out of memory.
-fn copies_of(
-    alloc: Global,
-    clients: &BTreeMap<u32, Client>,
-) -> Result<BTreeMap<u32, ClientRow>, AllocError>
-    ensures { IfOk result (λ rows. rows.entries ≡ present_rows clients.now.entries) }
-{
-    // Its keys rise.
-    let _ = clients.len();
-    let mut rows = BTreeMap::new(alloc);
-    for (number, client) in clients {
-        rows.insert(*number, client.present().copy(alloc)?)?;
-    }
-    Ok(rows)
+    world.present_rows(alloc)
 }
 
 /// Each client with its row in both worlds. It takes the rows over. It fails only when out of

@@ -10,6 +10,7 @@ use Rattle.charmlet_world.specs.declared.element.Element.{Element}
 use Rattle.charmlet_world.specs.Changed.{advanced_by, with_answer, with_entry}
 use Rattle.charmlet_world.specs.Seen.{Seen, element_at}
 use Rattle.charmlet_world.specs.Standing.{element_in, risen}
+use Rattle.charmlet_world.specs.Waiting.{Waiting}
 use Rattle.charmlet_kept.specs.Deliverable.{CanBeDelivered, delivered_to, output_without_reply}
 use Rattle.charmlet_kept.proofs.Delivering.{advanced_entry, from_kept, its_slot, row_has_entry, row_is_kept}
 use Rattle.charmlet_kept.proofs.kept.KeptWorld.deliver.Goals as goal
@@ -86,7 +87,8 @@ push_sends-requires-clause-room c =
     let more = c.in_ok-slot.ensures.risen in
     let row : element_in news to ≡ element_at (risen rows) m.to = row_is_kept rows news to more ∙ ap (element_at (risen rows)) (sym to_is) in
     let count : length c.into_vec-sends.result.items ≡ length c.args.sends = ap length c.into_vec-sends.ensures in
-    omega (arith, c.in_ok-make_room.ensures.room, c.take.ensures.room, can.few, count)
+    let same : c.expect_oldest.new.self.room ≡ c.take.new.self.room = ap (λ (p : Waiting). p.room) c.expect_oldest.ensures in
+    omega (arith, c.in_ok-make_room.ensures.room, c.take.ensures.room, same, can.few, count)
 
 pub push_sends-requires-clause-few : goal.push_sends-requires-clause-few
 push_sends-requires-clause-few c =
@@ -103,7 +105,8 @@ push_sends-requires-clause-few c =
     let more = c.in_ok-slot.ensures.risen in
     let row : element_in news to ≡ element_at (risen rows) m.to = row_is_kept rows news to more ∙ ap (element_at (risen rows)) (sym to_is) in
     let count : length c.into_vec-sends.result.items ≡ length c.args.sends = ap length c.into_vec-sends.ensures in
-    omega (arith, c.in_ok-make_room.ensures.few, c.take.ensures.next, can.few, count)
+    let same : c.expect_oldest.new.self.next ≡ c.take.new.self.next = ap (λ (p : Waiting). p.next) c.expect_oldest.ensures in
+    omega (arith, c.in_ok-make_room.ensures.few, c.take.ensures.next, same, can.few, count)
 
 pub push_sends-requires-clause-distinct : goal.push_sends-requires-clause-distinct
 push_sends-requires-clause-distinct c =
@@ -119,7 +122,7 @@ push_sends-requires-clause-distinct c =
     let news = c.slot_for.new.self.entries in
     let more = c.in_ok-slot.ensures.risen in
     let row : element_in news to ≡ element_at (risen rows) m.to = row_is_kept rows news to more ∙ ap (element_at (risen rows)) (sym to_is) in
-    let left = c.take.ensures.left ∙ ap (without id) c.make_room.ensures.messages ∙ ap (λ i. without i pending) (found-id id pending m (sym is)) in
+    let left = ap (λ (p : Waiting). p.messages) c.expect_oldest.ensures ∙ c.take.ensures.left ∙ ap (without id) c.make_room.ensures.messages ∙ ap (λ i. without i pending) (found-id id pending m (sym is)) in
     let sent : c.advance-sent.result ≡ (element_at (risen rows) m.to).sent = c.advance-sent.ensures.sent ∙ ap (λ (e : Element). e.sent) row in
     subst AreDistinct (λ i. sym left i ++ numbered (to_is i) (sym sent i) (sym c.into_vec-sends.ensures i)) can.distinct
 
@@ -159,10 +162,10 @@ returns-clause-delivered c =
     let more = c.in_ok-slot.ensures.risen in
     let row : element_in news to ≡ element_at (risen rows) m.to = row_is_kept rows news to more ∙ ap (element_at (risen rows)) (sym to_is) in
     let count : length c.into_vec-sends.result.items ≡ length c.args.sends = ap length c.into_vec-sends.ensures in
-    let left = c.take.ensures.left ∙ ap (without id) c.make_room.ensures.messages ∙ ap (λ i. without i pending) (found-id id pending m (sym is)) in
+    let left = ap (λ (p : Waiting). p.messages) c.expect_oldest.ensures ∙ c.take.ensures.left ∙ ap (without id) c.make_room.ensures.messages ∙ ap (λ i. without i pending) (found-id id pending m (sym is)) in
     let sends = c.args.sends in
     let gone = c.args.is_destroyed in
-    let before : Seen = record { manifest = own.manifest; processors = own.processors; elements = risen rows; pending = pending; clients = own.clients.entries } in
+    let before : Seen = record { manifest = own.manifest; processors = own.processors; elements = risen rows; pending = pending; clients = own.clients } in
     let many : c.len-count.result ≡ length sends = omega (arith, c.len-count.ensures, c.into_vec-sends.result.ok.0, count) in
     let its = λ (x : Elem). record before { elements = with_entry (risen rows) x } in
     let output = output_without_reply sends gone in
@@ -171,7 +174,7 @@ returns-clause-delivered c =
     let sent = c.advance-sent.ensures.sent ∙ ap (λ (e : Element). e.sent) (row_has_entry rows news to more) in
     let queue = c.push_sends.ensures.messages ∙ (λ i. left i ++ numbered to (sent i) (c.into_vec-sends.ensures i))
     ∙ ap (λ (x : Elem). without m.id pending ++ numbered x (element_at (with_entry (risen rows) x) x).sent sends) (sym to_is) in
-    let reply = c.new-2.ensures ∙ c.new.ensures.items in
-    let clients = c.keep_reply.ensures ∙ ap (with_answer own.clients.entries m.id.origin m.id.number) reply in
+    let reply = c.new-no_words.ensures ∙ c.new.ensures.items in
+    let clients = c.keep_reply.ensures ∙ ap (with_answer own.clients m.id.origin m.id.number) reply in
     (λ i. record { manifest = own.manifest; processors = own.processors; elements = elements i; pending = queue i; clients = clients i })
     ∙ ap (λ (k : Seen). delivered_to k m sends gone) c.self.view_is
