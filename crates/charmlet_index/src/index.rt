@@ -1,10 +1,10 @@
 //! The births on all processors.
 
-ghost use Rattle.std.specs.Prelude.{◌≡◌, ℕ, ◌+◌, ◌≤◌, ◌<◌, true, [], ◌∷◌, ◌++◌, List, length, slice_get, Some, is_none, IsOk, OnOk, OnErr, IfOk, IfSome, option_map};
+ghost use Rattle.std.specs.Prelude.{◌≡◌, ◌≢◌, ℕ, ◌+◌, ◌≤◌, ◌<◌, true, [], ◌∷◌, ◌++◌, List, length, slice_get, Some, is_none, IsOk, OnOk, OnErr, IfOk, IfSome, option_map};
 ghost use Rattle.std.specs.List.{AllByRecursion};
 ghost use Rattle.charmlet_model.specs.Reaction.{greatest};
 ghost use Rattle.charmlet_births.specs.Births.{AllBefore, Climbs, without_number};
-ghost use Rattle.charmlet_index.specs.Index.{AreApart, AreHeld, AreKept, ArePlaced, HasRoomFor, HaveRoom, IsBelow, IsHeld, IsIndexOf, IsOn, IsPlaced, IsRoomy, earlier, first_of, holds, is_ready_on, moved, stood};
+ghost use Rattle.charmlet_index.specs.Index.{AreApart, AreHeld, AreKept, ArePlaced, HasRoomFor, HaveRoom, IsBelow, IsHeld, IsIndexOf, IsPlaced, IsRoomy, earlier, first_of, holds, is_ready_on, moved, stood};
 ghost use Rattle.charmlet_index.specs.declared.lists.Lists.{Lists as ALists};
 ghost use Rattle.charmlet_index.specs.declared.place.Place.{Place as APlace};
 
@@ -63,6 +63,8 @@ impl Index {
         ensures same { length self.old.lists ≡ processors → self.new ≡ self.old }
         ensures index { (place : ℕ → APlace) →
             IsIndexOf [] place self.old.lists → IsIndexOf [] place self.new.lists }
+        ensures empty { OnOk result (length self.old.lists ≢ processors →
+            (place : ℕ → APlace) → IsIndexOf [] place self.new.lists) }
         ensures next { self.new.next ≡ self.old.next }
         ensures err { OnErr result (self.new ≡ self.old) }
     {
