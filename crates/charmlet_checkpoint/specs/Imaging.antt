@@ -1,8 +1,7 @@
--- Functions that make the images of a shelf's elements.
+-- What a shelf answers that is asked for the image of an element.
 use Rattle.std.specs.Prelude.{◌≡◌, true, IfErr, IfOk, IsOk, Option, None, Result, if◌then◌else◌}
 use Rattle.std.specs.BTreeMap.{is_at}
 use Rattle.std.specs.Map.{lookup}
-use denote.Ref.{MutBor}
 use Rattle.charmlet_model.specs.declared.names.Elem.{Elem}
 use Rattle.charmlet_model.specs.declared.refusal.Refusal.{Refusal}
 use Rattle.charmlet_model.specs.declared.refusal.Refusal.TheVariants as refusals
@@ -22,10 +21,3 @@ pub record AnswersImage (shelf : View) (x : Elem) (answer : Result (Option Image
       then refusals.Memory else refusals.Uncommitted))
   pub absent : is_idle shelf.phase ≡ true →
       lookup (is_at (elem_cmp x)) shelf.records ≡ None → IsOk answer
-
--- a function that gives these answers asks the shelf that it is lent, which stays as it is
-abbrev pub MakesImages : {S : Type 0} → (S → View) →
-    (MutBor S → Elem → Result (Option Image) Refusal → MutBor S → Type 0) → Type 0
-MakesImages {S} shown gives = (lent : MutBor S) (x : Elem) (answer : Result (Option Image) Refusal)
-    (left : MutBor S) → gives lent x answer left →
-    AnswersImage (shown lent.now) x answer × (left.now ≡ lent.now)

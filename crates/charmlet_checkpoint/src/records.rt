@@ -1,6 +1,6 @@
 //! The elements of an image.
 
-ghost use Rattle.std.specs.Prelude.{◌≡◌, ◌<◌, ◌^◌, ◌++◌, IfErr, option_copied, IfSome, OnOk, Option, All, length, map, option_map};
+ghost use Rattle.std.specs.Prelude.{◌≡◌, ◌<◌, ◌^◌, ◌++◌, IfErr, option_copied, IfSome, OnOk, Option, length, option_map};
 ghost use Rattle.charmlet_model.specs.declared.names.Elem as elems;
 ghost use Rattle.charmlet_model.specs.declared.state.State.{State};
 ghost use Rattle.charmlet_model.specs.declared.refusal.Refusal.TheVariants as refusals;
@@ -12,15 +12,14 @@ ghost use Rattle.charmlet_history.specs.Kept.{core_in};
 ghost use Rattle.charmlet_world.specs.Seen.{element_at};
 ghost use Rattle.charmlet_history.specs.Records.{record_with, records_from};
 ghost use Rattle.charmlet_world.specs.Seen.{has_record};
-ghost use Rattle.charmlet_checkpoint.specs.Imaging.{MakesImages};
 ghost use Rattle.charmlet_checkpoint.specs.Showing.{IsShown, state_in};
 
-use crate::holding::HoldsShelf;
+use charmlet_chare::Chare;
 use charmlet_history::History;
 use charmlet_image::{Entry, entry_size, write_entry};
 use charmlet_model::{Elem, Refusal};
 use charmlet_record::write_u32;
-use charmlet_shelf::Image;
+use charmlet_shelf::Shelf;
 use charmlet_world::Element;
 use std::alloc::AllocError;
 use std::collections::BTreeMap;
@@ -42,20 +41,14 @@ pub(crate) fn count_records(elements: &BTreeMap<Elem, Element>) -> usize
 
 /// Appends how many records there are, and each of them, in rising order of elements. It fails only
 /// for lack of memory. The shelves are as before.
-pub(crate) fn append_records<S, F>(
+pub(crate) fn append_records<C: Chare>(
     out: &mut Vec<u8>,
     count: u32,
     history: &History,
     elements: &BTreeMap<Elem, Element>,
-    shelves: &mut [S],
-    make_image: &F,
+    shelves: &mut [Shelf<C>],
 ) -> Result<(), Refusal>
-where
-    S: HoldsShelf,
-    F: Fn(&mut S, Elem) -> Result<Option<Image>, Refusal>,
-    requires shown { IsShown history.now (map S.shown shelves.old) }
-    requires calls { F.IsAlwaysCallable make_image.now }
-    requires images { MakesImages S.shown (F.post make_image.now) }
+    requires shown { IsShown history.now shelves.old }
     requires elements { elements.now.entries ≡ history.now.elements }
     requires count { count ≡ length (present (core_in history.now)).records }
     ensures ok { OnOk result (out.new.items ≡ out.old.items
@@ -71,27 +64,21 @@ where
         if !is_written {
             continue;
         }
-        append_record(out, history, shelves, make_image, *elem, element)?;
+        append_record(out, history, shelves, *elem, element)?;
     }
     Ok(())
 }
 
 /// Appends an element with its counts, and with its packed state if it is there. It fails only when
 /// out of memory. The shelves are as before.
-fn append_record<S, F>(
+fn append_record<C: Chare>(
     out: &mut Vec<u8>,
     history: &History,
-    shelves: &mut [S],
-    make_image: &F,
+    shelves: &mut [Shelf<C>],
     elem: Elem,
     element: &Element,
 ) -> Result<(), Refusal>
-where
-    S: HoldsShelf,
-    F: Fn(&mut S, Elem) -> Result<Option<Image>, Refusal>,
-    requires shown { IsShown history.now (map S.shown shelves.old) }
-    requires calls { F.IsAlwaysCallable make_image.now }
-    requires images { MakesImages S.shown (F.post make_image.now) }
+    requires shown { IsShown history.now shelves.old }
     requires element { element.now ≡ element_at history.now.elements elem }
     ensures ok { OnOk result (out.new.items ≡ out.old.items
         ++ spell_entry (elem, record_with (state_in history.now elem) element.now)) }
@@ -103,7 +90,7 @@ where
         append_entry(out, elem, element, None)?;
         return Ok(());
     };
-    let image = make_image(&mut shelves[place as usize], elem)?;
+    let image = shelves[place as usize].image(elem)?;
     let Some(image) = image else { unreachable!() };
     append_entry(out, elem, element, Some(&image.packed))?;
     Ok(())

@@ -30,7 +30,7 @@ use Rattle.charmlet_shelf.specs.Shelf.{View}
 use Rattle.charmlet_stock.specs.declared.by_kind.ByKind.{ByKind}
 use Rattle.charmlet_stock.specs.declared.pile.Tally.{Tally}
 use Rattle.charmlet_stock.specs.declared.stock.Stock.{Stock}
-use Rattle.charmlet_stock.specs.ByKind.{at, for_all}
+use Rattle.charmlet_stock.specs.ByKind.{at}
 use Rattle.charmlet_stock.specs.Pile.{supplied_more}
 use Rattle.charmlet_stock.specs.Stock.{blanks_in, census_of, keeping_of, tally_in}
 use Rattle.charmlet_delivery.specs.Turns.{Turns}
@@ -57,14 +57,6 @@ one_census a b each = λ i. record {
   trees = each kinds.Tree i;
   tapes = each kinds.Tape i;
 }
-
-pub all_at : {T : Type 0} (x : T) (kind : Kind) → at (for_all x) kind ≡ x
-all_at x kinds.Counter = refl
-all_at x kinds.Ring = refl
-all_at x kinds.Account = refl
-all_at x kinds.Sum = refl
-all_at x kinds.Tree = refl
-all_at x kinds.Tape = refl
 
 -- ---- a sequencer
 

@@ -5,6 +5,5 @@ pub mod Moves
 pub mod Relocations
 pub mod Endings
 pub mod Agreeing
-pub mod Beginnings
 pub mod Reopened
 pub mod Seals

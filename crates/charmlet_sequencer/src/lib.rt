@@ -12,14 +12,12 @@ mod moving;
 mod names;
 mod opening;
 mod part;
-mod reopening;
 mod sequencer;
 mod shelf;
 
 pub use crate::closing::TakenApart;
 pub use crate::names::RuntimeName;
-pub use crate::opening::{Opened, open_new};
+pub use crate::opening::{Opened, open_store};
 pub use crate::part::SeenPart;
-pub use crate::reopening::open_store;
 pub use crate::sequencer::Sequencer;
 pub use crate::shelf::{LockedShelf, SentBy};

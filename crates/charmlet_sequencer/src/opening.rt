@@ -1,30 +1,26 @@
-//! A sequencer and its shelves, of a store in which nothing has happened.
+//! A sequencer and its shelves, of a store that is new or came back.
 
 ghost use Rattle.std.specs.Prelude.{◌≡◌, ◌+◌, ◌<◌, ◌≤◌, ◌∷◌, ◌++◌, [], false, Some, length, vec_len};
 ghost use Rattle.std.specs.Vec.{vec_capacity};
 ghost use Rattle.charmlet_halves.specs.Halves.{disk_of};
 ghost use Rattle.charmlet_history.specs.Kept.{core_in};
-ghost use Rattle.charmlet_journal.specs.NewStores.{IsNewOn};
-ghost use Rattle.charmlet_journal.specs.Rest.{IsCurrent, IsKept};
-ghost use Rattle.charmlet_migrate.specs.Copying.{empty_shelf};
-ghost use Rattle.charmlet_record.specs.Reading.{Kinds};
+ghost use Rattle.charmlet_journal.specs.Rest.{Agrees, IsCurrent, IsKept};
+ghost use Rattle.charmlet_migrate.specs.Moving.{IsIdle};
 ghost use Rattle.charmlet_stock.specs.ByKind.{for_all};
-ghost use Rattle.charmlet_stock.specs.Pile.{nothing};
-ghost use Rattle.charmlet_store.specs.Store.{AreEmpty};
+ghost use Rattle.charmlet_sequencer.specs.Opened.{AreShelvesOf};
+ghost use Rattle.charmlet_sequencer.specs.Part.{part_on};
 ghost use Rattle.charmlet_sequencer.specs.Sequencer.{IsOf};
-ghost use Rattle.charmlet_sequencer.specs.Part.{no_part};
 
 use crate::names::RuntimeName;
-use crate::part::SeenPart;
+use crate::part::{SeenPart, write};
 use crate::sequencer::Sequencer;
 use crate::shelf::LockedShelf;
 use charmlet_agreement::{Book, BookName};
 use charmlet_chare::Chare;
 use charmlet_disk::Disk;
-use charmlet_journal::Created;
+use charmlet_halves::Halves;
 use charmlet_shelf::Shelf;
-use charmlet_stock::Stock;
-use std::alloc::Global;
+use charmlet_store::{Store, StoreParts};
 
 /// A sequencer, and the shelf of each processor, before they come under their locks.
 #[derive(Drop)]
@@ -34,62 +30,70 @@ pub struct Opened<D: Disk, C: Chare, B: RuntimeName> {
     pub shelves: Vec<LockedShelf<C, B>>,
 }
 
-/// A sequencer of a new store, under its name, and an empty shelf for each processor, for which the
-/// list has room. Its stock is empty. It takes no memory.
-pub fn open_new<D: Disk, C: Chare, B: RuntimeName>(
-    alloc: Global,
-    created: Created<D>,
-    processors: u16,
+/// A sequencer of a store in which nothing is assigned, as a restart brings it back, under its
+/// name, and its shelves, for which the list has room. It takes no memory.
+pub fn open_store<D: Disk, C: Chare, B: RuntimeName>(
+    store: Store<C>,
+    halves: Halves<D>,
     parts: Book<SeenPart, B>,
     shelves: Vec<LockedShelf<C, B>>,
 ) -> Opened<D, C, B>
-    requires processors { processors ≡ B.processors }
-    requires new { (kinds : Kinds) × IsNewOn processors kinds created }
-    requires named { IsOf B.opening B.before B.processors (core_in created.history) }
-    requires kept { D.honest (disk_of created.halves) →
-        IsKept (core_in created.history) created.halves }
-    requires current { D.honest (disk_of created.halves) → IsCurrent created.halves }
+    requires named { IsOf B.opening B.before B.processors (core_in store.history) }
+    requires unassigned { (core_in store.history).assigned ≡ [] }
+    requires dropping { store.keeping ≡ for_all false }
+    requires agrees { Agrees (core_in store.history) halves }
+    requires kept { D.honest (disk_of halves) → IsKept (core_in store.history) halves }
+    requires current { D.honest (disk_of halves) → (core_in store.history).halted ≡ false →
+        IsCurrent halves }
     requires parts { parts ≡ [] }
     requires none { vec_len shelves ≡ 0 }
-    requires room { processors ≤ vec_capacity shelves }
-    ensures core { result.sequencer.core ≡ core_in created.history }
-    ensures census { result.sequencer.census ≡ for_all nothing }
-    ensures disk { result.sequencer.disk ≡ disk_of created.halves }
-    ensures shelves { AreEmpty processors result.shelves.items }
+    requires room { B.processors ≤ vec_capacity shelves }
+    ensures core { result.sequencer.core ≡ core_in store.history }
+    ensures census { result.sequencer.census ≡ store.census }
+    ensures disk { result.sequencer.disk ≡ disk_of halves }
+    ensures shelves { AreShelvesOf result.sequencer result.shelves.items }
 {
+    let alloc = store.alloc;
+    let StoreParts {
+        history,
+        shelves: slots,
+        stock,
+    } = store.into_parts();
     let mut shelves = shelves;
     let mut parts = parts;
-    for number in 0..processors {
-        add_shelf(alloc, &mut parts, &mut shelves, number);
+    for shelf in slots {
+        add_idle(&mut parts, &mut shelves, shelf);
     }
-    let Created { history, halves } = created;
     let sequencer = Sequencer {
         alloc,
         history,
         halves,
-        stock: Stock::new(alloc),
+        stock,
         parts,
     };
     Opened { sequencer, shelves }
 }
 
-/// Adds an empty shelf, for which there is room, and its part of the book.
-fn add_shelf<C: Chare, B: BookName>(
-    alloc: Global,
+/// Adds a shelf on which no delivery is under way, and for which there is room, and its part of the
+/// book.
+#[tactic(auto, using(crate::proofs::Reopened::write_last))]
+fn add_idle<C: Chare, B: BookName>(
     parts: &mut Book<SeenPart, B>,
     shelves: &mut Vec<LockedShelf<C, B>>,
-    number: u16,
+    shelf: Shelf<C>,
 )
-    requires number { length parts.old ≡ number }
+    requires number { length parts.old ≡ shelf.number }
+    requires idle { IsIdle shelf }
     requires room { vec_len shelves.old < vec_capacity shelves.old }
-    ensures parts { parts.new ≡ parts.old ++ Some no_part ∷ [] }
-    ensures shelves { shelves.new.items ≡ shelves.old.items ++ empty_shelf number ∷ [] }
+    ensures parts { parts.new ≡ parts.old ++ Some (part_on shelf) ∷ [] }
+    ensures shelves { shelves.new.items ≡ shelves.old.items ++ shelf ∷ [] }
     ensures len { vec_len shelves.new ≡ vec_len shelves.old + 1 }
     ensures capacity { vec_capacity shelves.old ≤ vec_capacity shelves.new }
 {
-    let share = parts.issue(&SeenPart);
+    let mut share = parts.issue(&SeenPart);
+    write(parts, &mut share, &shelf);
     shelves.push_reserved(LockedShelf {
-        shelf: Shelf::new(alloc, number),
+        shelf,
         output: None,
         share,
     });

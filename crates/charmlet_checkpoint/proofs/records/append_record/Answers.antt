@@ -8,37 +8,37 @@ use Rattle.charmlet_checkpoint.proofs.records.append_record.Goals as goal
 
 pub returns-in_default-clause-ok : goal.returns-in_default-clause-ok
 returns-in_default-clause-ok g c =
-    let absent = absent_state c.args.history.now c.facts.ensures g.S.HoldsShelf.shown c.args.shelves.now c.requires.shown c.args.elem c.args.element.now c.requires.element c.in_default.is in
+    let absent = absent_state c.args.history.now c.facts.ensures c.args.shelves.now c.requires.shown c.args.elem c.args.element.now c.requires.element c.in_default.is in
     c.in_ok-append_entry.ensures (state_in c.args.history.now c.args.elem) (ap (option_map pupped) (sym absent))
 
 pub offset_bounds-shelves-place : goal.offset_bounds-shelves-place
 offset_bounds-shelves-place g c =
-    let within : c.in-Some.place < length c.args.shelves.now = is_on_shelf c.args.history.now c.facts.ensures g.S.HoldsShelf.shown c.args.shelves.now c.requires.shown c.args.elem c.args.element.now c.requires.element c.in-Some.place c.in-Some.is in
+    let within : c.in-Some.place < length c.args.shelves.now = is_on_shelf c.args.history.now c.facts.ensures c.args.shelves.now c.requires.shown c.args.elem c.args.element.now c.requires.element c.in-Some.place c.in-Some.is in
     search rules
 
 pub bounds-shelves-place : goal.bounds-shelves-place
 bounds-shelves-place g c =
-    is_on_shelf c.args.history.now c.facts.ensures g.S.HoldsShelf.shown c.args.shelves.now c.requires.shown c.args.elem c.args.element.now c.requires.element c.in-Some.place c.in-Some.is
+    is_on_shelf c.args.history.now c.facts.ensures c.args.shelves.now c.requires.shown c.args.elem c.args.element.now c.requires.element c.in-Some.place c.in-Some.is
 
 pub returns-in_err-image-clause-err : goal.returns-in_err-image-clause-err
 returns-in_err-image-clause-err g c =
-    let memory = refusal_is c.args.history.now c.facts.ensures g.S.HoldsShelf.shown c.args.shelves.now c.requires.shown c.args.elem c.args.element.now c.requires.element c.in-Some.place c.in-Some.is c.index-shelves-place.result c.in_err-image.field-0.0 (c.requires.images _ _ _ _ c.in_err-image.ensures).0.err in
+    let memory = refusal_is c.args.history.now c.facts.ensures c.args.shelves.now c.requires.shown c.args.elem c.args.element.now c.requires.element c.in-Some.place c.in-Some.is c.index-shelves-place.result c.in_err-image.field-0.0 c.in_err-image.ensures.err in
     search rules
 
 pub unreachable-requires : goal.unreachable-requires
 unreachable-requires g c =
-    let there = (c.requires.images _ _ _ _ c.in_ok-image.ensures).0.ok.1 in
-    image_there c.args.history.now c.facts.ensures g.S.HoldsShelf.shown c.args.shelves.now c.requires.shown c.args.elem c.args.element.now c.requires.element c.in-Some.place c.in-Some.is c.index-shelves-place.result
+    let there = c.in_ok-image.ensures.ok.1 in
+    image_there c.args.history.now c.facts.ensures c.args.shelves.now c.requires.shown c.args.elem c.args.element.now c.requires.element c.in-Some.place c.in-Some.is c.index-shelves-place.result
     (subst (IsImageIf _ c.args.elem) c.in_default-image.is there)
 
 pub append_entry-requires-2 : goal.append_entry-requires-2
 append_entry-requires-2 g c =
-    let there = subst (IsImageIf _ c.args.elem) c.in-Some-image.is (c.requires.images _ _ _ _ c.in_ok-image.ensures).0.ok.1 in
-    let short = packed_short c.args.history.now c.facts.ensures g.S.HoldsShelf.shown c.args.shelves.now c.requires.shown c.args.elem c.args.element.now c.requires.element c.in-Some.place c.in-Some.is c.index-shelves-place.result c.in-Some-image.image there in
+    let there = subst (IsImageIf _ c.args.elem) c.in-Some-image.is c.in_ok-image.ensures.ok.1 in
+    let short = packed_short c.args.history.now c.facts.ensures c.args.shelves.now c.requires.shown c.args.elem c.args.element.now c.requires.element c.in-Some.place c.in-Some.is c.index-shelves-place.result c.in-Some-image.image there in
     omega (arith, short, ap (length {A = ℕ}) c.deref.ensures.value)
 
 pub returns-clause-ok : goal.returns-clause-ok
 returns-clause-ok g c =
-    let there = subst (IsImageIf _ c.args.elem) c.in-Some-image.is (c.requires.images _ _ _ _ c.in_ok-image.ensures).0.ok.1 in
-    let packed = packed_there c.args.history.now c.facts.ensures g.S.HoldsShelf.shown c.args.shelves.now c.requires.shown c.args.elem c.args.element.now c.requires.element c.in-Some.place c.in-Some.is c.index-shelves-place.result c.in-Some-image.image there in
+    let there = subst (IsImageIf _ c.args.elem) c.in-Some-image.is c.in_ok-image.ensures.ok.1 in
+    let packed = packed_there c.args.history.now c.facts.ensures c.args.shelves.now c.requires.shown c.args.elem c.args.element.now c.requires.element c.in-Some.place c.in-Some.is c.index-shelves-place.result c.in-Some-image.image there in
     c.in_ok-append_entry-2.ensures (state_in c.args.history.now c.args.elem) (ap (λ (l : List ℕ). Some l) c.deref.ensures.value ∙ packed)

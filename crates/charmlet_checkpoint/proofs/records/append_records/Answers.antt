@@ -28,7 +28,7 @@ loop-elem-init g c =
     }
 
 pub append_record-requires-clause-element : goal.append_record-requires-clause-element
-append_record-requires-clause-element g c =
+append_record-requires-clause-element g c κs within =
     let elements = c.args.history.now.elements in
     let e : Elem × Element = (c.in-Some.elem.now, c.in-Some.element.now) in
     let is : c.loop-elem.elem-iterator ≡ e ∷ c.next.new.self = c.in-Some.ensures.steps in

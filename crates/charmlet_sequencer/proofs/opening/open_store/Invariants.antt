@@ -1,7 +1,7 @@
 use Rattle.std.proofs.Common.{◌≡◌, ◌≤◌, ◌++◌, length}
 use Rattle.std.specs.Vec.{vec_capacity}
 use Rattle.charmlet_sequencer.proofs.Reopened.{parts_of}
-use Rattle.charmlet_sequencer.proofs.reopening.open_store.Given as goal
+use Rattle.charmlet_sequencer.proofs.opening.open_store.Given as goal
 
 -- the first shelves are there, each with its part of the book, and there is room for the others
 abbrev pub invariant-loop-shelf : goal.invariant-loop-shelf

@@ -10,7 +10,7 @@ use Rattle.charmlet_sequencer.specs.Opened.{AreShelvesOf}
 use Rattle.charmlet_sequencer.specs.Sequencer.{IsOf}
 use Rattle.charmlet_sequencer.specs.Together.{shown_by}
 use Rattle.charmlet_sequencer.proofs.Reopened.{idle_at, none_left, number_at, one_more, parts_more, parts_of, split, store_book, store_shelves, within}
-use Rattle.charmlet_sequencer.proofs.reopening.open_store.Goals as goal
+use Rattle.charmlet_sequencer.proofs.opening.open_store.Goals as goal
 
 pub loop-shelf-init : goal.loop-shelf-init
 loop-shelf-init g c =
