@@ -7,7 +7,6 @@ use Rattle.charmlet_model.specs.declared.refusal.Refusal.TheVariants as refusals
 use Rattle.charmlet_model.specs.declared.names.MsgId.{MsgId}
 use Rattle.charmlet_model.specs.declared.refusal.Refusal.{Refusal}
 use Rattle.charmlet_model.specs.Core.{Assign, Blanks, Core, CoreAnswer, CoreStep, Done, Stepped, Steps, halted_core}
-use Rattle.charmlet_history.specs.Kept.{sealed_at}
 use Rattle.charmlet_model.specs.Sound.{IsSound, IsStep}
 use Rattle.charmlet_model.proofs.SoundLemmas.{step_sound}
 use Rattle.charmlet_passes.specs.Passes.{AreCurrent, HeldPass, IsKept, LentPasses}
@@ -16,6 +15,7 @@ use Rattle.charmlet_passes.proofs.Lasting.{are_current-later}
 use Rattle.charmlet_passes.proofs.OtherSteps.{steps_keep}
 use Rattle.charmlet_passes.proofs.Places.{set-same}
 use Rattle.charmlet_seats.specs.Seats.{HaveAll, Seats}
+use Rattle.charmlet_sequencer.specs.Checkpointing.{IsSealedCore}
 use Rattle.charmlet_sequencer.specs.Sequencer.{SequencerShown}
 use Rattle.charmlet_sequencer.proofs.Seals.{sealed_core}
 use Rattle.charmlet_hub.specs.Hub.{IsHub, deliveries_in, shown_by}
@@ -75,7 +75,7 @@ refused_core old new (Ok generation) same = tt
 refused_core old new (Err refusal) same = λ other. ap (λ (s : SequencerShown _). s.core) (same other)
 
 -- whether an image is made durable or not
-pub seal_events : {D : Type 0} (old new : SequencerShown D) → IsSound old.core → (result : Result ℕ Refusal) → OnOk result ((n : ℕ) × (new.core ≡ sealed_at old.core n)) → IfErr result (λ refusal. refusal ≡ refusals.Device → new.core ≡ halted_core old.core) →
+pub seal_events : {D : Type 0} (old new : SequencerShown D) → IsSound old.core → (result : Result ℕ Refusal) → OnOk result (IsSealedCore old.core new.core) → IfErr result (λ refusal. refusal ≡ refusals.Device → new.core ≡ halted_core old.core) →
     IfErr result (λ refusal. refusal ≢ refusals.Device → new ≡ old) → SameEvents old.core new.core
 seal_events old new sound result sealed failed refused =
     let core = old.core in

@@ -3,10 +3,10 @@ use Rattle.std.specs.Prelude.{◌≡◌, ℕ, ◌+◌, ◌<◌, ◌≤◌, Bool,
 use Rattle.charmlet_model.specs.declared.refusal.Refusal.{Refusal}
 use Rattle.charmlet_model.specs.declared.refusal.Refusal.TheVariants as refusals
 use Rattle.charmlet_model.specs.Core.{Commit, Core, next_core}
-use Rattle.charmlet_history.specs.Kept.{sealed_at}
 use Rattle.charmlet_running.specs.Laws.{AreSettledOn}
 use Rattle.charmlet_running.specs.Running.{AreAllSettled, IsRunning, Run, with_delivery, with_images}
 use Rattle.charmlet_running.specs.Sealing.{PassesLimit}
+use Rattle.charmlet_sequencer.specs.Checkpointing.{IsSealedCore}
 use Rattle.charmlet_shelf.specs.declared.image.Image.{Image}
 use Rattle.charmlet_hub.specs.Hub.{HubShown}
 
@@ -91,10 +91,7 @@ module _ {D : Type 0} where
   begin_refusal hub = if hub.core.halted then refusals.Halted
       else (if hub.busy then refusals.Checkpointing else refusals.Memory)
 
-  -- it ends: all events are durable by an image of the next generation
+  -- it ends: all events are durable by an image of the next generation, within the limit of a file
   abbrev pub IsSealed : HubShown D → HubShown D → Type 0
-  IsSealed hub next = (log_end : ℕ) × (next ≡ record hub {
-    core = sealed_at hub.core log_end;
-    busy = false;
-    disk = next.disk;
-  })
+  IsSealed hub next = IsSealedCore hub.core next.core
+      × (next ≡ record hub { core = next.core; busy = false; disk = next.disk })

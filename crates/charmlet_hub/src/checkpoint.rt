@@ -1,17 +1,17 @@
 //! A checkpoint that runs while others work.
 
-ghost use Rattle.std.specs.Prelude.{◌≡◌, ◌≢◌, ◌+◌, ◌<◌, ◌^◌, ℕ, All, false, true, is_some, IfErr, IfOk, IfSome, OnErr, OnOk};
+ghost use Rattle.std.specs.Prelude.{◌≡◌, ◌≢◌, ◌+◌, ◌<◌, ◌^◌, All, false, true, is_some, IfErr, IfOk, IfSome, OnErr, OnOk};
 ghost use Rattle.std.specs.Map.{keys_of};
 ghost use Rattle.charmlet_model.specs.declared.refusal.Refusal.TheVariants as refusals;
 ghost use Rattle.charmlet_model.specs.Core.{halted_core, present};
 ghost use Rattle.charmlet_disk.specs.Calls.{AfterCall};
 ghost use Rattle.charmlet_disk.specs.Disk.{LeavesOnly};
 ghost use Rattle.charmlet_halves.specs.Answers.{is_no_failure};
-ghost use Rattle.charmlet_history.specs.Kept.{core_in, sealed_at};
+ghost use Rattle.charmlet_history.specs.Kept.{core_in};
 ghost use Rattle.charmlet_journal.specs.Rest.{HasOldOrSealed, HasSealed};
 ghost use Rattle.charmlet_running.specs.Running.{AreAllSettled, IsRunning, IsShownBy};
 ghost use Rattle.charmlet_shelf.specs.Image.{AreImages};
-ghost use Rattle.charmlet_sequencer.specs.Checkpointing.{IsSealRefusal};
+ghost use Rattle.charmlet_sequencer.specs.Checkpointing.{IsSealRefusal, IsSealedCore};
 ghost use Rattle.charmlet_sequencer.specs.Sequencer.{is_lawful};
 ghost use Rattle.charmlet_hub.specs.Checkpoint.{IsSealed, IsTooLarge, begin_refusal, is_no_device, with_images_if};
 
@@ -143,8 +143,8 @@ impl<D: Disk, C: Chare, B: RuntimeName> Hub<D, C, B> {
     /// that means the present world, which takes the place of the store in the spare half, and
     /// answers its generation. The image has each element as it was at a moment since the
     /// checkpoint began, and the deliveries since then. On an honest disk the half that is taken is
-    /// then that one: it counts all events, and its log has no batch yet. No client is told
-    /// anything.
+    /// then that one: it counts all events, and its log has no batch yet, and ends where the history
+    /// says. No client is told anything.
     ///
     /// `Halted`; `Memory`; `ImageFull` if the generation would be past 2^40 or the file past 2^31
     /// bytes: then nothing changes. `Device` halts the store. When refused, the checkpoint still
@@ -245,8 +245,7 @@ fn seal_running<D: Disk, C: Chare, B: RuntimeName>(
     ensures ok { IfOk result (λ generation. generation ≡ sequencer.old.core.generation + 1) }
     ensures within { OnOk result (sequencer.old.core.generation < 2 ^ 40) }
     ensures going { OnOk result (sequencer.old.core.halted ≡ false) }
-    ensures sealed { OnOk result ((log_end : ℕ)
-        × (sequencer.new.core ≡ sealed_at sequencer.old.core log_end)) }
+    ensures sealed { OnOk result (IsSealedCore sequencer.old.core sequencer.new.core) }
     ensures err { IfErr result (IsSealRefusal sequencer.old.core) }
     ensures full { IfErr result (λ refusal. refusal ≡ refusals.ImageFull →
         IsTooLarge sequencer.old.core) }

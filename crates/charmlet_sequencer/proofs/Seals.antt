@@ -25,6 +25,7 @@ use Rattle.charmlet_running.specs.Laws.{AreSettledOn}
 use Rattle.charmlet_running.specs.Running.{IsRunning, Run, with_delivery}
 use Rattle.charmlet_running.proofs.Others.{deliveries_keep, deliveries_keep_running}
 use Rattle.charmlet_sequencer.specs.Book.{IsDueOn}
+use Rattle.charmlet_sequencer.specs.Checkpointing.{IsSealedCore}
 use Rattle.charmlet_sequencer.specs.Sequencer.{IsOf}
 use Rattle.charmlet_sequencer.specs.Shelf.{HasOutput, is_done}
 use Rattle.charmlet_sequencer.specs.Together.{shown_by}
@@ -68,9 +69,9 @@ device_or_not refusals.Device = inl refl
 device_or_not refusal = inr (apart refusal refl)
 
 -- what holds of the core in each case holds of the one that there is
-pub sealed_core : (P : Core → Type 0) (core next : Core) (result : Result ℕ Refusal) → OnOk result ((n : ℕ) × (next ≡ sealed_at core n)) → IfErr result (λ refusal. refusal ≡ refusals.Device → next ≡ halted_core core) →
+pub sealed_core : (P : Core → Type 0) (core next : Core) (result : Result ℕ Refusal) → OnOk result (IsSealedCore core next) → IfErr result (λ refusal. refusal ≡ refusals.Device → next ≡ halted_core core) →
     IfErr result (λ refusal. refusal ≢ refusals.Device → next ≡ core) → P core → P (halted_core core) → ((n : ℕ) → P (sealed_at core n)) → P next
-sealed_core P core next (Ok generation) sealed failed refused old halted new = subst P (sym sealed.1) (new sealed.0)
+sealed_core P core next (Ok generation) sealed failed refused old halted new = subst P (sym sealed.2) (new sealed.0)
 sealed_core P core next (Err refusal) sealed failed refused old halted new = elim (device_or_not refusal) [
   | inl is ↦ subst P (sym (failed is)) halted
   | inr other ↦ subst P (sym (refused other)) old
@@ -82,7 +83,7 @@ pub refused_core : {D : Type 0} {G : disks.Ghosts D} (history next : History) (h
 refused_core history next halves later (Ok generation) same = tt
 refused_core history next halves later (Err refusal) same = λ other. ap core_in (same other).0
 
-module _ (core next : Core) (result : Result ℕ Refusal) (sealed : OnOk result ((n : ℕ) × (next ≡ sealed_at core n))) (failed : IfErr result (λ refusal. refusal ≡ refusals.Device → next ≡ halted_core core))
+module _ (core next : Core) (result : Result ℕ Refusal) (sealed : OnOk result (IsSealedCore core next)) (failed : IfErr result (λ refusal. refusal ≡ refusals.Device → next ≡ halted_core core))
     (refused : IfErr result (λ refusal. refusal ≢ refusals.Device → next ≡ core)) where
   pub sealed_leaves : (q : ℕ) → Leaves q core next
   sealed_leaves q =

@@ -1,12 +1,13 @@
-use Rattle.std.proofs.Common.{◌≡◌, ◌≢◌, ℕ, false, subst}
+use Rattle.std.proofs.Common.{◌≡◌, ◌≢◌, false, subst}
 use Rattle.std.specs.Prelude.{IfErr, OnOk}
 use Rattle.charmlet_model.specs.declared.refusal.Refusal.TheVariants as refusals
 use Rattle.charmlet_disk.specs.Disk.{LeavesOnly}
 use Rattle.charmlet_disk.proofs.Moments.{weaker}
 use Rattle.charmlet_halves.specs.Halves.{disk_of}
-use Rattle.charmlet_history.specs.Kept.{core_in, sealed_at}
+use Rattle.charmlet_history.specs.Kept.{core_in}
 use Rattle.charmlet_journal.specs.Rest.{HasOldOrSealed, HasSealed, keeps_durable}
 use Rattle.charmlet_recovery.proofs.Outcomes.{kept_is_lawful}
+use Rattle.charmlet_sequencer.specs.Checkpointing.{IsSealedCore}
 use Rattle.charmlet_sequencer.specs.Sequencer.{SequencerShown, is_lawful}
 use Rattle.charmlet_sequencer.specs.Together.{shown_by}
 use Rattle.charmlet_sequencer.proofs.Books.{book_still}
@@ -55,7 +56,7 @@ returns-clause-refused g c =
 pub returns-clause-sealed : goal.returns-clause-sealed
 returns-clause-sealed g c =
     let done = c.write_running-sealed in
-    subst (λ (v : SequencerShown _). OnOk done.result ((n : ℕ) × (core_in done.new.history ≡ sealed_at v.core n))) c.self.view_is done.ensures.sealed
+    subst (λ (v : SequencerShown _). OnOk done.result (IsSealedCore v.core (core_in done.new.history))) c.self.view_is done.ensures.sealed
 
 pub returns-clause-image : goal.returns-clause-image
 returns-clause-image g c =
