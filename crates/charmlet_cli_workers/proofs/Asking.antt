@@ -1,14 +1,15 @@
 -- What clients' passes hold as accepted requests, line after line.
-use Rattle.std.proofs.Common.{◌≡◌, ◌≢◌, ◌⊎◌, ℕ, zero, suc, ◌<◌, ◌≤◌, ◌==◌, Bool, true, false, List, [], ◌∷◌, ◌++◌, length, map, inl, inr, ⊎_elim, refl, sym, ap, subst, ◌∙◌, arith, le_refl, Some, Result, Ok, Err, if◌then◌else◌, cond, nat_lt}
-use Rattle.std.specs.Prelude.{◌&&◌, IfErr, IfOk, OnErr, OnOk, slice_get, slice_set}
+use Rattle.std.proofs.Common.{◌≡◌, ◌≢◌, ◌⊎◌, ℕ, zero, suc, ◌<◌, ◌≤◌, ◌==◌, Bool, true, false, List, [], ◌∷◌, ◌++◌, length, map, inl, inr, ⊎_elim, refl, sym, ap, subst, ◌∙◌, arith, le_refl, take, Some, Result, Ok, Err, if◌then◌else◌, cond, nat_lt}
+use Rattle.std.specs.Prelude.{◌&&◌, nat_le, IfErr, IfOk, OnErr, OnOk, slice_get, slice_set}
 use Rattle.std.specs.List.{AllByRecursion}
 use Rattle.std.specs.Map.{lookup}
 use Rattle.std.specs.BTreeMap.{insert_entry, is_at}
 use Rattle.std.specs.Cmp.{nat_cmp_total, nat_eq_equiv}
 use Rattle.std.specs.Ordering.{eq_by_cmp, nat_cmp}
 use Rattle.std.proofs.lemmas.Bool.{ltb-false, ltb-true}
-use Rattle.std.proofs.lemmas.List.{append-nil}
+use Rattle.std.proofs.lemmas.List.{append-nil, take_all}
 use Rattle.std.proofs.lemmas.Map.Views.{exact_unsigned_eq}
+use Rattle.charmlet_model.specs.declared.client.ClientRow.{ClientRow}
 use Rattle.charmlet_model.specs.declared.event.Event.{Event}
 use Rattle.charmlet_model.specs.declared.event.Event.TheVariants.{Accept, Deliver}
 use Rattle.charmlet_model.specs.declared.names.Elem.{Elem}
@@ -18,11 +19,11 @@ use Rattle.charmlet_model.specs.declared.refusal.Refusal.TheVariants as refusals
 use Rattle.charmlet_model.specs.declared.step.Step.{Step}
 use Rattle.charmlet_model.specs.declared.step.Step.TheVariants as steps
 use Rattle.charmlet_model.specs.declared.told.Told.{Told}
-use Rattle.charmlet_model.specs.declared.told.Told.TheVariants.{Accepted}
+use Rattle.charmlet_model.specs.declared.told.Told.TheVariants.{Accepted, Past, Unknown}
 use Rattle.charmlet_model.specs.Core.{Core}
 use Rattle.charmlet_model.specs.Reaction.{capped}
-use Rattle.charmlet_model.specs.Row.{no_client}
-use Rattle.charmlet_model.specs.Told.{told_of}
+use Rattle.charmlet_model.specs.Row.{no_client, reply_to}
+use Rattle.charmlet_model.specs.Told.{Holds, told_of, told_of_item}
 use Rattle.charmlet_model.specs.World.{World, client_of}
 use Rattle.charmlet_model.proofs.Fits.{tied_itself-nat}
 use Rattle.charmlet_model.proofs.Maps.{lookup-insert_entry}
@@ -33,12 +34,13 @@ use Rattle.charmlet_passes.specs.Passes.{HaveAllAccepts, HeldPass, IsAnswered, I
 use Rattle.charmlet_passes.proofs.Lasting.{accepts_in-append, untied}
 use Rattle.charmlet_passes.proofs.Places.{all-last, at_end, at_set}
 use Rattle.charmlet_engine.specs.Engine.{client_answer}
-use Rattle.charmlet_workers.specs.Refusals.{IsRequestCause, is_lending_refusal, is_request_refusal, is_status_refusal}
+use Rattle.charmlet_workers.specs.Refusals.{IsRecent, IsRequestCause, is_lending_refusal, is_request_refusal, is_status_refusal}
 use Rattle.std.specs.Prelude.{◌||◌}
 use Rattle.charmlet_cli.specs.Lines.{Names}
-use Rattle.charmlet_workers.specs.Runtime.{AreFlushed, HasAccepts, RuntimeShown, shown_of}
+use Rattle.charmlet_workers.specs.Runtime.{AreFlushed, RuntimeShown, shown_of}
+use Rattle.charmlet_workers.proofs.Rows.{reached_least}
 use Rattle.charmlet_cli_workers.specs.Heard.{AreAccepted, AreRising, AreTidy, HaveNone, IsAsked, IsCounted, IsAskingCauseBy, IsDoneBy, IsHeard, IsLentAt, IsPassOf, IsReached, IsStepCauseBy, IsSure, IsToldBy, KnowTheSame, accepts_by, known_by, row_by}
-use Rattle.charmlet_cli_workers.proofs.Rows.{reached_least, test_true, told_within}
+use Rattle.charmlet_cli_workers.proofs.Rows.{test_true, told_within}
 use Rattle.charmlet_cli_workers.specs.Said.{Answers, AreDurable, Deeds, IsAskingCause, IsStatusCause, IsStepCause, IsTold, WereFlushed, having_told, last_of}
 
 -- ---- numbers of accepts
@@ -365,6 +367,15 @@ pub flushed_durable : (shown : RuntimeShown) (names : Names) (passes new : List 
 flushed_durable shown names passes new lists deeds is all done = λ client number some within.
     subst (λ (ps : List HeldPass). IsSure ps client number) (sym is) (flushed_sure passes client number all some (subst (λ es. number ≤ last_of 0 es) (done.accepts client) within))
 
+-- the pass has exactly its client's accepts in this history
+abbrev pub HasAccepts : Core → HeldPass → Type 0
+HasAccepts core held = held.accepts ≡ accepts_in held.pass.client core.history
+
+-- so has each that is current
+pub all_accepts : (core : Core) (passes : List HeldPass) → AllByRecursion (λ (held : HeldPass). IsCurrent held core) passes → AllByRecursion (HasAccepts core) passes
+all_accepts core [] all = tt
+all_accepts core (held ∷ passes) all = (all.0.all, all_accepts core passes all.1)
+
 -- what the client's pass holds as accepts is in a history, if it has one
 accepts_or : (core : Core) (passes : List HeldPass) (client : ℕ) → AllByRecursion (HasAccepts core) passes →
     (accepts_by client passes ≡ accepts_in client core.history) ⊎ ((accepts_by client passes ≡ []) × AllByRecursion (λ (h : HeldPass). h.pass.client ≢ client) passes)
@@ -383,9 +394,28 @@ accepts_or core (held ∷ passes) client all =
 pub accepts_are : (core : Core) (passes : List HeldPass) (client : ℕ) → AllByRecursion (HasAccepts core) passes → HaveAllAccepts passes core → accepts_by client passes ≡ accepts_in client core.history
 accepts_are core passes client all have = ⊎_elim (λ is. is) (λ none. none.0 ∙ sym (have client none.1)) (accepts_or core passes client all)
 
+-- a client without a pass knows nothing
+nothing_known : (opening : World) (history : List Event) (client number : ℕ) → Holds opening history client number (told_of no_client number)
+nothing_known opening history client number =
+    elim (nat_lt 0 number) as (λ b. nat_lt 0 number ≡ b → Holds opening history client number (if b then Unknown else if b && nat_le number 0 then told_of_item (reply_to no_client number) else Past)) [
+      | true ↦ λ _. tt
+      | false ↦ λ off. let least = ltb-false 0 number off in omega (arith, least)
+    ] refl
+
+-- and one with a current pass what is true of the durable events
+pass_known : (core : Core) (passes : List HeldPass) (client number : ℕ) → AllByRecursion (λ (held : HeldPass). IsCurrent held core) passes → Holds core.opening (take core.durable core.history) client number (told_of (row_by client passes) number)
+pass_known core [] client number all = nothing_known core.opening (take core.durable core.history) client number
+pass_known core (held ∷ passes) client number all =
+    let first = take core.durable core.history in
+    elim (held.pass.client == client) as (λ b. (held.pass.client == client) ≡ b → Holds core.opening first client number (told_of (if b then held.pass.row else row_by client passes) number)) [
+      | true ↦ λ same. subst (λ c. Holds core.opening first c number (told_of held.pass.row number)) (exact_unsigned_eq held.pass.client client same) (all.0.told number)
+      | false ↦ λ _. pass_known core passes client number all.1
+    ] refl
+
 -- a flush tells how many events there were, with the accepts of the lines so far
-pub were_flushed : (shown : RuntimeShown) (old new : List HeldPass) (lists : List (List MsgId)) (deeds : Deeds) (count : ℕ) → AreAccepted old new → IsDoneBy old lists deeds → AreFlushed shown new count → WereFlushed shown.opening shown.before shown.processors deeds.accepts count
-were_flushed shown old new lists deeds count same done are = record {
+pub were_flushed : (shown : RuntimeShown) (old new : List HeldPass) (lists : List (List MsgId)) (deeds after : Deeds) (count : ℕ) → AreAccepted old new → IsDoneBy old lists deeds → IsDoneBy new lists after → AreFlushed shown new count →
+    WereFlushed shown.opening shown.before shown.processors deeds.accepts after.knows count
+were_flushed shown old new lists deeds after count same done did are = record {
   core = are.core;
   of = are.moment.of;
   sound = are.moment.sound;
@@ -393,7 +423,12 @@ were_flushed shown old new lists deeds count same done are = record {
   counted = are.counted;
   accepts_are = λ client.
       let here = done.accepts client ∙ sym (same client) in
-      ⊎_elim (λ is. inr (here ∙ is)) (λ none. inl (here ∙ none.0)) (accepts_or are.core new client are.accepts);
+      ⊎_elim (λ is. inr (here ∙ is)) (λ none. inl (here ∙ none.0)) (accepts_or are.core new client (all_accepts are.core new are.current));
+  told = λ client number.
+      let core = are.core in
+      let whole : take core.durable core.history ≡ core.history = ap (λ n. take n core.history) are.durable ∙ take_all (length core.history) core.history (le_refl (length core.history)) in
+      subst (λ (row : ClientRow). Holds core.opening core.history client number (told_of row number)) (sym (did.knows client))
+      (subst (λ es. Holds core.opening es client number (told_of (row_by client new) number)) whole (pass_known core new client number are.current));
 }
 
 -- what a request was answered, and what it did
@@ -412,7 +447,7 @@ told_answers shown names old new lists deeds client request (Ok told) done asked
     (λ repeat. (
       having_told deeds client request.number told,
       done_told old new lists deeds client request.number told told_is done repeat.0,
-      (so, reached, inr (refl, ⊎_elim (λ line. inl (subst (λ es. request.number ≤ last_of 0 es) (sym (done.accepts client)) line)) (λ earlier. inr earlier) repeat.1)),
+      (so, reached, inr (refl, ⊎_elim (λ line. inl (subst (λ es. IsRecent (last_of 0 es) request.number) (sym (done.accepts client)) line)) (λ earlier. inr earlier) repeat.1)),
     ))
     asked
 told_answers shown names old new lists deeds client request (Err refusal) done asked unasked told_is untold heard reached refused cause =
@@ -493,25 +528,19 @@ module _ (first passes : List HeldPass) (places : List (ℕ × ℕ)) (place : �
   same_accepts same = λ other. accepts_set_same passes place old new got same other ∙ since other
 
   -- it repeats one of the client's
-  repeated : (request : Request) → IsAlike old new → request.number ≤ old.pass.last → (request.number ≤ last_of 0 (accepts_by client first)) ⊎ IsLentAt (slice_set passes place new) client (λ last. request.number ≤ last)
-  repeated request same within =
+  repeated : (request : Request) → IsAlike old new → IsRecent old.pass.last request.number → IsRecent (last_of 0 (accepts_by client first)) request.number ⊎ IsLentAt (slice_set passes place new) client (λ last. IsRecent last request.number)
+  repeated request same recent =
+      let Is : ℕ → Type 0 = λ last. IsRecent last request.number in
       let last = counted_old.last in
       ⊎_elim
-      (λ none.
-      let none_last = none.0 in
-      let lent = same.lent_at in
-      let up : request.number ≤ new.pass.lent_at = omega (arith, within, last, none_last, lent) in
-      inr (lent_there passes place old new client (λ last. request.number ≤ last) got (same.client ∙ of) up))
-      (λ above.
-      let there = above.1 in
-      let up : request.number ≤ last_of 0 old.accepts = omega (arith, within, last, there) in
-      inl (subst (λ es. request.number ≤ last_of 0 es) (sym (accepts_at client passes place old is_first got) ∙ since client) up))
+      (λ none. inr (lent_there passes place old new client Is got (same.client ∙ of) (subst Is (last ∙ none.0 ∙ sym same.lent_at) recent)))
+      (λ above. inl (subst (λ es. Is (last_of 0 es)) (sym (accepts_at client passes place old is_first got) ∙ since client) (subst Is (last ∙ sym above.1) recent)))
       (last_cases old.pass.lent_at old.accepts counted_old.rising)
 
-  asked_is : (request : Request) → ((IsAlike old new × (request.number ≤ old.pass.last)) ⊎ IsMore request old new) → IsAsked client request first (slice_set passes place new)
-  asked_is request cases =
+  asked_is : (request : Request) → (request.number ≤ old.pass.last → IsRecent old.pass.last request.number) → ((IsAlike old new × (request.number ≤ old.pass.last)) ⊎ IsMore request old new) → IsAsked client request first (slice_set passes place new)
+  asked_is request recent cases =
       ⊎_elim
-      (λ same. inr (same_accepts same.0, repeated request same.0 same.1))
+      (λ same. inr (same_accepts same.0, repeated request same.0 (recent same.1)))
       (λ more. inl (λ other.
       accepts_set_more client request passes place old new is_first got (more.client ∙ of) (more.accepts ∙ ap (λ c. old.accepts ++ accept_of c request ∷ []) of) other
       ∙ ap (λ es. es ++ accepts_in other (accept_of client request ∷ [])) (since other)))
@@ -536,9 +565,9 @@ module _ (first passes : List HeldPass) (places : List (ℕ × ℕ)) (place : �
       cases
 
   pub asked_ok : (request : Request) (r : Result Told Refusal) → IfOk r (λ told. new.pass ≡ with_accept (with_told old.pass request.number told) request.number) → OnOk r (new.accepts ≡ accepts_after old request) →
-      OnOk r (IsAsked client request first (slice_set passes place new))
-  asked_ok request (Ok told) is accepts = asked_is request (asked_cases request old new told is accepts)
-  asked_ok request (Err refusal) is accepts = tt
+      OnOk r (request.number ≤ old.pass.last → IsRecent old.pass.last request.number) → OnOk r (IsAsked client request first (slice_set passes place new))
+  asked_ok request (Ok told) is accepts recent = asked_is request recent (asked_cases request old new told is accepts)
+  asked_ok request (Err refusal) is accepts recent = tt
 
   unchanged : new ≡ old → IsAlike old new
   unchanged is = subst (IsAlike old) (sym is) (alike old)

@@ -21,6 +21,7 @@ use Rattle.charmlet_recovery.proofs.Sealed.{can-take}
 use Rattle.charmlet_requests.specs.Knowing.{heard as hears, is_unknown}
 use Rattle.charmlet_requests.specs.Pass.{Pass, known, with_accept, with_told}
 use Rattle.charmlet_passes.specs.Passes.{AreTrue, HeldPass, IsAnswered, IsCurrent, accepts_in, with_answer, with_flush}
+use Rattle.charmlet_workers.specs.Refusals.{IsRecent}
 use Rattle.charmlet_workers.specs.Runtime.{RuntimeShown}
 use Rattle.charmlet_cli.specs.Lines.{Names}
 use Rattle.charmlet_cli_workers.specs.Heard.{AreLater, IsHeard, IsLater, IsLentAt, IsReached, IsStepCauseBy, IsSure, known_by}
@@ -112,11 +113,11 @@ pub knows_later : (shown : RuntimeShown) (names : Names) (old new : List HeldPas
 knows_later shown names old new later = record {
   told = λ client number told heard. still_heard old new client number told later heard;
   accepted = λ client number reached. still_reached old new client number later reached;
-  earlier = λ client number lent. still_lent old new client (λ last. number ≤ last) later lent;
+  earlier = λ client number lent. still_lent old new client (λ last. IsRecent last number) later lent;
   durable = λ client number sure. still_sure old new client number later sure;
   refused = λ accepts step refusal cause. still_cause shown old new accepts step refusal later cause;
   target = λ name index to entry is. is;
-  flushed = λ accepts count is. is;
+  flushed = λ accepts knows count is. is;
   pending = λ count is. is;
 }
 

@@ -14,10 +14,11 @@ use Rattle.charmlet_script.specs.declared.script.Line.{Line}
 use Rattle.charmlet_cli.specs.declared.restarting.RestartedLine.{RestartedLine}
 use Rattle.charmlet_requests.specs.Handlers.{IsTarget}
 use Rattle.charmlet_cli.specs.Lines.{Names}
-use Rattle.charmlet_workers.specs.Runtime.{HasAccepts, RuntimeShown, shown_of}
+use Rattle.charmlet_workers.specs.Refusals.{IsRecent}
+use Rattle.charmlet_workers.specs.Runtime.{RuntimeShown, shown_of}
 use Rattle.charmlet_cli_workers.specs.Heard.{IsDoneBy, IsStepCauseBy, known_by}
 use Rattle.charmlet_cli_workers.specs.Said.{ArePrinted, AreCutOff, AreSaid, Clients, Deeds, HaveDone, IsBrokenOff, WereFlushed, WerePending, known_in, unknown}
-use Rattle.charmlet_cli_workers.proofs.Asking.{accepts_are, cause_in, lent_in}
+use Rattle.charmlet_cli_workers.proofs.Asking.{accepts_are, all_accepts, cause_in, lent_in}
 use Rattle.charmlet_cli_workers.proofs.Hearing.{heard_stays_true, reached_is_accepted, sure_stays_true}
 use Rattle.charmlet_cli_workers.proofs.Sayings.{KnowsMore, said_all_on, said_on}
 use Rattle.charmlet_disk.specs.declared.disk.Disk.{Ghosts}
@@ -52,11 +53,6 @@ apart_by G opening before processors passes lists core was disk is of sound keep
 
 -- ---- what passes and seats know is so in the end
 
--- what current passes hold as accepts is in the history
-all_accepts : (core : Core) (passes : List HeldPass) → AllByRecursion (λ (held : HeldPass). IsCurrent held core) passes → AllByRecursion (HasAccepts core) passes
-all_accepts core [] all = tt
-all_accepts core (held ∷ passes) all = (all.0.all, all_accepts core passes all.1)
-
 -- what passes hold, and seats, was done in the end
 done_in : (core : Core) (passes : List HeldPass) (lists : List (List MsgId)) (own : List MsgId) (deeds : Deeds) → AllByRecursion (λ (held : HeldPass). IsCurrent held core) passes → HaveAllAccepts passes core → IsWoven (own ∷ lists) (deliveries_in core.history) → IsDoneBy passes lists deeds →
     HaveDone core deeds
@@ -76,11 +72,11 @@ knows_more : (shown : RuntimeShown) (names : Names) (core : Core) (passes : List
 knows_more shown names core passes of sound current = record {
   told = λ client number told heard. heard_stays_true core passes client number told sound current heard;
   accepted = λ client number reached. reached_is_accepted core passes client number current reached;
-  earlier = λ client number lent. lent_in core passes client (λ last. number ≤ last) current lent;
+  earlier = λ client number lent. lent_in core passes client (λ last. IsRecent last number) current lent;
   durable = λ client number sure. sure_stays_true core passes client number sound current sure;
   refused = λ accepts step refusal cause. cause_in core passes accepts step refusal current (subst (λ (v : RuntimeShown). IsStepCauseBy v passes accepts step refusal) (shown_is shown core of) cause);
   target = λ name index to entry is. subst (λ (v : RuntimeShown). IsTarget v.opening index (names name) to entry) (shown_is shown core of) is;
-  flushed = λ accepts count is. subst (λ (v : RuntimeShown). WereFlushed v.opening v.before v.processors accepts count) (shown_is shown core of) is;
+  flushed = λ accepts knows count is. subst (λ (v : RuntimeShown). WereFlushed v.opening v.before v.processors accepts knows count) (shown_is shown core of) is;
   pending = λ count is. subst (λ (v : RuntimeShown). WerePending v.opening v.before v.processors count) (shown_is shown core of) is;
 }
 
@@ -93,7 +89,7 @@ knows_nothing here = record {
   durable = λ client number is. tt;
   refused = λ accepts step refusal is. tt;
   target = λ name index to entry is. tt;
-  flushed = λ accepts count is. tt;
+  flushed = λ accepts knows count is. tt;
   pending = λ count is. tt;
 }
 

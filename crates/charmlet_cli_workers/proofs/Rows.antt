@@ -12,8 +12,9 @@ use Rattle.charmlet_model.specs.World.{can_all, client_of, world}
 use Rattle.charmlet_model.proofs.Lasts.{holds_later}
 use Rattle.charmlet_model.proofs.Windows.{inside-parts}
 use Rattle.charmlet_recovery.proofs.Sealed.{can-take}
-use Rattle.charmlet_requests.specs.Knowing.{IsNoLess, gone_on, greater, heard, is_unknown, passed, reached}
+use Rattle.charmlet_requests.specs.Knowing.{IsNoLess, heard, is_unknown, reached}
 use Rattle.charmlet_requests.proofs.Covering.{replied-parts}
+use Rattle.charmlet_workers.proofs.Rows.{greater_least, reached_least}
 
 pub test_true : (a b : ℕ) → a < b → nat_lt a b ≡ true
 test_true a b less = elim (nat_lt a b) as (λ t. nat_lt a b ≡ t → t ≡ true) [ true ↦ λ _. refl | false ↦ λ off. let more = ltb-false a b off in absurd (omega (arith, less, more)) ] refl
@@ -22,20 +23,6 @@ pub test_false : (a b : ℕ) → b ≤ a → nat_lt a b ≡ false
 test_false a b more = elim (nat_lt a b) as (λ t. nat_lt a b ≡ t → t ≡ false) [ true ↦ λ up. let less = ltb-true a b up in absurd (omega (arith, less, more)) | false ↦ λ _. refl ] refl
 
 -- ---- the last number of a row only grows
-
-greater_least : (a b : ℕ) → a ≤ greater a b
-greater_least a b = elim (nat_lt a b) as (λ t. nat_lt a b ≡ t → a ≤ (if t then b else a)) [ true ↦ λ up. let less = ltb-true a b up in omega (arith, less) | false ↦ λ _. le_refl a ] refl
-
-gone_last : (row : ClientRow) (more : ℕ) → (gone_on row more).last ≡ row.last + more
-gone_last row zero = omega arith
-gone_last row (suc more) = omega (arith, gone_last (with_request row (row.last + 1)) more)
-
-pub reached_least : (row : ClientRow) (number : ℕ) → (number ≤ (reached row number).last) × (row.last ≤ (reached row number).last)
-reached_least row number =
-    let near = passed row (number - 8) in
-    let last = gone_last near (number - near.last) in
-    let least : row.last ≤ near.last = greater_least row.last (number - 8) in
-    (omega (arith, last), omega (arith, last, least))
 
 pub heard_least : (row : ClientRow) (number : ℕ) (told : Told) → row.last ≤ (heard row number told).last
 heard_least row number Unknown = le_refl row.last

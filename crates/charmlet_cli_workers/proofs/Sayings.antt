@@ -2,6 +2,7 @@
 use Rattle.std.proofs.Common.{◌≡◌, ◌||◌, ℕ, Bool, true, false, List, [], ◌∷◌, ◌++◌, inl, inr, ⊎_elim, refl, sym, ap, subst, ◌∙◌, append_assoc, Result, Ok, Err}
 use Rattle.std.specs.Prelude.{IfErr}
 use Rattle.std.proofs.lemmas.List.{append-nil}
+use Rattle.charmlet_model.specs.declared.client.ClientRow.{ClientRow}
 use Rattle.charmlet_model.specs.declared.event.Event.{Event}
 use Rattle.charmlet_model.specs.declared.names.Elem.{Elem}
 use Rattle.charmlet_model.specs.declared.refusal.Refusal.{Refusal}
@@ -13,7 +14,7 @@ use Rattle.charmlet_model.specs.declared.told.Told.{Told}
 use Rattle.charmlet_model.specs.Texts.{Text}
 use Rattle.charmlet_script.specs.declared.script.Line.{Line}
 use Rattle.charmlet_script.specs.declared.script.Line.TheVariants as lines
-use Rattle.charmlet_cli_workers.specs.Said.{Answers, Clients, Deeds, IsAccepted, IsDrained, SayInTurn, Says, SaysStep, having_told}
+use Rattle.charmlet_cli_workers.specs.Said.{Answers, Clients, Deeds, IsAccepted, IsDrained, SayInTurn, Says, SaysStep, having_flushed, having_told}
 
 -- all that is known of clients here is known there
 pub record KnowsMore (here there : Clients) : Type 0 where
@@ -23,7 +24,7 @@ pub record KnowsMore (here there : Clients) : Type 0 where
   pub durable : (client number : ℕ) → here.durable client number → there.durable client number
   pub refused : (accepts : List Event) (step : Step) (refusal : Refusal) → here.refused accepts step refusal → there.refused accepts step refusal
   pub target : (name : Text) (index : ℕ) (to : Elem) (entry : ℕ) → here.target name index to entry → there.target name index to entry
-  pub flushed : (accepts : List Event) (count : ℕ) → here.flushed accepts count → there.flushed accepts count
+  pub flushed : (accepts : List Event) (knows : ℕ → ClientRow) (count : ℕ) → here.flushed accepts knows count → there.flushed accepts knows count
   pub pending : (count : ℕ) → here.pending count → there.pending count
 
 module _ (here there : Clients) (more : KnowsMore here there) where
@@ -41,7 +42,7 @@ module _ (here there : Clients) (more : KnowsMore here there) where
   answers_on before (answers.Told told) steps.Checkpoint after is = absurd is
   answers_on before (answers.Delivered id) step after is = absurd is
   answers_on before (answers.Moved elem processor) (steps.Move moved place) after is = is
-  answers_on before (answers.Flushed durable) steps.Flush after is = ((λ client number some last. more.durable client number (is.0 client number some last)), more.flushed before.accepts durable is.1, is.2)
+  answers_on before (answers.Flushed durable) steps.Flush after is = ((λ client number some last. more.durable client number (is.0 client number some last)), more.flushed before.accepts (having_flushed before).knows durable is.1, is.2)
   answers_on before (answers.Checkpointed generation) steps.Checkpoint after is = is
   answers_on before (answers.Moved elem processor) (steps.Request client number to entry words) after is = absurd is
   answers_on before (answers.Moved elem processor) (steps.Status client number) after is = absurd is

@@ -22,6 +22,7 @@ use Rattle.charmlet_requests.specs.declared.handlers.Handlers.{Handlers}
 use Rattle.charmlet_requests.specs.Handlers.{IsTarget, handler_of}
 use Rattle.charmlet_requests.specs.Knowing.{IsNoLess, heard}
 use Rattle.charmlet_cli.specs.Lines.{Names}
+use Rattle.charmlet_workers.specs.Refusals.{IsRecent}
 use Rattle.charmlet_workers.specs.Runtime.{RuntimeShown}
 use Rattle.charmlet_cli_workers.specs.Said.{Clients, Deeds, IsAskingCause, IsStepCause, WereFlushed, WerePending, last_of}
 
@@ -76,7 +77,7 @@ abbrev pub known_by : RuntimeShown → Names → List HeldPass → Clients
 known_by shown names passes = record {
   told = IsHeard passes;
   accepted = IsReached passes;
-  earlier = λ client number. IsLentAt passes client (λ last. number ≤ last);
+  earlier = λ client number. IsLentAt passes client (λ last. IsRecent last number);
   durable = IsSure passes;
   refused = IsStepCauseBy shown passes;
   target = λ name index to entry. IsTarget shown.opening index (names name) to entry;
@@ -166,5 +167,5 @@ abbrev pub IsAsked : ℕ → Request → List HeldPass → List HeldPass → Typ
 IsAsked client request old new =
     ((other : ℕ) → accepts_by other new
     ≡ accepts_by other old ++ accepts_in other (accept_of client request ∷ []))
-    ⊎ (AreAccepted old new × ((request.number ≤ last_of 0 (accepts_by client old))
-    ⊎ IsLentAt new client (λ last. request.number ≤ last)))
+    ⊎ (AreAccepted old new × (IsRecent (last_of 0 (accepts_by client old)) request.number
+    ⊎ IsLentAt new client (λ last. IsRecent last request.number)))

@@ -39,7 +39,7 @@ use Rattle.charmlet_stock.specs.declared.by_kind.ByKind.{ByKind}
 use Rattle.charmlet_stock.specs.declared.pile.Tally.{Tally}
 use Rattle.charmlet_stock.specs.ByKind.{at}
 use Rattle.charmlet_store.specs.declared.look.Look.{Look}
-use Rattle.charmlet_workers.specs.Refusals.{IsMoveCause, is_flush_refusal, is_lending_refusal, is_move_refusal, is_request_refusal, is_status_refusal, is_work_refusal}
+use Rattle.charmlet_workers.specs.Refusals.{IsMoveCause, IsRecent, is_flush_refusal, is_lending_refusal, is_move_refusal, is_request_refusal, is_status_refusal, is_work_refusal}
 use Rattle.charmlet_workers.specs.Runtime.{RuntimeShown, shown_of}
 use Rattle.charmlet_workers.specs.Sealing.{IsLaterGeneration, is_sealing_refusal}
 use Rattle.charmlet_cli.specs.declared.restarting.RestartedLine.{RestartedLine}
@@ -101,8 +101,9 @@ pub record HaveDone (core : Core) (deeds : Deeds) : Type 0 where
 
 -- At a moment all events of a store that opened so were durable, and they were so many, with those
 -- before its opening world. Each client that these lines had accepts of had these, and no others.
-pub record WereFlushed (opening : World) (before processors : ℕ) (accepts : List Event) (count : ℕ)
-    : Type 0 where
+-- And what each client knows then of its requests is true of them.
+pub record WereFlushed (opening : World) (before processors : ℕ) (accepts : List Event)
+    (knows : ℕ → ClientRow) (count : ℕ) : Type 0 where
   pub core : Core
   pub of : IsOf opening before processors core
   pub sound : IsSound core
@@ -110,6 +111,8 @@ pub record WereFlushed (opening : World) (before processors : ℕ) (accepts : Li
   pub counted : count ≡ core.before + length core.history
   pub accepts_are : (client : ℕ) → (accepts_in client accepts ≡ [])
       ⊎ (accepts_in client accepts ≡ accepts_in client core.history)
+  pub told : (client number : ℕ) →
+      Holds core.opening core.history client number (told_of (knows client) number)
 
 -- at a moment so many messages of a store that opened so were pending
 pub record WerePending (opening : World) (before processors : ℕ) (count : ℕ) : Type 0 where
@@ -168,8 +171,8 @@ IsStepCause shown accepts step refusal = Unit {0}
 -- What is known of clients: what a client was told about which of its requests, which of them were
 -- accepted, which before the store opened, and which are durable. Why a step is refused after these
 -- accepts. Where a call of a name goes, to the element with this index, and at which entry. And how
--- many events there were when they were flushed after these accepts, and how many pending messages
--- at some moment.
+-- many events there were when they were flushed after these accepts, where clients know so much, and
+-- how many pending messages at some moment.
 pub record Clients : Type 1 where
   pub told : ℕ → ℕ → Told → Type 0
   pub accepted : ℕ → ℕ → Type 0
@@ -177,7 +180,7 @@ pub record Clients : Type 1 where
   pub durable : ℕ → ℕ → Type 0
   pub refused : List Event → Step → Refusal → Type 0
   pub target : Text → ℕ → Elem → ℕ → Type 0
-  pub flushed : List Event → ℕ → Type 0
+  pub flushed : List Event → (ℕ → ClientRow) → ℕ → Type 0
   pub pending : ℕ → Type 0
 
 -- What a client was told about a request is true whichever events of this core a crash leaves, all
@@ -192,7 +195,7 @@ abbrev pub known_in : Core → Names → Clients
 known_in core names = record {
   told = StaysTrue core;
   accepted = λ client number. Holds core.opening core.history client number Accepted;
-  earlier = λ client number. number ≤ (client_of core.opening client).last;
+  earlier = λ client number. IsRecent (client_of core.opening client).last number;
   durable = λ client number. StaysTrue core client number Accepted;
   refused = IsStepCause (shown_of core);
   target = λ name index to entry. IsTarget core.opening index (names name) to entry;
@@ -209,7 +212,7 @@ unknown = record {
   durable = λ client number. Unit {0};
   refused = λ accepts step refusal. Unit {0};
   target = λ name index to entry. Unit {0};
-  flushed = λ accepts count. Unit {0};
+  flushed = λ accepts knows count. Unit {0};
   pending = λ count. Unit {0};
 }
 
@@ -226,8 +229,9 @@ is_refusal_of steps.Flush refusal = is_flush_refusal refusal
 is_refusal_of steps.Checkpoint refusal = is_sealing_refusal refusal
 is_refusal_of (steps.Deliver processor id) refusal = false
 
--- A client's request was accepted, exactly so, behind those before it. Or it repeats one that a
--- line before had accepted, or that was accepted before the store opened; and then nothing is done.
+-- A client's request was accepted, exactly so, behind those before it. Or it repeats one of the last
+-- eight up to the last one that a line before had accepted, or up to the last one that was accepted
+-- before the store opened; and then nothing is done.
 abbrev pub IsAccepted : Clients → (before : Deeds) → ℕ → ℕ → Elem → ℕ → List ℕ →
     (after : Deeds) → Type 0
 IsAccepted clients before client number to entry words after =
@@ -235,7 +239,7 @@ IsAccepted clients before client number to entry words after =
       accepts = before.accepts ++ Accept client number to entry words ∷ [];
     })
     ⊎ ((after ≡ before)
-    × ((number ≤ last_by client before.accepts) ⊎ clients.earlier client number))
+    × (IsRecent (last_by client before.accepts) number ⊎ clients.earlier client number))
 
 -- A client is told what is so, and no less about the request than follows from all that it was told
 -- before, and no other words.
@@ -263,7 +267,8 @@ Answers clients before (answers.Told told) (steps.Status client number) after =
 Answers clients before (answers.Moved moved place) (steps.Move elem processor) after =
     (moved ≡ elem) × (place ≡ processor) × (after ≡ before)
 Answers clients before (answers.Flushed durable) steps.Flush after =
-    AreDurable clients before.accepts × clients.flushed before.accepts durable
+    AreDurable clients before.accepts
+    × clients.flushed before.accepts (having_flushed before).knows durable
     × (after ≡ having_flushed before)
 Answers clients before (answers.Checkpointed generation) steps.Checkpoint after =
     IsLaterGeneration generation × (after ≡ before)

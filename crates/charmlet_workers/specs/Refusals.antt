@@ -61,6 +61,12 @@ is_work_refusal (refusals.NoBlank kind) = true
 is_work_refusal refusals.HistoryFull = true
 is_work_refusal _ = false
 
+-- ---- repeats
+
+-- the number is one of the last eight up to this last one, and isn't 0
+abbrev pub IsRecent : (last number : ℕ) → Type 0
+IsRecent last number = (0 < number) × (number ≤ last) × (last < number + 8)
+
 -- ---- causes
 
 -- the request has the number after the pass's last one

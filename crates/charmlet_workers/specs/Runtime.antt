@@ -10,7 +10,7 @@ use Rattle.charmlet_halves.specs.declared.halves.Halves.{Halves}
 use Rattle.charmlet_halves.specs.Halves.{disk_of}
 use Rattle.charmlet_history.specs.Kept.{core_in}
 use Rattle.charmlet_journal.specs.Rest.{Agrees, IsCurrent, IsKept}
-use Rattle.charmlet_passes.specs.Passes.{HeldPass, accepts_in, lent_since}
+use Rattle.charmlet_passes.specs.Passes.{HeldPass, IsCurrent as IsCurrentPass, lent_since}
 use Rattle.charmlet_sequencer.specs.Sequencer.{IsOf}
 use Rattle.charmlet_stock.specs.declared.pile.Tally.{Tally}
 use Rattle.charmlet_stock.specs.ByKind.{for_all}
@@ -39,10 +39,6 @@ pub record IsMoment (shown : RuntimeShown) (core : Core) : Type 0 where
   pub of : IsOf shown.opening shown.before shown.processors core
   pub sound : IsSound core
 
--- the pass has exactly its client's accepts in this history
-abbrev pub HasAccepts : Core → HeldPass → Type 0
-HasAccepts core held = held.accepts ≡ accepts_in held.pass.client core.history
-
 -- at a moment so many messages were pending
 pub record ArePending (shown : RuntimeShown) (count : ℕ) : Type 0 where
   pub core : Core
@@ -56,13 +52,14 @@ pub record ArePendingIds (shown : RuntimeShown) (ids : List MsgId) : Type 0 wher
   pub ids_are : ids ≡ map (λ m. m.id) (present core).pending
 
 -- At a moment all events were durable, and they were so many, with those before the opening world.
--- Each of these passes had its client's accepts among them, and no others.
+-- Each of these passes was current then: it was lent after no more events than these, and had its
+-- client's accepts among them, and no others; and all that its client was told is true of them.
 pub record AreFlushed (shown : RuntimeShown) (passes : List HeldPass) (count : ℕ) : Type 0 where
   pub core : Core
   pub moment : IsMoment shown core
   pub durable : core.durable ≡ length core.history
   pub counted : count ≡ core.before + length core.history
-  pub accepts : AllByRecursion (HasAccepts core) passes
+  pub current : AllByRecursion (λ held. IsCurrentPass held core) passes
 
 -- no more objects are in the stock or retired than were supplied
 abbrev pub IsWithin : Tally → Type 0

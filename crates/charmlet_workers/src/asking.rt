@@ -4,7 +4,7 @@ ghost use Rattle.std.specs.Prelude.{◌≡◌, ◌≤◌, ℕ, true, IfErr, IfOk
 ghost use Rattle.charmlet_requests.specs.Handlers.{IsTarget, handler_of};
 ghost use Rattle.charmlet_requests.specs.Pass.{with_accept, with_told};
 ghost use Rattle.charmlet_passes.specs.Passes.{IsAnswered, accepts_after, with_flush};
-ghost use Rattle.charmlet_workers.specs.Refusals.{IsRequestCause, is_flush_refusal, is_request_refusal, is_status_refusal};
+ghost use Rattle.charmlet_workers.specs.Refusals.{IsRecent, IsRequestCause, is_flush_refusal, is_request_refusal, is_status_refusal};
 ghost use Rattle.charmlet_workers.specs.Runtime.{AreFlushed};
 
 use crate::runtime::Runtime;
@@ -19,11 +19,11 @@ use charmlet_sequencer::RuntimeName;
 use std::sync::Wait;
 
 impl<D: Disk, C: Chare, B: RuntimeName> Runtime<D, C, B> {
-    /// Accepts a request of the pass's client, unless it repeats one in the client's window, and
-    /// tells the client what is durable of it, in one hold of the hub. The refusals are those of
-    /// [`charmlet_history::History::request`], in their order. If it isn't refused, the pass
-    /// records that it was accepted, and what was told about it. What is told is no less than the
-    /// pass knew, and no other words. A refusal changes nothing.
+    /// Accepts a request of the pass's client, unless it repeats one in the client's window, which
+    /// has at most the last eight, and tells the client what is durable of it, in one hold of the
+    /// hub. The refusals are those of [`charmlet_history::History::request`], in their order. If it
+    /// isn't refused, the pass records that it was accepted, and what was told about it. What is
+    /// told is no less than the pass knew, and no other words. A refusal changes nothing.
     pub fn request<R: Wait>(
         &self,
         rt: &R,
@@ -34,6 +34,8 @@ impl<D: Disk, C: Chare, B: RuntimeName> Runtime<D, C, B> {
         ensures told { IfOk result (λ told. pass.new.pass
             ≡ with_accept (with_told pass.old.pass request.now.number told) request.now.number) }
         ensures accepts { OnOk result (pass.new.accepts ≡ accepts_after pass.old request.now) }
+        ensures repeat { OnOk result (request.now.number ≤ pass.old.pass.last →
+            IsRecent pass.old.pass.last request.now.number) }
         ensures err { IfErr result (λ refusal. is_request_refusal refusal ≡ true) }
         ensures cause { IfErr result (IsRequestCause self.now.opening pass.old request.now) }
     {

@@ -74,9 +74,9 @@ returns-in-Ok-flush-clause-answers g c = λ named lists before done.
     let told : new ≡ map with_flush old = c.in-Ok-flush.ensures.told in
     let same = subst (AreAccepted old) (sym told) (accepts_flushed old) in
     let durable = flushed_durable c.args.runtime.now named old new lists before told c.requires.tidy.counted done in
-    let counted = were_flushed c.args.runtime.now old new lists before c.in-Ok-flush.durable same done c.in-Ok-flush.ensures.flushed in
     let after = having_flushed before in
     let did = subst (λ (ps : List HeldPass). IsDoneBy ps lists after) (sym told) (done_flushed old lists before c.requires.tidy.counted done) in
+    let counted = were_flushed c.args.runtime.now old new lists before after c.in-Ok-flush.durable same done did c.in-Ok-flush.ensures.flushed in
     (after, did, subst (λ (step : Step). Answers clients before (answers.Flushed c.in-Ok-flush.durable) step after) (sym c.in-Flush.is) (durable, counted, refl))
 
 pub returns-in-Err-flush-clause-answers : goal.returns-in-Err-flush-clause-answers

@@ -55,7 +55,7 @@ returns-in-Ok-clause-asked g c =
     let old = c.index_mut.result.now in
     let got : slice_get passes place ≡ Some old = slice_get_read passes (length passes) place old refl (slice_get_within passes place found.0 found.1) c.index_mut.ensures.value in
     let of : old.pass.client ≡ c.args.client = let same : found.0 ≡ old = cc in sym (ap (λ (held : HeldPass). held.pass.client) same) ∙ found.2 in
-    asked_ok c.args.self.now.passes.items passes places place old c.request.new.pass c.args.client c.in-Ok.ensures.tidy got of c.in-Ok.ensures.accepted c.args.request.now c.request.result c.request.ensures.told c.request.ensures.accepts
+    asked_ok c.args.self.now.passes.items passes places place old c.request.new.pass c.args.client c.in-Ok.ensures.tidy got of c.in-Ok.ensures.accepted c.args.request.now c.request.result c.request.ensures.told c.request.ensures.accepts c.request.ensures.repeat
 
 pub returns-in-Ok-clause-unasked : goal.returns-in-Ok-clause-unasked
 returns-in-Ok-clause-unasked g c =

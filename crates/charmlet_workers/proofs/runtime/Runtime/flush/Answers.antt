@@ -20,4 +20,4 @@ returns-clause-flushed g c =
     let kept = subst (λ (h : HubShown _). OnOk told.result (TellAll hub.passes c.args.passes.now h.passes)) same told.ensures.kept in
     subst (λ (v : RuntimeShown). IfOk told.result (AreFlushed v told.new.passes)) c.self.view_is
     (flushed_if (named g.B.RuntimeName.opening g.B.RuntimeName.before g.B.RuntimeName.processors) hub next c.args.passes.now told.new.passes told.result (record { of = facts.of; sound = facts.sound }) goes kept told.ensures.told
-    (λ n j got. (facts.hub.passes.each n j got).all))
+    facts.hub.passes.each)
