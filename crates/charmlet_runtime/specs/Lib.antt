@@ -1,4 +1,5 @@
 -- The definitions that contracts cite.
+pub mod Told
 pub use Rattle.charmlet_model.specs.Core
 pub use Rattle.charmlet_model.specs.Edition
 pub use Rattle.charmlet_model.specs.Sound

@@ -5,7 +5,9 @@
 #![tactic(auto)]
 
 mod creating;
+mod laws;
 mod restarting;
 mod unnamed;
 
+pub use crate::laws::passes_are_runs;
 pub use crate::unnamed::UnnamedRuntime;
