@@ -24,25 +24,25 @@ use std::sync::{Arc, Wait};
 
 const CLIENT: u32 = 7;
 
-// The element of the ring that stands on the processor of this number.
-fn ring(index: u64) -> Elem {
+// The element of the array that is made on the processor of this number.
+fn element(index: u64) -> Elem {
     Elem { array: 0, index }
 }
 
-// An array of rings.
-fn rings(rt: &(impl AllocGlobal + Abort)) -> Manifest
+// An array of elements of this kind.
+fn array_of(rt: &(impl AllocGlobal + Abort), kind: Kind) -> Manifest
     ensures { AreNewest result }
 {
-    let arrays = [(0, Kind::Ring.number())];
+    let arrays = [(0, kind.number())];
     Manifest::of(rt.alloc(), &arrays)
         .expect(rt, "memory")
         .expect(rt, "one array")
 }
 
-// A new runtime on two processors, with rings.
-fn create_rings(rt: &(impl AllocGlobal + Abort)) -> UnnamedRuntime<ProbeDisk, Object> {
+// A new runtime on two processors, with an array of elements of this kind.
+fn create(rt: &(impl AllocGlobal + Abort), kind: Kind) -> UnnamedRuntime<ProbeDisk, Object> {
     let disk = ProbeDisk::new(rt.alloc()).expect(rt, "memory");
-    match UnnamedRuntime::create(rt.alloc(), disk, rings(rt), 2) {
+    match UnnamedRuntime::create(rt.alloc(), disk, array_of(rt, kind), 2) {
         Ok(begun) => begun,
         Err(_) => panic!(rt; "no store is there"),
     }
@@ -59,7 +59,7 @@ fn ask<B: RuntimeName, R: Wait + Abort>(
 ) {
     let request = Request {
         number: pass.last().saturating_add(1),
-        to: ring(u64::from(seat.processor())),
+        to: element(u64::from(seat.processor())),
         entry,
         words: &[word],
     };
@@ -75,11 +75,11 @@ fn clear<B: RuntimeName>(rt: &impl Abort, seat: &mut Seat<SeatsOf<B>>) {
     assert!(rt; seat.next_ticket().is_none());
 }
 
-// There is one ticket at this seat: for the first message of element 0.
-fn has_ticket<B: RuntimeName>(rt: &impl Abort, seat: &mut Seat<SeatsOf<B>>) {
+// There is one ticket at this seat: for element 0's message of this number.
+fn has_ticket<B: RuntimeName>(rt: &impl Abort, seat: &mut Seat<SeatsOf<B>>, number: u64) {
     let id = MsgId {
-        origin: Origin::Element(ring(0)),
-        number: 1,
+        origin: Origin::Element(element(0)),
+        number,
     };
     let ticket = seat.next_ticket().expect(rt, "a ticket is there");
     assert_eq!(rt; ticket.processor, seat.processor());
@@ -102,15 +102,37 @@ fn pass_on<B: RuntimeName, R: Wait + AllocGlobal + Abort>(
     ask(rt, &runtime, &mut pass, &mut second, CONSTRUCT, 0);
     clear(rt, &mut second);
     ask(rt, &runtime, &mut pass, &mut first, 0, 1);
-    has_ticket(rt, &mut second);
+    has_ticket(rt, &mut second, 1);
     assert_eq!(rt; runtime.work(rt, &mut second, &OpenGate, 1).count, 1);
 }
 
-// The same under the name `B`.
-fn pass_on_named<B: RuntimeName, R: Wait + AllocGlobal + Abort>(
+// A tree of depth 1 is made on processor 0, and sends for its two children, one for each processor.
+// That was the only turn, so the message of the second child isn't assigned, and has no blank yet.
+fn grow<B: RuntimeName, R: Wait + AllocGlobal + Abort>(
+    rt: &R,
+    runtime: Runtime<ProbeDisk, Object, B>,
+    tally: &Arc<Tally>,
+) {
+    let objects = blanks(rt.alloc(), tally, &[(Kind::Tree, 3)]).expect(rt, "memory");
+    assert!(rt; runtime.supply(rt, objects).is_ok());
+    let mut pass = runtime.client(rt, CLIENT).expect(rt, "it isn't out");
+    let mut first = runtime.seat(rt, 0).expect(rt, "it isn't out");
+    let mut second = runtime.seat(rt, 1).expect(rt, "it isn't out");
+    ask(rt, &runtime, &mut pass, &mut first, CONSTRUCT, 1);
+    let trees = runtime.census(rt).trees;
+    assert_eq!(rt; [trees.supplied, trees.in_stock], [3, 2]);
+    let asked = first.next_ticket().expect(rt, "the request left a ticket");
+    assert_eq!(rt; asked.id.origin, Origin::Client(CLIENT));
+    has_ticket(rt, &mut first, 2);
+    has_ticket(rt, &mut second, 1);
+}
+
+// One of the two under the name `B`: a tree is made, or a token goes on.
+fn run_named<B: RuntimeName, R: Wait + AllocGlobal + Abort>(
     rt: &R,
     begun: UnnamedRuntime<ProbeDisk, Object>,
     books: UnnamedBooks,
+    kind: Kind,
     tally: &Arc<Tally>,
 )
     requires named { IsOf B.opening B.before B.processors (core_of begun) }
@@ -120,24 +142,29 @@ fn pass_on_named<B: RuntimeName, R: Wait + AllocGlobal + Abort>(
     requires checkpoints { table_of books.checkpoints ≡ B.checkpoints }
     requires honest { B.honest → ⊥ }
 {
-    match begun.open::<B>(books) {
-        Ok(runtime) => pass_on(rt, runtime, tally),
+    let runtime = match begun.open::<B>(books) {
+        Ok(runtime) => runtime,
         Err(_) => panic!(rt; "memory"),
+    };
+    match kind {
+        Kind::Tree => grow(rt, runtime, tally),
+        _ => pass_on(rt, runtime, tally),
     }
 }
 
-// The same, under a name of its own.
-fn pass_on_once<R: Wait + AllocGlobal + Abort>(
-    rt: &R,
-    begun: UnnamedRuntime<ProbeDisk, Object>,
-    tally: &Arc<Tally>,
-) {
+// The same of elements of this kind, under a name of its own.
+fn run_once<R: Wait + AllocGlobal + Abort>(rt: &R, kind: Kind) {
+    let tally = Arc::new(rt.alloc(), Tally::new()).expect(rt, "memory");
     let books = UnnamedBooks::new(rt.alloc()).expect(rt, "memory");
-    pass_on_named::<Brand, R>(rt, begun, books, tally)
+    run_named::<Brand, R>(rt, create(rt, kind), books, kind, &tally)
 }
 
 #[test]
 fn a_commit_leaves_tickets_for_what_was_sent(rt: HostRuntime) {
-    let tally = Arc::new(rt.alloc(), Tally::new()).expect(&rt, "memory");
-    pass_on_once(&rt, create_rings(&rt), &tally);
+    run_once(&rt, Kind::Ring);
+}
+
+#[test]
+fn a_commit_leaves_a_ticket_for_each_of_several_sends(rt: HostRuntime) {
+    run_once(&rt, Kind::Tree);
 }
