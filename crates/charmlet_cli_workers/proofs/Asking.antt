@@ -37,11 +37,11 @@ use Rattle.charmlet_engine.specs.Engine.{client_answer}
 use Rattle.charmlet_workers.specs.Refusals.{IsRecent, IsRequestCause, is_lending_refusal, is_request_refusal, is_status_refusal}
 use Rattle.std.specs.Prelude.{◌||◌}
 use Rattle.charmlet_cli.specs.Lines.{Names}
-use Rattle.charmlet_workers.specs.Runtime.{AreFlushed, RuntimeShown, shown_of}
+use Rattle.charmlet_workers.specs.Runtime.{AreFlushed, RuntimeShown}
 use Rattle.charmlet_workers.proofs.Rows.{reached_least}
 use Rattle.charmlet_cli_workers.specs.Heard.{AreAccepted, AreRising, AreTidy, HaveNone, IsAsked, IsCounted, IsAskingCauseBy, IsDoneBy, IsHeard, IsLentAt, IsPassOf, IsReached, IsStepCauseBy, IsSure, IsToldBy, KnowTheSame, accepts_by, known_by, row_by}
 use Rattle.charmlet_cli_workers.proofs.Rows.{test_true, told_within}
-use Rattle.charmlet_cli_workers.specs.Said.{Answers, AreDurable, Deeds, IsAskingCause, IsStatusCause, IsStepCause, IsTold, WereFlushed, having_told, last_of}
+use Rattle.charmlet_cli_workers.specs.Said.{Answers, AreDurable, Deeds, IsAskingCause, IsStatusCause, IsStepCause, IsTold, WereFlushed, having_told, last_of, shown_since}
 
 -- ---- numbers of accepts
 
@@ -77,11 +77,11 @@ pub record IsAlike (old new : HeldPass) : Type 0 where
 alike : (held : HeldPass) → IsAlike held held
 alike held = record { client = refl; lent_at = refl; last = refl; accepts = refl }
 
-pub flushed_alike : (held : HeldPass) → IsAlike held (with_flush held)
-flushed_alike held =
-    elim (nat_lt held.pass.lent_at held.pass.last && is_unknown (known held.pass held.pass.last)) as (λ b. IsAlike held (if b then with_answer held (with_told held.pass held.pass.last Accepted) held.pass.last Accepted else held)) [
+pub flushed_alike : (count : ℕ) (held : HeldPass) → IsAlike held (with_flush count held)
+flushed_alike count held =
+    elim (nat_lt held.pass.lent_at held.pass.last && is_unknown (known held.pass held.pass.last)) as (λ b. IsAlike held (record (if b then with_answer held (with_told held.pass held.pass.last Accepted) held.pass.last Accepted else held) { flushed = count })) [
       | true ↦ record { client = refl; lent_at = refl; last = refl; accepts = refl }
-      | false ↦ alike held
+      | false ↦ record { client = refl; lent_at = refl; last = refl; accepts = refl }
     ]
 
 counted_alike : (old new : HeldPass) → IsAlike old new → IsCounted old → IsCounted new
@@ -209,12 +209,12 @@ accepts_pushed [] held none client =
     ap (λ es. if held.pass.client == client then es else empty) none ∙ elim (held.pass.client == client) as (λ b. (if b then empty else empty) ≡ empty) [ true ↦ refl | false ↦ refl ]
 accepts_pushed (h ∷ passes) held none client = ap (λ es. if h.pass.client == client then h.accepts else es) (accepts_pushed passes held none client)
 
-pub accepts_flushed : (passes : List HeldPass) → AreAccepted passes (map with_flush passes)
-accepts_flushed [] client = refl
-accepts_flushed (held ∷ passes) client =
-    let same = flushed_alike held in
-    (λ i. if same.client i == client then same.accepts i else accepts_by client (map with_flush passes))
-    ∙ ap (λ es. if held.pass.client == client then held.accepts else es) (accepts_flushed passes client)
+pub accepts_flushed : (count : ℕ) (passes : List HeldPass) → AreAccepted passes (map (with_flush count) passes)
+accepts_flushed count [] client = refl
+accepts_flushed count (held ∷ passes) client =
+    let same = flushed_alike count held in
+    (λ i. if same.client i == client then same.accepts i else accepts_by client (map (with_flush count) passes))
+    ∙ ap (λ es. if held.pass.client == client then held.accepts else es) (accepts_flushed count passes client)
 
 -- ---- tidy passes
 
@@ -278,22 +278,22 @@ tidy_lent client last since passes places held is none tidy = record {
   counted = all-last IsCounted passes held tidy.counted (subst IsCounted (sym is) (counted_lent client last since));
 }
 
-flushed_got : (passes : List HeldPass) (place : ℕ) (held : HeldPass) → slice_get (map with_flush passes) place ≡ Some held → (old : HeldPass) × (slice_get passes place ≡ Some old) × (held ≡ with_flush old)
-flushed_got [] place held got = let never : ⊥ = cc in absurd never
-flushed_got (h ∷ passes) zero held got = (h, refl, (let same : with_flush h ≡ held = cc in sym same))
-flushed_got (h ∷ passes) (suc place) held got = flushed_got passes place held got
+flushed_got : (count : ℕ) (passes : List HeldPass) (place : ℕ) (held : HeldPass) → slice_get (map (with_flush count) passes) place ≡ Some held → (old : HeldPass) × (slice_get passes place ≡ Some old) × (held ≡ with_flush count old)
+flushed_got count [] place held got = let never : ⊥ = cc in absurd never
+flushed_got count (h ∷ passes) zero held got = (h, refl, (let same : with_flush count h ≡ held = cc in sym same))
+flushed_got count (h ∷ passes) (suc place) held got = flushed_got count passes place held got
 
-all_flushed : (passes : List HeldPass) → AllByRecursion IsCounted passes → AllByRecursion IsCounted (map with_flush passes)
-all_flushed [] all = tt
-all_flushed (held ∷ passes) all = (counted_alike held (with_flush held) (flushed_alike held) all.0, all_flushed passes all.1)
+all_flushed : (count : ℕ) (passes : List HeldPass) → AllByRecursion IsCounted passes → AllByRecursion IsCounted (map (with_flush count) passes)
+all_flushed count [] all = tt
+all_flushed count (held ∷ passes) all = (counted_alike held (with_flush count held) (flushed_alike count held) all.0, all_flushed count passes all.1)
 
-pub tidy_flushed : (passes : List HeldPass) (places : List (ℕ × ℕ)) → AreTidy passes places → AreTidy (map with_flush passes) places
-tidy_flushed passes places tidy = record {
+pub tidy_flushed : (count : ℕ) (passes : List HeldPass) (places : List (ℕ × ℕ)) → AreTidy passes places → AreTidy (map (with_flush count) passes) places
+tidy_flushed count passes places tidy = record {
   found = λ n held got.
-      let old = flushed_got passes n held got in
-      let its : old.0.pass.client ≡ held.pass.client = sym (flushed_alike old.0).client ∙ ap (λ (h : HeldPass). h.pass.client) (sym old.2) in
+      let old = flushed_got count passes n held got in
+      let its : old.0.pass.client ≡ held.pass.client = sym (flushed_alike count old.0).client ∙ ap (λ (h : HeldPass). h.pass.client) (sym old.2) in
       subst (λ c. lookup (is_at (nat_cmp c)) places ≡ Some n) its (tidy.found n old.0 old.1);
-  counted = all_flushed passes tidy.counted;
+  counted = all_flushed count passes tidy.counted;
 }
 
 -- ---- a place is found
@@ -304,8 +304,8 @@ no_place client passes places tidy never = λ place is. never place (subst (λ c
 
 -- ---- a flush
 
-flushed_reaches : (held : HeldPass) → held.pass.lent_at < held.pass.last → held.pass.last ≤ (with_flush held).pass.row.last
-flushed_reaches held less =
+flushed_reaches : (count : ℕ) (held : HeldPass) → held.pass.lent_at < held.pass.last → held.pass.last ≤ (with_flush count held).pass.row.last
+flushed_reaches count held less =
     let row = held.pass.row in
     let last = held.pass.last in
     elim (nat_lt held.pass.lent_at held.pass.last && is_unknown (known held.pass held.pass.last)) as (λ b. (nat_lt held.pass.lent_at held.pass.last && is_unknown (known held.pass held.pass.last)) ≡ b →
@@ -315,11 +315,11 @@ flushed_reaches held less =
     ] refl
 
 -- all accepts of its client are durable after it
-pub flushed_sure : (passes : List HeldPass) (client number : ℕ) → AllByRecursion IsCounted passes → 0 < number → number ≤ last_of 0 (accepts_by client passes) → IsSure (map with_flush passes) client number
-flushed_sure [] client number all some within = absurd (omega (arith, some, within))
-flushed_sure (held ∷ passes) client number all some within =
+pub flushed_sure : (count : ℕ) (passes : List HeldPass) (client number : ℕ) → AllByRecursion IsCounted passes → 0 < number → number ≤ last_of 0 (accepts_by client passes) → IsSure (map (with_flush count) passes) client number
+flushed_sure count [] client number all some within = absurd (omega (arith, some, within))
+flushed_sure count (held ∷ passes) client number all some within =
     let rest = accepts_by client passes in
-    elim (held.pass.client == client) as (λ b. (held.pass.client == client) ≡ b → number ≤ last_of 0 (if b then held.accepts else rest) → IsSure (map with_flush (held ∷ passes)) client number) [
+    elim (held.pass.client == client) as (λ b. (held.pass.client == client) ≡ b → number ≤ last_of 0 (if b then held.accepts else rest) → IsSure (map (with_flush count) (held ∷ passes)) client number) [
       | true ↦ λ same within.
           let is : held.pass.client ≡ client = exact_unsigned_eq held.pass.client client same in
           let last = all.0.last in
@@ -330,10 +330,10 @@ flushed_sure (held ∷ passes) client number all some within =
           let there = above.1 in
           let less : held.pass.lent_at < held.pass.last = omega (arith, last, up) in
           let reached : number ≤ held.pass.last = omega (arith, within, there, last) in
-          let sure : held.pass.last ≤ (with_flush held).pass.row.last = flushed_reaches held less in
-          inl ((flushed_alike held).client ∙ is, omega (arith, reached, sure)))
+          let sure : held.pass.last ≤ (with_flush count held).pass.row.last = flushed_reaches count held less in
+          inl ((flushed_alike count held).client ∙ is, omega (arith, reached, sure)))
           (last_cases held.pass.lent_at held.accepts all.0.rising)
-      | false ↦ λ _ within. inr (flushed_sure passes client number all.1 some within)
+      | false ↦ λ _ within. inr (flushed_sure count passes client number all.1 some within)
     ] refl within
 
 -- ---- what lines did
@@ -363,9 +363,9 @@ module _ (old new : List HeldPass) (lists : List (List MsgId)) (deeds : Deeds) (
   }
 
 -- a flush leaves what was done, and makes it durable
-pub flushed_durable : (shown : RuntimeShown) (names : Names) (passes new : List HeldPass) (lists : List (List MsgId)) (deeds : Deeds) → new ≡ map with_flush passes → AllByRecursion IsCounted passes → IsDoneBy passes lists deeds → AreDurable (known_by shown names new) deeds.accepts
-flushed_durable shown names passes new lists deeds is all done = λ client number some within.
-    subst (λ (ps : List HeldPass). IsSure ps client number) (sym is) (flushed_sure passes client number all some (subst (λ es. number ≤ last_of 0 es) (done.accepts client) within))
+pub flushed_durable : (count : ℕ) (shown : RuntimeShown) (names : Names) (passes new : List HeldPass) (lists : List (List MsgId)) (deeds : Deeds) → new ≡ map (with_flush count) passes → AllByRecursion IsCounted passes → IsDoneBy passes lists deeds → AreDurable (known_by shown names new) deeds.accepts
+flushed_durable count shown names passes new lists deeds is all done = λ client number some within.
+    subst (λ (ps : List HeldPass). IsSure ps client number) (sym is) (flushed_sure count passes client number all some (subst (λ es. number ≤ last_of 0 es) (done.accepts client) within))
 
 -- the pass has exactly its client's accepts in this history
 abbrev pub HasAccepts : Core → HeldPass → Type 0
@@ -414,11 +414,10 @@ pass_known core (held ∷ passes) client number all =
 
 -- a flush tells how many events there were, with the accepts of the lines so far
 pub were_flushed : (shown : RuntimeShown) (old new : List HeldPass) (lists : List (List MsgId)) (deeds after : Deeds) (count : ℕ) → AreAccepted old new → IsDoneBy old lists deeds → IsDoneBy new lists after → AreFlushed shown new count →
-    WereFlushed shown.opening shown.before shown.processors deeds.accepts after.knows count
+    WereFlushed shown deeds.accepts after.knows count
 were_flushed shown old new lists deeds after count same done did are = record {
   core = are.core;
-  of = are.moment.of;
-  sound = are.moment.sound;
+  moment = are.moment;
   durable = are.durable;
   counted = are.counted;
   accepts_are = λ client.
@@ -502,7 +501,7 @@ asking_cause : (opening : World) (accepts : List Event) (held : HeldPass) (reque
     IsAskingCause opening accepts held.pass.last request.number request.to request.words.now refusal
 asking_cause opening accepts held request refusals.Memory cause wants = tt
 asking_cause opening accepts held request refusals.Halted cause wants = tt
-asking_cause opening accepts held request (refusals.OutOfTurn wanted) cause wants = (wants wanted refl, cause.0, cause.1)
+asking_cause opening accepts held request (refusals.OutOfTurn wanted) cause wants = (wants wanted refl, (cause.0, cause.1))
 asking_cause opening accepts held request refusals.Waiting cause wants = cause
 asking_cause opening accepts held request refusals.NoArray cause wants = cause
 asking_cause opening accepts held request refusals.TooLong cause wants = cause
@@ -600,8 +599,8 @@ lent_in core (held ∷ passes) client is all lent =
     ⊎_elim (λ here. subst (λ c. is (client_of core.opening c).last) here.0 (subst is all.0.lent_at here.1)) (λ there. lent_in core passes client is all.1 there) lent
 
 -- and so is what a step is refused for
-pub cause_in : (core : Core) (passes : List HeldPass) (accepts : List Event) (step : Step) (refusal : Refusal) → AllByRecursion (λ (held : HeldPass). IsCurrent held core) passes → IsStepCauseBy (shown_of core) passes accepts step refusal → IsStepCause (shown_of core) accepts step refusal
-cause_in core passes accepts (steps.Request client number to entry words) refusal all cause =
+pub cause_in : (first : ℕ) (core : Core) (passes : List HeldPass) (accepts : List Event) (step : Step) (refusal : Refusal) → AllByRecursion (λ (held : HeldPass). IsCurrent held core) passes → IsStepCauseBy (shown_since first core) passes accepts step refusal → IsStepCause (shown_since first core) accepts step refusal
+cause_in first core passes accepts (steps.Request client number to entry words) refusal all cause =
     let mine = accepts_in client accepts in
     ⊎_elim (λ any. any (client_of core.opening client).last) (λ lent. lent_in core passes client (λ last. IsAskingCause core.opening mine (last_of last mine) number to words refusal) all lent) cause
-cause_in core passes accepts step refusal all cause = cause
+cause_in first core passes accepts step refusal all cause = cause

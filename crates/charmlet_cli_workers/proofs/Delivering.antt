@@ -10,13 +10,8 @@ use Rattle.charmlet_script.specs.Printed.{drained_text}
 use Rattle.charmlet_seats.specs.Seats.{HeldSeat}
 use Rattle.charmlet_workers.specs.declared.working.Worked.{Worked}
 use Rattle.charmlet_workers.specs.Refusals.{is_work_refusal}
-use Rattle.charmlet_workers.specs.Runtime.{ArePending, RuntimeShown}
 use Rattle.charmlet_workers.specs.Working.{HasServed}
-use Rattle.charmlet_cli_workers.specs.Said.{Clients, Deeds, HaveDelivered, IsDrained, WerePending, refused_texts}
-
--- how many messages were pending at some moment
-pub were_pending : (shown : RuntimeShown) (count : ℕ) → ArePending shown count → WerePending shown.opening shown.before shown.processors count
-were_pending shown count are = record { core = are.core; of = are.moment.of; sound = are.moment.sound; counted = are.counted }
+use Rattle.charmlet_cli_workers.specs.Said.{Clients, Deeds, HaveDelivered, IsDrained, refused_texts}
 
 module _ {S : Type 0} (seat : S → HeldSeat) (worked : S → Worked) where
   -- each worker's ids are more by as many as it counts

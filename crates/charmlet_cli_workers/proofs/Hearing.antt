@@ -1,5 +1,5 @@
 -- What clients' passes know, and that it stays true.
-use Rattle.std.proofs.Common.{◌≡◌, ℕ, zero, suc, ◌≤◌, List, [], ◌∷◌, ◌++◌, Bool, length, map, take, drop, inl, inr, ⊎_elim, refl, sym, ap, subst, ◌∙◌, true, false, Result, Ok, Err, le_refl, arith, take-append-drop}
+use Rattle.std.proofs.Common.{◌≡◌, ◌⊎◌, ℕ, zero, suc, ◌+◌, ◌≤◌, List, [], ◌∷◌, ◌++◌, Bool, length, map, take, drop, inl, inr, ⊎_elim, refl, sym, ap, subst, ◌∙◌, true, false, Result, Ok, Err, le_refl, arith, take-append-drop}
 use Rattle.std.proofs.lemmas.Bool.Decides.{nat_tests}
 use Rattle.std.specs.Prelude.{◌&&◌, IfOk, OnOk, Some, Contains, slice_get, slice_set, nat_lt, if◌then◌else◌}
 use Rattle.std.specs.List.{AllByRecursion}
@@ -24,7 +24,7 @@ use Rattle.charmlet_passes.specs.Passes.{AreTrue, HeldPass, IsAnswered, IsCurren
 use Rattle.charmlet_workers.specs.Refusals.{IsRecent}
 use Rattle.charmlet_workers.specs.Runtime.{RuntimeShown}
 use Rattle.charmlet_cli.specs.Lines.{Names}
-use Rattle.charmlet_cli_workers.specs.Heard.{AreLater, IsHeard, IsLater, IsLentAt, IsReached, IsStepCauseBy, IsSure, known_by}
+use Rattle.charmlet_cli_workers.specs.Heard.{AreLater, IsRecorded, IsHeard, accepts_by, IsLater, IsLentAt, IsReached, IsStepCauseBy, IsSure, known_by}
 use Rattle.charmlet_cli_workers.specs.Said.{IsAskingCause, StaysTrue, last_of}
 use Rattle.charmlet_cli_workers.proofs.Rows.{accepted_of, heard_least, last_known}
 use Rattle.charmlet_cli_workers.proofs.Sayings.{KnowsMore}
@@ -32,7 +32,7 @@ use Rattle.charmlet_cli_workers.proofs.Sayings.{KnowsMore}
 -- ---- later passes
 
 pub same_pass : (held : HeldPass) → IsLater held held
-same_pass held = record { more = []; client = refl; lent_at = refl; last = le_refl held.pass.last; told = le_refl held.pass.row.last; heard = sym (append-nil held.heard) }
+same_pass held = record { more = []; client = refl; lent_at = refl; last = le_refl held.pass.last; told = le_refl held.pass.row.last; flushed = le_refl held.flushed; heard = sym (append-nil held.heard) }
 
 pub same_passes : (passes : List HeldPass) → AreLater passes passes
 same_passes [] = tt
@@ -45,6 +45,7 @@ then_later a b c one two = record {
   lent_at = two.lent_at ∙ one.lent_at;
   last = omega (arith, one.last, two.last);
   told = omega (arith, one.told, two.told);
+  flushed = omega (arith, one.flushed, two.flushed);
   heard = two.heard ∙ ap (λ xs. xs ++ two.more) one.heard ∙ append_assoc a.heard one.more two.more;
 }
 
@@ -60,16 +61,21 @@ one_more [] held = tt
 one_more (h ∷ passes) held = (same_pass h, one_more passes held)
 
 -- a flush tells each of them
-flushed_pass : (held : HeldPass) → IsLater held (with_flush held)
-flushed_pass held =
-    elim (nat_lt held.pass.lent_at held.pass.last && is_unknown (known held.pass held.pass.last)) as (λ b. IsLater held (if b then with_answer held (with_told held.pass held.pass.last Accepted) held.pass.last Accepted else held)) [
-      | true ↦ record { more = (held.pass.last, Accepted) ∷ []; client = refl; lent_at = refl; last = le_refl held.pass.last; told = heard_least held.pass.row held.pass.last Accepted; heard = refl }
-      | false ↦ same_pass held
+flushed_pass : (count : ℕ) (held : HeldPass) → held.flushed ≤ count → IsLater held (with_flush count held)
+flushed_pass count held rises =
+    elim (nat_lt held.pass.lent_at held.pass.last && is_unknown (known held.pass held.pass.last)) as (λ b. IsLater held (record (if b then with_answer held (with_told held.pass held.pass.last Accepted) held.pass.last Accepted else held) { flushed = count })) [
+      | true ↦ record { more = (held.pass.last, Accepted) ∷ []; client = refl; lent_at = refl; last = le_refl held.pass.last; told = heard_least held.pass.row held.pass.last Accepted; flushed = rises; heard = refl }
+      | false ↦ record { more = []; client = refl; lent_at = refl; last = le_refl held.pass.last; told = le_refl held.pass.row.last; flushed = rises; heard = sym (append-nil held.heard) }
     ]
 
-pub flushed_passes : (passes : List HeldPass) → AreLater passes (map with_flush passes)
-flushed_passes [] = tt
-flushed_passes (held ∷ passes) = (flushed_pass held, flushed_passes passes)
+pub flushed_passes : (count : ℕ) (passes : List HeldPass) → AllByRecursion (λ (held : HeldPass). held.flushed ≤ count) passes → AreLater passes (map (with_flush count) passes)
+flushed_passes count [] rise = tt
+flushed_passes count (held ∷ passes) rise = (flushed_pass count held rise.0, flushed_passes count passes rise.1)
+
+-- each of them counted as many events
+pub flushed_by : (count : ℕ) (passes : List HeldPass) (accepts : List Event) → ((client : ℕ) → accepts_in client accepts ≡ accepts_by client passes) → ((client : ℕ) → accepts_in client accepts ≡ []) ⊎ IsRecorded (map (with_flush count) passes) count
+flushed_by count [] accepts are = inl are
+flushed_by count (held ∷ passes) accepts are = inr (inl (le_refl count))
 
 -- ---- what was heard
 
@@ -108,6 +114,11 @@ still_cause shown old new accepts (steps.Request client number to entry words) r
     ⊎_elim (λ any. inl any) (λ lent. inr (still_lent old new client (λ last. IsAskingCause shown.opening mine (last_of last mine) number to words refusal) later lent)) cause
 still_cause shown old new accepts step refusal later cause = cause
 
+still_flushed : (old new : List HeldPass) (count : ℕ) → AreLater old new → IsRecorded old count → IsRecorded new count
+still_flushed [] new count later flushed = absurd flushed
+still_flushed (h ∷ old) [] count later flushed = absurd later
+still_flushed (h ∷ old) (k ∷ new) count later flushed = ⊎_elim (λ here. inl (omega (arith, here, later.0.flushed))) (λ there. inr (still_flushed old new count later.1 there)) flushed
+
 -- later passes know more
 pub knows_later : (shown : RuntimeShown) (names : Names) (old new : List HeldPass) → AreLater old new → KnowsMore (known_by shown names old) (known_by shown names new)
 knows_later shown names old new later = record {
@@ -117,8 +128,9 @@ knows_later shown names old new later = record {
   durable = λ client number sure. still_sure old new client number later sure;
   refused = λ accepts step refusal cause. still_cause shown old new accepts step refusal later cause;
   target = λ name index to entry is. is;
-  flushed = λ accepts knows count is. is;
+  flushed = λ accepts knows count is. (is.0, ⊎_elim (λ none. inl none) (λ flushed. inr (still_flushed old new count later flushed)) is.1);
   pending = λ count is. is;
+  sealed = λ generation is. is;
 }
 
 -- ---- what is true
@@ -162,6 +174,11 @@ sure_stays_true core (held ∷ passes) client number sound all sure =
     up_to core client number row.last here.1 (stays_true core client row.last Accepted sound (subst (λ c. Holds core.opening (take core.durable core.history) c row.last Accepted) here.0 accepted)))
     (λ there. sure_stays_true core passes client number sound all.1 there) sure
 
+-- as many events are durable as a current pass counted
+pub flushed_is_durable : (core : Core) (passes : List HeldPass) (count : ℕ) → AllByRecursion (λ (held : HeldPass). IsCurrent held core) passes → IsRecorded passes count → count ≤ core.before + core.durable
+flushed_is_durable core [] count all flushed = absurd flushed
+flushed_is_durable core (held ∷ passes) count all flushed = ⊎_elim (λ here. omega (arith, here, all.0.flushed)) (λ there. flushed_is_durable core passes count all.1 there) flushed
+
 -- and what was accepted is so in the present world
 accepted_at : (core : Core) (pass : Pass) (number : ℕ) → (client_of (present core) pass.client).last ≡ pass.last → number ≤ pass.last → Holds core.opening core.history pass.client number Accepted
 accepted_at core pass number up_to_date reached = omega (arith, up_to_date, reached)
@@ -202,8 +219,8 @@ reached_at (h ∷ passes) (suc place) old new client number is its reached = inr
 -- ---- answers
 
 -- a pass is told one thing more
-pub told_pass : (old new : HeldPass) (number : ℕ) (told : Told) → new.pass.client ≡ old.pass.client → new.pass.lent_at ≡ old.pass.lent_at → old.pass.last ≤ new.pass.last → old.pass.row.last ≤ new.pass.row.last → new.heard ≡ old.heard ++ (number, told) ∷ [] → IsLater old new
-told_pass old new number told client lent_at last more heard = record { more = (number, told) ∷ []; client = client; lent_at = lent_at; last = last; told = more; heard = heard }
+pub told_pass : (old new : HeldPass) (number : ℕ) (told : Told) → new.pass.client ≡ old.pass.client → new.pass.lent_at ≡ old.pass.lent_at → old.pass.last ≤ new.pass.last → old.pass.row.last ≤ new.pass.row.last → new.flushed ≡ old.flushed → new.heard ≡ old.heard ++ (number, told) ∷ [] → IsLater old new
+told_pass old new number told client lent_at last more flushed heard = record { more = (number, told) ∷ []; client = client; lent_at = lent_at; last = last; told = more; flushed = omega (arith, flushed); heard = heard }
 
 reaches : (last number : ℕ) (b : Bool) → nat_lt last number ≡ b → (last ≤ (if b then number else last)) × (number ≤ (if b then number else last))
 reaches last number true is = (grind (arith, nat_tests), le_refl number)
@@ -226,7 +243,7 @@ module _ (passes : List HeldPass) (place : ℕ) (old new : HeldPass) (client num
   knows_more told row = subst (λ (r : ClientRow). old.pass.row.last ≤ r.last) (sym row) (heard_least old.pass.row number told)
 
   later_new : (r : Result Told Refusal) → IfOk r (λ told. (new.pass.client ≡ old.pass.client) × (new.pass.lent_at ≡ old.pass.lent_at) × (old.pass.last ≤ new.pass.last) × (old.pass.row.last ≤ new.pass.row.last)) → IsAnswered old new number r → AreLater passes (slice_set passes place new)
-  later_new (Ok told) its answered = later_at passes place old new got (told_pass old new number told its.0 its.1 its.2 its.3 answered.heard)
+  later_new (Ok told) its answered = later_at passes place old new got (told_pass old new number told its.0 its.1 its.2 its.3 answered.flushed answered.heard)
   later_new (Err refusal) its answered = later_at passes place old new got (subst (λ (held : HeldPass). IsLater old held) (sym answered.err) (same_pass old))
 
   pub asked_heard : (r : Result Told Refusal) → IfOk r (λ told. new.pass ≡ with_accept (with_told old.pass number told) number) → IsAnswered old new number r → IfOk r (IsHeard (slice_set passes place new) client number)

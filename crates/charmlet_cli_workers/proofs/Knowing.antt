@@ -97,14 +97,14 @@ module _ (first passes : List HeldPass) (places : List (ℕ × ℕ)) (place : �
 abbrev row_if : Bool → ClientRow → ℕ → ClientRow
 row_if b row number = if b && is_unknown (told_of row number) then heard row number Accepted else row
 
-row_flushed : (held : HeldPass) → IsCounted held → (with_flush held).pass.row ≡ flushed_row held.pass.row (last_of 0 held.accepts)
-row_flushed held counted =
+row_flushed : (count : ℕ) (held : HeldPass) → IsCounted held → (with_flush count held).pass.row ≡ flushed_row held.pass.row (last_of 0 held.accepts)
+row_flushed count held counted =
     let row = held.pass.row in
     let from = held.pass.lent_at in
     let last = held.pass.last in
     let mine = last_of 0 held.accepts in
     let last_is = counted.last in
-    let told : (with_flush held).pass.row ≡ row_if (nat_lt from last) row last =
+    let told : (with_flush count held).pass.row ≡ row_if (nat_lt from last) row last =
     elim (nat_lt from last && is_unknown (told_of row last)) as (λ b. (if b then with_answer held (with_told held.pass last Accepted) last Accepted else held).pass.row ≡ (if b then heard row last Accepted else row)) [ true ↦ refl | false ↦ refl ] in
     told
     ∙ ⊎_elim
@@ -123,18 +123,18 @@ row_flushed held counted =
     ap (λ b. row_if b row last) on ∙ ap (row_if true row) same ∙ ap (λ b. row_if b row mine) (sym mine_on))
     (last_cases from held.accepts counted.rising)
 
-rows_flushed : (passes : List HeldPass) (client : ℕ) → AllByRecursion IsCounted passes → row_by client (map with_flush passes) ≡ flushed_row (row_by client passes) (last_of 0 (accepts_by client passes))
-rows_flushed [] client all = refl
-rows_flushed (held ∷ passes) client all =
+rows_flushed : (count : ℕ) (passes : List HeldPass) (client : ℕ) → AllByRecursion IsCounted passes → row_by client (map (with_flush count) passes) ≡ flushed_row (row_by client passes) (last_of 0 (accepts_by client passes))
+rows_flushed count [] client all = refl
+rows_flushed count (held ∷ passes) client all =
     let rest = row_by client passes in
     let events = accepts_by client passes in
-    (λ i. if (flushed_alike held).client i == client then row_flushed held all.0 i else rows_flushed passes client all.1 i)
+    (λ i. if (flushed_alike count held).client i == client then row_flushed count held all.0 i else rows_flushed count passes client all.1 i)
     ∙ elim (held.pass.client == client) as (λ b. (if b then flushed_row held.pass.row (last_of 0 held.accepts) else flushed_row rest (last_of 0 events)) ≡ flushed_row (if b then held.pass.row else rest) (last_of 0 (if b then held.accepts else events))) [ true ↦ refl | false ↦ refl ]
 
 -- it tells clients of their accepts, and does nothing else
-pub done_flushed : (passes : List HeldPass) (lists : List (List MsgId)) (deeds : Deeds) → AllByRecursion IsCounted passes → IsDoneBy passes lists deeds → IsDoneBy (map with_flush passes) lists (having_flushed deeds)
-done_flushed passes lists deeds all done = record {
-  accepts = λ client. done.accepts client ∙ sym (accepts_flushed passes client);
+pub done_flushed : (count : ℕ) (passes : List HeldPass) (lists : List (List MsgId)) (deeds : Deeds) → AllByRecursion IsCounted passes → IsDoneBy passes lists deeds → IsDoneBy (map (with_flush count) passes) lists (having_flushed deeds)
+done_flushed count passes lists deeds all done = record {
+  accepts = λ client. done.accepts client ∙ sym (accepts_flushed count passes client);
   delivered = done.delivered;
-  knows = λ client. (λ i. flushed_row (done.knows client i) (last_of 0 (done.accepts client i))) ∙ sym (rows_flushed passes client all);
+  knows = λ client. (λ i. flushed_row (done.knows client i) (last_of 0 (done.accepts client i))) ∙ sym (rows_flushed count passes client all);
 }

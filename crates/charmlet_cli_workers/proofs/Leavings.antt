@@ -1,5 +1,5 @@
 -- What runs by workers leave, and how they end.
-use Rattle.std.proofs.Common.{◌≡◌, ℕ, ◌≤◌, List, [], ◌∷◌, inl, inr, ⊎_elim, refl, sym, subst, ◌∙◌, Option, Some, None, Result, Ok, Err, OnOk}
+use Rattle.std.proofs.Common.{◌≡◌, ℕ, List, ◌∷◌, inl, inr, ⊎_elim, refl, sym, subst, ◌∙◌, Option, Some, None, Result, Ok, Err, OnOk}
 use Rattle.std.specs.Prelude.{IfErr, IfSome, IsErr, IsOk, IsSome}
 use Rattle.std.specs.List.{AllByRecursion}
 use Rattle.charmlet_model.specs.declared.names.MsgId.{MsgId}
@@ -15,11 +15,12 @@ use Rattle.charmlet_cli.specs.declared.restarting.RestartedLine.{RestartedLine}
 use Rattle.charmlet_requests.specs.Handlers.{IsTarget}
 use Rattle.charmlet_cli.specs.Lines.{Names}
 use Rattle.charmlet_workers.specs.Refusals.{IsRecent}
-use Rattle.charmlet_workers.specs.Runtime.{RuntimeShown, shown_of}
+use Rattle.charmlet_workers.specs.Runtime.{ArePending, RuntimeShown}
+use Rattle.charmlet_workers.specs.Sealing.{IsLaterGeneration}
 use Rattle.charmlet_cli_workers.specs.Heard.{IsDoneBy, IsStepCauseBy, known_by}
-use Rattle.charmlet_cli_workers.specs.Said.{ArePrinted, AreCutOff, AreSaid, Clients, Deeds, HaveDone, IsBrokenOff, WereFlushed, WerePending, known_in, unknown}
+use Rattle.charmlet_cli_workers.specs.Said.{ArePrinted, AreCutOff, AreSaid, Clients, Deeds, HaveDone, IsBrokenOff, WereFlushed, opening_generation, known_in, shown_since, unknown}
 use Rattle.charmlet_cli_workers.proofs.Asking.{accepts_are, all_accepts, cause_in, lent_in}
-use Rattle.charmlet_cli_workers.proofs.Hearing.{heard_stays_true, reached_is_accepted, sure_stays_true}
+use Rattle.charmlet_cli_workers.proofs.Hearing.{flushed_is_durable, heard_stays_true, reached_is_accepted, sure_stays_true}
 use Rattle.charmlet_cli_workers.proofs.Sayings.{KnowsMore, said_all_on, said_on}
 use Rattle.charmlet_disk.specs.declared.disk.Disk.{Ghosts}
 use Rattle.charmlet_sequencer.specs.Sequencer.{IsOf}
@@ -63,21 +64,22 @@ done_in core passes lists own deeds current all woven done = record {
 }
 
 -- a runtime is seen as a core that went on from its opening
-shown_is : (shown : RuntimeShown) (core : Core) → IsOf shown.opening shown.before shown.processors core → shown ≡ shown_of core
-shown_is shown core of = λ i. record { opening = sym of.opening_is i; before = sym of.before_is i; processors = sym of.processors_are i }
+shown_is : (shown : RuntimeShown) (first : ℕ) (core : Core) → shown.generation ≡ first → IsOf shown.opening shown.before shown.processors core → shown ≡ shown_since first core
+shown_is shown first core since of = λ i. record { opening = sym of.opening_is i; before = sym of.before_is i; processors = sym of.processors_are i; generation = since i }
 
 -- and so is what they know
-knows_more : (shown : RuntimeShown) (names : Names) (core : Core) (passes : List HeldPass) → IsOf shown.opening shown.before shown.processors core → IsSound core → AllByRecursion (λ (held : HeldPass). IsCurrent held core) passes →
-    KnowsMore (known_by shown names passes) (known_in core names)
-knows_more shown names core passes of sound current = record {
+knows_more : (shown : RuntimeShown) (first : ℕ) (names : Names) (core : Core) (passes : List HeldPass) → shown.generation ≡ first → IsOf shown.opening shown.before shown.processors core → IsSound core → AllByRecursion (λ (held : HeldPass). IsCurrent held core) passes →
+    KnowsMore (known_by shown names passes) (known_in first core names)
+knows_more shown first names core passes since of sound current = record {
   told = λ client number told heard. heard_stays_true core passes client number told sound current heard;
   accepted = λ client number reached. reached_is_accepted core passes client number current reached;
   earlier = λ client number lent. lent_in core passes client (λ last. IsRecent last number) current lent;
   durable = λ client number sure. sure_stays_true core passes client number sound current sure;
-  refused = λ accepts step refusal cause. cause_in core passes accepts step refusal current (subst (λ (v : RuntimeShown). IsStepCauseBy v passes accepts step refusal) (shown_is shown core of) cause);
-  target = λ name index to entry is. subst (λ (v : RuntimeShown). IsTarget v.opening index (names name) to entry) (shown_is shown core of) is;
-  flushed = λ accepts knows count is. subst (λ (v : RuntimeShown). WereFlushed v.opening v.before v.processors accepts knows count) (shown_is shown core of) is;
-  pending = λ count is. subst (λ (v : RuntimeShown). WerePending v.opening v.before v.processors count) (shown_is shown core of) is;
+  refused = λ accepts step refusal cause. cause_in first core passes accepts step refusal current (subst (λ (v : RuntimeShown). IsStepCauseBy v passes accepts step refusal) (shown_is shown first core since of) cause);
+  target = λ name index to entry is. subst (λ (v : RuntimeShown). IsTarget v.opening index (names name) to entry) (shown_is shown first core since of) is;
+  flushed = λ accepts knows count is. (subst (λ (v : RuntimeShown). WereFlushed v accepts knows count) (shown_is shown first core since of) is.0, ⊎_elim (λ none. inl none) (λ flushed. inr (flushed_is_durable core passes count current flushed)) is.1);
+  pending = λ count is. subst (λ (v : RuntimeShown). ArePending v count) (shown_is shown first core since of) is;
+  sealed = λ generation is. subst (λ n. IsLaterGeneration n generation) since is;
 }
 
 -- or nothing is known of it
@@ -91,6 +93,7 @@ knows_nothing here = record {
   target = λ name index to entry is. tt;
   flushed = λ accepts knows count is. tt;
   pending = λ count is. tt;
+  sealed = λ generation is. tt;
 }
 
 module _ (here there : Clients) (did was : Deeds → Type 0) (more : KnowsMore here there) (on : (deeds : Deeds) → did deeds → was deeds) where
@@ -121,15 +124,15 @@ module _ (here there : Clients) (did was : Deeds → Type 0) (more : KnowsMore h
 
 -- what was printed is true of the store that is left
 pub left_apart : {D T X : Type 0} (G : Ghosts D) (shown : RuntimeShown) (names : Names) (passes : List HeldPass) (lists : List (List MsgId)) (end : Option D) (ran r : Result X (WorkersError T)) (restarted : Option RestartedLine) (lines : List Line)
-    (was now : Option Text) → IfSome end (IsApart G shown.opening shown.before shown.processors passes lists) → (IsSome end → r ≡ ran) → Prints ran restarted (known_by shown names passes) (IsDoneBy passes lists) lines was now →
+    (was now : Option Text) → shown.generation ≡ opening_generation restarted → IfSome end (IsApart G shown.opening shown.before shown.processors passes lists) → (IsSome end → r ≡ ran) → Prints ran restarted (known_by shown names passes) (IsDoneBy passes lists) lines was now →
     IfSome end (IsLeft G shown.opening shown.before shown.processors (λ last. PrintsOver r restarted last names lines was now))
-left_apart G shown names passes lists None ran r restarted lines was now apart same prints = tt
-left_apart G shown names passes lists (Some disk) ran r restarted lines was now apart same prints = record {
+left_apart G shown names passes lists None ran r restarted lines was now since apart same prints = tt
+left_apart G shown names passes lists (Some disk) ran r restarted lines was now since apart same prints = record {
   last = apart.last;
   of = apart.of;
   sound = apart.sound;
   keeps = apart.keeps;
-  prints = prints_on (known_by shown names passes) (known_in apart.last names) (IsDoneBy passes lists) (HaveDone apart.last) (knows_more shown names apart.last passes apart.of apart.sound apart.current)
+  prints = prints_on (known_by shown names passes) (known_in (opening_generation restarted) apart.last names) (IsDoneBy passes lists) (HaveDone apart.last) (knows_more shown (opening_generation restarted) names apart.last passes since apart.of apart.sound apart.current)
       (λ deeds done. done_in apart.last passes lists apart.own deeds apart.current apart.all apart.woven done) r restarted lines was now (subst (λ e. Prints e restarted (known_by shown names passes) (IsDoneBy passes lists) lines was now) (sym (same refl)) prints);
 }
 

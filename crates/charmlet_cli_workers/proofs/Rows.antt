@@ -1,11 +1,11 @@
 -- What rows of clients come to know.
-use Rattle.std.proofs.Common.{◌≡◌, ℕ, zero, suc, ◌+◌, ◌-◌, ◌<◌, ◌≤◌, true, false, Some, None, ◌++◌, drop, take, refl, sym, ap, subst, ◌∙◌, arith, le_refl, if◌then◌else◌, nat_lt, take-append-drop}
+use Rattle.std.proofs.Common.{◌≡◌, ℕ, ◌<◌, ◌≤◌, true, false, Some, None, ◌++◌, drop, take, refl, sym, ap, subst, ◌∙◌, arith, le_refl, if◌then◌else◌, nat_lt, take-append-drop}
 use Rattle.std.proofs.lemmas.Bool.{ltb-false, ltb-true}
 use Rattle.charmlet_model.specs.declared.client.ClientRow.{ClientRow}
 use Rattle.charmlet_model.specs.declared.told.Told.{Told}
 use Rattle.charmlet_model.specs.declared.told.Told.TheVariants.{Unknown, Accepted, Replied, Past}
 use Rattle.charmlet_model.specs.Core.{Core}
-use Rattle.charmlet_model.specs.Row.{awaits, in_window, reply_to, with_reply, with_request}
+use Rattle.charmlet_model.specs.Row.{awaits, in_window, reply_to, with_reply}
 use Rattle.charmlet_model.specs.Sound.{IsSound}
 use Rattle.charmlet_model.specs.Told.{Holds, told_of, told_of_item}
 use Rattle.charmlet_model.specs.World.{can_all, client_of, world}

@@ -26,6 +26,7 @@ pub record KnowsMore (here there : Clients) : Type 0 where
   pub target : (name : Text) (index : ℕ) (to : Elem) (entry : ℕ) → here.target name index to entry → there.target name index to entry
   pub flushed : (accepts : List Event) (knows : ℕ → ClientRow) (count : ℕ) → here.flushed accepts knows count → there.flushed accepts knows count
   pub pending : (count : ℕ) → here.pending count → there.pending count
+  pub sealed : (generation : ℕ) → here.sealed generation → there.sealed generation
 
 module _ (here there : Clients) (more : KnowsMore here there) where
   accepted_on : (before : Deeds) (client number : ℕ) (to : Elem) (entry : ℕ) (words : List ℕ) (after : Deeds) → IsAccepted here before client number to entry words after → IsAccepted there before client number to entry words after
@@ -43,7 +44,7 @@ module _ (here there : Clients) (more : KnowsMore here there) where
   answers_on before (answers.Delivered id) step after is = absurd is
   answers_on before (answers.Moved elem processor) (steps.Move moved place) after is = is
   answers_on before (answers.Flushed durable) steps.Flush after is = ((λ client number some last. more.durable client number (is.0 client number some last)), more.flushed before.accepts (having_flushed before).knows durable is.1, is.2)
-  answers_on before (answers.Checkpointed generation) steps.Checkpoint after is = is
+  answers_on before (answers.Checkpointed generation) steps.Checkpoint after is = (more.sealed generation is.0, is.1)
   answers_on before (answers.Moved elem processor) (steps.Request client number to entry words) after is = absurd is
   answers_on before (answers.Moved elem processor) (steps.Status client number) after is = absurd is
   answers_on before (answers.Moved elem processor) (steps.Deliver place id) after is = absurd is

@@ -23,8 +23,9 @@ use Rattle.charmlet_requests.specs.Handlers.{IsTarget, handler_of}
 use Rattle.charmlet_requests.specs.Knowing.{IsNoLess, heard}
 use Rattle.charmlet_cli.specs.Lines.{Names}
 use Rattle.charmlet_workers.specs.Refusals.{IsRecent}
-use Rattle.charmlet_workers.specs.Runtime.{RuntimeShown}
-use Rattle.charmlet_cli_workers.specs.Said.{Clients, Deeds, IsAskingCause, IsStepCause, WereFlushed, WerePending, last_of}
+use Rattle.charmlet_workers.specs.Runtime.{ArePending, RuntimeShown}
+use Rattle.charmlet_workers.specs.Sealing.{IsLaterGeneration}
+use Rattle.charmlet_cli_workers.specs.Said.{Clients, Deeds, IsAskingCause, IsStepCause, WereFlushed, last_of}
 
 -- a client's pass is among these, and its client was told this about the request with this number
 abbrev pub IsHeard : List HeldPass → ℕ → ℕ → Told → Type 0
@@ -68,6 +69,17 @@ IsStepCauseBy shown passes accepts (steps.Request client number to entry words) 
     IsAskingCauseBy shown.opening passes (accepts_in client accepts) client number to words refusal
 IsStepCauseBy shown passes accepts step refusal = IsStepCause shown accepts step refusal
 
+-- a pass among these records so many events, or more
+abbrev pub IsRecorded : List HeldPass → ℕ → Type 0
+IsRecorded [] count = ⊥
+IsRecorded (held ∷ passes) count = (count ≤ held.flushed) ⊎ IsRecorded passes count
+
+-- so many events were flushed after these accepts, as far as these passes tell
+abbrev pub WereFlushedBy : RuntimeShown → List HeldPass → List Event → (ℕ → ClientRow) → ℕ → Type 0
+WereFlushedBy shown passes accepts knows count =
+    WereFlushed shown accepts knows count
+    × (((client : ℕ) → accepts_in client accepts ≡ []) ⊎ IsRecorded passes count)
+
 -- the handlers by their names
 abbrev pub names_in : Handlers → Names
 names_in handlers name = handler_of handlers name
@@ -81,8 +93,9 @@ known_by shown names passes = record {
   durable = IsSure passes;
   refused = IsStepCauseBy shown passes;
   target = λ name index to entry. IsTarget shown.opening index (names name) to entry;
-  flushed = WereFlushed shown.opening shown.before shown.processors;
-  pending = WerePending shown.opening shown.before shown.processors;
+  flushed = WereFlushedBy shown passes;
+  pending = ArePending shown;
+  sealed = IsLaterGeneration shown.generation;
 }
 
 -- the accepts of the client's pass among these, which is the first one
@@ -122,13 +135,14 @@ pub record AreTidy (passes : List HeldPass) (places : List (ℕ × ℕ)) : Type 
       lookup (is_at (nat_cmp held.pass.client)) places ≡ Some place
   pub counted : AllByRecursion IsCounted passes
 
--- the pass is the same client's, and knows no less
+-- the pass is the same client's, and knows no less, and its last flush counted no fewer events
 pub record IsLater (old new : HeldPass) : Type 0 where
   pub more : List (ℕ × Told)
   pub client : new.pass.client ≡ old.pass.client
   pub lent_at : new.pass.lent_at ≡ old.pass.lent_at
   pub last : old.pass.last ≤ new.pass.last
   pub told : old.pass.row.last ≤ new.pass.row.last
+  pub flushed : old.flushed ≤ new.flushed
   pub heard : new.heard ≡ old.heard ++ more
 
 -- so is each pass among these, in their order, and there may be more behind them

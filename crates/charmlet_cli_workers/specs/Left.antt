@@ -17,7 +17,7 @@ use Rattle.charmlet_cli.specs.declared.restarting.RestartedLine.{RestartedLine}
 use Rattle.charmlet_cli.specs.Lines.{Names}
 use Rattle.charmlet_cli_workers.specs.declared.ended.WorkersError.{WorkersError}
 use Rattle.charmlet_cli_workers.specs.declared.ended.WorkersError.TheVariants.{NotOpened, Output, NotClosed}
-use Rattle.charmlet_cli_workers.specs.Said.{ArePrinted, Clients, Deeds, HaveDone, IsBrokenOff, known_in}
+use Rattle.charmlet_cli_workers.specs.Said.{ArePrinted, Clients, Deeds, HaveDone, IsBrokenOff, opening_generation, known_in}
 
 module _ {D : Type 0} (G : Ghosts D) where
   -- If the disk is honest, each crash leaves the world after some of the history of this core, with
@@ -72,7 +72,8 @@ Prints (Err error) restarted clients did lines before after = Unit {0}
 abbrev pub PrintsOver : {T X : Type 0} → Result X (WorkersError T) → Option RestartedLine → Core →
     Names → List Line → (before after : Option Text) → Type 0
 PrintsOver result restarted core names lines before after =
-    Prints result restarted (known_in core names) (HaveDone core) lines before after
+    Prints result restarted (known_in (opening_generation restarted) core names)
+    (HaveDone core) lines before after
 
 -- A runtime is taken apart after a run that ended early for this reason; or it isn't, after all
 -- lines, and then the disk doesn't come back.

@@ -16,10 +16,9 @@ use Rattle.charmlet_model.specs.declared.step.Step.{Step}
 use Rattle.charmlet_model.specs.declared.step.Step.TheVariants as steps
 use Rattle.charmlet_model.specs.declared.told.Told.{Told}
 use Rattle.charmlet_model.specs.declared.told.Told.TheVariants.{Accepted}
-use Rattle.charmlet_model.specs.Core.{Core, present}
-use Rattle.charmlet_model.specs.Sound.{IsSound}
-use Rattle.charmlet_model.specs.Reaction.{capped, greatest}
-use Rattle.charmlet_model.specs.World.{World, client_of, edition_of_array}
+use Rattle.charmlet_model.specs.Core.{Core}
+use Rattle.charmlet_model.specs.Reaction.{capped}
+use Rattle.charmlet_model.specs.World.{World, client_of}
 use Rattle.charmlet_model.specs.Texts.{Text, answer_text}
 use Rattle.charmlet_model.specs.Row.{no_client}
 use Rattle.charmlet_model.specs.Told.{Holds, told_of}
@@ -28,7 +27,6 @@ use Rattle.charmlet_passes.specs.Passes.{accepts_in}
 use Rattle.charmlet_requests.specs.Handlers.{IsTarget}
 use Rattle.charmlet_requests.specs.Knowing.{IsNoLess, heard, is_unknown}
 use Rattle.charmlet_seats.specs.Woven.{IsWoven}
-use Rattle.charmlet_sequencer.specs.Sequencer.{IsOf}
 use Rattle.charmlet_script.specs.declared.printed.Counted.{Counted}
 use Rattle.charmlet_script.specs.declared.printed.Drained.{Drained}
 use Rattle.charmlet_script.specs.declared.script.HandlerLine.{HandlerLine}
@@ -39,8 +37,8 @@ use Rattle.charmlet_stock.specs.declared.by_kind.ByKind.{ByKind}
 use Rattle.charmlet_stock.specs.declared.pile.Tally.{Tally}
 use Rattle.charmlet_stock.specs.ByKind.{at}
 use Rattle.charmlet_store.specs.declared.look.Look.{Look}
-use Rattle.charmlet_workers.specs.Refusals.{IsMoveCause, IsRecent, is_flush_refusal, is_lending_refusal, is_move_refusal, is_request_refusal, is_status_refusal, is_work_refusal}
-use Rattle.charmlet_workers.specs.Runtime.{RuntimeShown, shown_of}
+use Rattle.charmlet_workers.specs.Refusals.{IsCauseAfter, IsMoveCause, IsRecent, is_flush_refusal, is_lending_refusal, is_move_refusal, is_request_refusal, is_status_refusal, is_work_refusal}
+use Rattle.charmlet_workers.specs.Runtime.{ArePending, IsMoment, RuntimeShown, named}
 use Rattle.charmlet_workers.specs.Sealing.{IsLaterGeneration, is_sealing_refusal}
 use Rattle.charmlet_cli.specs.declared.restarting.RestartedLine.{RestartedLine}
 use Rattle.charmlet_cli.specs.Lines.{Names, in_lines, memory_text, named_by}
@@ -99,14 +97,17 @@ pub record HaveDone (core : Core) (deeds : Deeds) : Type 0 where
   pub own : List MsgId
   pub delivered : IsWoven (own ∷ deeds.delivered) (deliveries_in core.history)
 
--- At a moment all events of a store that opened so were durable, and they were so many, with those
+-- what is seen of a runtime that opened at this generation, and that has this core in the end
+abbrev pub shown_since : (opened : ℕ) → Core → RuntimeShown
+shown_since opened core = named core.opening core.before core.processors opened
+
+-- At a moment all events of this runtime's store were durable, and they were so many, with those
 -- before its opening world. Each client that these lines had accepts of had these, and no others.
 -- And what each client knows then of its requests is true of them.
-pub record WereFlushed (opening : World) (before processors : ℕ) (accepts : List Event)
-    (knows : ℕ → ClientRow) (count : ℕ) : Type 0 where
+pub record WereFlushed (shown : RuntimeShown) (accepts : List Event) (knows : ℕ → ClientRow)
+    (count : ℕ) : Type 0 where
   pub core : Core
-  pub of : IsOf opening before processors core
-  pub sound : IsSound core
+  pub moment : IsMoment shown core
   pub durable : core.durable ≡ length core.history
   pub counted : count ≡ core.before + length core.history
   pub accepts_are : (client : ℕ) → (accepts_in client accepts ≡ [])
@@ -114,39 +115,27 @@ pub record WereFlushed (opening : World) (before processors : ℕ) (accepts : Li
   pub told : (client number : ℕ) →
       Holds core.opening core.history client number (told_of (knows client) number)
 
--- at a moment so many messages of a store that opened so were pending
-pub record WerePending (opening : World) (before processors : ℕ) (count : ℕ) : Type 0 where
-  pub core : Core
-  pub of : IsOf opening before processors core
-  pub sound : IsSound core
-  pub counted : count ≡ length (present core).pending
+-- So many events were flushed at a moment, after these accepts. If there are such accepts, at least
+-- as many events are durable in this core, so no crash takes them back.
+abbrev pub WereFlushedIn : (opened : ℕ) → Core → List Event → (ℕ → ClientRow) → ℕ → Type 0
+WereFlushedIn opened core accepts knows count =
+    WereFlushed (shown_since opened core) accepts knows count
+    × (((client : ℕ) → accepts_in client accepts ≡ []) ⊎ (count ≤ core.before + core.durable))
 
 -- ---- why steps are refused
 
 -- Why a request is refused to a client that has had these accepts since the store opened, and whose
 -- last number is this one. For want of a pass that is out it is refused only to a client that has
--- had none. One that is out of turn isn't the next one, unless there are no more numbers, and not
--- the last one; and it says the next one, or the greatest number. For all else it is the next one
--- that is refused: there is no such array, or it has too many words; the client waits only after
--- eight requests, and is one too many only before its first.
+-- had none. One that is out of turn says which number is the next one, or the greatest. All else is
+-- as it is known by a last number and the arrays.
 abbrev pub IsAskingCause : World → List Event → (last : ℕ) → ℕ → Elem → List ℕ → Refusal →
     Type 0
-IsAskingCause opening accepts last number to words refusals.Memory = Unit {0}
-IsAskingCause opening accepts last number to words refusals.Halted = Unit {0}
 IsAskingCause opening accepts last number to words refusals.PassOut = accepts ≡ []
 IsAskingCause opening accepts last number to words (refusals.OutOfTurn wanted) =
-    (wanted ≡ capped last 1) × (number ≡ last + 1 → greatest ≤ last)
-    × (number ≡ last → number ≡ 0)
-IsAskingCause opening accepts last number to words refusals.Waiting = (number ≡ last + 1)
-    × (8 ≤ last)
-IsAskingCause opening accepts last number to words refusals.NoArray = (number ≡ last + 1)
-    × (edition_of_array opening to.array ≡ None)
-IsAskingCause opening accepts last number to words refusals.TooLong = (number ≡ last + 1)
-    × (512 < length words)
-IsAskingCause opening accepts last number to words refusals.ClientsFull = (number ≡ last + 1)
-    × (last ≡ 0)
-IsAskingCause opening accepts last number to words refusals.HistoryFull = number ≡ last + 1
-IsAskingCause opening accepts last number to words _ = ⊥
+    (wanted ≡ capped last 1)
+    × IsCauseAfter opening last number to words (refusals.OutOfTurn wanted)
+IsAskingCause opening accepts last number to words refusal =
+    IsCauseAfter opening last number to words refusal
 
 -- why a question is refused to a client that has had these accepts since the store opened
 abbrev pub IsStatusCause : List Event → Refusal → Type 0
@@ -171,8 +160,8 @@ IsStepCause shown accepts step refusal = Unit {0}
 -- What is known of clients: what a client was told about which of its requests, which of them were
 -- accepted, which before the store opened, and which are durable. Why a step is refused after these
 -- accepts. Where a call of a name goes, to the element with this index, and at which entry. And how
--- many events there were when they were flushed after these accepts, where clients know so much, and
--- how many pending messages at some moment.
+-- many events there were when they were flushed after these accepts, where clients know so much,
+-- how many pending messages at some moment, and which generation a checkpoint is of.
 pub record Clients : Type 1 where
   pub told : ℕ → ℕ → Told → Type 0
   pub accepted : ℕ → ℕ → Type 0
@@ -182,6 +171,7 @@ pub record Clients : Type 1 where
   pub target : Text → ℕ → Elem → ℕ → Type 0
   pub flushed : List Event → (ℕ → ClientRow) → ℕ → Type 0
   pub pending : ℕ → Type 0
+  pub sealed : ℕ → Type 0
 
 -- What a client was told about a request is true whichever events of this core a crash leaves, all
 -- durable ones among them.
@@ -190,17 +180,19 @@ StaysTrue core client number told = (kept : ℕ) → core.durable ≤ kept → k
     Holds core.opening (take kept core.history) client number told
 
 -- What was told stays true of this core, what was accepted is so in its present world, what is
--- durable is so whichever events a crash leaves, and steps are refused for their causes.
-abbrev pub known_in : Core → Names → Clients
-known_in core names = record {
+-- durable is so whichever events a crash leaves, steps are refused for their causes, and a
+-- checkpoint is of a later generation than the one at which the runtime opened.
+abbrev pub known_in : (opened : ℕ) → Core → Names → Clients
+known_in opened core names = record {
   told = StaysTrue core;
   accepted = λ client number. Holds core.opening core.history client number Accepted;
   earlier = λ client number. IsRecent (client_of core.opening client).last number;
   durable = λ client number. StaysTrue core client number Accepted;
-  refused = IsStepCause (shown_of core);
+  refused = IsStepCause (shown_since opened core);
   target = λ name index to entry. IsTarget core.opening index (names name) to entry;
-  flushed = WereFlushed core.opening core.before core.processors;
-  pending = WerePending core.opening core.before core.processors;
+  flushed = WereFlushedIn opened core;
+  pending = ArePending (shown_since opened core);
+  sealed = IsLaterGeneration opened;
 }
 
 -- nothing is known of clients
@@ -214,6 +206,7 @@ unknown = record {
   target = λ name index to entry. Unit {0};
   flushed = λ accepts knows count. Unit {0};
   pending = λ count. Unit {0};
+  sealed = λ generation. Unit {0};
 }
 
 -- ---- what lines print
@@ -229,9 +222,9 @@ is_refusal_of steps.Flush refusal = is_flush_refusal refusal
 is_refusal_of steps.Checkpoint refusal = is_sealing_refusal refusal
 is_refusal_of (steps.Deliver processor id) refusal = false
 
--- A client's request was accepted, exactly so, behind those before it. Or it repeats one of the last
--- eight up to the last one that a line before had accepted, or up to the last one that was accepted
--- before the store opened; and then nothing is done.
+-- A client's request was accepted, exactly so, behind those before it. Or it repeats one of the
+-- last eight up to the last one that a line before had accepted, or up to the last one that was
+-- accepted before the store opened; and then nothing is done.
 abbrev pub IsAccepted : Clients → (before : Deeds) → ℕ → ℕ → Elem → ℕ → List ℕ →
     (after : Deeds) → Type 0
 IsAccepted clients before client number to entry words after =
@@ -271,7 +264,7 @@ Answers clients before (answers.Flushed durable) steps.Flush after =
     × clients.flushed before.accepts (having_flushed before).knows durable
     × (after ≡ having_flushed before)
 Answers clients before (answers.Checkpointed generation) steps.Checkpoint after =
-    IsLaterGeneration generation × (after ≡ before)
+    clients.sealed generation × (after ≡ before)
 Answers clients before answer step after = ⊥
 
 -- a step prints its answer
@@ -390,6 +383,11 @@ abbrev pub opening_texts : Option RestartedLine → List Text
 opening_texts None = []
 opening_texts (Some line) = restarted_line_text line ∷ []
 
+-- the generation at which it goes on, or that of a new store
+abbrev pub opening_generation : Option RestartedLine → ℕ
+opening_generation None = 1
+opening_generation (Some line) = line.generation
+
 -- That line and all lines of the script are printed. What they did, from nothing on, is so.
 abbrev pub ArePrinted : Option RestartedLine → Clients → (Deeds → Type 0) → List Line →
     (before after : Option Text) → Type 0
@@ -413,10 +411,12 @@ IsBrokenOff restarted clients did lines before after =
 abbrev pub HaveRun : Option RestartedLine → Core → List HandlerLine → List Line →
     (before after : Option Text) → Type 0
 HaveRun restarted core handlers lines before after =
-    ArePrinted restarted (known_in core (named_by handlers)) (HaveDone core) lines before after
+    ArePrinted restarted (known_in (opening_generation restarted) core (named_by handlers))
+    (HaveDone core) lines before after
 
 -- the same where a line can't be written
 abbrev pub HaveBrokenOff : Option RestartedLine → Core → List HandlerLine → List Line →
     (before after : Option Text) → Type 0
 HaveBrokenOff restarted core handlers lines before after =
-    IsBrokenOff restarted (known_in core (named_by handlers)) (HaveDone core) lines before after
+    IsBrokenOff restarted (known_in (opening_generation restarted) core (named_by handlers))
+    (HaveDone core) lines before after

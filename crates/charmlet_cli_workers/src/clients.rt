@@ -21,8 +21,9 @@ pub(crate) struct Clients<B: RuntimeName> {
 }
 
 impl<B: RuntimeName> Clients<B> {
-    ghost use Rattle.std.specs.Prelude.{◌≡◌, ◌||◌, [], None, true, map, IfErr, IfOk, IfSome, OnErr, OnOk};
-    ghost use Rattle.charmlet_passes.specs.Passes.{with_flush};
+    ghost use Rattle.std.specs.Prelude.{◌≡◌, ◌≤◌, ◌||◌, [], None, true, map, IfErr, IfOk, IfSome, OnErr, OnOk};
+    ghost use Rattle.std.specs.List.{AllByRecursion};
+    ghost use Rattle.charmlet_passes.specs.Passes.{HeldPass, with_flush};
     ghost use Rattle.charmlet_workers.specs.Runtime.{AreFlushed};
     ghost use Rattle.charmlet_workers.specs.Refusals.{is_flush_refusal, is_lending_refusal, is_request_refusal, is_status_refusal};
     ghost use Rattle.charmlet_cli_workers.specs.Heard.{AreAccepted, AreLater, AreTidy, HaveNone, IsAsked, IsAskingCauseBy, IsHeard, IsPassOf, IsReached, IsToldBy, KnowTheSame, accepts_by};
@@ -113,17 +114,20 @@ impl<B: RuntimeName> Clients<B> {
     }
 
     /// Makes all events durable, and tells each client that the last of its requests is accepted.
-    /// The refusals are those of [`Runtime::flush`].
+    /// Each pass then records how many events there are. The refusals are those of
+    /// [`Runtime::flush`].
     pub(crate) fn flush<D: Disk, C: Chare, R: Wait>(
         &mut self,
         rt: &R,
         runtime: &Runtime<D, C, B>,
     ) -> Result<u64, Refusal>
-        ensures told { OnOk result
-            (self.new.passes.items ≡ map with_flush self.old.passes.items) }
+        ensures told { IfOk result (λ count.
+            self.new.passes.items ≡ map (with_flush count) self.old.passes.items) }
         ensures untold { OnErr result (self.new.passes.items ≡ self.old.passes.items) }
         ensures places { self.new.places ≡ self.old.places }
         ensures flushed { IfOk result (AreFlushed runtime.now self.new.passes.items) }
+        ensures rising { IfOk result (λ count. AllByRecursion
+            (λ (held : HeldPass). held.flushed ≤ count) self.old.passes.items) }
         ensures err { IfErr result (λ refusal. is_flush_refusal refusal ≡ true) }
     {
         runtime.flush(rt, self.passes.as_mut_slice())

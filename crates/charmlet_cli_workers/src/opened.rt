@@ -10,7 +10,7 @@ ghost use Rattle.charmlet_engine.specs.Engine.{core_of};
 ghost use Rattle.charmlet_cli_workers.specs.Heard.{AreTidy, IsDoneBy, known_by, names_in};
 ghost use Rattle.charmlet_cli_workers.specs.Left.{EndsApart, EndsEarly, IsApart, IsEarly, IsLeft, KeepsDurable, Prints, PrintsOver};
 ghost use Rattle.charmlet_cli_workers.specs.Lines.{has_delivery};
-ghost use Rattle.charmlet_cli_workers.specs.Said.{opening_texts, unknown};
+ghost use Rattle.charmlet_cli_workers.specs.Said.{opening_generation, opening_texts, unknown};
 ghost use Rattle.charmlet_cli.specs.Lines.{in_lines};
 ghost use Rattle.charmlet_cli.specs.Writing.{Writes};
 
@@ -67,6 +67,8 @@ pub(crate) fn run_named<
     writer: &mut W,
 ) -> RanByWorkers<D, T>
     requires named { IsOf B.opening B.before B.processors (core_of begun) }
+    requires generation { B.generation ≡ (core_of begun).generation }
+    requires restarted { (core_of begun).generation ≡ opening_generation lines.now.restarted }
     requires parts { table_of books.parts ≡ B.table }
     requires seats { table_of books.seats ≡ B.seats }
     requires passes { table_of books.passes ≡ B.passes }

@@ -1,5 +1,5 @@
 -- What a hub has of a checkpoint, as its history goes on.
-use Rattle.std.proofs.Common.{◌≡◌, ◌≢◌, ◌⊎◌, ℕ, zero, suc, ◌+◌, ◌<◌, ◌≤◌, Bool, true, false, List, [], ◌∷◌, ◌++◌, length, max, inl, inr, refl, sym, ap, subst, ◌∙◌, arith, if◌then◌else◌}
+use Rattle.std.proofs.Common.{◌≡◌, ◌≢◌, ◌⊎◌, ℕ, zero, suc, ◌+◌, ◌<◌, ◌≤◌, true, false, List, [], ◌∷◌, ◌++◌, length, max, inl, inr, refl, sym, ap, subst, ◌∙◌, arith, if◌then◌else◌}
 use Rattle.std.proofs.Math.Nat.{eq-or-lt_of_le}
 use Rattle.std.proofs.lemmas.List.{length-set}
 use Rattle.std.specs.Prelude.{Option, Some, None, IfErr, IfSome, Result, Ok, Err, is_some, slice_get, slice_set}
@@ -14,7 +14,7 @@ use Rattle.charmlet_model.specs.declared.reaction.Reaction.{Reaction}
 use Rattle.charmlet_model.specs.declared.refusal.Refusal.{Refusal}
 use Rattle.charmlet_model.specs.declared.refusal.Refusal.TheVariants as refusals
 use Rattle.charmlet_model.specs.declared.state.Record.{Record}
-use Rattle.charmlet_model.specs.Core.{Assign, Blanks, Checkpoint, Commit, Core, CoreStep, Finish, Flush, Move, Release, Request, Status, Stepped, Steps, halted_core, is_repeat, next_core, place_of, present}
+use Rattle.charmlet_model.specs.Core.{Assign, Blanks, Checkpoint, Commit, Core, CoreStep, Finish, Flush, Move, Release, Request, Status, Stepped, Steps, halted_core, is_repeat, next_core, present}
 use Rattle.charmlet_model.specs.Names.{elem_cmp}
 use Rattle.charmlet_model.specs.Sound.{IsSound}
 use Rattle.charmlet_model.specs.World.{World, reaction_of}
@@ -29,7 +29,7 @@ use Rattle.charmlet_running.proofs.Steps.{still_running}
 use Rattle.charmlet_shelf.specs.declared.image.Image.{Image}
 use Rattle.charmlet_shelf.specs.Image.{AreImages}
 use Rattle.charmlet_delivery.specs.Workplace.{ShowsOn}
-use Rattle.charmlet_hub.specs.Checkpoint.{HasRoom, IsCheckpoint, IsCheckpointed, IsNoted, IsTooLarge, roomier, with_images_if}
+use Rattle.charmlet_hub.specs.Checkpoint.{HasRoom, IsCheckpoint, IsCheckpointed, IsNoted, IsTooLarge, Token, roomier, with_images_if}
 use Rattle.charmlet_hub.proofs.Steps.{IsAside, next_aside}
 
 -- ---- tokens
@@ -55,23 +55,24 @@ last_or_before (y ∷ ys) v (suc place) x at = elim (last_or_before ys v place x
   | inr before ↦ inr before
 ]
 
-pub none_there : (tokens : List (Option ℕ)) → tokens ≡ [] → (place shelves : ℕ) → slice_get tokens place ≡ Some (Some shelves) → ⊥
-none_there [] none place shelves at = let never : ⊥ = cc in never
-none_there (t ∷ ts) none place shelves at = let never : ⊥ = cc in never
+pub none_there : (tokens : List (Option Token)) → tokens ≡ [] → (place : ℕ) (token : Token) → slice_get tokens place ≡ Some (Some token) → ⊥
+none_there [] none place token at = let never : ⊥ = cc in never
+none_there (t ∷ ts) none place token at = let never : ⊥ = cc in never
 
 -- ---- steps that are no delivery
 
-module _ (core next : Core) (tokens : List (Option ℕ)) (keeps : (run : Run) → IsRunning core run → IsRunning next run) (places : next.places ≡ core.places) (assigned : length next.assigned ≤ length core.assigned) where
+module _ (core next : Core) (tokens : List (Option Token)) (keeps : (run : Run) → IsRunning core run → IsRunning next run) (places : next.places ≡ core.places) (assigned : length next.assigned ≤ length core.assigned) where
   -- it stays one
   pub checkpoint_stays : (o : Option Run) → IsCheckpointed core o tokens → IsCheckpointed next o tokens
   checkpoint_stays None is = is
   checkpoint_stays (Some run) is = record {
     running = keeps run is.running;
     room = let most = is.room in omega arith;
-    token = λ place shelves at.
-        let t = is.token place shelves at in
+    token = λ place token at.
+        let t = is.token place token at in
         record {
           last = t.last;
+          begun = t.begun;
           handed_in = λ p less x on. t.handed_in p less x (ap (lookup (is_at (elem_cmp x))) (sym places) ∙ on);
         };
   }
@@ -119,21 +120,21 @@ module _ (core : Core) where
   still_runs Flush is run = flushes_keep core run
   still_runs Checkpoint is run = absurd is
 
-  pub halt_keeps : (o : Option Run) (tokens : List (Option ℕ)) → IsCheckpointed core o tokens → IsCheckpointed (halted_core core) o tokens
+  pub halt_keeps : (o : Option Run) (tokens : List (Option Token)) → IsCheckpointed core o tokens → IsCheckpointed (halted_core core) o tokens
   halt_keeps o tokens = checkpoint_stays core (halted_core core) tokens (halts_keep core) refl (omega arith) o
 
-  pub step_keeps : (blanks : Blanks) (step : CoreStep) (next : Stepped) (o : Option Run) (tokens : List (Option ℕ)) → IsUnnoted step → Steps core blanks step next → IsCheckpointed core o tokens → IsCheckpointed next.core o tokens
+  pub step_keeps : (blanks : Blanks) (step : CoreStep) (next : Stepped) (o : Option Run) (tokens : List (Option Token)) → IsUnnoted step → Steps core blanks step next → IsCheckpointed core o tokens → IsCheckpointed next.core o tokens
   step_keeps blanks step next o tokens unnoted steps is =
       stepped_core (λ (c : Core). IsCheckpointed c o tokens) core blanks step is (halt_keeps o tokens is)
       (checkpoint_stays core (next_core core step) tokens (still_runs step unnoted) (same_places step unnoted) (next_aside core step (unnoted_aside step unnoted)).no_more o is) next steps
 
 -- an image that is made durable, or isn't
-pub seal_keeps : (core next : Core) (o : Option Run) (tokens : List (Option ℕ)) → next.opening ≡ core.opening → next.before ≡ core.before → next.history ≡ core.history → next.places ≡ core.places → next.assigned ≡ core.assigned → IsCheckpointed core o tokens → IsCheckpointed next o tokens
+pub seal_keeps : (core next : Core) (o : Option Run) (tokens : List (Option Token)) → next.opening ≡ core.opening → next.before ≡ core.before → next.history ≡ core.history → next.places ≡ core.places → next.assigned ≡ core.assigned → IsCheckpointed core o tokens → IsCheckpointed next o tokens
 seal_keeps core next o tokens opening before history places assigned =
     checkpoint_stays core next tokens (λ run is. still_running core run is next opening before history) places (let as_many = ap length assigned in omega arith) o
 
 -- where none runs, any step leaves none
-pub none_keeps : (core next : Core) (o : Option Run) (tokens : List (Option ℕ)) → is_some o ≡ false → IsCheckpointed core o tokens → IsCheckpointed next o tokens
+pub none_keeps : (core next : Core) (o : Option Run) (tokens : List (Option Token)) → is_some o ≡ false → IsCheckpointed core o tokens → IsCheckpointed next o tokens
 none_keeps core next None tokens none is = is
 none_keeps core next (Some run) tokens none is = absurd (let never : ⊥ = cc in never)
 
@@ -151,7 +152,7 @@ roomy_running core run room is = record {
 }
 
 -- with room for as many as are assigned then
-pub assigned_keeps : (core : Core) (blanks : Blanks) (p : ℕ) (id : MsgId) (next : Stepped) (most : ℕ) (o : Option Run) (tokens : List (Option ℕ)) → length next.core.assigned ≤ most → Steps core blanks (Assign p id) next → IsCheckpointed core o tokens →
+pub assigned_keeps : (core : Core) (blanks : Blanks) (p : ℕ) (id : MsgId) (next : Stepped) (most : ℕ) (o : Option Run) (tokens : List (Option Token)) → length next.core.assigned ≤ most → Steps core blanks (Assign p id) next → IsCheckpointed core o tokens →
     IsCheckpointed next.core (roomier most o) tokens
 assigned_keeps core blanks p id next most None tokens few steps is = is
 assigned_keeps core blanks p id next most (Some run) tokens few steps is =
@@ -162,17 +163,18 @@ assigned_keeps core blanks p id next most (Some run) tokens few steps is =
     record {
       running = both.0;
       room = omega (arith, few);
-      token = λ place shelves at.
-          let t = is.token place shelves at in
+      token = λ place token at.
+          let t = is.token place token at in
           record {
             last = t.last;
+            begun = t.begun;
             handed_in = λ q less x on. t.handed_in q less x (ap (lookup (is_at (elem_cmp x))) (sym both.1) ∙ on);
           };
     }
 
 -- ---- deliveries
 
-pub has_room : (core : Core) (o : Option Run) (tokens : List (Option ℕ)) → 1 ≤ length core.assigned → IsCheckpointed core o tokens → IfSome o (HasRoom core)
+pub has_room : (core : Core) (o : Option Run) (tokens : List (Option Token)) → 1 ≤ length core.assigned → IsCheckpointed core o tokens → IfSome o (HasRoom core)
 has_room core None tokens some is = tt
 has_room core (Some run) tokens some is = record { running = is.running; room = let most = is.room in omega arith }
 
@@ -187,8 +189,20 @@ message_room w (Some m) run = reaction_room w m (reaction_of w m) run
 delivery_room : (core : Core) (p : ℕ) (run : Run) → run.room ≤ (with_delivery core p run).room + 1
 delivery_room core p run = message_room (present core) (assigned_message core p) run
 
+-- it began when it did
+reaction_begun : (w : World) (m : Message) (o : Option Reaction) (run : Run) → (with_reaction w m o run).begun ≡ run.begun
+reaction_begun w m None run = refl
+reaction_begun w m (Some r) run = refl
+
+message_begun : (w : World) (q : Option Message) (run : Run) → (with_message w q run).begun ≡ run.begun
+message_begun w None run = refl
+message_begun w (Some m) run = reaction_begun w m (reaction_of w m) run
+
+delivery_begun : (core : Core) (p : ℕ) (run : Run) → (with_delivery core p run).begun ≡ run.begun
+delivery_begun core p run = message_begun (present core) (assigned_message core p) run
+
 -- one that is noted
-pub noted_keeps : (core next : Core) (p : ℕ) (o o' : Option Run) (tokens : List (Option ℕ)) → next ≡ next_core core (Commit p) → length next.assigned + 1 ≡ length core.assigned → IsNoted core p o o' → IsCheckpointed core o tokens → IsCheckpointed next o' tokens
+pub noted_keeps : (core next : Core) (p : ℕ) (o o' : Option Run) (tokens : List (Option Token)) → next ≡ next_core core (Commit p) → length next.assigned + 1 ≡ length core.assigned → IsNoted core p o o' → IsCheckpointed core o tokens → IsCheckpointed next o' tokens
 noted_keeps core next p None o' tokens same fewer noted is = subst (λ (o : Option Run). IsCheckpointed next o tokens) (sym noted) is
 noted_keeps core next p (Some run) o' tokens same fewer noted is =
     let new = noted.0 in
@@ -200,83 +214,96 @@ noted_keeps core next p (Some run) o' tokens same fewer noted is =
           let left = ap (λ (r : Run). r.room) n.noted in
           let most = is.room in
           omega arith;
-      token = λ place shelves at.
-          let t = is.token place shelves at in
+      token = λ place token at.
+          let t = is.token place token at in
           record {
             last = t.last;
+            begun = ap (λ (r : Run). r.begun) n.noted ∙ delivery_begun core p run ∙ t.begun;
             handed_in = λ q less. subst (λ (c : Core). AreSettledOn c new q) (sym same) (n.settled q (t.handed_in q less));
           };
     })
 
 -- ---- its beginning, its images and its end
 
-pub begins : (core : Core) (run : Run) (tokens : List (Option ℕ)) → IsRunning core run → length core.assigned ≤ run.room → IsCheckpointed core None tokens → IsCheckpointed core (Some run) (tokens ++ Some 0 ∷ [])
-begins core run tokens running room none = record {
-  running = running;
-  room = room;
-  token = λ place shelves at. elim (last_or_before tokens (Some 0) place (Some shelves) at) [
-    | inl last ↦ record {
-      last = last.0;
-      handed_in = λ p less. (let no : shelves ≡ 0 = (let e : Some shelves ≡ Some 0 = last.1 in cc) in absurd (omega (arith, no, less)));
+pub begins : (core : Core) (run : Run) (tokens : List (Option Token)) (begun : ℕ) → IsRunning core run → run.begun ≡ begun → length core.assigned ≤ run.room → IsCheckpointed core None tokens →
+    IsCheckpointed core (Some run) (tokens ++ Some (record { begun = begun; shelves = 0 }) ∷ [])
+begins core run tokens begun running when room none =
+    let new : Token = record { begun = begun; shelves = 0 } in
+    record {
+      running = running;
+      room = room;
+      token = λ place token at. elim (last_or_before tokens (Some new) place (Some token) at) [
+        | inl last ↦
+            (let same : token ≡ new = (let e : Some token ≡ Some new = last.1 in cc) in
+            record {
+              last = last.0;
+              begun = when ∙ sym (ap (λ (t : Token). t.begun) same);
+              handed_in = λ p less. (let no : token.shelves ≡ 0 = ap (λ (t : Token). t.shelves) same in absurd (omega (arith, no, less)));
+            })
+        | inr before ↦ absurd (none place token before)
+      ];
     }
-    | inr before ↦ absurd (none place shelves before)
-  ];
-}
 
 -- a token is of a checkpoint that runs
-pub token_runs : (core : Core) (o : Option Run) (tokens : List (Option ℕ)) (k n : ℕ) → IsCheckpointed core o tokens → slice_get tokens k ≡ Some (Some n) → is_some o ≡ true
-token_runs core None tokens k n is here = absurd (is k n here)
-token_runs core (Some run) tokens k n is here = refl
+pub token_runs : (core : Core) (o : Option Run) (tokens : List (Option Token)) (k : ℕ) (t : Token) → IsCheckpointed core o tokens → slice_get tokens k ≡ Some (Some t) → is_some o ≡ true
+token_runs core None tokens k t is here = absurd (is k t here)
+token_runs core (Some run) tokens k t is here = refl
 
-pub running_of : (core : Core) (o : Option Run) (tokens : List (Option ℕ)) → IsCheckpointed core o tokens → IfSome o (IsRunning core)
+pub running_of : (core : Core) (o : Option Run) (tokens : List (Option Token)) → IsCheckpointed core o tokens → IfSome o (IsRunning core)
 running_of core None tokens is = tt
 running_of core (Some run) tokens is = is.running
 
-module _ (core : Core) (run : Run) (tokens : List (Option ℕ)) (k n : ℕ) (is : IsCheckpoint core run tokens) (here : slice_get tokens k ≡ Some (Some n)) where
+-- one more shelf was handed in
+abbrev pub with_shelf : Token → Token
+with_shelf token = record token { shelves = token.shelves + 1 }
+
+module _ (core : Core) (run : Run) (tokens : List (Option Token)) (k : ℕ) (t : Token) (is : IsCheckpoint core run tokens) (here : slice_get tokens k ≡ Some (Some t)) where
   -- it is the only one that is out
-  only_one : (place shelves : ℕ) → place ≢ k → slice_get tokens place ≡ Some (Some shelves) → ⊥
-  only_one place shelves apart at =
-      let this = (is.token k n here).last in
-      let other = (is.token place shelves at).last in
+  only_one : (place : ℕ) (token : Token) → place ≢ k → slice_get tokens place ≡ Some (Some token) → ⊥
+  only_one place token apart at =
+      let this = (is.token k t here).last in
+      let other = (is.token place token at).last in
       apart (omega arith)
 
-  module _ (images : List Image) (running : IsRunning core (record run { settled = with_images run.settled images })) (settled : AreSettledOn core (record run { settled = with_images run.settled images }) n) where
+  module _ (images : List Image) (running : IsRunning core (record run { settled = with_images run.settled images })) (settled : AreSettledOn core (record run { settled = with_images run.settled images }) t.shelves) where
     abbrev more : Run
     more = record run { settled = with_images run.settled images }
 
-    known : (p : ℕ) → p < n + 1 → AreSettledOn core more p
+    known : (p : ℕ) → p < t.shelves + 1 → AreSettledOn core more p
     known p less =
-        let within : p ≤ n = omega arith in
+        let within : p ≤ t.shelves = omega arith in
         elim (eq-or-lt_of_le within) [
           | inl same ↦ subst (AreSettledOn core more) (sym same) settled
-          | inr before ↦ λ x on. images_keep run images x ((is.token k n here).handed_in p before x on)
+          | inr before ↦ λ x on. images_keep run images x ((is.token k t here).handed_in p before x on)
         ]
 
     -- one more shelf is handed in
-    pub hands_in : IsCheckpoint core more (slice_set tokens k (Some (n + 1)))
+    pub hands_in : IsCheckpoint core more (slice_set tokens k (Some (with_shelf t)))
     hands_in = record {
       running = running;
       room = is.room;
-      token = λ place shelves at. elim (set_or_other tokens k (Some (n + 1)) place (Some shelves) at) [
+      token = λ place token at. elim (set_or_other tokens k (Some (with_shelf t)) place (Some token) at) [
         | inl this ↦
-            (let same : shelves ≡ n + 1 = (let e : Some shelves ≡ Some (n + 1) = this.1 in cc) in
+            (let same : token ≡ with_shelf t = (let e : Some token ≡ Some (with_shelf t) = this.1 in cc) in
+            let as_many : token.shelves ≡ t.shelves + 1 = ap (λ (x : Token). x.shelves) same in
             record {
-              last = (let last = (is.token k n here).last in let there = this.0 in let all = length-set tokens k (Some (n + 1)) in omega arith);
-              handed_in = λ p less. known p (omega (arith, same, less));
+              last = (let last = (is.token k t here).last in let there = this.0 in let all = length-set tokens k (Some (with_shelf t)) in omega arith);
+              begun = (is.token k t here).begun ∙ sym (ap (λ (x : Token). x.begun) same);
+              handed_in = λ p less. known p (omega (arith, as_many, less));
             })
-        | inr other ↦ absurd (only_one place shelves other.0 other.1)
+        | inr other ↦ absurd (only_one place token other.0 other.1)
       ];
     }
 
 -- the images of the next shelf are taken
-pub image_keeps : (core : Core) → IsSound core → (o o' : Option Run) (tokens tokens' : List (Option ℕ)) (k n : ℕ) (number : ℕ) (records : List (Elem × Record)) (images : List Image) → IsCheckpointed core o tokens → slice_get tokens k ≡ Some (Some n) → number ≡ n →
-    ShowsOn number records core.places (present core) → AreImages records (keys_of records) images → o' ≡ with_images_if o images → IfSome o' (IsRunning core) → tokens' ≡ slice_set tokens k (Some (n + 1)) → IsCheckpointed core o' tokens'
-image_keeps core sound None o' tokens tokens' k n number records images is here same shows are taken running written = absurd (is k n here)
-image_keeps core sound (Some run) o' tokens tokens' k n number records images is here same shows are taken running written =
+pub image_keeps : (core : Core) → IsSound core → (o o' : Option Run) (tokens tokens' : List (Option Token)) (k : ℕ) (t : Token) (number : ℕ) (records : List (Elem × Record)) (images : List Image) → IsCheckpointed core o tokens → slice_get tokens k ≡ Some (Some t) → number ≡ t.shelves →
+    ShowsOn number records core.places (present core) → AreImages records (keys_of records) images → o' ≡ with_images_if o images → IfSome o' (IsRunning core) → tokens' ≡ slice_set tokens k (Some (with_shelf t)) → IsCheckpointed core o' tokens'
+image_keeps core sound None o' tokens tokens' k t number records images is here same shows are taken running written = absurd (is k t here)
+image_keeps core sound (Some run) o' tokens tokens' k t number records images is here same shows are taken running written =
     let more : Run = record run { settled = with_images run.settled images } in
     let runs : IsRunning core more = subst (λ (o : Option Run). IfSome o (IsRunning core)) taken running in
-    let settled : AreSettledOn core more n = subst (AreSettledOn core more) same (shelves_are_taken core run number records images sound shows are).1 in
-    subst (λ (x : Option Run × List (Option ℕ)). IsCheckpointed core x.0 x.1) (λ i. (sym taken i, sym written i)) (hands_in core run tokens k n is here images runs settled)
+    let settled : AreSettledOn core more t.shelves = subst (AreSettledOn core more) same (shelves_are_taken core run number records images sound shows are).1 in
+    subst (λ (x : Option Run × List (Option Token)). IsCheckpointed core x.0 x.1) (λ i. (sym taken i, sym written i)) (hands_in core run tokens k t is here images runs settled)
 
 -- all of them are of what is there
 pub images_shown : (core : Core) → IsSound core → (number : ℕ) (records : List (Elem × Record)) (images : List Image) → ShowsOn number records core.places (present core) → AreImages records (keys_of records) images → All (IsShownBy (present core)) images
@@ -284,27 +311,33 @@ images_shown core sound number records images shows are =
     (shelves_are_taken core (record { begun = 0; settled = []; caught_up = []; count = 0; room = 0 }) number records images sound shows are).0
 
 -- its token is taken back
-pub ends : (core next : Core) (o : Option Run) (tokens : List (Option ℕ)) (k n : ℕ) → IsCheckpointed core o tokens → slice_get tokens k ≡ Some (Some n) → IsCheckpointed next None (slice_set tokens k None)
-ends core next None tokens k n is here = absurd (is k n here)
-ends core next (Some run) tokens k n is here = λ place shelves at. elim (set_or_other tokens k None place (Some shelves) at) [
-  | inl this ↦ (let never : ⊥ = (let e : Some shelves ≡ None = this.1 in cc) in never)
-  | inr other ↦ only_one core run tokens k n is here place shelves other.0 other.1
+pub ends : (core next : Core) (o : Option Run) (tokens : List (Option Token)) (k : ℕ) (t : Token) → IsCheckpointed core o tokens → slice_get tokens k ≡ Some (Some t) → IsCheckpointed next None (slice_set tokens k None)
+ends core next None tokens k t is here = absurd (is k t here)
+ends core next (Some run) tokens k t is here = λ place token at. elim (set_or_other tokens k None place (Some token) at) [
+  | inl this ↦ (let never : ⊥ = (let e : Some token ≡ None = this.1 in cc) in never)
+  | inr other ↦ only_one core run tokens k t is here place token other.0 other.1
 ]
 
 -- where all shelves were handed in, all is settled
-pub all_settled : (core : Core) → IsSound core → (o : Option Run) (tokens : List (Option ℕ)) (k n : ℕ) → n ≡ core.processors → slice_get tokens k ≡ Some (Some n) → IsCheckpointed core o tokens → IfSome o (AreAllSettled core)
-all_settled core sound None tokens k n all here is = tt
-all_settled core sound (Some run) tokens k n all here is = processors_are_all core run sound (λ p x on.
+pub all_settled : (core : Core) → IsSound core → (o : Option Run) (tokens : List (Option Token)) (k : ℕ) (t : Token) → t.shelves ≡ core.processors → slice_get tokens k ≡ Some (Some t) → IsCheckpointed core o tokens → IfSome o (AreAllSettled core)
+all_settled core sound None tokens k t all here is = tt
+all_settled core sound (Some run) tokens k t all here is = processors_are_all core run sound (λ p x on.
     let on_processor : p < core.processors = subst (λ (o : Option ℕ). IfSome o (λ q. q < core.processors)) on (sound.placed x).on_processor in
-    (is.token k n here).handed_in p (omega (arith, all, on_processor)) x on)
+    (is.token k t here).handed_in p (omega (arith, all, on_processor)) x on)
 
 -- ---- its limits
 
-pub too_large : (core : Core) (o : Option Run) (run : Run) → o ≡ Some run → IfSome o (IsRunning core) → IfSome o (AreAllSettled core) → (r : Result ℕ Refusal) → IfErr r (λ refusal. refusal ≡ refusals.ImageFull → PassesLimit core run) → IfErr r (λ refusal. refusal ≡ refusals.ImageFull → IsTooLarge core)
-too_large core o run is running settled (Ok generation) full = tt
-too_large core o run is running settled (Err refusal) full = λ same. record {
+pub limits_if : (core : Core) (o : Option Run) (run : Run) → o ≡ Some run → (r : Result ℕ Refusal) → IfErr r (λ refusal. refusal ≡ refusals.ImageFull → PassesLimit core run) → IfErr r (λ refusal. refusal ≡ refusals.ImageFull → IfSome o (PassesLimit core))
+limits_if core o run is (Ok generation) full = tt
+limits_if core o run is (Err refusal) full = λ same. subst (λ (o : Option Run). IfSome o (PassesLimit core)) (sym is) (full same)
+
+-- the one that runs is the token's, and would pass one
+pub too_large : (core : Core) → IsSound core → (o : Option Run) (tokens : List (Option Token)) (k : ℕ) (t : Token) → t.shelves ≡ core.processors → slice_get tokens k ≡ Some (Some t) → IsCheckpointed core o tokens → IfSome o (PassesLimit core) → IsTooLarge core t.begun
+too_large core sound None tokens k t all here is passes = absurd (is k t here)
+too_large core sound (Some run) tokens k t all here is passes = record {
   run = run;
-  running = subst (λ (o : Option Run). IfSome o (IsRunning core)) is running;
-  settled = subst (λ (o : Option Run). IfSome o (AreAllSettled core)) is settled;
-  passes = full same;
+  when = (is.token k t here).begun;
+  running = is.running;
+  settled = all_settled core sound (Some run) tokens k t all here is;
+  passes = passes;
 }

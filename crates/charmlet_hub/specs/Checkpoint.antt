@@ -12,28 +12,36 @@ use Rattle.charmlet_hub.specs.Hub.{HubShown}
 
 -- ---- what a hub has of it
 
+-- What a token says: how many events there were when the checkpoint began, those before the opening
+-- world among them, and how many shelves were handed in.
+pub record Token : Type 0 where
+  pub begun : ℕ
+  pub shelves : ℕ
+
 -- the shelves of the first processors were handed in: what stands there is settled
 abbrev pub AreHandedIn : Core → Run → ℕ → Type 0
 AreHandedIn core run shelves = (processor : ℕ) → processor < shelves →
     AreSettledOn core run processor
 
--- A token that is out is the last that was given out, and knows how many shelves were handed in.
-pub record IsToken (core : Core) (run : Run) (tokens : List (Option ℕ))
-    (place shelves : ℕ) : Type 0 where
+-- A token that is out is the last that was given out, and knows when the checkpoint began and how
+-- many shelves were handed in.
+pub record IsToken (core : Core) (run : Run) (tokens : List (Option Token))
+    (place : ℕ) (token : Token) : Type 0 where
   pub last : place + 1 ≡ length tokens
-  pub handed_in : AreHandedIn core run shelves
+  pub begun : run.begun ≡ token.begun
+  pub handed_in : AreHandedIn core run token.shelves
 
 -- the checkpoint is one of this store, and has room for each assigned delivery
-pub record IsCheckpoint (core : Core) (run : Run) (tokens : List (Option ℕ)) : Type 0 where
+pub record IsCheckpoint (core : Core) (run : Run) (tokens : List (Option Token)) : Type 0 where
   pub running : IsRunning core run
   pub room : length core.assigned ≤ run.room
-  pub token : (place shelves : ℕ) → slice_get tokens place ≡ Some (Some shelves) →
-      IsToken core run tokens place shelves
+  pub token : (place : ℕ) (token : Token) → slice_get tokens place ≡ Some (Some token) →
+      IsToken core run tokens place token
 
 -- a checkpoint runs, or no token is out
-abbrev pub IsCheckpointed : Core → Option Run → List (Option ℕ) → Type 0
-IsCheckpointed core None tokens = (place shelves : ℕ) →
-    slice_get tokens place ≡ Some (Some shelves) → ⊥
+abbrev pub IsCheckpointed : Core → Option Run → List (Option Token) → Type 0
+IsCheckpointed core None tokens = (place : ℕ) (token : Token) →
+    slice_get tokens place ≡ Some (Some token) → ⊥
 IsCheckpointed core (Some run) tokens = IsCheckpoint core run tokens
 
 -- ---- deliveries while it runs
@@ -73,9 +81,11 @@ with_images_if (Some run) images = Some (record run {
 
 -- ---- its beginning and its end
 
--- A checkpoint of this store, to which all shelves were handed in, would pass a limit.
-pub record IsTooLarge (core : Core) : Type 0 where
+-- A checkpoint of this store that began after so many events, and to which all shelves were handed
+-- in, would pass a limit.
+pub record IsTooLarge (core : Core) (begun : ℕ) : Type 0 where
   pub run : Run
+  pub when : run.begun ≡ begun
   pub running : IsRunning core run
   pub settled : AreAllSettled core run
   pub passes : PassesLimit core run

@@ -1,6 +1,7 @@
 //! What clients ask of a hub, and the flush that makes it durable.
 
-ghost use Rattle.std.specs.Prelude.{◌≡◌, ◌≢◌, IfErr, IfOk, OnErr, OnOk, length, map, take};
+ghost use Rattle.std.specs.Prelude.{◌≡◌, ◌≢◌, ◌≤◌, IfErr, IfOk, OnErr, OnOk, length, map, take};
+ghost use Rattle.std.specs.List.{AllByRecursion};
 ghost use Rattle.charmlet_model.specs.declared.refusal.Refusal.TheVariants as refusals;
 ghost use Rattle.charmlet_model.specs.Core as core;
 ghost use Rattle.charmlet_model.specs.Run.{Goes};
@@ -10,7 +11,7 @@ ghost use Rattle.charmlet_disk.specs.Disk.{LeavesOnly};
 ghost use Rattle.charmlet_halves.specs.Answers.{is_no_failure};
 ghost use Rattle.charmlet_history.specs.Kept.{counts_or_refused, told_or_refused};
 ghost use Rattle.charmlet_requests.specs.Pass.{with_accept, with_told};
-ghost use Rattle.charmlet_passes.specs.Passes.{IsAnswered, IsKept, TellAll, accepts_after, with_flush};
+ghost use Rattle.charmlet_passes.specs.Passes.{HeldPass, IsAnswered, IsKept, TellAll, accepts_after, with_flush};
 ghost use Rattle.charmlet_sequencer.specs.Sequencer.{is_lawful};
 ghost use Rattle.charmlet_hub.specs.Hub.{store_in};
 
@@ -109,8 +110,9 @@ impl<D: Disk, C: Chare, B: RuntimeName> Hub<D, C, B> {
 
     /// Makes all events durable, and answers how many there are, those before the opening world
     /// among them. Then it tells each client whose pass is handed in that the last of its accepts
-    /// is accepted, where the pass knows nothing of it yet. It takes no memory; where no events are
-    /// to be written it makes no call of the disk.
+    /// is accepted, where the pass knows nothing of it yet. Each of these passes then records the
+    /// count, as contracts see it: no less than before. It takes no memory; where no events are to
+    /// be written it makes no call of the disk.
     ///
     /// `Halted`; `LogFull` if the file would have more than 2^31 bytes, the closed gate after its
     /// log among them: then nothing changes. `Device` halts the store. When refused, no client is
@@ -119,7 +121,7 @@ impl<D: Disk, C: Chare, B: RuntimeName> Hub<D, C, B> {
     pub fn flush(&mut self, passes: &mut [ClientPass<PassesOf<B>>]) -> Result<u64, Refusal>
         ensures goes { Goes (store_in self.old) core.Flush (counts_or_refused result)
             (store_in self.new) }
-        ensures told { OnOk result (passes.new ≡ map with_flush passes.old) }
+        ensures told { IfOk result (λ count. passes.new ≡ map (with_flush count) passes.old) }
         ensures untold { OnErr result ((passes.new ≡ passes.old)
             × (self.new.passes ≡ self.old.passes)) }
         ensures any_moment { D.honest self.old.disk → LeavesOnly D.moment D.since self.old.disk
@@ -127,7 +129,10 @@ impl<D: Disk, C: Chare, B: RuntimeName> Hub<D, C, B> {
         ensures disk { AfterCall D.Disk self.old.disk self.new.disk (is_no_failure result) }
         ensures idle { self.old.core.durable ≡ length self.old.core.history →
             self.new.disk ≡ self.old.disk }
-        ensures kept { OnOk result (TellAll self.old.passes passes.old self.new.passes) }
+        ensures kept { IfOk result (λ count.
+            TellAll count self.old.passes passes.old self.new.passes) }
+        ensures rising { IfOk result (λ count. AllByRecursion
+            (λ (held : HeldPass). held.flushed ≤ count) passes.old) }
         ensures out { self.new.passes.out ≡ self.old.passes.out }
         ensures census { self.new.census ≡ self.old.census }
         ensures seats { self.new.seats ≡ self.old.seats }

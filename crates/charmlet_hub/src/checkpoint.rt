@@ -9,7 +9,9 @@ ghost use Rattle.charmlet_disk.specs.Disk.{LeavesOnly};
 ghost use Rattle.charmlet_halves.specs.Answers.{is_no_failure};
 ghost use Rattle.charmlet_history.specs.Kept.{core_in};
 ghost use Rattle.charmlet_journal.specs.Rest.{HasOldOrSealed, HasSealed};
+ghost use Rattle.charmlet_passes.specs.Passes.{event_count};
 ghost use Rattle.charmlet_running.specs.Running.{AreAllSettled, IsRunning, IsShownBy};
+ghost use Rattle.charmlet_running.specs.Sealing.{PassesLimit};
 ghost use Rattle.charmlet_shelf.specs.Image.{AreImages};
 ghost use Rattle.charmlet_sequencer.specs.Checkpointing.{IsSealRefusal, IsSealedCore};
 ghost use Rattle.charmlet_sequencer.specs.Sequencer.{is_lawful};
@@ -28,42 +30,46 @@ use charmlet_shelf::Image;
 use std::alloc::AllocError;
 use std::marker::Model;
 
-/// How many shelves were handed in to a checkpoint.
+/// How many events there were when a checkpoint began, those before the opening world among them,
+/// and how many shelves were handed in to it.
 #[derive(Debug, Drop)]
-pub struct HandedIn {
+pub struct SeenToken {
+    pub(crate) begun: u64,
     pub(crate) shelves: u16,
 }
 
-impl Model for HandedIn {
-    ghost use Rattle.std.specs.Prelude.{ℕ};
+impl Model for SeenToken {
+    ghost use Rattle.charmlet_hub.specs.Checkpoint.{Token};
 
-    ghost Value = { ℕ };
+    ghost Value = { Token };
 
-    ghost view = { λ h. h.shelves };
+    ghost view = { λ h. record { begun = h.begun; shelves = h.shelves } };
 }
 
-/// The token of whoever runs a checkpoint: that it runs, and how many shelves were handed in, those
-/// of the first processors. A contract sees this number. It can't be dropped: a checkpoint ends by
-/// [`Hub::seal`] or [`Hub::abandon`].
+/// The token of whoever runs a checkpoint: that it runs, how many events there were when it began,
+/// and how many shelves were handed in, those of the first processors. A contract sees both
+/// numbers. It can't be dropped: a checkpoint ends by [`Hub::seal`] or [`Hub::abandon`].
 pub struct Checkpoint<B: RuntimeName> {
+    begun: u64,
     shelves: u16,
-    share: Share<HandedIn, CheckpointsOf<B>>,
+    share: Share<SeenToken, CheckpointsOf<B>>,
 }
 
 impl<B: RuntimeName> Model for Checkpoint<B> {
-    ghost use Rattle.std.specs.Prelude.{◌≡◌, ℕ, Some};
+    ghost use Rattle.std.specs.Prelude.{◌≡◌, Some};
+    ghost use Rattle.charmlet_hub.specs.Checkpoint.{Token};
 
-    ghost Value = { ℕ };
+    ghost Value = { Token };
 
-    ghost view = { λ c. c.shelves };
+    ghost view = { λ c. record { begun = c.begun; shelves = c.shelves } };
 
-    ghost invariant = { λ c. c.share.1 ≡ Some c.shelves };
+    ghost invariant = { λ c. c.share.1 ≡ Some (record { begun = c.begun; shelves = c.shelves }) };
 }
 
 impl<B: RuntimeName> Checkpoint<B> {
     /// How many shelves were handed in, those of the first processors.
     pub fn shelves(&self) -> u16
-        ensures { result ≡ self.now }
+        ensures { result ≡ self.now.shelves }
     {
         self.shelves
     }
@@ -84,7 +90,10 @@ impl<D: Disk, C: Chare, B: RuntimeName> Hub<D, C, B> {
     /// The refusal is the first that applies of `Halted`, `Checkpointing` where one runs already,
     /// and `Memory`. Then nothing changes.
     pub fn begin(&mut self) -> Result<Checkpoint<B>, Refusal>
-        ensures ok { IfOk result (λ checkpoint. checkpoint ≡ 0) }
+        ensures ok { IfOk result (λ checkpoint. checkpoint ≡ record {
+          begun = event_count self.old.core;
+          shelves = 0;
+        }) }
         ensures begun { OnOk result (self.new ≡ record self.old { busy = true }) }
         ensures going { OnOk result (self.old.core.halted ≡ false) }
         ensures free { OnOk result (self.old.busy ≡ false) }
@@ -103,8 +112,13 @@ impl<D: Disk, C: Chare, B: RuntimeName> Hub<D, C, B> {
             return Err(Refusal::Memory);
         };
         self.running = Some(running);
-        let share = self.tokens.issue(&HandedIn { shelves: 0 });
-        Ok(Checkpoint { shelves: 0, share })
+        let begun = self.sequencer.history().event_count();
+        let share = self.tokens.issue(&SeenToken { begun, shelves: 0 });
+        Ok(Checkpoint {
+            begun,
+            shelves: 0,
+            share,
+        })
     }
 
     /// Hands in the images of a shelf to the checkpoint that runs. They are those of all elements
@@ -117,10 +131,11 @@ impl<D: Disk, C: Chare, B: RuntimeName> Hub<D, C, B> {
         locked: &mut LockedShelf<C, B>,
         images: Vec<Image>,
     ) -> Result<(), AllocError>
-        requires next { locked.old.number ≡ checkpoint.old }
+        requires next { locked.old.number ≡ checkpoint.old.shelves }
         requires images { AreImages locked.old.records (keys_of locked.old.records)
             images.items }
-        ensures ok { OnOk result (checkpoint.new ≡ checkpoint.old + 1) }
+        ensures ok { OnOk result (checkpoint.new
+            ≡ record checkpoint.old { shelves = checkpoint.old.shelves + 1 }) }
         ensures err { OnErr result (checkpoint.new ≡ checkpoint.old) }
         ensures runs { self.old.busy ≡ true }
         ensures hub { self.new ≡ self.old }
@@ -132,9 +147,10 @@ impl<D: Disk, C: Chare, B: RuntimeName> Hub<D, C, B> {
         if take_images(&mut self.running, self.sequencer.history(), images).is_err() {
             return Err(AllocError);
         }
+        let begun = checkpoint.begun;
         let shelves = checkpoint.shelves + 1;
         self.tokens
-            .change(&mut checkpoint.share, &HandedIn { shelves });
+            .change(&mut checkpoint.share, &SeenToken { begun, shelves });
         checkpoint.shelves = shelves;
         Ok(())
     }
@@ -143,24 +159,24 @@ impl<D: Disk, C: Chare, B: RuntimeName> Hub<D, C, B> {
     /// that means the present world, which takes the place of the store in the spare half, and
     /// answers its generation. The image has each element as it was at a moment since the
     /// checkpoint began, and the deliveries since then. On an honest disk the half that is taken is
-    /// then that one: it counts all events, and its log has no batch yet, and ends where the history
-    /// says. No client is told anything.
+    /// then that one: it counts all events, and its log has no batch yet, and ends where the
+    /// history says. No client is told anything.
     ///
     /// `Halted`; `Memory`; `ImageFull` if the generation would be past 2^40 or the file past 2^31
-    /// bytes: then nothing changes. `Device` halts the store. When refused, the checkpoint still
-    /// runs, and its token comes back. On an honest disk a crash at any moment of the call leaves
-    /// the world after some of the history, with all events among it that were durable before; and
-    /// of a store that isn't halted it leaves the world after the durable events, as it was, or the
-    /// present one at the next generation, and none between them.
+    /// bytes by what stands in its image: then nothing changes. `Device` halts the store. When
+    /// refused, the checkpoint still runs, and its token comes back. On an honest disk a crash at
+    /// any moment of the call leaves the world after some of the history, with all events among it
+    /// that were durable before; and of a store that isn't halted it leaves the world after the
+    /// durable events, as it was, or the present one at the next generation, and none between them.
     pub fn seal(&mut self, checkpoint: Checkpoint<B>) -> Result<u64, NotSealed<B>>
-        requires { checkpoint ≡ B.processors }
+        requires { checkpoint.shelves ≡ B.processors }
         ensures ok { IfOk result (λ generation. generation ≡ self.old.core.generation + 1) }
         ensures within { OnOk result (self.old.core.generation < 2 ^ 40) }
         ensures going { OnOk result (self.old.core.halted ≡ false) }
         ensures sealed { OnOk result (IsSealed self.old self.new) }
         ensures err { IfErr result (λ back. IsSealRefusal self.old.core back.refusal) }
         ensures full { IfErr result (λ back. back.refusal ≡ refusals.ImageFull →
-            IsTooLarge self.old.core) }
+            IsTooLarge self.old.core checkpoint.begun) }
         ensures refused { IfErr result (λ back. back.refusal ≢ refusals.Device →
             self.new ≡ self.old) }
         ensures failed { IfErr result (λ back. back.refusal ≡ refusals.Device → self.new
@@ -208,7 +224,11 @@ impl<D: Disk, C: Chare, B: RuntimeName> Hub<D, C, B> {
         ensures ended { self.new ≡ record self.old { busy = false } }
         ensures ran { self.old.busy ≡ true }
     {
-        let Checkpoint { shelves: _, share } = checkpoint;
+        let Checkpoint {
+            begun: _,
+            shelves: _,
+            share,
+        } = checkpoint;
         self.tokens.take_back(share);
         self.running = None;
     }
@@ -248,7 +268,7 @@ fn seal_running<D: Disk, C: Chare, B: RuntimeName>(
     ensures sealed { OnOk result (IsSealedCore sequencer.old.core sequencer.new.core) }
     ensures err { IfErr result (IsSealRefusal sequencer.old.core) }
     ensures full { IfErr result (λ refusal. refusal ≡ refusals.ImageFull →
-        IsTooLarge sequencer.old.core) }
+        IfSome running.old (PassesLimit sequencer.old.core)) }
     ensures failed { IfErr result (λ refusal. refusal ≡ refusals.Device →
         sequencer.new.core ≡ halted_core sequencer.old.core) }
     ensures refused { IfErr result (λ refusal. refusal ≢ refusals.Device →

@@ -1,6 +1,6 @@
 //! The end of a hub and its shelves.
 
-ghost use Rattle.std.specs.Prelude.{◌≡◌, [], ◌∷◌, false, true, IfErr, IfOk, OnErr, OnOk, map, vec_len};
+ghost use Rattle.std.specs.Prelude.{◌≡◌, ◌≤◌, [], ◌∷◌, false, true, IfErr, IfOk, OnErr, OnOk, map, vec_len};
 ghost use Rattle.std.specs.List.{AllByRecursion};
 ghost use Rattle.charmlet_model.specs.declared.refusal.Refusal.TheVariants as refusals;
 ghost use Rattle.charmlet_disk.specs.File.{CrashBytes, MayLeave};
@@ -71,6 +71,8 @@ impl<D: Disk, C: Chare, B: RuntimeName> Hub<D, C, B> {
         requires empty { AreEmpty B.processors empty.items }
         ensures of { IfOk result (λ closed. IsOf B.opening B.before B.processors
             (core_in closed.store.history)) }
+        ensures later { IfOk result (λ closed.
+            B.generation ≤ (core_in closed.store.history).generation) }
         ensures settles { IfOk result (λ closed. (last : HubShown D)
             × SettleAll self shelves.items last
             × (core_in closed.store.history ≡ last.core)

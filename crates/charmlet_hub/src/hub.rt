@@ -21,7 +21,7 @@ ghost use Rattle.charmlet_sequencer.specs.Part.{Part};
 ghost use Rattle.charmlet_sequencer.specs.Sequencer.{IsOf, is_lawful, supplied_of};
 ghost use Rattle.charmlet_hub.specs.Hub.{IsHub, seat_refusal, sequencer_in, shown_by, store_in};
 
-use crate::checkpoint::HandedIn;
+use crate::checkpoint::SeenToken;
 use crate::names::{CheckpointsOf, PassesOf, SeatsOf};
 use charmlet_agreement::Book;
 use charmlet_births::Ticks;
@@ -59,7 +59,7 @@ pub struct Hub<D: Disk, C: Chare, B: RuntimeName> {
     /// The checkpoint that runs.
     pub(crate) running: Option<Running>,
     /// What the tokens of checkpoints say.
-    pub(crate) tokens: Book<HandedIn, CheckpointsOf<B>>,
+    pub(crate) tokens: Book<SeenToken, CheckpointsOf<B>>,
 }
 
 impl<D: Disk, C: Chare, B: RuntimeName> Model for Hub<D, C, B> {
@@ -138,7 +138,7 @@ impl<D: Disk, C: Chare, B: RuntimeName> Hub<D, C, B> {
         processors: u16,
         seats: Book<SeenIds, SeatsOf<B>>,
         passes: Book<SeenPass, PassesOf<B>>,
-        tokens: Book<HandedIn, CheckpointsOf<B>>,
+        tokens: Book<SeenToken, CheckpointsOf<B>>,
     ) -> Self
         requires history { sequencer.core.history ≡ [] }
         requires assigned { sequencer.core.assigned ≡ [] }
@@ -164,14 +164,16 @@ impl<D: Disk, C: Chare, B: RuntimeName> Hub<D, C, B> {
         }
     }
 
-    /// States what always holds of a hub: its store is the one that it is named for; its history is
-    /// legal; it has, for each shelf, the records of the world after that history and the delivery
-    /// that is assigned there, and of each kind all objects that were supplied are on the shelves,
-    /// in the stock, or retired; on an honest disk a crash now leaves the world after some of the
-    /// history, with all durable events among it; all deliveries are held by the seats or by the
-    /// hub itself; all passes are current; and the disk is honest if the first one was.
+    /// States what always holds of a hub: its store is the one that it is named for, at no earlier
+    /// generation; its history is legal; it has, for each shelf, the records of the world after
+    /// that history and the delivery that is assigned there, and of each kind all objects that were
+    /// supplied are on the shelves, in the stock, or retired; on an honest disk a crash now leaves
+    /// the world after some of the history, with all durable events among it; all deliveries are
+    /// held by the seats or by the hub itself; all passes are current; and the disk is honest if
+    /// the first one was.
     pub fn facts(&self)
         ensures of { IsOf B.opening B.before B.processors self.now.core }
+        ensures later { B.generation ≤ self.now.core.generation }
         ensures sound { IsSound self.now.core }
         ensures book { (parts : List (Option Part))
             × IsBookIn self.now.core self.now.census parts }

@@ -15,7 +15,7 @@ mod hub;
 mod moving;
 mod names;
 
-pub use crate::checkpoint::{Checkpoint, HandedIn, NotSealed};
+pub use crate::checkpoint::{Checkpoint, NotSealed, SeenToken};
 pub use crate::closing::{Closed, NotClosed};
 pub use crate::hub::Hub;
 pub use crate::names::{CheckpointsOf, PassesOf, SeatsOf};

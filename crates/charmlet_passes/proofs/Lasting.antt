@@ -141,6 +141,8 @@ current-later old new h on sound sound' is =
     let before = on.before in
     let since = is.since in
     let within = is.within in
+    let flushed = is.flushed in
+    let no_fewer = on.no_fewer in
     record {
       heard = all-later old new h.pass.client on sound sound' h.heard is.heard;
       rising = is.rising;
@@ -155,6 +157,7 @@ current-later old new h on sound sound' is =
           ∙ sym (accepts-later old new h.pass.client on sound sound' (h.since - old.before) (omega arith))
           ∙ ap (λ b. accepts_in h.pass.client (drop (h.since - b) new.history)) (sym before);
       all = is.all ∙ sym (history-later old new h.pass.client on sound sound');
+      flushed = omega arith;
     }
 
 pub are_current-later : (passes : LentPasses) (old new : Core) → ((client : ℕ) → GoesOnWithout client old new) → IsSound old → IsSound new → AreCurrent passes old → AreCurrent passes new

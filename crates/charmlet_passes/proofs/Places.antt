@@ -1,5 +1,5 @@
 -- Passes by their places.
-use Rattle.std.proofs.Common.{◌≡◌, ◌≢◌, ◌⊎◌, inl, inr, ⊎_elim, ℕ, zero, suc, ◌+◌, ◌<◌, List, [], ◌∷◌, ◌++◌, length, get_or, map, take, drop, Option, Some, None, refl, ap, sym, arith}
+use Rattle.std.proofs.Common.{◌≡◌, ◌≢◌, ◌⊎◌, inl, inr, ⊎_elim, ℕ, zero, suc, ◌+◌, ◌<◌, List, [], ◌∷◌, ◌++◌, length, get_or, map, take, drop, Option, Some, None, refl, ap, sym, subst, arith}
 use Rattle.std.specs.Prelude.{slice_get, slice_set}
 use Rattle.std.specs.List.{AllByRecursion}
 use Rattle.charmlet_passes.specs.Passes.{HeldPass, LentPasses, IsKept, passes_out}
@@ -53,6 +53,13 @@ module _ {A : Type 0} where
   next-left f [] (suc i) x at = absurd (cc)
   next-left f (y ∷ xs) zero x at = let same : y ≡ x = cc in ap (λ z. z ∷ xs) same
   next-left f (y ∷ xs) (suc i) x at = next-left f xs i x at
+
+  -- what is true of those before it and of the next one is true of one more
+  pub all-next : (P : A → Type 0) (f : A → A) (xs : List A) (i : ℕ) (x : A) → slice_get (map f (take i xs) ++ drop i xs) i ≡ Some x → AllByRecursion P (take i xs) → P x → AllByRecursion P (take (suc i) xs)
+  all-next P f [] zero x at all is = absurd (cc)
+  all-next P f [] (suc i) x at all is = absurd (cc)
+  all-next P f (y ∷ xs) zero x at all is = let same : x ≡ y = cc in (subst P same is, tt)
+  all-next P f (y ∷ xs) (suc i) x at all is = (all.0, all-next P f xs i x at all.1 is)
 
   pub found : (xs : List A) (i : ℕ) (x : A) → i < length xs → x ≡ get_or xs i x → slice_get xs i ≡ Some x
   found [] i x within is = absurd (omega arith)

@@ -1,6 +1,6 @@
 -- What is made of the passes by requests.
 use Rattle.std.proofs.Common.{◌≡◌, ◌≢◌, ◌⊎◌, inl, inr, ⊎_elim, ℕ, zero, suc, ◌+◌, ◌-◌, ◌≤◌, true, false, List, [], ◌∷◌, ◌++◌, length, take, drop, refl, sym, ap, subst, ◌∙◌, arith, length-append, if◌then◌else◌, Option, Some, None, nat_lt, Result}
-use Rattle.std.specs.Prelude.{◌==◌, slice_get, slice_set, IfErr, IfOk, OnErr}
+use Rattle.std.specs.Prelude.{◌==◌, ◌&&◌, slice_get, slice_set, IfErr, IfOk, OnErr}
 use Rattle.std.specs.List.{AllByRecursion}
 use Rattle.std.specs.Cmp.{nat_eq_equiv}
 use Rattle.std.specs.Ordering.{nat_cmp}
@@ -23,11 +23,11 @@ use Rattle.charmlet_model.specs.World.{client_of, world}
 use Rattle.charmlet_model.specs.Sound.{IsSound}
 use Rattle.charmlet_model.proofs.ToldLemmas.{told_durable}
 use Rattle.charmlet_model.proofs.Windows.{inside-parts}
-use Rattle.charmlet_requests.specs.Knowing.{IsNoLess}
-use Rattle.charmlet_requests.specs.Pass.{Pass, IsTold, IsUpToDate, IsHeard, is_out, known}
+use Rattle.charmlet_requests.specs.Knowing.{IsNoLess, is_unknown}
+use Rattle.charmlet_requests.specs.Pass.{Pass, IsTold, IsUpToDate, IsHeard, is_out, known, with_told}
 use Rattle.charmlet_requests.proofs.Covering.{told-above, told-below}
 use Rattle.charmlet_requests.proofs.Turns.{IsAnswered, answered, follows}
-use Rattle.charmlet_passes.specs.Passes.{HasNone, HeldPass, LentPasses, AreKnown, AreRising, AreTrue, IsCurrent, AreCurrent, accepts_in, lent_since, held_by, with_answer}
+use Rattle.charmlet_passes.specs.Passes.{HasNone, HeldPass, LentPasses, AreKnown, AreRising, AreTrue, IsCurrent, AreCurrent, accepts_in, event_count, lent_since, held_by, with_last_accepted, with_answer}
 use Rattle.charmlet_passes.specs.Passes as answers
 use Rattle.charmlet_passes.proofs.Lasting.{GoesOnWithout, accepts_in-append, current-later, history-later, last-without}
 use Rattle.charmlet_passes.proofs.Places.{at_end, at_set, was_at}
@@ -61,6 +61,7 @@ lent_current core client none = record {
   within = omega arith;
   accepts = sym (ap (accepts_in client) (drop_all (core.before + length core.history - core.before) core.history (omega arith)));
   all = sym none;
+  flushed = omega arith;
 }
 
 -- nothing stands in an empty list
@@ -193,9 +194,9 @@ module _ (core : Core) (blanks : Blanks) (client number : ℕ) (to : Elem) (entr
   own_event = ap (λ b. if b then event ∷ [] else []) (nat_eq_equiv.refl client)
 
   -- what the pass then holds
-  pub own-current : (h g : HeldPass) → h.pass.client ≡ client → IsCurrent h core → IsTold g.pass new → IsUpToDate g.pass new → g.pass.client ≡ client → g.pass.lent_at ≡ h.pass.lent_at → g.since ≡ h.since → g.accepts ≡ accepts_with h →
+  pub own-current : (h g : HeldPass) → h.pass.client ≡ client → IsCurrent h core → IsTold g.pass new → IsUpToDate g.pass new → g.pass.client ≡ client → g.pass.lent_at ≡ h.pass.lent_at → g.since ≡ h.since → g.flushed ≡ h.flushed → g.accepts ≡ accepts_with h →
       g.heard ≡ h.heard ++ (number, t) ∷ [] → IsNoLess (known h.pass number) t → IsNoLess t (known g.pass number) → ((other : ℕ) → IsNoLess (known h.pass other) (known g.pass other)) → IsCurrent g new
-  own-current h g own is told up_to_date own' lent' since' accepts' heard' more less kept =
+  own-current h g own is told up_to_date own' lent' since' flushed' accepts' heard' more less kept =
       let last : (client_of (present core) client).last ≡ h.pass.last = subst (λ c. (client_of (present core) c).last ≡ h.pass.last) own is.up_to_date in
       let Whole : Core → Type 0 = λ c. (c.before ≤ h.since) × (h.since ≤ c.before + length c.history) × (accepts_with h ≡ accepts_in client (drop (h.since - c.before) c.history)) × (accepts_with h ≡ accepts_in client c.history) in
       let had_all : h.accepts ≡ accepts_in client core.history = is.all ∙ ap (λ c. accepts_in c core.history) own in
@@ -238,6 +239,7 @@ module _ (core : Core) (blanks : Blanks) (client number : ℕ) (to : Elem) (entr
       let low = whole.0 in
       let high = whole.1 in
       let same_opening : new.opening ≡ core.opening = either (λ c. c.opening ≡ core.opening) (λ _. refl) (λ _. refl) in
+      let flushed : h.flushed ≤ new.before + new.durable = either (λ c. h.flushed ≤ c.before + c.durable) (λ _. is.flushed) (λ _. is.flushed) in
       let had_heard : AreTrue core client h.heard = subst (λ c. AreTrue core c h.heard) own is.heard in
       record {
         heard = subst (λ (x : ℕ × List (ℕ × Told)). AreTrue new x.0 x.1) (λ i. (sym own' i, sym heard' i)) (true-append new client h.heard ((number, t) ∷ []) (true_still h.heard had_heard) answer_true);
@@ -250,6 +252,7 @@ module _ (core : Core) (blanks : Blanks) (client number : ℕ) (to : Elem) (entr
         within = omega arith;
         accepts = accepts' ∙ whole.2 ∙ ap (λ (p : ℕ × ℕ). accepts_in p.0 (drop (p.1 - new.before) new.history)) (λ i. (sym own' i, sym since' i));
         all = accepts' ∙ whole.3 ∙ ap (λ c. accepts_in c new.history) (sym own');
+        flushed = subst (λ n. n ≤ new.before + new.durable) (sym flushed') flushed;
       }
 
 -- ---- the number that is wanted
@@ -298,9 +301,9 @@ module _ (core : Core) (blanks : Blanks) (client number : ℕ) (to : Elem) (entr
   ]
 
 -- what was heard, of all that a pass holds
-pub heard_answered : (h g : HeldPass) (p q : Pass) (core after : Core) (number : ℕ) (result : Result Told Refusal) → IsHeard p q core after number result → IsTold p core → h.pass ≡ p → g.pass ≡ q → IfOk result (λ told. g.heard ≡ h.heard ++ (number, told) ∷ []) → g.since ≡ h.since →
+pub heard_answered : (h g : HeldPass) (p q : Pass) (core after : Core) (number : ℕ) (result : Result Told Refusal) → IsHeard p q core after number result → IsTold p core → h.pass ≡ p → g.pass ≡ q → IfOk result (λ told. g.heard ≡ h.heard ++ (number, told) ∷ []) → g.since ≡ h.since → g.flushed ≡ h.flushed →
     OnErr result (g ≡ h) → IfErr result (λ refusal. (n : ℕ) → refusal ≡ refusals.OutOfTurn n → n ≡ capped h.pass.last 1) → answers.IsAnswered h g number result
-heard_answered h g p q core after number result heard told is is' behind since err wanted =
+heard_answered h g p q core after number result heard told is is' behind since flushed err wanted =
     let heard' : IsHeard h.pass g.pass core after number result = subst (λ (x : Pass × Pass). IsHeard x.0 x.1 core after number result) (λ i. (sym is i, sym is' i)) heard in
     let told' : IsTold h.pass core = subst (λ (x : Pass). IsTold x core) (sym is) told in
     record {
@@ -308,6 +311,7 @@ heard_answered h g p q core after number result heard told is is' behind since e
       kept = heard'.kept;
       heard = behind;
       since = since;
+      flushed = flushed;
       err = err;
       wanted = wanted;
     }
@@ -362,7 +366,32 @@ told-current core h p q number t is current client lent last told holds more les
       within = current.within;
       accepts = current.accepts ∙ ap (λ c. accepts_in c (drop (h.since - core.before) core.history)) own;
       all = current.all ∙ ap (λ c. accepts_in c core.history) own;
+      flushed = current.flushed;
     }
+
+-- what a pass holds once all events are durable, and counted
+pub flushed-current : (core : Core) (h : HeldPass) → core.durable ≡ length core.history → IsCurrent h core → IsCurrent (record h { flushed = event_count core }) core
+flushed-current core h durable is = record {
+  heard = is.heard;
+  rising = is.rising;
+  is_known = is.is_known;
+  told = is.told;
+  lent_at = is.lent_at;
+  up_to_date = is.up_to_date;
+  since = is.since;
+  within = is.within;
+  accepts = is.accepts;
+  all = is.all;
+  flushed = omega (arith, durable);
+}
+
+-- and what was counted before is no more
+pub flushed-before : (core : Core) (h : HeldPass) → core.durable ≡ length core.history → IsCurrent h core → h.flushed ≤ event_count core
+flushed-before core h durable is = let flushed = is.flushed in omega (arith, durable)
+
+-- of flushes nothing is recorded by what a client is told
+pub accepted-flushed : (h : HeldPass) → (with_last_accepted h).flushed ≡ h.flushed
+accepted-flushed h = elim (nat_lt h.pass.lent_at h.pass.last && is_unknown (known h.pass h.pass.last)) as (λ b. (if b then with_answer h (with_told h.pass h.pass.last Accepted) h.pass.last Accepted else h).flushed ≡ h.flushed) [ true ↦ refl | false ↦ refl ]
 
 -- what the pass held, and how the hub's book has it
 pub record Known (held : List (Option HeldPass)) (share : ℕ × Option HeldPass) (pass : Pass) (core : Core) (out : List ℕ) : Type 0 where
@@ -387,3 +416,21 @@ accepted_holds core p last is durable up_to_date =
 pub kept-written : (held new : List (Option HeldPass)) (share : ℕ × Option HeldPass) (pass : Pass) (core : Core) (out : List ℕ) (g : HeldPass) → Known held share pass core out → new ≡ slice_set held share.0 (Some g) →
     answers.IsKept (record { out = out; held = held }) (record { out = out; held = new }) (held_by share.1) g
 kept-written held new share pass core out g is new_is = record { place = share.0; had = is.there; has = new_is; out = refl }
+
+-- a place that is set twice
+set-again : {A : Type 0} (xs : List A) (place : ℕ) (a b : A) → slice_set (slice_set xs place a) place b ≡ slice_set xs place b
+set-again [] place a b = refl
+set-again (x ∷ xs) zero a b = refl
+set-again (x ∷ xs) (suc place) a b = ap (λ l. x ∷ l) (set-again xs place a b)
+
+-- a pass that is written twice
+pub kept-then : (old mid new : LentPasses) (core : Core) (h m n : HeldPass) → AreCurrent mid core → answers.IsKept old mid h m → answers.IsKept mid new m n → answers.IsKept old new h n
+kept-then old mid new core h m n are one two =
+    let here : slice_get mid.held one.place ≡ Some (Some m) = subst (λ l. slice_get l one.place ≡ Some (Some m)) (sym one.has) (set-there old.held one.place (Some h) (Some m) one.had) in
+    let same : two.place ≡ one.place = are.apart two.place one.place m m two.had here refl in
+    record {
+      place = one.place;
+      had = one.had;
+      has = two.has ∙ (λ i. slice_set (one.has i) (same i) (Some n)) ∙ set-again old.held one.place (Some m) (Some n);
+      out = two.out ∙ one.out;
+    }

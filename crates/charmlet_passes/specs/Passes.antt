@@ -17,12 +17,15 @@ use Rattle.charmlet_requests.specs.Pass.{Pass, known, lent, with_told, is_out, I
 
 -- A pass was lent after so many events, those before the opening world among them. It knows the
 -- highest that its client was told of each request, and holds its client's accepts since then, and
--- all that its client was told, about which request and what; both in order.
+-- all that its client was told, about which request and what; both in order. And it records how
+-- many events there were at the last flush that it was handed to, those before the opening world
+-- among them, or 0.
 pub record HeldPass : Type 0 where
   pub pass : Pass
   pub since : ℕ
   pub accepts : List Event
   pub heard : List (ℕ × Told)
+  pub flushed : ℕ
 
 -- a pass that is lent after so many events to a client whose last number is this one
 abbrev pub lent_since : ℕ → ℕ → ℕ → HeldPass
@@ -31,7 +34,12 @@ lent_since client last since = record {
   since = since;
   accepts = [];
   heard = [];
+  flushed = 0;
 }
+
+-- how many events there are, those before the opening world among them
+abbrev pub event_count : Core → ℕ
+event_count core = core.before + length core.history
 
 -- what the pass with this share holds
 abbrev pub held_by : Option HeldPass → HeldPass
@@ -65,7 +73,8 @@ AreKnown pass answers = AllByRecursion (λ (answer : ℕ × Told).
 -- All that the pass's client was told is true of the durable events, and of no request it was told
 -- less than before. What the pass knows by it is true too, and no less. It was lent at its client's
 -- last number in the opening world, and its last number is its client's now. Its accepts are
--- exactly its client's since it was lent, and all of this history.
+-- exactly its client's since it was lent, and all of this history. As many events as it records are
+-- durable.
 pub record IsCurrent (held : HeldPass) (core : Core) : Type 0 where
   pub heard : AreTrue core held.pass.client held.heard
   pub rising : AreRising held.heard
@@ -78,6 +87,7 @@ pub record IsCurrent (held : HeldPass) (core : Core) : Type 0 where
   pub accepts : held.accepts
       ≡ accepts_in held.pass.client (drop (held.since - core.before) core.history)
   pub all : held.accepts ≡ accepts_in held.pass.client core.history
+  pub flushed : held.flushed ≤ core.before + core.durable
 
 -- The book has the clients whose passes are out, and what each pass holds, by its place among those
 -- that were lent: nothing any more once it was taken in.
@@ -161,20 +171,25 @@ pub record IsAnswered (old new : HeldPass) (number : ℕ)
   pub kept : (other : ℕ) → IsNoLess (known old.pass other) (known new.pass other)
   pub heard : IfOk result (λ told. new.heard ≡ old.heard ++ (number, told) ∷ [])
   pub since : new.since ≡ old.since
+  pub flushed : new.flushed ≡ old.flushed
   pub err : OnErr result (new ≡ old)
   pub wanted : IfErr result (λ refusal. (wanted : ℕ) → refusal ≡ refusals.OutOfTurn wanted →
       wanted ≡ capped old.pass.last 1)
 
--- a flush tells the pass's client that the last of its accepts is accepted, if there is one of
--- which nothing is known yet
-abbrev pub with_flush : HeldPass → HeldPass
-with_flush held =
+-- what the pass holds once its client was told that the last of its accepts is accepted, if there
+-- is one of which nothing is known yet
+abbrev pub with_last_accepted : HeldPass → HeldPass
+with_last_accepted held =
     if nat_lt held.pass.lent_at held.pass.last && is_unknown (known held.pass held.pass.last)
     then with_answer held (with_told held.pass held.pass.last Accepted) held.pass.last Accepted
     else held
 
--- the book once a flush has told each of these passes, one after another
-abbrev pub TellAll : LentPasses → List HeldPass → LentPasses → Type 0
-TellAll book [] last = last ≡ book
-TellAll book (held ∷ rest) last = (next : LentPasses) × IsKept book next held (with_flush held)
-    × TellAll next rest last
+-- what the pass holds after a flush that counted so many events
+abbrev pub with_flush : ℕ → HeldPass → HeldPass
+with_flush count held = record (with_last_accepted held) { flushed = count }
+
+-- the book once a flush of so many events has told each of these passes, one after another
+abbrev pub TellAll : ℕ → LentPasses → List HeldPass → LentPasses → Type 0
+TellAll count book [] last = last ≡ book
+TellAll count book (held ∷ rest) last = (next : LentPasses)
+    × IsKept book next held (with_flush count held) × TellAll count next rest last

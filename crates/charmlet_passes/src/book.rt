@@ -1,6 +1,6 @@
 //! The book of passes.
 
-ghost use Rattle.std.specs.Prelude.{◌≡◌, ◌==◌, ◌+◌, ◌∷◌, [], ℕ, length, map, false, Some, None, is_ok, IfOk, IfErr, OnOk, OnErr, slice_get, slice_set, vec_len};
+ghost use Rattle.std.specs.Prelude.{◌≡◌, ◌==◌, ◌+◌, ◌≤◌, [], ℕ, length, map, false, Some, None, is_ok, IfOk, IfErr, OnOk, OnErr, slice_get, slice_set, vec_len};
 ghost use Rattle.std.specs.BTreeSet.{insert_key};
 ghost use Rattle.std.specs.List.{AllByRecursion};
 ghost use Rattle.std.specs.Ordering.{nat_cmp};
@@ -9,7 +9,7 @@ ghost use Rattle.charmlet_model.specs.Core.{Blanks, Core, Steps, present};
 ghost use Rattle.charmlet_model.specs.World.{client_of};
 ghost use Rattle.charmlet_history.specs.Kept.{core_in, told_or_refused};
 ghost use Rattle.charmlet_requests.specs.Pass.{is_out, lending_refusal, with_accept, with_told};
-ghost use Rattle.charmlet_passes.specs.Passes.{AreAll, AreCurrent, HaveAllAccepts, HeldPass, IsAnswered, IsCurrent, IsKept, TellAll, accepts_after, held_by, lent_since, passes_out, with_answer, with_flush, with_request};
+ghost use Rattle.charmlet_passes.specs.Passes.{AreAll, AreCurrent, HaveAllAccepts, HeldPass, IsAnswered, IsCurrent, IsKept, TellAll, accepts_after, event_count, held_by, lent_since, passes_out, with_last_accepted, with_answer, with_flush, with_request};
 
 use crate::pass::{ClientPass, SeenPass};
 use charmlet_agreement::{Book, BookName, GhostValue, Share};
@@ -178,14 +178,18 @@ impl<B: BookName> PassBook<B> {
 
     /// Tells the clients of these passes that the last of their requests is accepted, once a flush
     /// has made all events durable. One that made none since its pass was lent, or was told more of
-    /// it than `Unknown` before, is told nothing. It takes no memory.
+    /// it than `Unknown` before, is told nothing of a request. Each pass records how many events
+    /// there are, which is no less than it recorded before. It takes no memory.
     pub fn tell(&mut self, history: &History, passes: &mut [ClientPass<B>])
         requires current { AreCurrent self.old (core_in history.now) }
         requires durable { (core_in history.now).durable ≡ length (core_in history.now).history }
         ensures current { AreCurrent self.new (core_in history.now) }
         ensures out { self.new.out ≡ self.old.out }
-        ensures told { passes.new ≡ map with_flush passes.old }
-        ensures kept { TellAll self.old passes.old self.new }
+        ensures told { passes.new ≡ map (with_flush (event_count (core_in history.now)))
+            passes.old }
+        ensures kept { TellAll (event_count (core_in history.now)) self.old passes.old self.new }
+        ensures rising { AllByRecursion (λ (held : HeldPass).
+            held.flushed ≤ event_count (core_in history.now)) passes.old }
     {
         for i in 0..passes.len() {
             self.tell_one(history, &mut passes[i]);
@@ -193,12 +197,26 @@ impl<B: BookName> PassBook<B> {
     }
 
     /// Tells a pass's client that the last of its requests is accepted, if it made one of which it
-    /// knows nothing yet.
+    /// knows nothing yet, and records how many events there are.
     fn tell_one(&mut self, history: &History, pass: &mut ClientPass<B>)
         requires current { AreCurrent self.old (core_in history.now) }
         requires durable { (core_in history.now).durable ≡ length (core_in history.now).history }
         ensures current { AreCurrent self.new (core_in history.now) }
-        ensures told { pass.new ≡ with_flush pass.old }
+        ensures told { pass.new ≡ with_flush (event_count (core_in history.now)) pass.old }
+        ensures kept { IsKept self.old self.new pass.old pass.new }
+        ensures rising { pass.old.flushed ≤ event_count (core_in history.now) }
+    {
+        self.tell_accepted(history, pass);
+        self.record_flush(history, pass);
+    }
+
+    /// Tells a pass's client that the last of its requests is accepted, if it made one of which it
+    /// knows nothing yet.
+    fn tell_accepted(&mut self, history: &History, pass: &mut ClientPass<B>)
+        requires current { AreCurrent self.old (core_in history.now) }
+        requires durable { (core_in history.now).durable ≡ length (core_in history.now).history }
+        ensures current { AreCurrent self.new (core_in history.now) }
+        ensures told { pass.new ≡ with_last_accepted pass.old }
         ensures kept { IsKept self.old self.new pass.old pass.new }
     {
         self.book.agree(&mut pass.share);
@@ -217,9 +235,24 @@ impl<B: BookName> PassBook<B> {
         write_told::<Brand, B>(&mut self.book, share, &pass.pass, last, &Told::Accepted);
     }
 
+    /// Records in a pass how many events there are, all of which are durable.
+    fn record_flush(&mut self, history: &History, pass: &mut ClientPass<B>)
+        requires current { AreCurrent self.old (core_in history.now) }
+        requires durable { (core_in history.now).durable ≡ length (core_in history.now).history }
+        ensures current { AreCurrent self.new (core_in history.now) }
+        ensures recorded { pass.new
+            ≡ record pass.old { flushed = event_count (core_in history.now) } }
+        ensures kept { IsKept self.old self.new pass.old pass.new }
+        ensures rising { pass.old.flushed ≤ event_count (core_in history.now) }
+    {
+        self.book.agree(&mut pass.share);
+        history.facts();
+        write_flush::<Brand, B>(&mut self.book, &mut pass.share, history);
+    }
+
     /// Takes all passes in: each has exactly its client's accepts, and all that its client was told
-    /// is true of the durable events; a client that has none of them has no accepts. If a pass stays
-    /// out, all comes back. It takes no memory.
+    /// is true of the durable events; a client that has none of them has no accepts. If a pass
+    /// stays out, all comes back. It takes no memory.
     pub fn close(self, passes: Vec<ClientPass<B>>) -> Result<(), StillOut<B>>
         ensures all { OnOk result (AreAll self.held passes.items) }
         ensures current { OnOk result ((c : Core) → AreCurrent self c →
@@ -276,6 +309,27 @@ fn write_accept<N: GhostValue<SeenPass>, B: BookName>(
     ensures share { share.new ≡ (
       share.old.0,
       Some (with_request (held_by share.old.1) _pass.now _request.now _told.now),
+    ) }
+{
+    book.change_to::<N>(share);
+}
+
+/// Writes how many events there are into the book and a pass's share, which had the same value
+/// before.
+fn write_flush<N: GhostValue<SeenPass>, B: BookName>(
+    book: &mut Book<SeenPass, B>,
+    share: &mut Share<SeenPass, B>,
+    _history: &History,
+)
+    requires { N.value ≡ record (held_by share.old.1) {
+      flushed = event_count (core_in _history.now);
+    } }
+    ensures agrees { slice_get book.old share.old.0 ≡ Some share.old.1 }
+    ensures book { book.new ≡ slice_set book.old share.old.0
+        (Some (record (held_by share.old.1) { flushed = event_count (core_in _history.now) })) }
+    ensures share { share.new ≡ (
+      share.old.0,
+      Some (record (held_by share.old.1) { flushed = event_count (core_in _history.now) }),
     ) }
 {
     book.change_to::<N>(share);

@@ -30,9 +30,9 @@ impl GhostValue<SeenPass> for Brand {
 }
 
 /// The right to make requests for a client. A contract sees after how many events it was lent, its
-/// client's accepts since then, in order, and all that its client was told, in order. The accepts
-/// have no bytes: their numbers follow one another, up to `last`. Of what was told the highest of
-/// each request is kept.
+/// client's accepts since then, in order, all that its client was told, in order, and how many
+/// events the last flush counted that it was handed to. The accepts have no bytes: their numbers
+/// follow one another, up to `last`. Of what was told the highest of each request is kept.
 #[derive(Drop)]
 pub struct ClientPass<B: BookName> {
     pub(crate) pass: requests::ClientPass,

@@ -34,6 +34,7 @@ fn live_as<B: RuntimeName, W: Write, R: Threads + Wait + Sync>(
     books: Books,
 ) -> Result<(), Stop>
     requires named { IsOf B.opening B.before B.processors store }
+    requires generation { B.generation ≡ store.generation }
     requires parts { table_of books.parts ≡ B.table }
     requires seats { table_of books.seats ≡ B.seats }
     requires passes { table_of books.passes ≡ B.passes }

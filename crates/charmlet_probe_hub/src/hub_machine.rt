@@ -9,7 +9,7 @@ use crate::checkpointing::end as end_running;
 use crate::closing::{end, put_back, take_pass, take_seat};
 use charmlet_agreement::Unnamed;
 use charmlet_hub::{
-    Checkpoint, CheckpointsOf, Closed, HandedIn, Hub, NotClosed, PassesOf, SeatsOf,
+    Checkpoint, CheckpointsOf, Closed, Hub, NotClosed, PassesOf, SeatsOf, SeenToken,
 };
 use charmlet_model::Refusal;
 use charmlet_passes::{ClientPass, SeenPass};
@@ -28,7 +28,7 @@ pub struct Books {
     pub parts: Unnamed<SeenPart>,
     pub seats: Unnamed<SeenIds>,
     pub passes: Unnamed<SeenPass>,
-    pub checkpoints: Unnamed<HandedIn>,
+    pub checkpoints: Unnamed<SeenToken>,
 }
 
 impl Books {
@@ -90,6 +90,7 @@ impl<B: RuntimeName> HubMachine<B> {
     /// A hub over a store, under its name. Nothing is lent. It fails only when out of memory.
     pub fn open(alloc: Global, store: ProbeStore, books: Books) -> Result<Self, AllocError>
         requires named { IsOf B.opening B.before B.processors store }
+        requires generation { B.generation ≡ store.generation }
         requires parts { table_of books.parts ≡ B.table }
         requires seats { table_of books.seats ≡ B.seats }
         requires passes { table_of books.passes ≡ B.passes }
@@ -112,6 +113,7 @@ impl<B: RuntimeName> HubMachine<B> {
         shelves: Vec<LockedShelf<Object, B>>,
     ) -> Self
         requires named { IsOf B.opening B.before B.processors store }
+        requires generation { B.generation ≡ store.generation }
         requires processors { processors ≡ B.processors }
         requires parts { table_of books.parts ≡ B.table }
         requires seats { table_of books.seats ≡ B.seats }

@@ -60,6 +60,7 @@ impl<D: Disk, C: Chare> UnnamedRuntime<D, C> {
         books: UnnamedBooks,
     ) -> Result<Runtime<D, C, B>, NotOpened<D, C>>
         requires named { IsOf B.opening B.before B.processors (core_of self) }
+        requires generation { B.generation ≡ (core_of self).generation }
         requires parts { table_of books.parts ≡ B.table }
         requires seats { table_of books.seats ≡ B.seats }
         requires passes { table_of books.passes ≡ B.passes }

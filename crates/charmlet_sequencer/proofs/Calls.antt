@@ -1,13 +1,15 @@
 -- A call on the sequencer, and one on the sequencer and a shelf.
-use Rattle.std.proofs.Common.{◌≡◌, ◌≢◌, ◌+◌, ℕ, List, Result, Ok, Err, refl, sym, ap, subst, ◌∙◌, arith}
+use Rattle.std.proofs.Common.{◌≡◌, ◌≢◌, ◌+◌, ◌≤◌, ℕ, true, false, if◌then◌else◌, List, [], ◌∷◌, ◌++◌, Result, Ok, Err, refl, sym, ap, subst, ◌∙◌, arith}
 use Rattle.std.specs.Prelude.{Option, Some, IfErr, IfOk, OnErr, OnOk, slice_get, slice_set, take}
+use Rattle.charmlet_model.specs.declared.event.Event.TheVariants.{Accept}
 use Rattle.charmlet_model.specs.declared.kind.Kind.{Kind}
 use Rattle.charmlet_model.specs.declared.kind.Kind.TheVariants as kinds
+use Rattle.charmlet_model.specs.declared.names.Elem.{Elem}
 use Rattle.charmlet_model.specs.declared.refusal.Refusal.{Refusal}
 use Rattle.charmlet_model.specs.declared.refusal.Refusal.TheVariants as refusals
 use Rattle.charmlet_model.specs.declared.state.State.{State}
 use Rattle.charmlet_model.specs.declared.told.Told.{Told}
-use Rattle.charmlet_model.specs.Core.{Blanks, Core, CoreAnswer, CoreStep, Flush, Refuses, Stepped, Steps, next_core}
+use Rattle.charmlet_model.specs.Core.{Blanks, Core, CoreAnswer, CoreStep, Flush, Refuses, Request, Stepped, Steps, is_repeat, next_core}
 use Rattle.charmlet_model.specs.CoreLaws.{IsQuiet}
 use Rattle.charmlet_model.specs.Run.{Goes}
 use Rattle.charmlet_model.specs.Shelves.{count_of}
@@ -37,8 +39,9 @@ use Rattle.charmlet_delivery.specs.Turns.{Turns}
 use Rattle.charmlet_delivery.specs.Workplace.{IsConsistentWorkplace, done_or_refused, held_in, store_with, workplace_of}
 use Rattle.charmlet_delivery.specs.Leaves.{Leaves}
 use Rattle.charmlet_delivery.proofs.Leaving.{step_leaves}
+use Rattle.charmlet_delivery.proofs.Places.{stepped_core}
 use Rattle.charmlet_sequencer.specs.Book.{IsBookOf}
-use Rattle.charmlet_sequencer.specs.Sequencer.{IsOf, KeepsObjects}
+use Rattle.charmlet_sequencer.specs.Sequencer.{HasOpened, KeepsObjects}
 use Rattle.charmlet_sequencer.specs.Part.{Part, part_on}
 use Rattle.charmlet_sequencer.specs.Together.{AreTied, shown_by}
 use Rattle.charmlet_sequencer.proofs.Books.{book_again, book_still, ready}
@@ -71,17 +74,20 @@ module _ {D C : Type 0} {G : disks.Ghosts D} {H : chares.Ghosts C} (history next
     current = λ honest going. tied.current honest (quiet.going going);
   }
 
-pub of_again : (opening : World) (before processors : ℕ) (core next : Core) → IsOf opening before processors core → Quiet core next → next.processors ≡ core.processors → IsOf opening before processors next
-of_again opening before processors core next of quiet same = record {
-  opening_is = quiet.opening ∙ of.opening_is;
-  before_is = quiet.before ∙ of.before_is;
-  processors_are = same ∙ of.processors_are;
+pub opened_again : (opening : World) (before processors generation : ℕ) (core next : Core) → HasOpened opening before processors generation core → Quiet core next → next.processors ≡ core.processors → HasOpened opening before processors generation next
+opened_again opening before processors generation core next opened quiet same = record {
+  of = record {
+    opening_is = quiet.opening ∙ opened.of.opening_is;
+    before_is = quiet.before ∙ opened.of.before_is;
+    processors_are = same ∙ opened.of.processors_are;
+  };
+  later = subst (λ n. generation ≤ n) (sym quiet.generation) opened.later;
 }
 
 -- ---- a sequencer and a shelf that is lent to it
 
-module _ {D C : Type 0} {G : disks.Ghosts D} {H : chares.Ghosts C} (opening : World) (before processors : ℕ) (history : History) (stock : Stock C H) (parts : List (Option Part)) (halves : Halves D G)
-    (its : IsOf opening before processors (core_in history) × AreTied history stock parts halves) (shelf : View) (share : ℕ × Option Part) (share_is : share ≡ (shelf.number, Some (part_on shelf))) (agrees : slice_get parts share.0 ≡ Some share.1) where
+module _ {D C : Type 0} {G : disks.Ghosts D} {H : chares.Ghosts C} (opening : World) (before processors generation : ℕ) (history : History) (stock : Stock C H) (parts : List (Option Part)) (halves : Halves D G)
+    (its : HasOpened opening before processors generation (core_in history) × AreTied history stock parts halves) (shelf : View) (share : ℕ × Option Part) (share_is : share ≡ (shelf.number, Some (part_on shelf))) (agrees : slice_get parts share.0 ≡ Some share.1) where
   there : slice_get parts shelf.number ≡ Some (Some (part_on shelf))
   there = subst (λ (s : ℕ × Option Part). slice_get parts s.0 ≡ Some s.1) share_is agrees
 
@@ -92,11 +98,11 @@ module _ {D C : Type 0} {G : disks.Ghosts D} {H : chares.Ghosts C} (opening : Wo
   module _ (next : History) (last : View) (after : Stock C H) (turns : Turns (workplace_of history shelf stock) (workplace_of next last after)) where
     -- and then the sequencer is one again
     pub sequencer_again : (step : CoreStep) (answer : CoreAnswer) → IsQuiet step → Goes (store_with history stock) step answer (store_with next after) → IsSound (core_in history) → IsSound (core_in next) →
-        (parts' : List (Option Part)) → parts' ≡ slice_set parts share.0 (Some (part_on last)) → IsOf opening before processors (core_in next) × AreTied {G = G} next after parts' halves
+        (parts' : List (Option Part)) → parts' ≡ slice_set parts share.0 (Some (part_on last)) → HasOpened opening before processors generation (core_in next) × AreTied {G = G} next after parts' halves
     sequencer_again step answer quiet goes was sound parts' is =
         let is_quiet : Quiet (core_in history) (core_in next) = quiet_step (core_in history) (blanks_in stock) step (record { answer = answer; core = core_in next; blanks = blanks_in after }) quiet goes in
         let here : parts' ≡ slice_set parts shelf.number (Some (part_on last)) = is ∙ ap (λ (s : ℕ × Option Part). slice_set parts s.0 (Some (part_on last))) share_is in (
-          of_again opening before processors (core_in history) (core_in next) its.0 is_quiet turns.processors,
+          opened_again opening before processors generation (core_in history) (core_in next) its.0 is_quiet turns.processors,
           tied_again history next stock after parts halves its.1 parts' was is_quiet turns.keeping
               (subst (IsBookOf next after) (sym here) (book_again history stock parts its.1.book shelf there next last after sound turns)),
         )
@@ -123,8 +129,13 @@ module _ {D C : Type 0} {G : disks.Ghosts D} {H : chares.Ghosts C} (opening : Wo
 
 -- ---- steps that are about no shelf
 
-module _ {C : Type 0} {H : chares.Ghosts C} (history next : History) (stock : Stock C H) (parts : List (Option Part)) (book : IsBookOf history stock parts) (sound : IsSound (core_in next)) (opening : World) (before processors : ℕ)
-    (of : IsOf opening before processors (core_in history)) (answer : CoreAnswer) where
+-- a request leaves the generation
+pub request_generation : (core : Core) (client number : ℕ) (to : Elem) (entry : ℕ) (words : List ℕ) → (next_core core (Request client number to entry words)).generation ≡ core.generation
+request_generation core client number to entry words =
+    elim (is_repeat core client number) as (λ b. (if b then core else record core { history = core.history ++ Accept client number to entry words ∷ [] }).generation ≡ core.generation) [ true ↦ refl | false ↦ refl ]
+
+module _ {C : Type 0} {H : chares.Ghosts C} (history next : History) (stock : Stock C H) (parts : List (Option Part)) (book : IsBookOf history stock parts) (sound : IsSound (core_in next)) (opening : World) (before processors generation : ℕ)
+    (opened : HasOpened opening before processors generation (core_in history)) (answer : CoreAnswer) where
   abbrev last : Stepped
   last = record { answer = answer; core = core_in next; blanks = plenty }
 
@@ -136,11 +147,14 @@ module _ {C : Type 0} {H : chares.Ghosts C} (history next : History) (stock : St
     pub other_book : IsBookOf next stock parts
     other_book = book_still history next stock parts book sound leaves
 
-    pub other_of : IsOf opening before processors (core_in next)
-    other_of = record {
-      opening_is = (step_goes_on (core_in history) plenty step last steps).opening ∙ of.opening_is;
-      before_is = (leaves 0).before ∙ of.before_is;
-      processors_are = (leaves 0).processors ∙ of.processors_are;
+    pub other_opened : (next_core (core_in history) step).generation ≡ (core_in history).generation → HasOpened opening before processors generation (core_in next)
+    other_opened kept = record {
+      of = record {
+        opening_is = (step_goes_on (core_in history) plenty step last steps).opening ∙ opened.of.opening_is;
+        before_is = (leaves 0).before ∙ opened.of.before_is;
+        processors_are = (leaves 0).processors ∙ opened.of.processors_are;
+      };
+      later = stepped_core (λ (c : Core). generation ≤ c.generation) (core_in history) plenty step opened.later opened.later (subst (λ n. generation ≤ n) (sym kept) opened.later) last steps;
     }
 
 -- two facts of a refusal

@@ -41,9 +41,9 @@ use Rattle.charmlet_migrate.proofs.Moved.{both_set}
 use Rattle.charmlet_sequencer.specs.Book.{IsBookOf}
 use Rattle.charmlet_sequencer.specs.Relocating.{Carries, IsAway, StaysOrLeaves}
 use Rattle.charmlet_sequencer.specs.Part.{Part, part_on}
-use Rattle.charmlet_sequencer.specs.Sequencer.{IsOf}
+use Rattle.charmlet_sequencer.specs.Sequencer.{HasOpened}
 use Rattle.charmlet_sequencer.specs.Together.{AreTied, shown_by}
-use Rattle.charmlet_sequencer.proofs.Calls.{of_again, tied_again}
+use Rattle.charmlet_sequencer.proofs.Calls.{opened_again, tied_again}
 use Rattle.charmlet_sequencer.proofs.Moves.{book_moved, shelf_of_book}
 
 -- ---- before a shelf is lent
@@ -195,8 +195,8 @@ module _ {C : Type 0} {G : chares.Ghosts C} (history next : History) (stock afte
 
 -- ---- the sequencer, and two shelves that are lent to it
 
-module _ {D C : Type 0} {G : disks.Ghosts D} {H : chares.Ghosts C} (opening : World) (before processors : ℕ) (history : History) (stock : Stock C H) (parts : List (Option Part)) (halves : Halves D G)
-    (its : IsOf opening before processors (core_in history) × AreTied history stock parts halves) (shelf : View) (share : ℕ × Option Part) (share_is : share ≡ (shelf.number, Some (part_on shelf))) (agrees : slice_get parts share.0 ≡ Some share.1) where
+module _ {D C : Type 0} {G : disks.Ghosts D} {H : chares.Ghosts C} (opening : World) (before processors generation : ℕ) (history : History) (stock : Stock C H) (parts : List (Option Part)) (halves : Halves D G)
+    (its : HasOpened opening before processors generation (core_in history) × AreTied history stock parts halves) (shelf : View) (share : ℕ × Option Part) (share_is : share ≡ (shelf.number, Some (part_on shelf))) (agrees : slice_get parts share.0 ≡ Some share.1) where
   pub share_there : slice_get parts shelf.number ≡ Some (Some (part_on shelf))
   share_there = subst (λ (s : ℕ × Option Part). slice_get parts s.0 ≡ Some s.1) share_is agrees
 
@@ -204,8 +204,8 @@ module _ {D C : Type 0} {G : disks.Ghosts D} {H : chares.Ghosts C} (opening : Wo
   pub lent_shelf : IsShelfOf history shelf
   lent_shelf = shelf_of_book history stock parts its.1.book shelf share_there
 
-module _ {D C T : Type 0} {G : disks.Ghosts D} {H : chares.Ghosts C} (opening : World) (before processors : ℕ) (history : History) (stock : Stock C H) (parts : List (Option Part)) (halves : Halves D G)
-    (its : IsOf opening before processors (core_in history) × AreTied history stock parts halves) (from to : View) (share other : ℕ × Option Part) (share_is : share ≡ (from.number, Some (part_on from))) (other_is : other ≡ (to.number, Some (part_on to)))
+module _ {D C T : Type 0} {G : disks.Ghosts D} {H : chares.Ghosts C} (opening : World) (before processors generation : ℕ) (history : History) (stock : Stock C H) (parts : List (Option Part)) (halves : Halves D G)
+    (its : HasOpened opening before processors generation (core_in history) × AreTied history stock parts halves) (from to : View) (share other : ℕ × Option Part) (share_is : share ≡ (from.number, Some (part_on from))) (other_is : other ≡ (to.number, Some (part_on to)))
     (agrees : slice_get parts share.0 ≡ Some share.1) (also : slice_get parts other.0 ≡ Some other.1)
     (next : History) (after : Stock C H) (x : Elem) (result : Result T Refusal) (goes : Goes (store_with history stock) (Move x to.number) (done_or_refused result) (store_with next after)) where
   abbrev last : Stepped
@@ -214,15 +214,15 @@ module _ {D C T : Type 0} {G : disks.Ghosts D} {H : chares.Ghosts C} (opening : 
   -- the sequencer is one again
   module _ (place : place_of (core_in history) x ≡ Some from.number) (apart : from.number ≡ to.number → ⊥) (was : IsSound (core_in history)) (sound : IsSound (core_in next)) (left come : View) (here : IsShelfOf next left) (there : IsShelfOf next come)
       (left_is : left ≡ record from { records = left.records }) (come_is : come ≡ record to { records = come.records }) (held : held_in_both left come after ≡ held_in_both from to stock) (supplied : supplied_to after ≡ supplied_to stock) (keeping : keeping_of after ≡ keeping_of stock) where
-    pub sequencer_moved : (parts' : List (Option Part)) → parts' ≡ both_set parts share.0 other.0 (Some (part_on left)) (Some (part_on come)) → IsOf opening before processors (core_in next) × AreTied {G = G} next after parts' halves
+    pub sequencer_moved : (parts' : List (Option Part)) → parts' ≡ both_set parts share.0 other.0 (Some (part_on left)) (Some (part_on come)) → HasOpened opening before processors generation (core_in next) × AreTied {G = G} next after parts' halves
     sequencer_moved parts' is =
         let is_quiet : Quiet (core_in history) (core_in next) = quiet_step (core_in history) (blanks_in stock) (Move x to.number) last tt goes in
         let leaves : LeavesOthers from.number to.number (core_in history) (core_in next) = move_leaves (core_in history) (blanks_in stock) x from.number to.number place last goes in
         let written : parts' ≡ both_set parts from.number to.number (Some (part_on left)) (Some (part_on come)) = is ∙ (λ i. both_set parts (share_is i).0 (other_is i).0 (Some (part_on left)) (Some (part_on come))) in (
-          of_again opening before processors (core_in history) (core_in next) its.0 is_quiet leaves.processors,
+          opened_again opening before processors generation (core_in history) (core_in next) its.0 is_quiet leaves.processors,
           tied_again history next stock after parts halves its.1 parts' was is_quiet keeping
               (subst (IsBookOf next after) (sym written)
-              (book_moved history stock parts its.1.book from to (share_there opening before processors history stock parts halves its from share share_is agrees) (share_there opening before processors history stock parts halves its to other other_is also) apart
+              (book_moved history stock parts its.1.book from to (share_there opening before processors generation history stock parts halves its from share share_is agrees) (share_there opening before processors generation history stock parts halves its to other other_is also) apart
               next after x place (done_or_refused result) goes sound left come here there left_is come_is held supplied)),
         )
 

@@ -1,5 +1,5 @@
 -- What a checkpoint that runs while others work asks of a sequencer.
-use Rattle.std.proofs.Common.{◌≡◌, ◌≢◌, ◌⊎◌, ℕ, Bool, true, false, Result, Ok, Err, inl, inr, refl, sym, ap, subst, ◌∙◌}
+use Rattle.std.proofs.Common.{◌≡◌, ◌≢◌, ◌⊎◌, ℕ, Bool, true, false, Result, Ok, Err, inl, inr, refl, sym, ap, subst, ◌∙◌, arith}
 use Rattle.std.specs.Prelude.{Option, Some, IfErr, OnOk}
 use Rattle.charmlet_model.specs.declared.refusal.Refusal.{Refusal}
 use Rattle.charmlet_model.specs.declared.refusal.Refusal.TheVariants as refusals
@@ -26,7 +26,7 @@ use Rattle.charmlet_running.specs.Running.{IsRunning, Run, with_delivery}
 use Rattle.charmlet_running.proofs.Others.{deliveries_keep, deliveries_keep_running}
 use Rattle.charmlet_sequencer.specs.Book.{IsDueOn}
 use Rattle.charmlet_sequencer.specs.Checkpointing.{IsSealedCore}
-use Rattle.charmlet_sequencer.specs.Sequencer.{IsOf}
+use Rattle.charmlet_sequencer.specs.Sequencer.{HasOpened}
 use Rattle.charmlet_sequencer.specs.Shelf.{HasOutput, is_done}
 use Rattle.charmlet_sequencer.specs.Together.{shown_by}
 
@@ -90,10 +90,13 @@ module _ (core next : Core) (result : Result ℕ Refusal) (sealed : OnOk result 
       sealed_core (Leaves q core) core next result sealed failed refused (same_leaves core core q refl refl refl refl refl refl) (same_leaves core (halted_core core) q refl refl refl refl refl refl)
       (λ n. same_leaves core (sealed_at core n) q refl refl refl refl refl refl)
 
-  pub sealed_of : (opening : World) (before processors : ℕ) → IsOf opening before processors core → IsOf opening before processors next
-  sealed_of opening before processors of =
-      sealed_core (IsOf opening before processors) core next result sealed failed refused of (record { opening_is = of.opening_is; before_is = of.before_is; processors_are = of.processors_are })
-      (λ n. record { opening_is = of.opening_is; before_is = of.before_is; processors_are = of.processors_are })
+  pub sealed_opened : (opening : World) (before processors generation : ℕ) → HasOpened opening before processors generation core → HasOpened opening before processors generation next
+  sealed_opened opening before processors generation opened =
+      let of = opened.of in
+      let later = opened.later in
+      sealed_core (HasOpened opening before processors generation) core next result sealed failed refused opened
+      (record { of = record { opening_is = of.opening_is; before_is = of.before_is; processors_are = of.processors_are }; later = later })
+      (λ n. record { of = record { opening_is = of.opening_is; before_is = of.before_is; processors_are = of.processors_are }; later = omega arith })
 
 -- ---- what is left of the halves
 

@@ -1,5 +1,5 @@
 -- What is seen of a sequencer.
-use Rattle.std.specs.Prelude.{◌≡◌, ℕ, ◌+◌}
+use Rattle.std.specs.Prelude.{◌≡◌, ℕ, ◌+◌, ◌≤◌}
 use Rattle.charmlet_model.specs.declared.kind.Kind.{Kind}
 use Rattle.charmlet_model.specs.Core.{Core}
 use Rattle.charmlet_model.specs.Run.{StoreView}
@@ -24,6 +24,12 @@ pub record IsOf (opening : World) (before processors : ℕ) (core : Core) : Type
   pub opening_is : core.opening ≡ opening
   pub before_is : core.before ≡ before
   pub processors_are : core.processors ≡ processors
+
+-- the core is that of such a store, which opened at this generation, and may be at a later one
+pub record HasOpened (opening : World) (before processors generation : ℕ) (core : Core)
+    : Type 0 where
+  pub of : IsOf opening before processors core
+  pub later : generation ≤ core.generation
 
 -- the files recover to the world after some of the core's history, with all that is durable among
 -- it

@@ -29,6 +29,9 @@ pub trait RuntimeName: BookName {
     /// How many processors there are.
     ghost processors: { ℕ };
 
+    /// The generation at which it opened.
+    ghost generation: { ℕ };
+
     /// That the disk with which it opened is honest.
     ghost honest: { Type 0 };
 }
@@ -49,6 +52,8 @@ impl RuntimeName for Brand {
     ghost before = { 0 };
 
     ghost processors = { 0 };
+
+    ghost generation = { 0 };
 
     ghost honest = { ⊥ };
 }

@@ -39,6 +39,7 @@ pub fn open_store<D: Disk, C: Chare, B: RuntimeName>(
     shelves: Vec<LockedShelf<C, B>>,
 ) -> Opened<D, C, B>
     requires named { IsOf B.opening B.before B.processors (core_in store.history) }
+    requires generation { B.generation ≡ (core_in store.history).generation }
     requires unassigned { (core_in store.history).assigned ≡ [] }
     requires dropping { store.keeping ≡ for_all false }
     requires agrees { Agrees (core_in store.history) halves }

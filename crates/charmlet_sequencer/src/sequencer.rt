@@ -61,15 +61,15 @@ pub struct Sequencer<D: Disk, C: Chare, B: RuntimeName> {
 
 impl<D: Disk, C: Chare, B: RuntimeName> Model for Sequencer<D, C, B> {
     ghost use Rattle.charmlet_history.specs.Kept.{core_in};
-    ghost use Rattle.charmlet_sequencer.specs.Sequencer.{SequencerShown, IsOf};
+    ghost use Rattle.charmlet_sequencer.specs.Sequencer.{HasOpened, SequencerShown};
     ghost use Rattle.charmlet_sequencer.specs.Together.{AreTied, shown_by};
 
     ghost Value = { SequencerShown D };
 
     ghost view = { λ h. shown_by h.history h.stock h.halves };
 
-    ghost invariant = { λ h. IsOf B.opening B.before B.processors (core_in h.history)
-        × AreTied h.history h.stock h.parts h.halves };
+    ghost invariant = { λ h. HasOpened B.opening B.before B.processors B.generation
+        (core_in h.history) × AreTied h.history h.stock h.parts h.halves };
 }
 
 /// What a sequencer is made of.
@@ -123,15 +123,16 @@ impl<D: Disk, C: Chare, B: RuntimeName> Sequencer<D, C, B> {
         }
     }
 
-    /// States what always holds of a sequencer: its store is the one that it is named for; the
-    /// history was made by events, each in its turn; it has, for each shelf, the records of the
-    /// world after that history and the delivery that is assigned there, and of each kind all
-    /// objects that were supplied are on the shelves, in the stock, or retired; and on an honest
-    /// disk a crash now leaves the world after some of the history, with all durable events among
-    /// it, and that after the durable events alone unless the store is halted. Its core says that
-    /// no checkpoint runs: one that does is not the sequencer's.
+    /// States what always holds of a sequencer: its store is the one that it is named for, at no
+    /// earlier generation; the history was made by events, each in its turn; it has, for each
+    /// shelf, the records of the world after that history and the delivery that is assigned there,
+    /// and of each kind all objects that were supplied are on the shelves, in the stock, or
+    /// retired; and on an honest disk a crash now leaves the world after some of the history, with
+    /// all durable events among it, and that after the durable events alone unless the store is
+    /// halted. Its core says that no checkpoint runs: one that does is not the sequencer's.
     pub fn facts(&self)
         ensures of { IsOf B.opening B.before B.processors self.now.core }
+        ensures later { B.generation ≤ self.now.core.generation }
         ensures sound { IsSound self.now.core }
         ensures book { (parts : List (Option Part))
             × IsBookIn self.now.core self.now.census parts }

@@ -1,5 +1,5 @@
 -- What is known of why a request or a move is refused.
-use Rattle.std.proofs.Common.{◌≡◌, ℕ, ◌+◌, ◌-◌, ◌<◌, ◌≤◌, ◌≢◌, ◌==◌, ◌||◌, List, [], ◌∷◌, length, refl, sym, ap, subst, ◌∙◌, true, false, Bool, Option, Some, None, Result, Ok, Err, arith}
+use Rattle.std.proofs.Common.{◌≡◌, ℕ, ◌+◌, ◌<◌, ◌≤◌, ◌≢◌, ◌==◌, ◌||◌, List, [], ◌∷◌, length, refl, sym, ap, subst, ◌∙◌, true, false, Bool, Option, Some, None, Result, Ok, Err, arith}
 use borrow.Author.Tests.{leb-false}
 use Rattle.std.proofs.lemmas.Bool.Decides.{nat_tests}
 use Rattle.std.proofs.lemmas.Map.Views.{IfSome-lookup_from_All, exact_unsigned_eq}
@@ -33,7 +33,7 @@ use Rattle.charmlet_history.specs.Kept.{told_or_refused}
 use Rattle.charmlet_passes.specs.Passes.{HeldPass, IsCurrent}
 use Rattle.charmlet_sequencer.specs.Relocating.{IsAway}
 use Rattle.charmlet_hub.specs.Hub.{HubShown, store_in}
-use Rattle.charmlet_workers.specs.Refusals.{IsMoveCause, IsNext, IsRequestCause, is_move_refusal}
+use Rattle.charmlet_workers.specs.Refusals.{IsMoveCause, IsRequestCause, is_move_refusal}
 use Rattle.charmlet_workers.specs.Runtime.{RuntimeShown}
 use Rattle.charmlet_workers.proofs.Refusals.{Fit, blank_fit, no_more, refusal_fits}
 use Rattle.charmlet_workers.proofs.Runtimes.{kept_arrays}
@@ -96,7 +96,7 @@ module _ (k : Core) (sound : IsSound k) (opening : World) (same : k.opening ≡ 
   by_pass : row.last ≡ held.pass.last
   by_pass = current.up_to_date
 
-  is_next : not (follows_last row request.number) ≡ false → IsNext held request
+  is_next : not (follows_last row request.number) ≡ false → request.number ≡ held.pass.last + 1
   is_next turn = next row request.number turn ∙ ap (λ n. n + 1) by_pass
 
   -- one that isn't a repeat isn't the last one

@@ -1,6 +1,6 @@
 -- What a flush makes durable, and what passes hold then.
 use Rattle.std.proofs.Common.{◌≡◌, ℕ, zero, suc, ◌+◌, true, false, List, [], ◌∷◌, length, map, inl, inr, refl, sym, ap, subst, ◌∙◌, Bool, Option, Some, None, Result, Ok, Err, if◌then◌else◌, ◌&&◌, nat_lt}
-use Rattle.std.specs.Prelude.{IfOk, OnOk, slice_get, slice_set}
+use Rattle.std.specs.Prelude.{IfOk, slice_get, slice_set}
 use Rattle.std.specs.List.{AllByRecursion}
 use Rattle.charmlet_model.specs.declared.refusal.Refusal.{Refusal}
 use Rattle.charmlet_model.specs.declared.refusal.Refusal.TheVariants as refusals
@@ -10,7 +10,7 @@ use Rattle.charmlet_model.specs.Run.{Goes, StoreView}
 use Rattle.charmlet_history.specs.Kept.{counts_or_refused}
 use Rattle.charmlet_requests.specs.Knowing.{is_unknown}
 use Rattle.charmlet_requests.specs.Pass.{known, with_told}
-use Rattle.charmlet_passes.specs.Passes.{HeldPass, IsCurrent, IsKept, LentPasses, TellAll, with_answer, with_flush}
+use Rattle.charmlet_passes.specs.Passes.{HeldPass, IsCurrent, LentPasses, TellAll, with_answer, with_flush}
 use Rattle.charmlet_hub.specs.Hub.{HubShown, store_in}
 use Rattle.charmlet_workers.specs.Runtime.{AreFlushed, IsMoment, RuntimeShown}
 use Rattle.charmlet_workers.proofs.Rows.{reached_least, row_seen}
@@ -43,16 +43,18 @@ flushed_core store next count goes =
 -- ---- the passes after it
 
 -- one that was told of its last accept isn't told again
-told_once : (held : HeldPass) → with_flush (with_flush held) ≡ with_flush held
-told_once held =
+told_once : (count : ℕ) (held : HeldPass) → with_flush count (with_flush count held) ≡ with_flush count held
+told_once count held =
     let last = held.pass.last in
     let lent = nat_lt held.pass.lent_at last in
     let told = with_answer held (with_told held.pass last Accepted) last Accepted in
-    elim (lent && is_unknown (known held.pass last)) as (λ b. (lent && is_unknown (known held.pass last)) ≡ b → with_flush (if b then told else held) ≡ (if b then told else held)) [
+    let counted : HeldPass → HeldPass = λ h. record h { flushed = count } in
+    let again : HeldPass → HeldPass = λ h. with_answer (counted h) (with_told h.pass last Accepted) last Accepted in
+    elim (lent && is_unknown (known held.pass last)) as (λ b. (lent && is_unknown (known held.pass last)) ≡ b → with_flush count (counted (if b then told else held)) ≡ counted (if b then told else held)) [
       | true ↦ λ _.
           let seen = row_seen told.pass.row last (reached_least held.pass.row last).0 in
-          ap (λ b. if lent && b then with_answer told (with_told told.pass last Accepted) last Accepted else told) seen ∙ none_more lent told (with_answer told (with_told told.pass last Accepted) last Accepted)
-      | false ↦ λ off. ap (λ b. if b then told else held) off
+          ap (λ b. counted (if lent && b then again told else counted told)) seen ∙ ap counted (none_more lent (counted told) (again told))
+      | false ↦ λ off. ap (λ b. counted (if b then again held else counted held)) off
     ] refl
   where
     none_more : (b : Bool) (x y : HeldPass) → (if b && false then y else x) ≡ x
@@ -74,23 +76,23 @@ still_there (x ∷ xs) (suc place) zero h g k at same got = got
 still_there (x ∷ xs) (suc place) (suc n) h g k at same got = still_there xs place n h g k at same got
 
 -- one that a flush tells nothing more stands there still
-told_there : (book : LentPasses) (passes : List HeldPass) (last : LentPasses) → TellAll book passes last → (n : ℕ) (k : HeldPass) → with_flush k ≡ k → slice_get book.held n ≡ Some (Some k) → slice_get last.held n ≡ Some (Some k)
-told_there book [] last told n k once got = subst (λ (b : LentPasses). slice_get b.held n ≡ Some (Some k)) (sym told) got
-told_there book (held ∷ rest) last told n k once got =
+told_there : (count : ℕ) (book : LentPasses) (passes : List HeldPass) (last : LentPasses) → TellAll count book passes last → (n : ℕ) (k : HeldPass) → with_flush count k ≡ k → slice_get book.held n ≡ Some (Some k) → slice_get last.held n ≡ Some (Some k)
+told_there count book [] last told n k once got = subst (λ (b : LentPasses). slice_get b.held n ≡ Some (Some k)) (sym told) got
+told_there count book (held ∷ rest) last told n k once got =
     let kept = told.1 in
-    let here = still_there book.held kept.place n held (with_flush held) k kept.had (λ is. ap with_flush is ∙ once) got in
-    told_there told.0 rest last told.2 n k once (subst (λ (hs : List (Option HeldPass)). slice_get hs n ≡ Some (Some k)) (sym kept.has) here)
+    let here = still_there book.held kept.place n held (with_flush count held) k kept.had (λ is. ap (with_flush count) is ∙ once) got in
+    told_there count told.0 rest last told.2 n k once (subst (λ (hs : List (Option HeldPass)). slice_get hs n ≡ Some (Some k)) (sym kept.has) here)
 
-all_told : (P : HeldPass → Type 0) (book : LentPasses) (passes : List HeldPass) (last : LentPasses) → TellAll book passes last → ((n : ℕ) (j : HeldPass) → slice_get last.held n ≡ Some (Some j) → P j) → AllByRecursion P (map with_flush passes)
-all_told P book [] last told each = tt
-all_told P book (held ∷ rest) last told each =
+all_told : (P : HeldPass → Type 0) (count : ℕ) (book : LentPasses) (passes : List HeldPass) (last : LentPasses) → TellAll count book passes last → ((n : ℕ) (j : HeldPass) → slice_get last.held n ≡ Some (Some j) → P j) → AllByRecursion P (map (with_flush count) passes)
+all_told P count book [] last told each = tt
+all_told P count book (held ∷ rest) last told each =
     let kept = told.1 in
-    let new = with_flush held in
+    let new = with_flush count held in
     let here = subst (λ (hs : List (Option HeldPass)). slice_get hs kept.place ≡ Some (Some new)) (sym kept.has) (set_there book.held kept.place held new kept.had) in
-    (each kept.place new (told_there told.0 rest last told.2 kept.place new (told_once held) here), all_told P told.0 rest last told.2 each)
+    (each kept.place new (told_there count told.0 rest last told.2 kept.place new (told_once count held) here), all_told P count told.0 rest last told.2 each)
 
 pub flushed_if : {D : Type 0} (shown : RuntimeShown) (hub next : HubShown D) (passes new : List HeldPass) (r : Result ℕ Refusal) → IsMoment shown next.core → Goes (store_in hub) Flush (counts_or_refused r) (store_in next) →
-    OnOk r (TellAll hub.passes passes next.passes) → OnOk r (new ≡ map with_flush passes) → ((n : ℕ) (j : HeldPass) → slice_get next.passes.held n ≡ Some (Some j) → IsCurrent j next.core) → IfOk r (AreFlushed shown new)
+    IfOk r (λ count. TellAll count hub.passes passes next.passes) → IfOk r (λ count. new ≡ map (with_flush count) passes) → ((n : ℕ) (j : HeldPass) → slice_get next.passes.held n ≡ Some (Some j) → IsCurrent j next.core) → IfOk r (AreFlushed shown new)
 flushed_if shown hub next passes new (Ok count) moment goes told is each =
     let core = flushed_core (store_in hub) (store_in next) count goes in
     let Current : HeldPass → Type 0 = λ held. IsCurrent held next.core in
@@ -99,6 +101,6 @@ flushed_if shown hub next passes new (Ok count) moment goes told is each =
       moment = moment;
       durable = core.0;
       counted = core.1;
-      current = subst (AllByRecursion Current) (sym is) (all_told Current hub.passes passes next.passes told each);
+      current = subst (AllByRecursion Current) (sym is) (all_told Current count hub.passes passes next.passes told each);
     }
 flushed_if shown hub next passes new (Err refusal) moment goes told is each = tt

@@ -1,6 +1,6 @@
 -- What a runtime lends and shows.
-use Rattle.std.proofs.Common.{◌≡◌, ℕ, ◌+◌, ◌≤◌, Bool, true, false, List, [], ◌∷◌, map, inl, inr, refl, sym, ap, subst, ◌∙◌, arith, Option, Some, None, Result, Ok, Err}
-use Rattle.std.specs.Prelude.{◌⊎◌, IfOk, if◌then◌else◌}
+use Rattle.std.proofs.Common.{◌≡◌, ℕ, ◌+◌, ◌≤◌, List, [], ◌∷◌, map, refl, sym, ap, subst, ◌∙◌, arith, Option, Some, None, Result, Ok, Err}
+use Rattle.std.specs.Prelude.{IfOk}
 use Rattle.std.specs.BTreeMap.{is_at}
 use Rattle.std.specs.Global.{Vec}
 use Rattle.std.specs.Map.{lookup}
@@ -15,7 +15,6 @@ use Rattle.charmlet_model.proofs.Histories.{manifest-after}
 use Rattle.charmlet_requests.specs.declared.handlers.Handler.{Handler}
 use Rattle.charmlet_requests.specs.Handlers.{IsTarget}
 use Rattle.charmlet_model.specs.declared.refusal.Refusal.{Refusal}
-use Rattle.charmlet_model.specs.declared.refusal.Refusal.TheVariants as refusals
 use Rattle.charmlet_passes.specs.Passes.{HeldPass, lent_since}
 use Rattle.charmlet_workers.specs.Runtime.{ArePendingIds, IsLent, IsMoment, RuntimeShown}
 

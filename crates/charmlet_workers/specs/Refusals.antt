@@ -1,6 +1,6 @@
 -- Which refusals the calls of a runtime answer: no other ones, whatever others do meanwhile. And
 -- what the caller knows of their causes.
-use Rattle.std.specs.Prelude.{◌≡◌, ℕ, ◌+◌, ◌<◌, ◌≤◌, Bool, true, false, length, None, Some, option_map}
+use Rattle.std.specs.Prelude.{◌≡◌, ℕ, ◌+◌, ◌<◌, ◌≤◌, Bool, true, false, List, length, None, Some, option_map}
 use Rattle.charmlet_model.specs.declared.names.Elem.{Elem}
 use Rattle.charmlet_model.specs.declared.refusal.Refusal.{Refusal}
 use Rattle.charmlet_model.specs.declared.refusal.Refusal.TheVariants as refusals
@@ -69,30 +69,29 @@ IsRecent last number = (0 < number) × (number ≤ last) × (last < number + 8)
 
 -- ---- causes
 
--- the request has the number after the pass's last one
-abbrev pub IsNext : HeldPass → Request → Type 0
-IsNext held request = request.number ≡ held.pass.last + 1
+-- What a client's last number and the arrays tell of why its request with this number, for this
+-- element and with these words, is refused. One that is out of turn isn't the next one, as long as
+-- there are more, nor a repeat of the last. For all else it is the next one that is refused: there
+-- is no such array, or it has too many words; the client waits only after eight requests, and is
+-- one too many only before its first.
+abbrev pub IsCauseAfter : World → (last number : ℕ) → Elem → List ℕ → Refusal → Type 0
+IsCauseAfter opening last number to words refusals.Memory = Unit {0}
+IsCauseAfter opening last number to words refusals.Halted = Unit {0}
+IsCauseAfter opening last number to words (refusals.OutOfTurn wanted) =
+    (number ≡ last + 1 → greatest ≤ last) × (number ≡ last → number ≡ 0)
+IsCauseAfter opening last number to words refusals.Waiting = (number ≡ last + 1) × (8 ≤ last)
+IsCauseAfter opening last number to words refusals.NoArray = (number ≡ last + 1)
+    × (edition_of_array opening to.array ≡ None)
+IsCauseAfter opening last number to words refusals.TooLong = (number ≡ last + 1)
+    × (512 < length words)
+IsCauseAfter opening last number to words refusals.ClientsFull = (number ≡ last + 1) × (last ≡ 0)
+IsCauseAfter opening last number to words refusals.HistoryFull = number ≡ last + 1
+IsCauseAfter opening last number to words _ = ⊥
 
--- What is known by a pass and the arrays of why its request is refused. One that is out of turn is
--- not the next one, unless there are no more numbers, and not the last one. For all else it is the
--- next one that is refused: the client waits only after eight requests, and is one too many only
--- before its first.
+-- what is known of it by the client's pass
 abbrev pub IsRequestCause : World → HeldPass → Request → Refusal → Type 0
-IsRequestCause opening held request refusals.Memory = Unit {0}
-IsRequestCause opening held request refusals.Halted = Unit {0}
-IsRequestCause opening held request (refusals.OutOfTurn wanted) =
-    (IsNext held request → greatest ≤ held.pass.last)
-    × (request.number ≡ held.pass.last → request.number ≡ 0)
-IsRequestCause opening held request refusals.Waiting = IsNext held request
-    × (8 ≤ held.pass.last)
-IsRequestCause opening held request refusals.NoArray = IsNext held request
-    × (edition_of_array opening request.to.array ≡ None)
-IsRequestCause opening held request refusals.TooLong = IsNext held request
-    × (512 < length request.words.now)
-IsRequestCause opening held request refusals.ClientsFull = IsNext held request
-    × (held.pass.last ≡ 0)
-IsRequestCause opening held request refusals.HistoryFull = IsNext held request
-IsRequestCause opening held request _ = ⊥
+IsRequestCause opening held request =
+    IsCauseAfter opening held.pass.last request.number request.to request.words.now
 
 -- What is known by its arguments of why a move is refused: there is no such processor, or a blank
 -- of the array's own kind is lacking.

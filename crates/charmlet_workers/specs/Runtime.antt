@@ -11,32 +11,36 @@ use Rattle.charmlet_halves.specs.Halves.{disk_of}
 use Rattle.charmlet_history.specs.Kept.{core_in}
 use Rattle.charmlet_journal.specs.Rest.{Agrees, IsCurrent, IsKept}
 use Rattle.charmlet_passes.specs.Passes.{HeldPass, IsCurrent as IsCurrentPass, lent_since}
-use Rattle.charmlet_sequencer.specs.Sequencer.{IsOf}
+use Rattle.charmlet_sequencer.specs.Sequencer.{HasOpened}
 use Rattle.charmlet_stock.specs.declared.pile.Tally.{Tally}
 use Rattle.charmlet_stock.specs.ByKind.{for_all}
 use Rattle.charmlet_store.specs.Store.{StoreShown}
 
--- the world with which it opened, how many events came before it, and how many processors it has
+-- the world with which it opened, how many events came before it, how many processors it has, and
+-- the generation at which it opened
 pub record RuntimeShown : Type 0 where
   pub opening : World
   pub before : ℕ
   pub processors : ℕ
+  pub generation : ℕ
 
 -- that of a runtime whose name has these
-abbrev pub named : World → ℕ → ℕ → RuntimeShown
-named opening before processors = record {
+abbrev pub named : World → (before processors generation : ℕ) → RuntimeShown
+named opening before processors generation = record {
   opening = opening;
   before = before;
   processors = processors;
+  generation = generation;
 }
 
--- that of a runtime over a store with this core
+-- that of a runtime that opens over a store with this core
 abbrev pub shown_of : Core → RuntimeShown
-shown_of core = named core.opening core.before core.processors
+shown_of core = named core.opening core.before core.processors core.generation
 
--- what the runtime's store is at some moment: sound, and gone on from the opening world
+-- what the runtime's store is at some moment: sound, and gone on from the opening world, at no
+-- earlier generation
 pub record IsMoment (shown : RuntimeShown) (core : Core) : Type 0 where
-  pub of : IsOf shown.opening shown.before shown.processors core
+  pub of : HasOpened shown.opening shown.before shown.processors shown.generation core
   pub sound : IsSound core
 
 -- at a moment so many messages were pending

@@ -1,9 +1,10 @@
 //! What clients ask of a runtime, and the flush that makes it durable.
 
 ghost use Rattle.std.specs.Prelude.{◌≡◌, ◌≤◌, ℕ, true, IfErr, IfOk, OnErr, OnOk, map};
+ghost use Rattle.std.specs.List.{AllByRecursion};
 ghost use Rattle.charmlet_requests.specs.Handlers.{IsTarget, handler_of};
 ghost use Rattle.charmlet_requests.specs.Pass.{with_accept, with_told};
-ghost use Rattle.charmlet_passes.specs.Passes.{IsAnswered, accepts_after, with_flush};
+ghost use Rattle.charmlet_passes.specs.Passes.{HeldPass, IsAnswered, accepts_after, with_flush};
 ghost use Rattle.charmlet_workers.specs.Refusals.{IsRecent, IsRequestCause, is_flush_refusal, is_request_refusal, is_status_refusal};
 ghost use Rattle.charmlet_workers.specs.Runtime.{AreFlushed};
 
@@ -76,7 +77,8 @@ impl<D: Disk, C: Chare, B: RuntimeName> Runtime<D, C, B> {
     /// Makes all events durable, in one hold of the hub, and answers how many there are at that
     /// moment, those before the opening world among them. Then it tells each client whose pass is
     /// handed in that the last of its accepts is accepted, where the pass knows nothing of it yet.
-    /// It takes no memory; where no events are to be written it makes no call of the disk.
+    /// Each of these passes then records the count, as contracts see it: no less than before. It
+    /// takes no memory; where no events are to be written it makes no call of the disk.
     ///
     /// `Halted`; `LogFull` if the file would have more than 2^31 bytes, the closed gate after its
     /// log among them: then nothing changes. `Device` halts the store. When refused, no client is
@@ -86,10 +88,12 @@ impl<D: Disk, C: Chare, B: RuntimeName> Runtime<D, C, B> {
         rt: &R,
         passes: &mut [ClientPass<PassesOf<B>>],
     ) -> Result<u64, Refusal>
-        ensures told { OnOk result (passes.new ≡ map with_flush passes.old) }
+        ensures told { IfOk result (λ count. passes.new ≡ map (with_flush count) passes.old) }
         ensures untold { OnErr result (passes.new ≡ passes.old) }
         ensures count { IfOk result (λ count. self.now.before ≤ count) }
         ensures flushed { IfOk result (AreFlushed self.now passes.new) }
+        ensures rising { IfOk result (λ count. AllByRecursion
+            (λ (held : HeldPass). held.flushed ≤ count) passes.old) }
         ensures err { IfErr result (λ refusal. is_flush_refusal refusal ≡ true) }
     {
         let mut hub = self.hub.lock(rt);

@@ -55,6 +55,8 @@ impl<D: Disk, C: Chare, B: RuntimeName> Runtime<D, C, B> {
     ) -> Result<Closed<D, C>, NotClosed<D, C, B>>
         ensures of { IfOk result (λ closed. IsOf self.opening self.before self.processors
             (core_in closed.store.history)) }
+        ensures later { IfOk result (λ closed.
+            self.generation ≤ (core_in closed.store.history).generation) }
         ensures unassigned { IfOk result (λ closed.
             (core_in closed.store.history).assigned ≡ []) }
         ensures agrees { IfOk result (λ closed. Agrees (core_in closed.store.history)

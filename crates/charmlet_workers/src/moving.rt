@@ -121,7 +121,8 @@ fn relocate_from<D: Disk, C: Chare, B: RuntimeName>(
     ensures err { OnErr result ((hub.new ≡ hub.old) × (from.new ≡ from.old)
         × (to.new ≡ to.old)) }
     ensures cause { IsIdle from.old → IsIdle to.old → (any : ℕ) →
-        IfErr result (IsMoveCause (named B.opening B.before B.processors) elem any) }
+        IfErr result (IsMoveCause (named B.opening B.before B.processors B.generation) elem
+        any) }
 {
     hub.facts();
     let Some(place) = hub.history().where_is(elem) else {

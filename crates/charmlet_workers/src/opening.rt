@@ -14,7 +14,7 @@ use charmlet_agreement::Unnamed;
 use charmlet_chare::Chare;
 use charmlet_disk::Disk;
 use charmlet_halves::Halves;
-use charmlet_hub::{HandedIn, Hub};
+use charmlet_hub::{Hub, SeenToken};
 use charmlet_passes::SeenPass;
 use charmlet_seats::SeenIds;
 use charmlet_sequencer::{LockedShelf, Opened, RuntimeName, SeenPart, open_store};
@@ -30,7 +30,7 @@ pub struct UnnamedBooks {
     pub parts: Unnamed<SeenPart>,
     pub seats: Unnamed<SeenIds>,
     pub passes: Unnamed<SeenPass>,
-    pub checkpoints: Unnamed<HandedIn>,
+    pub checkpoints: Unnamed<SeenToken>,
 }
 
 impl UnnamedBooks {
@@ -70,6 +70,7 @@ impl<D: Disk, C: Chare, B: RuntimeName> Runtime<D, C, B> {
     ) -> Result<Self, NotOpened<D, C>>
         requires ready { IsReady store halves }
         requires named { IsOf B.opening B.before B.processors (core_in store.history) }
+        requires generation { B.generation ≡ (core_in store.history).generation }
         requires parts { table_of books.parts ≡ B.table }
         requires seats { table_of books.seats ≡ B.seats }
         requires passes { table_of books.passes ≡ B.passes }
@@ -105,6 +106,7 @@ fn open_reserved<D: Disk, C: Chare, B: RuntimeName>(
 ) -> Runtime<D, C, B>
     requires ready { IsReady store halves }
     requires named { IsOf B.opening B.before B.processors (core_in store.history) }
+    requires generation { B.generation ≡ (core_in store.history).generation }
     requires parts { table_of books.parts ≡ B.table }
     requires seats { table_of books.seats ≡ B.seats }
     requires passes { table_of books.passes ≡ B.passes }
@@ -152,7 +154,7 @@ pub(crate) fn lock_all<D: Disk, C: Chare, B: RuntimeName>(
     requires none { vec_len locks ≡ 0 }
     requires room { B.processors ≤ vec_capacity locks }
     requires empty { AreEmpty B.processors empty.items }
-    ensures { result ≡ named B.opening B.before B.processors }
+    ensures { result ≡ named B.opening B.before B.processors B.generation }
 {
     let mut shelves = shelves;
     let mut locks = locks;

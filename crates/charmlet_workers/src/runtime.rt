@@ -20,8 +20,8 @@ use std::marker::Model;
 use std::sync::{Mutex, Wait};
 
 /// A shelf for each processor, and the hub, each under its lock. A contract sees the world with
-/// which the runtime opened, how many events came before it, and how many processors there are:
-/// they are the hub's, and take no bytes.
+/// which the runtime opened, how many events came before it, how many processors there are, and the
+/// generation at which it opened: they are the hub's, and take no bytes.
 ///
 /// No fact of a type can say which shelf lies under which lock. Each call goes by the number of the
 /// shelf that it finds there.
@@ -42,7 +42,7 @@ impl<D: Disk, C: Chare, B: RuntimeName> Model for Runtime<D, C, B> {
 
     ghost Value = { RuntimeShown };
 
-    ghost view = { λ _. named B.opening B.before B.processors };
+    ghost view = { λ _. named B.opening B.before B.processors B.generation };
 
     ghost invariant = { λ r. vec_len r.shelves ≡ B.processors };
 }

@@ -19,17 +19,18 @@ use std::sync::Wait;
 
 impl<D: Disk, C: Chare, B: RuntimeName> Runtime<D, C, B> {
     /// Makes all events durable by an image that means the present world, which takes the place of
-    /// the store in the spare half, and answers its generation. It takes the lock of one shelf
-    /// after another, for as long as packing what stands there takes, and then the hub's, under
-    /// which it writes. Meanwhile others work: requests, deliveries, questions and flushes go on,
-    /// but moves and other checkpoints are refused `Checkpointing`. A delivery that was made on a
-    /// shelf and isn't committed is committed first. No client is told anything.
+    /// the store in the spare half, and answers its generation, which is later than the one at
+    /// which the runtime opened. It takes the lock of one shelf after another, for as long as
+    /// packing what stands there takes, and then the hub's, under which it writes. Meanwhile others
+    /// work: requests, deliveries, questions and flushes go on, but moves and other checkpoints are
+    /// refused `Checkpointing`. A delivery that was made on a shelf and isn't committed is
+    /// committed first. No client is told anything.
     ///
     /// `Halted`; `Checkpointing` if one runs already; `Memory`; `ImageFull` if the generation would
     /// be past 2^40 or the file past 2^31 bytes: then nothing becomes durable, and it has ended.
     /// `Device` halts the store.
     pub fn checkpoint<R: Wait>(&self, rt: &R) -> Result<u64, Refusal>
-        ensures ok { IfOk result IsLaterGeneration }
+        ensures ok { IfOk result (IsLaterGeneration self.now.generation) }
         ensures err { IfErr result (λ refusal. is_sealing_refusal refusal ≡ true) }
     {
         self.checkpoint_with(rt, &NoPause)
@@ -37,7 +38,7 @@ impl<D: Disk, C: Chare, B: RuntimeName> Runtime<D, C, B> {
 
     /// The same, with a pause that is told of each shelf.
     pub fn checkpoint_with<P: Pause, R: Wait>(&self, rt: &R, pause: &P) -> Result<u64, Refusal>
-        ensures ok { IfOk result IsLaterGeneration }
+        ensures ok { IfOk result (IsLaterGeneration self.now.generation) }
         ensures err { IfErr result (λ refusal. is_sealing_refusal refusal ≡ true) }
     {
         for _ in rt.forever() {
@@ -53,7 +54,7 @@ impl<D: Disk, C: Chare, B: RuntimeName> Runtime<D, C, B> {
 
     /// The same, if the shelves are found in the order of their numbers.
     fn checkpoint_once<P: Pause, R: Wait>(&self, rt: &R, pause: &P) -> Result<Option<u64>, Refusal>
-        ensures ok { IfOk result (λ sealed. IfSome sealed IsLaterGeneration) }
+        ensures ok { IfOk result (λ sealed. IfSome sealed (IsLaterGeneration self.now.generation)) }
         ensures err { IfErr result (λ refusal. is_sealing_refusal refusal ≡ true) }
     {
         let begun = self.begin(rt);
@@ -77,7 +78,7 @@ impl<D: Disk, C: Chare, B: RuntimeName> Runtime<D, C, B> {
 
     /// Begins a checkpoint.
     fn begin<R: Wait>(&self, rt: &R) -> Result<Checkpoint<B>, Refusal>
-        ensures ok { IfOk result (λ checkpoint. checkpoint ≡ 0) }
+        ensures ok { IfOk result (λ checkpoint. checkpoint.shelves ≡ 0) }
         ensures err { IfErr result (λ refusal. is_sealing_refusal refusal ≡ true) }
     {
         self.hub.lock(rt).begin()
@@ -96,8 +97,8 @@ impl<D: Disk, C: Chare, B: RuntimeName> Runtime<D, C, B> {
         checkpoint: &mut Checkpoint<B>,
         pause: &P,
     ) -> Result<bool, Refusal>
-        requires { checkpoint.old ≡ 0 }
-        ensures all { result ≡ Ok true → checkpoint.new ≡ B.processors }
+        requires { checkpoint.old.shelves ≡ 0 }
+        ensures all { result ≡ Ok true → checkpoint.new.shelves ≡ B.processors }
         ensures err { IfErr result (λ refusal. is_sealing_refusal refusal ≡ true) }
     {
         for i in 0..self.shelves.len() {
@@ -118,7 +119,8 @@ impl<D: Disk, C: Chare, B: RuntimeName> Runtime<D, C, B> {
         place: usize,
     ) -> Result<bool, Refusal>
         requires { place < B.processors }
-        ensures next { result ≡ Ok true → checkpoint.new ≡ checkpoint.old + 1 }
+        ensures next { result ≡ Ok true →
+            checkpoint.new.shelves ≡ checkpoint.old.shelves + 1 }
         ensures err { IfErr result (λ refusal. is_sealing_refusal refusal ≡ true) }
     {
         let Ok(room) = self.image_room(rt, place) else {
@@ -147,7 +149,8 @@ impl<D: Disk, C: Chare, B: RuntimeName> Runtime<D, C, B> {
         locked: &mut LockedShelf<C, B>,
         room: ImageRoom,
     ) -> Result<bool, Refusal>
-        ensures next { result ≡ Ok true → checkpoint.new ≡ checkpoint.old + 1 }
+        ensures next { result ≡ Ok true →
+            checkpoint.new.shelves ≡ checkpoint.old.shelves + 1 }
         ensures err { IfErr result (λ refusal. is_sealing_refusal refusal ≡ true) }
     {
         if let Err(refusal) = self.settle(rt, locked) {
@@ -168,8 +171,8 @@ impl<D: Disk, C: Chare, B: RuntimeName> Runtime<D, C, B> {
 
     /// Ends a checkpoint to which all shelves were handed in, or gives it up.
     fn seal<R: Wait>(&self, rt: &R, checkpoint: Checkpoint<B>) -> Result<Option<u64>, Refusal>
-        requires { checkpoint ≡ B.processors }
-        ensures ok { IfOk result (λ sealed. IfSome sealed IsLaterGeneration) }
+        requires { checkpoint.shelves ≡ B.processors }
+        ensures ok { IfOk result (λ sealed. IfSome sealed (IsLaterGeneration self.now.generation)) }
         ensures err { IfErr result (λ refusal. is_sealing_refusal refusal ≡ true) }
     {
         let sealed = self.seal_locked(rt, checkpoint);
@@ -189,8 +192,8 @@ impl<D: Disk, C: Chare, B: RuntimeName> Runtime<D, C, B> {
 
     /// Ends a checkpoint to which all shelves were handed in.
     fn seal_locked<R: Wait>(&self, rt: &R, checkpoint: Checkpoint<B>) -> Result<u64, NotSealed<B>>
-        requires { checkpoint ≡ B.processors }
-        ensures ok { IfOk result IsLaterGeneration }
+        requires { checkpoint.shelves ≡ B.processors }
+        ensures ok { IfOk result (IsLaterGeneration self.now.generation) }
         ensures err { IfErr result (λ back. is_sealing_refusal back.refusal ≡ true) }
     {
         seal(&mut self.hub.lock(rt), checkpoint)
@@ -221,9 +224,9 @@ fn seal<D: Disk, C: Chare, B: RuntimeName>(
     hub: &mut Hub<D, C, B>,
     checkpoint: Checkpoint<B>,
 ) -> Result<u64, NotSealed<B>>
-    requires { checkpoint ≡ B.processors }
+    requires { checkpoint.shelves ≡ B.processors }
     ensures sealed { OnOk result (IsSealed hub.old hub.new) }
-    ensures ok { IfOk result IsLaterGeneration }
+    ensures ok { IfOk result (IsLaterGeneration B.generation) }
     ensures err { IfErr result (λ back. is_sealing_refusal back.refusal ≡ true) }
 {
     hub.facts();

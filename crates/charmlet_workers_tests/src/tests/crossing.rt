@@ -232,6 +232,7 @@ fn cross_named<B: RuntimeName + Send + Sync, R: Threads + Wait + Sync + AllocGlo
 ) -> ProbeDisk
     requires ready { IsReady start.store start.halves }
     requires named { IsOf B.opening B.before B.processors (core_in start.store.history) }
+    requires generation { B.generation ≡ (core_in start.store.history).generation }
     requires parts { table_of start.books.parts ≡ B.table }
     requires seats { table_of start.books.seats ≡ B.seats }
     requires passes { table_of start.books.passes ≡ B.passes }

@@ -136,6 +136,7 @@ fn run_named<B: RuntimeName, R: Wait + AllocGlobal + Abort>(
     tally: &Arc<Tally>,
 )
     requires named { IsOf B.opening B.before B.processors (core_of begun) }
+    requires generation { B.generation ≡ (core_of begun).generation }
     requires parts { table_of books.parts ≡ B.table }
     requires seats { table_of books.seats ≡ B.seats }
     requires passes { table_of books.passes ≡ B.passes }

@@ -278,6 +278,7 @@ fn live_named<B: RuntimeName, R: Wait + AllocGlobal + Abort>(
     first: Option<&Switches>,
 ) -> ProbeDisk
     requires named { IsOf B.opening B.before B.processors (core_of begun) }
+    requires generation { B.generation ≡ (core_of begun).generation }
     requires parts { table_of books.parts ≡ B.table }
     requires seats { table_of books.seats ≡ B.seats }
     requires passes { table_of books.passes ≡ B.passes }

@@ -228,6 +228,7 @@ fn meet_named<B: RuntimeName + Send + Sync, R: Threads + Wait + Sync + AllocGlob
     meeting: &Arc<Meeting>,
 )
     requires named { IsOf B.opening B.before B.processors (core_of begun) }
+    requires generation { B.generation ≡ (core_of begun).generation }
     requires parts { table_of books.parts ≡ B.table }
     requires seats { table_of books.seats ≡ B.seats }
     requires passes { table_of books.passes ≡ B.passes }

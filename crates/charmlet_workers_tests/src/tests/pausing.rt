@@ -206,6 +206,7 @@ fn pause_named<B: RuntimeName + Send + Sync, R: Wait + Sync + AllocGlobal + Abor
     tally: &Arc<Tally>,
 ) -> ProbeDisk
     requires named { IsOf B.opening B.before B.processors (core_of begun) }
+    requires generation { B.generation ≡ (core_of begun).generation }
     requires parts { table_of books.parts ≡ B.table }
     requires seats { table_of books.seats ≡ B.seats }
     requires passes { table_of books.passes ≡ B.passes }

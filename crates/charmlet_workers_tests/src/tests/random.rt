@@ -350,6 +350,7 @@ fn live_named<B: RuntimeName + Send + Sync, R: Threads + Wait + Sync + AllocGlob
 ) -> Left
     requires ready { IsReady start.store start.halves }
     requires named { IsOf B.opening B.before B.processors (core_in start.store.history) }
+    requires generation { B.generation ≡ (core_in start.store.history).generation }
     requires parts { table_of start.books.parts ≡ B.table }
     requires seats { table_of start.books.seats ≡ B.seats }
     requires passes { table_of start.books.passes ≡ B.passes }

@@ -8,7 +8,7 @@ use Rattle.charmlet_cli.specs.Lines.{in_lines}
 use Rattle.charmlet_cli.proofs.Printing.{beginning_written, kept_appends, kept_begins, line_then}
 use Rattle.charmlet_cli_workers.specs.Heard.{known_by}
 use Rattle.charmlet_cli_workers.specs.Said.{Deeds, IsDrained}
-use Rattle.charmlet_cli_workers.proofs.Delivering.{drained_so, were_pending}
+use Rattle.charmlet_cli_workers.proofs.Delivering.{drained_so}
 use Rattle.charmlet_cli_workers.proofs.draining.drain_line.Goals as goal
 
 pub returns-in_err-write_line : goal.returns-in_err-write_line
@@ -19,7 +19,7 @@ returns-in_err-write_line g c = λ named passes before is.
     let drained : Drained = record { delivered = c.delivered_by.result; left = c.pending_count.result } in
     let turns : c.from.result ≡ c.args.turns = search rules in
     let after : Deeds = record before { delivered = map (λ (s : Station g.row.B.Denot). s.seat.ids) c.work_all.new.stations } in
-    let left = were_pending c.args.runtime.now c.pending_count.result c.pending_count.ensures in (
+    let left = c.pending_count.ensures in (
       drained_text drained ∷ [],
       subst (λ (n : ℕ). IsDrained (known_by c.args.runtime.now named passes) n before after (drained_text drained ∷ [])) turns
           (drained_so (λ (s : Station g.row.B.Denot). s.seat) (λ (s : Station g.row.B.Denot). s.worked) (known_by c.args.runtime.now named passes) c.from.result before c.args.stations.now c.work_all.new.stations drained None is (omega (arith, c.work_all.auto.stations)) c.work_all.ensures c.delivered_by.ensures left tt),
@@ -35,7 +35,7 @@ returns-in-None g c = λ named passes before is.
     let drained : Drained = record { delivered = c.delivered_by.result; left = c.pending_count.result } in
     let turns : c.from.result ≡ c.args.turns = search rules in
     let after : Deeds = record before { delivered = map (λ (s : Station g.row.B.Denot). s.seat.ids) c.work_all.new.stations } in
-    let left = were_pending c.args.runtime.now c.pending_count.result c.pending_count.ensures in (
+    let left = c.pending_count.ensures in (
       drained_text drained ∷ [],
       subst (λ (n : ℕ). IsDrained (known_by c.args.runtime.now named passes) n before after (drained_text drained ∷ [])) turns
           (drained_so (λ (s : Station g.row.B.Denot). s.seat) (λ (s : Station g.row.B.Denot). s.worked) (known_by c.args.runtime.now named passes) c.from.result before c.args.stations.now c.work_all.new.stations drained None is (omega (arith, c.work_all.auto.stations)) c.work_all.ensures c.delivered_by.ensures left tt),
@@ -50,7 +50,7 @@ returns-in-Some g c = λ named passes before is.
     let drained : Drained = record { delivered = c.delivered_by.result; left = c.pending_count.result } in
     let turns : c.from.result ≡ c.args.turns = search rules in
     let after : Deeds = record before { delivered = map (λ (s : Station g.row.B.Denot). s.seat.ids) c.work_all.new.stations } in
-    let left = were_pending c.args.runtime.now c.pending_count.result c.pending_count.ensures in
+    let left = c.pending_count.ensures in
     let new = g.W.Write.contents c.write_answer.new.writer in
     let refused = answer_text (Refused c.in-Some.refusal) in (
       drained_text drained ∷ refused ∷ [],

@@ -1,14 +1,14 @@
-use Rattle.std.proofs.Common.{◌≡◌, List, ℕ, map, refl, sym, subst}
+use Rattle.std.proofs.Common.{◌≡◌, ◌⊎◌, [], List, ℕ, map, refl, sym, subst}
 use Rattle.charmlet_model.specs.declared.step.Answer.{Answer}
 use Rattle.charmlet_model.specs.declared.step.Answer.TheVariants as answers
 use Rattle.charmlet_model.specs.declared.step.Step.{Step}
 use Rattle.charmlet_model.specs.declared.step.Step.TheVariants as steps
 use Rattle.charmlet_history.specs.declared.request.Request.{Request}
-use Rattle.charmlet_passes.specs.Passes.{HeldPass, with_flush}
-use Rattle.charmlet_cli_workers.specs.Heard.{AreAccepted, AreLater, AreTidy, IsDoneBy, known_by}
+use Rattle.charmlet_passes.specs.Passes.{HeldPass, accepts_in, with_flush}
+use Rattle.charmlet_cli_workers.specs.Heard.{AreAccepted, AreLater, AreTidy, IsDoneBy, IsRecorded, known_by}
 use Rattle.charmlet_cli_workers.specs.Said.{Answers, having_flushed}
 use Rattle.charmlet_cli_workers.proofs.Asking.{accepts_flushed, flushed_durable, stated_answers, tidy_flushed, told_answers, were_flushed}
-use Rattle.charmlet_cli_workers.proofs.Hearing.{flushed_passes, same_passes}
+use Rattle.charmlet_cli_workers.proofs.Hearing.{flushed_by, flushed_passes, same_passes}
 use Rattle.charmlet_cli_workers.proofs.Knowing.{done_flushed}
 use Rattle.charmlet_cli_workers.proofs.lines.answer_to.Goals as goal
 
@@ -25,7 +25,7 @@ pub returns-in-Err-checkpoint-clause-later : goal.returns-in-Err-checkpoint-clau
 returns-in-Err-checkpoint-clause-later g c = same_passes c.args.clients.now.passes.items
 
 pub returns-in-Ok-flush-clause-later : goal.returns-in-Ok-flush-clause-later
-returns-in-Ok-flush-clause-later g c = subst (AreLater c.args.clients.now.passes.items) (sym c.in-Ok-flush.ensures.told) (flushed_passes c.args.clients.now.passes.items)
+returns-in-Ok-flush-clause-later g c = subst (AreLater c.args.clients.now.passes.items) (sym c.in-Ok-flush.ensures.told) (flushed_passes c.in-Ok-flush.durable c.args.clients.now.passes.items c.in-Ok-flush.ensures.rising)
 
 pub returns-in-Err-flush-clause-later : goal.returns-in-Err-flush-clause-later
 returns-in-Err-flush-clause-later g c = subst (AreLater c.args.clients.now.passes.items) (sym c.in-Err-flush.ensures.untold) (same_passes c.args.clients.now.passes.items)
@@ -71,13 +71,15 @@ returns-in-Ok-flush-clause-answers g c = λ named lists before done.
     let old = c.args.clients.now.passes.items in
     let new = c.flush.new.self.passes.items in
     let clients = known_by c.args.runtime.now named new in
-    let told : new ≡ map with_flush old = c.in-Ok-flush.ensures.told in
-    let same = subst (AreAccepted old) (sym told) (accepts_flushed old) in
-    let durable = flushed_durable c.args.runtime.now named old new lists before told c.requires.tidy.counted done in
+    let count = c.in-Ok-flush.durable in
+    let told : new ≡ map (with_flush count) old = c.in-Ok-flush.ensures.told in
+    let same = subst (AreAccepted old) (sym told) (accepts_flushed count old) in
+    let durable = flushed_durable count c.args.runtime.now named old new lists before told c.requires.tidy.counted done in
     let after = having_flushed before in
-    let did = subst (λ (ps : List HeldPass). IsDoneBy ps lists after) (sym told) (done_flushed old lists before c.requires.tidy.counted done) in
-    let counted = were_flushed c.args.runtime.now old new lists before after c.in-Ok-flush.durable same done did c.in-Ok-flush.ensures.flushed in
-    (after, did, subst (λ (step : Step). Answers clients before (answers.Flushed c.in-Ok-flush.durable) step after) (sym c.in-Flush.is) (durable, counted, refl))
+    let did = subst (λ (ps : List HeldPass). IsDoneBy ps lists after) (sym told) (done_flushed count old lists before c.requires.tidy.counted done) in
+    let counted = were_flushed c.args.runtime.now old new lists before after count same done did c.in-Ok-flush.ensures.flushed in
+    let kept = subst (λ (ps : List HeldPass). ((client : ℕ) → accepts_in client before.accepts ≡ []) ⊎ IsRecorded ps count) (sym told) (flushed_by count old before.accepts done.accepts) in
+    (after, did, subst (λ (step : Step). Answers clients before (answers.Flushed count) step after) (sym c.in-Flush.is) (durable, (counted, kept), refl))
 
 pub returns-in-Err-flush-clause-answers : goal.returns-in-Err-flush-clause-answers
 returns-in-Err-flush-clause-answers g c = λ named lists before done.
@@ -97,9 +99,10 @@ returns-in-Err-checkpoint-clause-answers g c = λ named lists before done.
 pub returns-in-Ok-flush-clause-tidy : goal.returns-in-Ok-flush-clause-tidy
 returns-in-Ok-flush-clause-tidy g c =
     let old = c.args.clients.now.passes.items in
-    let tidy = tidy_flushed old c.args.clients.now.places.entries c.requires.tidy in
+    let count = c.in-Ok-flush.durable in
+    let tidy = tidy_flushed count old c.args.clients.now.places.entries c.requires.tidy in
     subst (λ (ps : List HeldPass). AreTidy ps c.flush.new.self.places.entries) (sym c.in-Ok-flush.ensures.told)
-    (subst (λ places. AreTidy (map with_flush old) places.entries) (sym c.in-Ok-flush.ensures.places) tidy)
+    (subst (λ places. AreTidy (map (with_flush count) old) places.entries) (sym c.in-Ok-flush.ensures.places) tidy)
 
 pub returns-in-Err-flush-clause-tidy : goal.returns-in-Err-flush-clause-tidy
 returns-in-Err-flush-clause-tidy g c =

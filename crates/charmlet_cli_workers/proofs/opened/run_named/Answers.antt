@@ -27,7 +27,7 @@ returns-in-Ok-clause-left g c =
     let names = names_in c.args.given.handlers in
     let prints = subst (λ (hs : Handlers). Prints c.run_on-ran.result lines.restarted (known_by c.in-Ok.runtime (names_in hs) passes) (IsDoneBy passes lists) lines.lines.now was now) c.new-floor.ensures.handlers c.run_on-ran.ensures.prints in
     let left = left_apart g.D.Disk c.in-Ok.runtime names passes lists c.take_apart.result.disk c.run_on-ran.result c.take_apart.result.result lines.restarted lines.lines.now was now
-    c.take_apart.ensures.left c.take_apart.ensures.same prints in
+    (ap (λ (v : RuntimeShown). v.generation) c.in-Ok.ensures.shown ∙ c.requires.restarted) c.take_apart.ensures.left c.take_apart.ensures.same prints in
     subst (λ (v : RuntimeShown). IfSome c.take_apart.result.disk (IsLeft g.D.Disk v.opening v.before v.processors (λ last. PrintsOver c.take_apart.result.result lines.restarted last names lines.lines.now was now))) c.in-Ok.ensures.shown left
 
 pub returns-in-Ok-clause-prints : goal.returns-in-Ok-clause-prints

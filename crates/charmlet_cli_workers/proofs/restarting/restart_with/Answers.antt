@@ -20,6 +20,9 @@ use Rattle.charmlet_cli_workers.proofs.restarting.restart_with.Goals as goal
 pub run_named-requires-clause-keeps : goal.run_named-requires-clause-keeps
 run_named-requires-clause-keeps g c = λ _ _ honest. (c.in-Ok.ensures.files (c.in-Ok.ensures.disk.honest.1 honest)).now
 
+pub run_named-requires-clause-restarted : goal.run_named-requires-clause-restarted
+run_named-requires-clause-restarted g c = λ _ _. sym c.generation.ensures
+
 pub returns-in-Ok-clause-ran : goal.returns-in-Ok-clause-ran
 returns-in-Ok-clause-ran g c =
     let first = c.args.disk in

@@ -16,6 +16,9 @@ use Rattle.charmlet_cli_workers.proofs.running.run_in_new_store.Goals as goal
 pub run_named-requires-clause-keeps : goal.run_named-requires-clause-keeps
 run_named-requires-clause-keeps g c = λ _ _ honest. (c.in-Ok.ensures.files (c.in-Ok.ensures.disk.honest.1 honest)).now
 
+pub run_named-requires-clause-restarted : goal.run_named-requires-clause-restarted
+run_named-requires-clause-restarted g c = λ _ _. ap (λ (k : Core). k.generation) c.in-Ok.ensures.ok.opens
+
 pub returns-in-Ok-clause-ran : goal.returns-in-Ok-clause-ran
 returns-in-Ok-clause-ran g c =
     let script = c.args.script.now in

@@ -14,5 +14,6 @@ ghosts-live_as-B-RuntimeName g a = record {
   opening = a.store.opening;
   before = a.store.before;
   processors = a.store.processors;
+  generation = a.store.generation;
   honest = ⊥;
 }

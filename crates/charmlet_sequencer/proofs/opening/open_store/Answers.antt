@@ -7,7 +7,7 @@ use Rattle.charmlet_shelf.specs.Shelf.{View}
 use Rattle.charmlet_store.specs.Store.{StoreShown}
 use Rattle.charmlet_sequencer.specs.Book.{IsBookOf}
 use Rattle.charmlet_sequencer.specs.Opened.{AreShelvesOf}
-use Rattle.charmlet_sequencer.specs.Sequencer.{IsOf}
+use Rattle.charmlet_sequencer.specs.Sequencer.{HasOpened}
 use Rattle.charmlet_sequencer.specs.Together.{shown_by}
 use Rattle.charmlet_sequencer.proofs.Reopened.{idle_at, none_left, number_at, one_more, parts_more, parts_of, split, store_book, store_shelves, within}
 use Rattle.charmlet_sequencer.proofs.opening.open_store.Goals as goal
@@ -88,7 +88,7 @@ invariant_of-sequencer g c =
     let all : c.loop-shelf.shelves.items ≡ h.shelves.items = none_left c.loop-shelf.shelves.items rest.items h.shelves.items (so_far.shelves ∙ c.into_iter-shelf-iterator.ensures.into_iter_gives.0) (sym so_far.left ∙ none) in
     let shown = sym c.into_parts-history.ensures.shown in
     let unassigned = ap (λ (v : StoreShown). (core_in v.history).assigned) c.into_parts-history.ensures.shown ∙ c.requires.unassigned in (
-      subst (λ (v : StoreShown). IsOf g.B.RuntimeName.opening g.B.RuntimeName.before g.B.RuntimeName.processors (core_in v.history)) shown c.requires.named,
+      subst (λ (v : StoreShown). HasOpened g.B.RuntimeName.opening g.B.RuntimeName.before g.B.RuntimeName.processors g.B.RuntimeName.generation (core_in v.history)) shown (record { of = c.requires.named; later = (let same = c.requires.generation in omega (arith, same)) }),
       record {
         book = subst (IsBookOf h.history h.stock) (sym (so_far.parts ∙ ap parts_of all)) (store_book h.history h.shelves.items h.stock c.into_parts-history.ensures.fit unassigned);
         dropping = ap (λ (v : StoreShown). v.keeping) c.into_parts-history.ensures.shown ∙ c.requires.dropping;

@@ -25,5 +25,5 @@ returns-in-Err-clause-cause g c = λ from_idle to_idle any.
     let to_none : assigned_to hub.core to.number ≡ None = subst (λ (x : Core × View). assigned_to x.0 x.1.number ≡ None) (λ i. (still i, same.2 i)) there in
     let within : to.number < hub.core.processors = subst (λ (x : Core × View). x.1.number < x.0.processors) (λ i. (still i, same.2 i)) second.on in
     let stands : place_of hub.core c.args.elem ≡ Some from.number = search rules in
-    let shown : RuntimeShown = named g.B.RuntimeName.opening g.B.RuntimeName.before g.B.RuntimeName.processors in
+    let shown : RuntimeShown = named g.B.RuntimeName.opening g.B.RuntimeName.before g.B.RuntimeName.processors g.B.RuntimeName.generation in
     relocation_caused hub shown c.facts.ensures.of.opening_is (store_in left.self) c.args.elem from.number to.number c.in-Err.refusal any within stands from_none to_none c.in-Err.ensures.goes

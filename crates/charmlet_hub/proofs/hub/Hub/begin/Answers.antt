@@ -1,6 +1,7 @@
 use Rattle.std.proofs.Common.{◌≡◌, ◌≤◌, ◌∙◌, false, true, length, ap, sym, subst, arith}
 use Rattle.std.specs.Prelude.{Option, is_some}
 use Rattle.charmlet_model.specs.Core.{Core}
+use Rattle.charmlet_passes.specs.Passes.{event_count}
 use Rattle.charmlet_running.specs.Running.{IsRunning, Run}
 use Rattle.charmlet_hub.specs.Checkpoint.{IsCheckpoint, IsCheckpointed}
 use Rattle.charmlet_hub.proofs.Hubs.{rebusied}
@@ -19,11 +20,13 @@ invariant_of-self g c =
     let most = c.from-most.ensures in
     let named = c.self.invariant.1 in
     let processors = c.facts.ensures.of.processors_are in
+    let begun = c.event_count-begun.result in
+    let when : run.begun ≡ begun = ap (λ (r : Run). r.begun) c.in-Ok.ensures.begun ∙ ap event_count (c.history-2.ensures ∙ sym c.history-3.ensures) ∙ sym c.event_count-begun.ensures.count in
     let few = few_assigned core c.facts.ensures.sound in
     let room : length core.assigned ≤ run.room = omega arith in (
       rebusied h.sequencer (is_some h.running) true h.seats h.passes c.self.invariant.0,
       c.self.invariant.1,
       c.self.invariant.2,
       subst (IsCheckpoint core run) (sym c.issue-share.ensures.book)
-          (begins core run h.tokens running room (subst (λ (o : Option Run). IsCheckpointed core o h.tokens) (none_is h.running none) c.self.invariant.3)),
+          (begins core run h.tokens begun running when room (subst (λ (o : Option Run). IsCheckpointed core o h.tokens) (none_is h.running none) c.self.invariant.3)),
     )

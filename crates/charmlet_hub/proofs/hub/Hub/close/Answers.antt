@@ -31,6 +31,11 @@ unreachable-requires g c =
     let never : false ≡ true = (c.in_default.ensures {u = tt}).which ∙ ap (λ n. n == out) same ∙ nat_eq_equiv.refl out in
     let contra : ⊥ = cc in contra
 
+pub returns-clause-later : goal.returns-clause-later
+returns-clause-later g c =
+    let core = c.take_apart-apart.ensures.core ∙ ap (λ (v : HubShown _). v.core) c.into_parts-sequencer.ensures.shown in
+    subst (λ (k : Core). g.B.RuntimeName.generation ≤ k.generation) (sym core) c.facts.ensures.later
+
 pub returns-clause-settles : goal.returns-clause-settles
 returns-clause-settles g c =
     let all : length c.args.shelves.items ≤ c.loop-i.i = search rules in

@@ -31,7 +31,7 @@ returns-clause-answered g c =
     let heard : IsHeard c.pass.inside.pass c.request.new.pass core after number (Ok c.in-Ok.told) = subst (IsHeard c.pass.inside.pass c.request.new.pass core after number) c.in-Ok.is c.request.ensures.heard in
     let told : IsTold c.pass.inside.pass core = subst (λ (p : Pass). IsTold p core) known.is known.current.told in
     subst (λ (x : HeldPass × HeldPass). IsAnswered x.0 x.1 number (Ok c.in-Ok.told)) (λ i. (c.pass.view_is i, held_by (sym share i).1))
-    (heard_answered h next c.pass.inside.pass c.request.new.pass core after number (Ok c.in-Ok.told) heard told known.is refl refl refl tt tt)
+    (heard_answered h next c.pass.inside.pass c.request.new.pass core after number (Ok c.in-Ok.told) heard told known.is refl refl refl refl tt tt)
 
 pub invariant_of-self-2 : goal.invariant_of-self-2
 invariant_of-self-2 g c =
@@ -76,7 +76,7 @@ returns-clause-current g c =
     let no_less = heard'.no_less known.current.told in
     let current : IsCurrent next after =
     own-current core plenty client asked.number asked.to asked.entry asked.words.now c.facts.ensures.sound after c.in-Ok.told steps h next refl known.current
-    (c.request.ensures.heard.holds told) (c.request.ensures.up_to_date up_to_date) (same_client ∙ own) (same_lent ∙ sym (ap (λ (p : Pass). p.lent_at) known.is)) refl refl refl no_less.0 no_less.1 heard'.kept in
+    (c.request.ensures.heard.holds told) (c.request.ensures.up_to_date up_to_date) (same_client ∙ own) (same_lent ∙ sym (ap (λ (p : Pass). p.lent_at) known.is)) refl refl refl refl no_less.0 no_less.1 heard'.kept in
     subst (λ l. AreCurrent (record { out = c.self.inside.out; held = l }) after) (sym new)
     (are_current-written (record { out = c.self.inside.out; held = held }) core after share.0 h next known.there (same_client ∙ own) current
     (others_go_on core plenty client asked.number asked.to asked.entry asked.words.now c.facts.ensures.sound after c.in-Ok.told steps)
@@ -106,7 +106,7 @@ returns-in-Err-clause-answered g c =
     subst (λ (x : ℕ × Result Told Refusal). Steps core plenty (Request x.0 asked.number asked.to asked.entry asked.words.now) (record { answer = told_or_refused x.1; core = after; blanks = plenty })) (λ i. (own i, c.in-Err.is i)) (c.request.ensures.steps plenty) in
     let want : (n : ℕ) → refusal ≡ refusals.OutOfTurn n → n ≡ capped h.pass.last 1 = λ n e. wanted core plenty h.pass.client asked.number asked.to asked.entry asked.words.now after refusal steps n e ∙ ap (λ l. capped l 1) known.current.up_to_date in
     subst (λ (x : HeldPass × HeldPass). IsAnswered x.0 x.1 asked.number (Err refusal)) (λ i. (c.pass.view_is i, held_by (sym share i).1))
-    (heard_answered h h c.pass.inside.pass c.request.new.pass core after asked.number (Err refusal) heard told known.is (known.is ∙ sym same) tt refl refl want)
+    (heard_answered h h c.pass.inside.pass c.request.new.pass core after asked.number (Err refusal) heard told known.is (known.is ∙ sym same) tt refl refl refl want)
 
 pub returns-in-Err-clause-kept : goal.returns-in-Err-clause-kept
 returns-in-Err-clause-kept g c =

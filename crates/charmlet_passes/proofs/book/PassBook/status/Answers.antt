@@ -31,7 +31,7 @@ returns-clause-answered g c =
     let heard : IsHeard c.pass.inside.pass c.status.new.pass core core c.args.number (Ok c.in-Ok.told) = subst (IsHeard c.pass.inside.pass c.status.new.pass core core c.args.number) c.in-Ok.is c.status.ensures.heard in
     let told : IsTold c.pass.inside.pass core = subst (λ (p : Pass). IsTold p core) known.is known.current.told in
     subst (λ (x : HeldPass × HeldPass). IsAnswered x.0 x.1 c.args.number (Ok c.in-Ok.told)) (λ i. (c.pass.view_is i, held_by (sym share i).1))
-    (heard_answered h next c.pass.inside.pass c.status.new.pass core core c.args.number (Ok c.in-Ok.told) heard told known.is refl refl refl tt tt)
+    (heard_answered h next c.pass.inside.pass c.status.new.pass core core c.args.number (Ok c.in-Ok.told) heard told known.is refl refl refl refl tt tt)
 
 pub invariant_of-self-2 : goal.invariant_of-self-2
 invariant_of-self-2 g c =
@@ -95,7 +95,7 @@ returns-in-Err-clause-answered g c =
     subst (λ (r : Result Told Refusal). Steps core plenty (Status c.pass.inside.pass.client c.args.number) (record { answer = told_or_refused r; core = core; blanks = plenty })) c.in-Err.is (c.status.ensures.steps plenty) in
     let want : (n : ℕ) → refusal ≡ refusals.OutOfTurn n → n ≡ capped h.pass.last 1 = λ n e. absurd (status_wanted core plenty c.pass.inside.pass.client c.args.number core refusal steps n e) in
     subst (λ (x : HeldPass × HeldPass). IsAnswered x.0 x.1 c.args.number (Err refusal)) (λ i. (c.pass.view_is i, held_by (sym share i).1))
-    (heard_answered h h c.pass.inside.pass c.status.new.pass core core c.args.number (Err refusal) heard told known.is (known.is ∙ sym same) tt refl refl want)
+    (heard_answered h h c.pass.inside.pass c.status.new.pass core core c.args.number (Err refusal) heard told known.is (known.is ∙ sym same) tt refl refl refl want)
 
 pub returns-in-Err-clause-kept : goal.returns-in-Err-clause-kept
 returns-in-Err-clause-kept g c =

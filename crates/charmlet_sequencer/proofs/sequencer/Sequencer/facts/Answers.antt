@@ -1,4 +1,4 @@
-use Rattle.std.proofs.Common.{◌≡◌, false, List, subst}
+use Rattle.std.proofs.Common.{◌≡◌, ◌≤◌, false, List, subst}
 use Rattle.std.specs.Prelude.{Option}
 use Rattle.charmlet_disk.specs.File.{CrashBytes, MayLeave}
 use Rattle.charmlet_recovery.proofs.Outcomes.{kept_is_lawful}
@@ -7,9 +7,15 @@ use Rattle.charmlet_journal.specs.Rest.{HasOldOrSealed}
 use Rattle.charmlet_journal.proofs.Turning.{rests_sealed}
 use Rattle.charmlet_sequencer.specs.Book.{IsBookIn}
 use Rattle.charmlet_sequencer.specs.Part.{Part}
-use Rattle.charmlet_sequencer.specs.Sequencer.{SequencerShown, is_lawful}
+use Rattle.charmlet_sequencer.specs.Sequencer.{IsOf, SequencerShown, is_lawful}
 use Rattle.charmlet_sequencer.proofs.Agreeing.{book_in}
 use Rattle.charmlet_sequencer.proofs.sequencer.Sequencer.facts.Goals as goal
+
+pub returns-clause-of : goal.returns-clause-of
+returns-clause-of g c = subst (λ (v : SequencerShown _). IsOf g.B.RuntimeName.opening g.B.RuntimeName.before g.B.RuntimeName.processors v.core) c.self.view_is c.self.invariant.0.of
+
+pub returns-clause-later : goal.returns-clause-later
+returns-clause-later g c = subst (λ (v : SequencerShown _). g.B.RuntimeName.generation ≤ v.core.generation) c.self.view_is c.self.invariant.0.later
 
 pub returns-clause-book : goal.returns-clause-book
 returns-clause-book g c =

@@ -1,4 +1,4 @@
-use Rattle.std.proofs.Common.{◌≡◌, ◌≢◌, ap, subst}
+use Rattle.std.proofs.Common.{◌≡◌, ◌≢◌, refl, ap, subst}
 use Rattle.std.specs.Prelude.{IfErr, length}
 use Rattle.charmlet_model.specs.declared.refusal.Refusal.TheVariants as refusals
 use Rattle.charmlet_model.specs.Core.{Flush}
@@ -14,7 +14,7 @@ use Rattle.charmlet_delivery.specs.Workplace.{store_with}
 use Rattle.charmlet_delivery.proofs.Leaving.{flush_leaves}
 use Rattle.charmlet_sequencer.specs.Sequencer.{SequencerShown, is_lawful, store_of}
 use Rattle.charmlet_sequencer.specs.Together.{shown_by}
-use Rattle.charmlet_sequencer.proofs.Calls.{flushed_same, other_book, other_of}
+use Rattle.charmlet_sequencer.proofs.Calls.{flushed_same, other_book, other_opened}
 use Rattle.charmlet_sequencer.proofs.sequencer.Sequencer.flush.Goals as goal
 
 pub invariant_of-self : goal.invariant_of-self
@@ -25,12 +25,12 @@ invariant_of-self g c =
     let answer = counts_or_refused done.result in
     let each = flush_leaves (core_in h.history) in
     let book = c.self.invariant.1.book in
-    let of = c.self.invariant.0 in
+    let opened = c.self.invariant.0 in
     let sound = c.facts-2.ensures.sound in
     let back = done.ensures.disk.honest.1 in (
-      other_of h.history next h.stock h.parts book sound g.B.RuntimeName.opening g.B.RuntimeName.before g.B.RuntimeName.processors of answer Flush each (done.ensures.steps plenty),
+      other_opened h.history next h.stock h.parts book sound g.B.RuntimeName.opening g.B.RuntimeName.before g.B.RuntimeName.processors g.B.RuntimeName.generation opened answer Flush each (done.ensures.steps plenty) refl,
       record {
-        book = other_book h.history next h.stock h.parts book sound g.B.RuntimeName.opening g.B.RuntimeName.before g.B.RuntimeName.processors of answer Flush each (done.ensures.steps plenty);
+        book = other_book h.history next h.stock h.parts book sound g.B.RuntimeName.opening g.B.RuntimeName.before g.B.RuntimeName.processors g.B.RuntimeName.generation opened answer Flush each (done.ensures.steps plenty);
         dropping = c.self.invariant.1.dropping;
         agrees = done.ensures.agrees;
         keeps = λ honest. done.ensures.kept (back honest);

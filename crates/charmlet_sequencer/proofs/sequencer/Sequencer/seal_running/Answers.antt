@@ -11,7 +11,7 @@ use Rattle.charmlet_sequencer.specs.Checkpointing.{IsSealedCore}
 use Rattle.charmlet_sequencer.specs.Sequencer.{SequencerShown, is_lawful}
 use Rattle.charmlet_sequencer.specs.Together.{shown_by}
 use Rattle.charmlet_sequencer.proofs.Books.{book_still}
-use Rattle.charmlet_sequencer.proofs.Seals.{refused_core, sealed_leaves, sealed_of, sealed_same, taken_current}
+use Rattle.charmlet_sequencer.proofs.Seals.{refused_core, sealed_leaves, sealed_opened, sealed_same, taken_current}
 use Rattle.charmlet_sequencer.proofs.sequencer.Sequencer.seal_running.Goals as goal
 
 pub invariant_of-self : goal.invariant_of-self
@@ -22,7 +22,7 @@ invariant_of-self g c =
     let next = done.new.history in
     let back = done.ensures.disk.honest.1 in
     let refused = refused_core {G = g.D.Disk} h.history next h.halves done.new.halves done.result done.ensures.refused in (
-      sealed_of core (core_in next) done.result done.ensures.sealed done.ensures.failed refused g.B.RuntimeName.opening g.B.RuntimeName.before g.B.RuntimeName.processors c.self.invariant.0,
+      sealed_opened core (core_in next) done.result done.ensures.sealed done.ensures.failed refused g.B.RuntimeName.opening g.B.RuntimeName.before g.B.RuntimeName.processors g.B.RuntimeName.generation c.self.invariant.0,
       record {
         book = book_still h.history next h.stock h.parts c.self.invariant.1.book c.facts-2.ensures.sound (sealed_leaves core (core_in next) done.result done.ensures.sealed done.ensures.failed refused);
         dropping = c.self.invariant.1.dropping;

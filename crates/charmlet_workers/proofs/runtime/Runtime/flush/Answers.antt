@@ -1,5 +1,5 @@
-use Rattle.std.proofs.Common.{◌≡◌, sym, subst, ◌∙◌}
-use Rattle.std.specs.Prelude.{IfOk, OnOk}
+use Rattle.std.proofs.Common.{◌≡◌, sym, subst}
+use Rattle.std.specs.Prelude.{IfOk}
 use Rattle.charmlet_model.specs.Core.{Flush}
 use Rattle.charmlet_model.specs.Run.{Goes}
 use Rattle.charmlet_history.specs.Kept.{counts_or_refused}
@@ -17,7 +17,7 @@ returns-clause-flushed g c =
     let facts = c.facts-2.ensures in
     let same : told.new.self ≡ next = sym c.deref-2.ensures in
     let goes = subst (λ (h : HubShown _). Goes (store_in hub) Flush (counts_or_refused told.result) (store_in h)) same told.ensures.goes in
-    let kept = subst (λ (h : HubShown _). OnOk told.result (TellAll hub.passes c.args.passes.now h.passes)) same told.ensures.kept in
+    let kept = subst (λ (h : HubShown _). IfOk told.result (λ count. TellAll count hub.passes c.args.passes.now h.passes)) same told.ensures.kept in
     subst (λ (v : RuntimeShown). IfOk told.result (AreFlushed v told.new.passes)) c.self.view_is
-    (flushed_if (named g.B.RuntimeName.opening g.B.RuntimeName.before g.B.RuntimeName.processors) hub next c.args.passes.now told.new.passes told.result (record { of = facts.of; sound = facts.sound }) goes kept told.ensures.told
+    (flushed_if (named g.B.RuntimeName.opening g.B.RuntimeName.before g.B.RuntimeName.processors g.B.RuntimeName.generation) hub next c.args.passes.now told.new.passes told.result (record { of = record { of = facts.of; later = facts.later }; sound = facts.sound }) goes kept told.ensures.told
     facts.hub.passes.each)

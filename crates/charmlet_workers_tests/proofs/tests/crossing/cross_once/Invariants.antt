@@ -15,5 +15,6 @@ ghosts-cross_named-B-RuntimeName g a = record {
   opening = (core_in a.start.store.history).opening;
   before = (core_in a.start.store.history).before;
   processors = (core_in a.start.store.history).processors;
+  generation = (core_in a.start.store.history).generation;
   honest = ⊥;
 }

@@ -15,5 +15,6 @@ ghosts-pass_on_named-B-RuntimeName g a = record {
   opening = (core_of a.begun).opening;
   before = (core_of a.begun).before;
   processors = (core_of a.begun).processors;
+  generation = (core_of a.begun).generation;
   honest = ⊥;
 }

@@ -1,5 +1,5 @@
 use Rattle.charmlet_passes.specs.Passes.{held_by, with_answer}
-use Rattle.charmlet_passes.proofs.book.PassBook.tell_one.Given as goal
+use Rattle.charmlet_passes.proofs.book.PassBook.tell_accepted.Given as goal
 
 -- what the pass then holds
 abbrev pub ghosts-write_told : goal.ghosts-write_told
