@@ -4,7 +4,6 @@ use Rattle.std.proofs.lemmas.List.{drop_all}
 use Rattle.std.specs.Prelude.{if◌then◌else◌, is_some, unwrap_or}
 use Rattle.std.specs.Str.{bytes_eq}
 use Rattle.charmlet_model.specs.declared.kind.Kind.{Kind}
-use Rattle.charmlet_model.specs.declared.step.Answer.TheVariants as answers
 use Rattle.charmlet_model.specs.Manifest.{manifest_of}
 use Rattle.charmlet_model.specs.Run.{StoreView}
 use Rattle.charmlet_journal.specs.NewStores.{new_core}

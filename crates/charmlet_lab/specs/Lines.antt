@@ -6,7 +6,9 @@ use Rattle.charmlet_model.specs.declared.kind.Kind.{Kind}
 use Rattle.charmlet_model.specs.declared.names.Elem.{Elem}
 use Rattle.charmlet_model.specs.declared.names.MsgId.{MsgId}
 use Rattle.charmlet_model.specs.declared.refusal.Refusal.{Refusal}
+use Rattle.charmlet_model.specs.declared.refusal.Refusal.TheVariants as refusals
 use Rattle.charmlet_model.specs.declared.step.Answer.{Answer}
+use Rattle.charmlet_model.specs.declared.step.Answer.TheVariants as answers
 use Rattle.charmlet_model.specs.declared.step.Step.TheVariants as steps
 use Rattle.charmlet_model.specs.Core.{present}
 use Rattle.charmlet_model.specs.Run.{Does, IsDelivered, IsNotDelivered, StoreView}
@@ -46,11 +48,18 @@ abbrev pub DeliversNext : StoreView → StoreView → Type 0
 DeliversNext old new = (processor : ℕ) × (id : MsgId)
     × (next_in old.core ≡ Some (processor, id)) × IsDelivered old processor id new
 
--- no message can be delivered, or the delivery of the oldest one that can be is refused
+-- the answer isn't the refusal for want of memory
+abbrev pub HadMemory : Answer → Type 0
+HadMemory (answers.Refused refusals.Memory) = ⊥
+HadMemory answer = Unit {0}
+
+-- no message can be delivered, or the delivery of the oldest one that can be is refused, and not
+-- for want of memory
 abbrev pub DeliversNone : StoreView → StoreView → Type 0
 DeliversNone old new = ((next_in old.core ≡ None) × (new ≡ old))
     ⊎ ((processor : ℕ) × (id : MsgId) × (refusal : Refusal)
-    × (next_in old.core ≡ Some (processor, id)) × IsNotDelivered old processor id refusal new)
+    × (next_in old.core ≡ Some (processor, id)) × IsNotDelivered old processor id refusal new
+    × HadMemory (answers.Refused refusal))
 
 -- up to n deliveries one after another, until there is none
 abbrev pub Drains : ℕ → StoreView → StoreView → Type 0
@@ -58,18 +67,20 @@ Drains zero old new = new ≡ old
 Drains (suc n) old new = ((mid : StoreView) × DeliversNext old mid × Drains n mid new)
     ⊎ DeliversNone old new
 
--- A line leads from one store to another. A supply line that is out of memory for its blanks
--- changes nothing, and neither does a line that shows something.
+-- A line that has the memory which it wants leads from one store to another. One that shows
+-- something changes nothing.
 abbrev pub Follows : Names → StoreView → Line → StoreView → Type 0
-Follows named old (Supply kind count) new = IsSupplied kind count old new ⊎ (new ≡ old)
+Follows named old (Supply kind count) new = IsSupplied kind count old new
 Follows named old (Drain count) new = Drains count old new
 Follows named old (State elem) new = new ≡ old
 Follows named old Pending new = new ≡ old
 Follows named old Census new = new ≡ old
 Follows named old (lines.Step step) new = (answer : Answer) × Does old step answer new
+    × HadMemory answer
 Follows named old (lines.Call client number name index words) new =
     (to : Elem) × (entry : ℕ) × IsTarget (present old.core) index (named name) to entry
     × (answer : Answer) × Does old (steps.Request client number to entry words) answer new
+    × HadMemory answer
 
 -- lines are run one after another, up to the first failure of the device, which halts the store
 abbrev pub AreRun : Names → StoreView → List Line → StoreView → Type 0

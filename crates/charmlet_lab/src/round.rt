@@ -1,6 +1,6 @@
 //! A run of a script over a disk that may fail.
 
-ghost use Rattle.std.specs.Prelude.{◌≡◌, ◌⊎◌, ◌≤◌, ◌+◌, ℕ, List, false, true, IfErr, IfOk};
+ghost use Rattle.std.specs.Prelude.{◌≡◌, ◌≤◌, ◌+◌, ℕ, List, Ok, false, true, IfErr, IfOk, OnOk};
 ghost use Rattle.charmlet_model.specs.declared.kind.Kind as kinds;
 ghost use Rattle.charmlet_model.specs.declared.refusal.Refusal.TheVariants as refusals;
 ghost use Rattle.charmlet_model.specs.Shelves.{count_of};
@@ -47,7 +47,7 @@ pub struct Round<D: Disk> {
 /// settled.
 ///
 /// The events are those of the script's lines up to that failure, one after another, and as many of
-/// them are durable as the store says.
+/// them are durable as the store says. No line lacked memory.
 ///
 /// On an honest disk that had no store, each crash after the run leaves files that recover to the
 /// world after some of the events, with all that were durable among them; if the store wasn't
@@ -55,7 +55,8 @@ pub struct Round<D: Disk> {
 ///
 /// `BlanksWanted` if the script's lines supply more blanks of a kind than there are, with the
 /// lowest such kind and all that they supply of it; `BadPes` if the script's number of processors
-/// isn't 1 to 64; `AlreadyHere` if a half of the disk is open; `Memory`.
+/// isn't 1 to 64; `AlreadyHere` if a half of the disk is open; `Memory`, also where a line lacks
+/// it.
 pub fn lab_round<D: Disk, C: Chare>(
     alloc: Global,
     script: &Script,
@@ -81,7 +82,7 @@ pub fn lab_round<D: Disk, C: Chare>(
     match Engine::create(alloc, disk, manifest, script.processors()) {
         Ok(mut engine) => {
             engine.note_events();
-            run_lines(&mut engine, &handlers, &mut source, script.lines());
+            run_lines(&mut engine, &handlers, &mut source, script.lines())?;
             engine.facts();
             let Some(noted) = engine.events() else {
                 return Err(Refusal::Memory);
@@ -179,39 +180,41 @@ fn event_of(alloc: Global, event: &Event) -> Result<Event, AllocError>
 }
 
 /// Runs lines one after another, until the disk fails. There have to be as many blanks as they
-/// supply.
+/// supply. It fails only when out of memory.
 fn run_lines<D: Disk, C: Chare>(
     engine: &mut Engine<D, C>,
     handlers: &Handlers,
     source: &mut Stock<C>,
     lines: &[Line],
-)
+) -> Result<(), AllocError>
     requires enough { (kind : kinds.Kind) →
         blanks_of kind lines.now ≤ stocks.blanks_in source.old kind }
-    ensures ran { AreRun (handler_of handlers.now) (view_of engine.old) lines.now
-        (view_of engine.new) }
+    ensures ran { OnOk result (AreRun (handler_of handlers.now) (view_of engine.old) lines.now
+        (view_of engine.new)) }
     ensures advances { Advances D.Disk engine.old engine.new }
 {
     engine.facts();
     for line in lines {
         if engine.is_halted() {
-            return;
+            return Ok(());
         }
-        run_line(engine, handlers, source, line);
+        run_line(engine, handlers, source, line)?;
     }
+    Ok(())
 }
 
-/// Runs one line. There have to be as many blanks as it supplies, and it takes no more.
+/// Runs one line. There have to be as many blanks as it supplies, and it takes no more. It fails
+/// only when out of memory.
 fn run_line<D: Disk, C: Chare>(
     engine: &mut Engine<D, C>,
     handlers: &Handlers,
     source: &mut Stock<C>,
     line: &Line,
-)
+) -> Result<(), AllocError>
     requires enough { (kind : kinds.Kind) →
         blanks_in kind line.now ≤ stocks.blanks_in source.old kind }
-    ensures follows { Follows (handler_of handlers.now) (view_of engine.old) line.now
-        (view_of engine.new) }
+    ensures follows { OnOk result (Follows (handler_of handlers.now) (view_of engine.old) line.now
+        (view_of engine.new)) }
     ensures left { (kind : kinds.Kind) → stocks.blanks_in source.old kind
         ≤ stocks.blanks_in source.new kind + blanks_in kind line.now }
     ensures advances { Advances D.Disk engine.old engine.new }
@@ -220,7 +223,7 @@ fn run_line<D: Disk, C: Chare>(
     match line {
         Line::Supply { kind, count } => supply(engine, source, *kind, *count),
         Line::Drain { count } => drain(engine, *count),
-        Line::State(_) | Line::Pending | Line::Census => {}
+        Line::State(_) | Line::Pending | Line::Census => Ok(()),
         Line::Call {
             client,
             number,
@@ -239,62 +242,65 @@ fn run_line<D: Disk, C: Chare>(
                 entry: handler.entry,
                 words: words.as_slice(),
             };
-            // What the client is told isn't looked at, here and below.
-            let _ = engine.ask(*client, &request);
+            // Of the answers, here and below, only a lack of memory is looked at.
+            match engine.ask(*client, &request) {
+                Err(Refusal::Memory) => Err(AllocError),
+                _ => Ok(()),
+            }
         }
-        Line::Step(step) => {
-            engine.step(step);
-        }
+        Line::Step(step) => match engine.step(step) {
+            Answer::Refused(Refusal::Memory) => Err(AllocError),
+            _ => Ok(()),
+        },
     }
 }
 
-/// Supplies `count` blanks, which have to be there. When out of memory, the line is refused, and
-/// the run goes on without them.
+/// Supplies `count` blanks, which have to be there. It fails only when out of memory.
 fn supply<D: Disk, C: Chare>(
     engine: &mut Engine<D, C>,
     source: &mut Stock<C>,
     kind: Kind,
     count: u32,
-)
+) -> Result<(), AllocError>
     requires enough { count ≤ stocks.blanks_in source.old kind }
-    ensures supplied { IsSupplied kind count (view_of engine.old) (view_of engine.new)
-        ⊎ (view_of engine.new ≡ view_of engine.old) }
+    ensures supplied { OnOk result (IsSupplied kind count (view_of engine.old)
+        (view_of engine.new)) }
     ensures left { (other : kinds.Kind) → stocks.blanks_in source.old other
         ≤ stocks.blanks_in source.new other + part_of kind count other }
     ensures advances { Advances D.Disk engine.old engine.new }
 {
-    match engine.draw(source, kind, count as usize) {
-        Ok(()) => {}
-        // Out of memory, and the run goes on.
-        Err(AllocError) => {}
-    }
+    engine.draw(source, kind, count as usize)
 }
 
-/// Delivers the oldest message that can be delivered, up to `most` times, or up to a refusal.
-fn drain<D: Disk, C: Chare>(engine: &mut Engine<D, C>, most: u32)
-    ensures drains { Drains most (view_of engine.old) (view_of engine.new) }
+/// Delivers the oldest message that can be delivered, up to `most` times, or up to a refusal. It
+/// fails only when out of memory.
+fn drain<D: Disk, C: Chare>(engine: &mut Engine<D, C>, most: u32) -> Result<(), AllocError>
+    ensures drains { OnOk result (Drains most (view_of engine.old) (view_of engine.new)) }
     ensures advances { Advances D.Disk engine.old engine.new }
 {
     engine.facts();
     for _ in 0..most {
-        if !deliver_next(engine) {
-            return;
+        if !deliver_next(engine)? {
+            return Ok(());
         }
     }
+    Ok(())
 }
 
-/// Delivers the oldest message that can be delivered, and returns whether it did.
-fn deliver_next<D: Disk, C: Chare>(engine: &mut Engine<D, C>) -> bool
-    ensures delivers { result ≡ true → DeliversNext (view_of engine.old) (view_of engine.new) }
-    ensures none { result ≡ false → DeliversNone (view_of engine.old) (view_of engine.new) }
+/// Delivers the oldest message that can be delivered, and returns whether it did. It fails only
+/// when out of memory.
+fn deliver_next<D: Disk, C: Chare>(engine: &mut Engine<D, C>) -> Result<bool, AllocError>
+    ensures delivers { result ≡ Ok true → DeliversNext (view_of engine.old) (view_of engine.new) }
+    ensures none { result ≡ Ok false → DeliversNone (view_of engine.old) (view_of engine.new) }
     ensures advances { Advances D.Disk engine.old engine.new }
 {
     engine.facts();
     let Some((processor, id)) = engine.next() else {
-        return false;
+        return Ok(false);
     };
     match engine.step(&Step::Deliver { processor, id }) {
-        Answer::Refused(_) => false,
-        _ => true,
+        Answer::Refused(Refusal::Memory) => Err(AllocError),
+        Answer::Refused(_) => Ok(false),
+        _ => Ok(true),
     }
 }

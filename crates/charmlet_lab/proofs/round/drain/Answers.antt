@@ -1,4 +1,4 @@
-use Rattle.std.proofs.Common.{◌≡◌, ◌-◌, subst, arith}
+use Rattle.std.proofs.Common.{◌≡◌, ◌-◌, Ok, ap, subst, ◌∙◌, arith}
 use Rattle.charmlet_engine.specs.Engine.{view_of}
 use Rattle.charmlet_engine.proofs.Advancing.{advances_after}
 use Rattle.charmlet_lab.specs.Lines.{Drains}
@@ -12,22 +12,26 @@ loop-init g c =
       λ last drained. subst (λ n. Drains n (view_of c.args.engine.now) last) all drained,
     )
 
-pub returns-then-not-deliver_next-clause-advances : goal.returns-then-not-deliver_next-clause-advances
-returns-then-not-deliver_next-clause-advances g c =
+pub returns-in_err-deliver_next-clause-advances : goal.returns-in_err-deliver_next-clause-advances
+returns-in_err-deliver_next-clause-advances g c =
     advances_after g.D.Disk c.args.engine.now c.loop.engine c.deliver_next.new.engine c.loop.invariant.0 c.deliver_next.ensures.advances
 
-pub returns-then-not-deliver_next-clause-drains : goal.returns-then-not-deliver_next-clause-drains
-returns-then-not-deliver_next-clause-drains g c =
+pub returns-then-not-branch-clause-advances : goal.returns-then-not-branch-clause-advances
+returns-then-not-branch-clause-advances g c =
+    advances_after g.D.Disk c.args.engine.now c.loop.engine c.deliver_next.new.engine c.loop.invariant.0 c.deliver_next.ensures.advances
+
+pub returns-then-not-branch-clause-drains : goal.returns-then-not-branch-clause-drains
+returns-then-not-branch-clause-drains g c =
     let old = view_of c.loop.engine in
     let new = view_of c.deliver_next.new.engine in
-    c.loop.invariant.1 new (drains_no_more c.args.most c.loop.counter c.loop-test.true old new (c.deliver_next.ensures.none c.if-not-deliver_next.true))
+    c.loop.invariant.1 new (drains_no_more c.args.most c.loop.counter c.loop-test.true old new (c.deliver_next.ensures.none (c.in_ok-deliver_next.was ∙ ap Ok c.if-not-branch.true)))
 
 pub loop-preserved : goal.loop-preserved
 loop-preserved g c =
     let old = view_of c.loop.engine in
     let mid = view_of c.deliver_next.new.engine in (
       advances_after g.D.Disk c.args.engine.now c.loop.engine c.deliver_next.new.engine c.loop.invariant.0 c.deliver_next.ensures.advances,
-      λ last drained. c.loop.invariant.1 last (drains_on c.args.most c.loop.counter c.loop-test.true old mid last (c.deliver_next.ensures.delivers c.if-not-deliver_next.false) drained),
+      λ last drained. c.loop.invariant.1 last (drains_on c.args.most c.loop.counter c.loop-test.true old mid last (c.deliver_next.ensures.delivers (c.in_ok-deliver_next.was ∙ ap Ok c.if-not-branch.false)) drained),
     )
 
 pub returns-clause-drains : goal.returns-clause-drains

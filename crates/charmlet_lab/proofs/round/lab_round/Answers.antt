@@ -97,6 +97,10 @@ pub returns-in_err-events-in-Ok-create-clause-err : goal.returns-in_err-events-i
 returns-in_err-events-in-Ok-create-clause-err g c =
     memory_lacks g.D.Disk (count_of g.C.Chare.state c.args.blanks.items) c.args.script.now c.args.disk c.from_residual-in_err-events-in-Ok-create.result c.from_residual-in_err-events-in-Ok-create.ensures.1
 
+pub returns-in_err-run_lines-in-Ok-create-clause-err : goal.returns-in_err-run_lines-in-Ok-create-clause-err
+returns-in_err-run_lines-in-Ok-create-clause-err g c =
+    memory_lacks g.D.Disk (count_of g.C.Chare.state c.args.blanks.items) c.args.script.now c.args.disk c.from_residual-in_err-run_lines-in-Ok-create.result c.from_residual-in_err-run_lines-in-Ok-create.ensures.1
+
 -- ---- the lines
 
 pub returns-in-Ok-create-clause-ran : goal.returns-in-Ok-create-clause-ran
@@ -109,7 +113,7 @@ returns-in-Ok-create-clause-ran g c =
     let core = c.note_events.ensures.core ∙ c.in-Ok-create.ensures.ok.opens in
     let none = λ (kind : Kind). ap (λ (blanks : Blanks). blanks kind) c.note_events.ensures.blanks ∙ c.in-Ok-create.ensures.ok.blanks kind in
     let opening = opens script kinds c.processors.result first c.in_ok-manifest.ensures.manifest c.processors.ensures core none in
-    let ran = subst (λ ls. AreRun (handler_of c.in_ok-handlers.handlers) first ls last) c.lines.ensures c.run_lines.ensures.ran in
+    let ran = subst (λ ls. AreRun (handler_of c.in_ok-handlers.handlers) first ls last) c.lines.ensures c.in_ok-run_lines-in-Ok-create.ensures.ran in
     let before = on.before ∙ ap (λ (k : Core). k.before) core in (
       last,
       subst (λ store. AreRun (named_by script.handlers) store script.lines last) opening (run_by c.in_ok-handlers.handlers script first last (λ name. c.in_ok-handlers.ensures.named name ∙ ap (λ ls. named_by ls name) c.handlers.ensures) ran),

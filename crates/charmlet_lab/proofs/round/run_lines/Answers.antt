@@ -40,8 +40,12 @@ loop-line-preserved g c =
           let named = handler_of c.args.handlers.now in
           let split : drop at lines ≡ line ∷ drop (at + 1) lines = drop_more lines at line c.loop-line-test.true ∙ ap (λ l. l ∷ drop (at + 1) lines) (sym c.line-item.is) in
           c.loop-line.invariant.2 last
-          (run_on named lines at line split (view_of c.loop-line.engine) (view_of c.run_line.new.engine) last (sym c.is_halted.ensures ∙ c.if-is_halted.false) c.run_line.ensures.follows ran),
+          (run_on named lines at line split (view_of c.loop-line.engine) (view_of c.run_line.new.engine) last (sym c.is_halted.ensures ∙ c.if-is_halted.false) c.in_ok-run_line.ensures.follows ran),
     )
+
+pub returns-in_err-run_line-clause-advances : goal.returns-in_err-run_line-clause-advances
+returns-in_err-run_line-clause-advances g c =
+    advances_after g.D.Disk c.args.engine.now c.loop-line.engine c.run_line.new.engine c.loop-line.invariant.0 c.run_line.ensures.advances
 
 pub returns-then-is_halted-clause-ran : goal.returns-then-is_halted-clause-ran
 returns-then-is_halted-clause-ran g c =
