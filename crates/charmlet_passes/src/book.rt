@@ -23,8 +23,6 @@ use std::marker::{Brand, Model};
 #[derive(Drop)]
 pub struct PassBook<B: BookName> {
     out: requests::Passes,
-    /// The clients of the passes that are out, in the order in which these were lent.
-    clients: Vec<u32>,
     book: Book<SeenPass, B>,
 }
 
@@ -36,8 +34,7 @@ impl<B: BookName> Model for PassBook<B> {
 
     ghost view = { λ s. record { out = s.out; held = s.book } };
 
-    ghost invariant = { λ s. (length s.out ≡ length s.clients.items)
-        × (length (passes_out s.book) ≡ length s.clients.items) };
+    ghost invariant = { λ s. length (passes_out s.book) ≡ length s.out };
 }
 
 /// Not all passes that are out were handed in, which is the refusal `PassOut`. The book and the
@@ -57,7 +54,6 @@ impl<B: BookName> PassBook<B> {
     {
         PassBook {
             out: requests::Passes::new(alloc),
-            clients: Vec::new(alloc),
             book,
         }
     }
@@ -66,7 +62,7 @@ impl<B: BookName> PassBook<B> {
     pub fn pass_count(&self) -> usize
         ensures { result ≡ length self.now.out }
     {
-        self.clients.len()
+        self.out.pass_count()
     }
 
     /// Whether the client's pass is out.
@@ -92,9 +88,7 @@ impl<B: BookName> PassBook<B> {
         if self.out.is_out(client) {
             return Err(Refusal::PassOut);
         }
-        self.clients.reserve(1)?;
         let pass = self.out.lend(history, client)?;
-        self.clients.push_reserved(client);
         let seen = SeenPass {
             client,
             last: pass.last(),
@@ -263,7 +257,7 @@ impl<B: BookName> PassBook<B> {
         ensures back { IfErr result (λ refused. (refused.book ≡ self)
             × (refused.passes ≡ passes)) }
     {
-        if passes.len() != self.clients.len() {
+        if passes.len() != self.out.pass_count() {
             return Err(StillOut { book: self, passes });
         }
         let PassBook { book, .. } = self;

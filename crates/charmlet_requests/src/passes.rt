@@ -28,7 +28,7 @@ impl Model for Passes {
 }
 
 impl Passes {
-    ghost use Rattle.std.specs.Prelude.{◌≡◌, [], true, false, IfErr, IfOk, OnErr, OnOk};
+    ghost use Rattle.std.specs.Prelude.{◌≡◌, [], true, false, length, IfErr, IfOk, OnErr, OnOk};
     ghost use Rattle.std.specs.Ordering.{nat_cmp};
     ghost use Rattle.std.specs.BTreeMap.{is_at};
     ghost use Rattle.std.specs.BTreeSet.{insert_key};
@@ -46,6 +46,13 @@ impl Passes {
             alloc,
             out: BTreeSet::new(alloc),
         }
+    }
+
+    /// How many passes are out.
+    pub fn pass_count(&self) -> usize
+        ensures { result ≡ length self.now }
+    {
+        self.out.len()
     }
 
     /// Whether the client's pass is out.

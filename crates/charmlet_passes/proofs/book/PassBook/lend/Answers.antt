@@ -16,12 +16,9 @@ invariant_of-self-2 g c =
     let held = c.self.inside.book in
     let h : HeldPass = lent_since c.args.client c.last.result c.event_count.result in
     let new : c.issue-share.new.self ≡ held ++ Some h ∷ [] = c.issue-share.ensures.book in
-    let long : length c.push_reserved.new.self.items ≡ length c.self.inside.clients.items + 1 = search rules in
     let out : c.lend.new.self ≡ insert_key nat_cmp c.self.inside.out c.args.client = search rules in
-    let was_in : is_out c.args.client c.self.inside.out ≡ false = search rules in (
-      ap length out ∙ length-out c.self.inside.out c.args.client was_in ∙ ap (λ n. n + 1) c.self.invariant.0 ∙ sym long,
-      ap (λ l. length (passes_out l)) new ∙ count-lent held h ∙ ap (λ n. n + 1) c.self.invariant.1 ∙ sym long,
-    )
+    let was_in : is_out c.args.client c.self.inside.out ≡ false = search rules in
+    ap (λ l. length (passes_out l)) new ∙ count-lent held h ∙ ap (λ n. n + 1) c.self.invariant ∙ sym (ap length out ∙ length-out c.self.inside.out c.args.client was_in)
 
 pub returns-clause-current : goal.returns-clause-current
 returns-clause-current g c =

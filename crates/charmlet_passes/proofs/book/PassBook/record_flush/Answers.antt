@@ -19,7 +19,7 @@ invariant_of-self g c =
     let h = held_by share.1 in
     let next : HeldPass = record h { flushed = event_count (core_in c.args.history.now) } in
     let new : c.write_flush.new.book ≡ slice_set held share.0 (Some next) = search rules in
-    (c.self.invariant.0, ap (λ l. length (passes_out l)) new ∙ count-set held share.0 h next (known_at g c).there ∙ c.self.invariant.1)
+    ap (λ l. length (passes_out l)) new ∙ count-set held share.0 h next (known_at g c).there ∙ c.self.invariant
 
 pub returns-clause-current : goal.returns-clause-current
 returns-clause-current g c =

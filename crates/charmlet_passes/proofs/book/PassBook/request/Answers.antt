@@ -41,7 +41,7 @@ invariant_of-self-2 g c =
     let known = known_at g c in
     let next = with_request h c.request.new.pass c.args.request.now c.in-Ok.told in
     let new : c.write_accept.new.book ≡ slice_set held share.0 (Some next) = search rules in
-    (c.self.invariant.0, ap (λ l. length (passes_out l)) new ∙ count-set held share.0 h next known.there ∙ c.self.invariant.1)
+    ap (λ l. length (passes_out l)) new ∙ count-set held share.0 h next known.there ∙ c.self.invariant
 
 pub returns-clause-kept : goal.returns-clause-kept
 returns-clause-kept g c =

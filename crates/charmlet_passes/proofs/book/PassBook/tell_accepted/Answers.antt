@@ -24,7 +24,7 @@ invariant_of-self-2 g c =
     let knows = known_at g c in
     let next : HeldPass = with_answer h c.hear.new.self c.last-last.result Accepted in
     let new : c.write_told.new.book ≡ slice_set held share.0 (Some next) = search rules in
-    (c.self.invariant.0, ap (λ l. length (passes_out l)) new ∙ count-set held share.0 h next knows.there ∙ c.self.invariant.1)
+    ap (λ l. length (passes_out l)) new ∙ count-set held share.0 h next knows.there ∙ c.self.invariant
 
 pub returns-clause-current : goal.returns-clause-current
 returns-clause-current g c =
