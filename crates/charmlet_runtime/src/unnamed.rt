@@ -11,7 +11,7 @@ use charmlet_chare::Chare;
 use charmlet_disk::Disk;
 use charmlet_engine::Engine;
 use charmlet_sequencer::RuntimeName;
-use charmlet_workers::{NotOpened, Runtime, UnnamedBooks};
+use charmlet_workers::{NotOpened, Runtime, RuntimeRoom, UnnamedBooks};
 use std::marker::Model;
 
 /// A runtime with threads before it has its name: an engine in which nothing has happened since it
@@ -72,5 +72,26 @@ impl<D: Disk, C: Chare> UnnamedRuntime<D, C> {
     {
         let (store, halves) = self.engine.into_parts();
         Runtime::open(store, halves, books)
+    }
+
+    /// The runtime as [`UnnamedRuntime::open`] gives it, in a room that was made before. It never
+    /// fails, and takes no memory. So where the room is made first, a creation and its opening are
+    /// out of memory before anything is written, or not at all.
+    pub fn open_in<B: RuntimeName>(
+        self,
+        books: UnnamedBooks,
+        room: RuntimeRoom<C, B>,
+    ) -> Runtime<D, C, B>
+        requires named { IsOf B.opening B.before B.processors (core_of self) }
+        requires generation { B.generation ≡ (core_of self).generation }
+        requires parts { table_of books.parts ≡ B.table }
+        requires seats { table_of books.seats ≡ B.seats }
+        requires passes { table_of books.passes ≡ B.passes }
+        requires checkpoints { table_of books.checkpoints ≡ B.checkpoints }
+        requires honest { B.honest → D.honest self.disk }
+        ensures { result ≡ shown_of (core_of self) }
+    {
+        let (store, halves) = self.engine.into_parts();
+        Runtime::open_in(store, halves, books, room)
     }
 }

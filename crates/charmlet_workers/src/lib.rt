@@ -19,7 +19,7 @@ mod working;
 
 pub use crate::closing::NotClosed;
 pub use crate::gate::{Gate, MOST_ASKS, OpenGate};
-pub use crate::opening::{NotOpened, UnnamedBooks};
+pub use crate::opening::{NotOpened, RuntimeRoom, UnnamedBooks};
 pub use crate::pause::{NoPause, Pause};
 pub use crate::runtime::Runtime;
 pub use crate::working::{IDLE_TURNS, Station, Worked, work_all};

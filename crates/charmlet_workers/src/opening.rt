@@ -21,6 +21,7 @@ use charmlet_sequencer::{LockedShelf, Opened, RuntimeName, SeenPart, open_store}
 use charmlet_shelf::Shelf;
 use charmlet_store::{Store, empty_shelves};
 use std::alloc::{AllocError, Global};
+use std::marker::Model;
 use std::sync::Mutex;
 
 /// The books of a runtime that has no name yet: of its shelves, of its seats, of its passes and of
@@ -49,6 +50,42 @@ impl UnnamedBooks {
     }
 }
 
+/// Room for a runtime under the name `B`: lists for its shelves and for their locks, and the empty
+/// shelves for its close. A runtime opens in it without memory. So where the room is made before
+/// the store, memory can't be lacking once the store is written. A contract sees nothing of it.
+#[derive(Drop)]
+pub struct RuntimeRoom<C: Chare, B: RuntimeName> {
+    locks: Vec<Mutex<LockedShelf<C, B>>>,
+    spare: Spare<C, B>,
+}
+
+impl<C: Chare, B: RuntimeName> Model for RuntimeRoom<C, B> {
+    ghost use Rattle.std.specs.Prelude.{◌≡◌, ◌≤◌};
+    ghost use Rattle.std.specs.Vec.{vec_capacity, vec_len};
+
+    ghost Value = { Unit {0} };
+
+    ghost view = { λ _. tt };
+
+    ghost invariant = { λ r. (vec_len r.locks ≡ 0) × (B.processors ≤ vec_capacity r.locks) };
+}
+
+impl<C: Chare, B: RuntimeName> RuntimeRoom<C, B> {
+    /// Room for a runtime on as many processors as the name says. It fails only when out of memory.
+    pub fn new(alloc: Global, processors: u16) -> Result<Self, AllocError>
+        requires { processors ≡ B.processors }
+    {
+        let count = usize::from(processors);
+        let locks = Vec::with_capacity(alloc, count)?;
+        let shelves = Vec::with_capacity(alloc, count)?;
+        let empty = empty_shelves(alloc, processors)?;
+        Ok(RuntimeRoom {
+            locks,
+            spare: Spare { shelves, empty },
+        })
+    }
+}
+
 /// A store that wasn't opened for threads, for want of memory, and its halves. They are as before.
 #[derive(Drop)]
 pub struct NotOpened<D: Disk, C: Chare> {
@@ -59,7 +96,7 @@ pub struct NotOpened<D: Disk, C: Chare> {
 impl<D: Disk, C: Chare, B: RuntimeName> Runtime<D, C, B> {
     /// A runtime over a store in which nothing has happened since it opened, and the halves of its
     /// disk, under the name `B` of the store and of these books. It makes no call of the disk. It
-    /// fails only when out of memory.
+    /// fails only when out of memory. [`Runtime::open_in`] never fails.
     ///
     /// The call that makes the books picks the name: it passes `Brand` to a function that is
     /// generic in it, so that nothing which bears the name can leave that function.
@@ -81,65 +118,55 @@ impl<D: Disk, C: Chare, B: RuntimeName> Runtime<D, C, B> {
     {
         store.history.facts();
         let count = store.shelves.len();
-        let Ok(shelves) = Vec::with_capacity(store.alloc, count) else {
-            return Err(NotOpened { store, halves });
-        };
-        let Ok(locks) = Vec::with_capacity(store.alloc, count) else {
-            return Err(NotOpened { store, halves });
-        };
-        let Ok(empty) = empty_shelves(store.alloc, count as u16) else {
-            return Err(NotOpened { store, halves });
-        };
-        Ok(open_reserved(store, halves, books, shelves, locks, empty))
+        match RuntimeRoom::new(store.alloc, count as u16) {
+            Ok(room) => Ok(Runtime::open_in(store, halves, books, room)),
+            Err(_) => Err(NotOpened { store, halves }),
+        }
     }
-}
 
-/// The same, with room for the shelves and for their locks, and with empty shelves for the end. It
-/// takes no memory.
-fn open_reserved<D: Disk, C: Chare, B: RuntimeName>(
-    store: Store<C>,
-    halves: Halves<D>,
-    books: UnnamedBooks,
-    shelves: Vec<LockedShelf<C, B>>,
-    locks: Vec<Mutex<LockedShelf<C, B>>>,
-    empty: Vec<Shelf<C>>,
-) -> Runtime<D, C, B>
-    requires ready { IsReady store halves }
-    requires named { IsOf B.opening B.before B.processors (core_in store.history) }
-    requires generation { B.generation ≡ (core_in store.history).generation }
-    requires parts { table_of books.parts ≡ B.table }
-    requires seats { table_of books.seats ≡ B.seats }
-    requires passes { table_of books.passes ≡ B.passes }
-    requires checkpoints { table_of books.checkpoints ≡ B.checkpoints }
-    requires honest { B.honest → D.honest (disk_of halves) }
-    requires no_shelves { vec_len shelves ≡ 0 }
-    requires room { B.processors ≤ vec_capacity shelves }
-    requires no_locks { vec_len locks ≡ 0 }
-    requires room_of_locks { B.processors ≤ vec_capacity locks }
-    requires empty { AreEmpty B.processors empty.items }
-{
-    let alloc = store.alloc;
-    let UnnamedBooks {
-        parts,
-        seats,
-        passes,
-        checkpoints,
-    } = books;
-    let Opened { sequencer, shelves } = open_store(store, halves, parts.named::<B>(), shelves);
-    sequencer.facts();
-    let processors = shelves.len() as u16;
-    let hub = Hub::new(
-        alloc,
-        sequencer,
-        processors,
-        seats.named(),
-        passes.named(),
-        checkpoints.named(),
-    );
-    let mut shelves = shelves;
-    // The last one is locked first.
-    shelves.as_mut_slice().reverse();
-    lock_all(shelves, locks, hub, empty)
+    /// The runtime as [`Runtime::open`] gives it, in a room that was made before. It never fails,
+    /// and takes no memory.
+    pub fn open_in(
+        store: Store<C>,
+        halves: Halves<D>,
+        books: UnnamedBooks,
+        room: RuntimeRoom<C, B>,
+    ) -> Self
+        requires ready { IsReady store halves }
+        requires named { IsOf B.opening B.before B.processors (core_in store.history) }
+        requires generation { B.generation ≡ (core_in store.history).generation }
+        requires parts { table_of books.parts ≡ B.table }
+        requires seats { table_of books.seats ≡ B.seats }
+        requires passes { table_of books.passes ≡ B.passes }
+        requires checkpoints { table_of books.checkpoints ≡ B.checkpoints }
+        requires honest { B.honest → D.honest (disk_of halves) }
+        ensures { result ≡ shown_of (core_in store.history) }
+    {
+        let alloc = store.alloc;
+        let UnnamedBooks {
+            parts,
+            seats,
+            passes,
+            checkpoints,
+        } = books;
+        let RuntimeRoom { locks, spare } = room;
+        let Spare { shelves, empty } = spare;
+        let Opened { sequencer, shelves } = open_store(store, halves, parts.named::<B>(), shelves);
+        sequencer.facts();
+        let processors = shelves.len() as u16;
+        let hub = Hub::new(
+            alloc,
+            sequencer,
+            processors,
+            seats.named(),
+            passes.named(),
+            checkpoints.named(),
+        );
+        let mut shelves = shelves;
+        // The last one is locked first.
+        shelves.as_mut_slice().reverse();
+        lock_all(shelves, locks, hub, empty)
+    }
 }
 
 /// Puts each shelf and the hub under its lock. The shelves are handed in last first, and there is
