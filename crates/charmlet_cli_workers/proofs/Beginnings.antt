@@ -16,11 +16,11 @@ use Rattle.charmlet_script.specs.declared.script.Line.{Line}
 use Rattle.charmlet_script.specs.Script.{Contents, blanks_of, pairs_of, processors_of}
 use Rattle.charmlet_cli.specs.Lines.{AreEnough, kinds_of, named_by}
 use Rattle.charmlet_cli_workers.specs.declared.ended.WorkersError.{WorkersError}
-use Rattle.charmlet_cli_workers.specs.declared.ended.WorkersError.TheVariants.{Delivers, TooFewBlanks, Memory, NotCreated, NotRestarted, NotOpened, Output, NotClosed}
+use Rattle.charmlet_cli_workers.specs.declared.ended.WorkersError.TheVariants.{Delivers, TooFewBlanks, Memory, NotCreated, NotRestarted, NotOpened, NoSeats, Output, NotClosed}
 use Rattle.charmlet_cli_workers.specs.Left.{EndsEarly, IsLeft, Prints, PrintsOver}
 use Rattle.charmlet_cli_workers.specs.Said.{HaveBrokenOff, HaveRun, unknown}
 use Rattle.charmlet_cli_workers.proofs.Leavings.{left_anyhow}
-use Rattle.charmlet_cli_workers.specs.Runs.{EndsMade, EndsRun, IsMade, Lacks}
+use Rattle.charmlet_cli_workers.specs.Runs.{EndsMade, EndsRun, IsFit, IsMade, Lacks}
 
 -- objects that are enough are so in a stock that has them
 pub enough_in : {C : Type 0} (state : C → State) (objects : List C) (lines : List Line) (left : Kind → ℕ) → AreEnough state objects lines → ((kind : Kind) → left kind ≡ count_of state objects kind) → (kind : Kind) → blanks_of kind lines ≤ left kind
@@ -52,8 +52,8 @@ module _ {D : Type 0} (G : Ghosts D) where
         Prints r None unknown (λ deeds. Unit {0}) script.lines (contents before) (contents after) →
         IfErr r (EndsEarly end before after) → IfErr r (EndsMade G contents first end script before after)
     made_early contents before after (Ok x) left prints early = tt
-    made_early {T = T} {X = X} contents before after (Err NotOpened) left prints early =
-        (make (λ last. Unit {0}) (left_anyhow G core.opening core.before core.processors (λ last. PrintsOver {T = T} {X = X} (Err NotOpened) None last (named_by script.handlers) script.lines (contents before) (contents after)) end left), early)
+    made_early {T = T} {X = X} contents before after (Err NoSeats) left prints early =
+        (make (λ last. Unit {0}) (left_anyhow G core.opening core.before core.processors (λ last. PrintsOver {T = T} {X = X} (Err NoSeats) None last (named_by script.handlers) script.lines (contents before) (contents after)) end left), early)
     made_early contents before after (Err (Output e)) left prints early = inr (make (λ last. HaveBrokenOff None last script.handlers script.lines (contents before) (contents after)) left, prints)
     made_early {T = T} {X = X} contents before after (Err NotClosed) left prints early =
         (make (λ last. Unit {0}) (left_anyhow G core.opening core.before core.processors (λ last. PrintsOver {T = T} {X = X} (Err NotClosed) None last (named_by script.handlers) script.lines (contents before) (contents after)) end left), early, prints)
@@ -62,19 +62,21 @@ module _ {D : Type 0} (G : Ghosts D) where
     made_early contents before after (Err Memory) left prints early = absurd early
     made_early contents before after (Err (NotCreated refusal)) left prints early = absurd early
     made_early contents before after (Err (NotRestarted refusal)) left prints early = absurd early
+    made_early contents before after (Err NotOpened) left prints early = absurd early
 
-  -- and so ends the run
+  -- and so ends the run of a script that is fit
   pub made_ends : {C W X : Type 0} (state : C → State) (contents : W → Option Text) (first : D) (end : Option D) (objects : List C) (script : Contents) (before after : W) (r : Result X (WorkersError (Vec C))) →
-      IfErr r (EndsMade G contents first end script before after) → IfErr r (EndsRun G state contents first end objects script before after)
-  made_ends state contents first end objects script before after (Ok x) ends = tt
-  made_ends state contents first end objects script before after (Err NotOpened) ends = ends
-  made_ends state contents first end objects script before after (Err (Output e)) ends = ends
-  made_ends state contents first end objects script before after (Err NotClosed) ends = ends
-  made_ends state contents first end objects script before after (Err (NotCreated refusal)) ends = ends
-  made_ends state contents first end objects script before after (Err (Delivers o)) ends = absurd ends
-  made_ends state contents first end objects script before after (Err (TooFewBlanks o)) ends = absurd ends
-  made_ends state contents first end objects script before after (Err Memory) ends = absurd ends
-  made_ends state contents first end objects script before after (Err (NotRestarted refusal)) ends = absurd ends
+      IsFit state objects script.lines → IfErr r (EndsMade G contents first end script before after) → IfErr r (EndsRun G state contents first end objects script before after)
+  made_ends state contents first end objects script before after (Ok x) fit ends = tt
+  made_ends state contents first end objects script before after (Err NoSeats) fit ends = ends
+  made_ends state contents first end objects script before after (Err NotOpened) fit ends = absurd ends
+  made_ends state contents first end objects script before after (Err (Output e)) fit ends = ends
+  made_ends state contents first end objects script before after (Err NotClosed) fit ends = ends
+  made_ends state contents first end objects script before after (Err (NotCreated refusal)) fit ends = ends
+  made_ends state contents first end objects script before after (Err (Delivers o)) fit ends = absurd ends
+  made_ends state contents first end objects script before after (Err (TooFewBlanks o)) fit ends = absurd ends
+  made_ends state contents first end objects script before after (Err Memory) fit ends = (ends.0, ends.1, fit.0, fit.1)
+  made_ends state contents first end objects script before after (Err (NotRestarted refusal)) fit ends = absurd ends
 
   -- nothing was done where none began
   pub lacks_ends : {C W : Type 0} (state : C → State) (contents : W → Option Text) (first : D) (objects : List C) (script : Contents) (writer : W) (error : WorkersError (Vec C)) →
@@ -83,6 +85,7 @@ module _ {D : Type 0} (G : Ghosts D) where
   lacks_ends state contents first objects script writer (TooFewBlanks o) lacks = (refl, lacks.0, refl, lacks.1, lacks.2)
   lacks_ends state contents first objects script writer Memory lacks = (refl, refl, lacks.0, lacks.1)
   lacks_ends state contents first objects script writer NotOpened lacks = absurd lacks
+  lacks_ends state contents first objects script writer NoSeats lacks = absurd lacks
   lacks_ends state contents first objects script writer (Output e) lacks = absurd lacks
   lacks_ends state contents first objects script writer NotClosed lacks = absurd lacks
   lacks_ends state contents first objects script writer (NotCreated refusal) lacks = absurd lacks

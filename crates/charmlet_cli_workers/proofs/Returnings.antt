@@ -12,8 +12,8 @@ use Rattle.charmlet_cli.specs.Lines.{named_by}
 use Rattle.charmlet_engine.specs.Restarted.{IsOpenedOn}
 use Rattle.charmlet_cli.specs.Restarted.{given_of}
 use Rattle.charmlet_cli_workers.specs.declared.ended.WorkersError.{WorkersError}
-use Rattle.charmlet_cli_workers.specs.declared.ended.WorkersError.TheVariants.{Delivers, TooFewBlanks, Memory, NotCreated, NotRestarted, NotOpened, Output, NotClosed}
-use Rattle.charmlet_cli_workers.specs.Left.{EndsEarly, IsLeft, Prints, PrintsOver}
+use Rattle.charmlet_cli_workers.specs.declared.ended.WorkersError.TheVariants.{Delivers, TooFewBlanks, Memory, NotCreated, NotRestarted, NotOpened, NoSeats, Output, NotClosed}
+use Rattle.charmlet_cli_workers.specs.Left.{EndsUnopened, IsLeft, Prints, PrintsOver}
 use Rattle.charmlet_cli_workers.specs.Said.{ArePrinted, HaveBrokenOff, HaveRun, IsBrokenOff, unknown}
 use Rattle.charmlet_cli_workers.proofs.Leavings.{left_anyhow}
 use Rattle.charmlet_cli_workers.specs.Restarts.{EndsBack, EndsRestart, IsBackByWorkers, line_of}
@@ -36,11 +36,16 @@ module _ {D : Type 0} (G : Ghosts D) where
     pub back_early : {T W X : Type 0} (contents : W → Option Text) (before after : W) (r : Result X (WorkersError T)) →
         IfSome end (IsLeft G core.opening core.before core.processors (λ last. PrintsOver r (Some (line_of core)) last (named_by handlers) lines (contents before) (contents after))) →
         Prints r (Some (line_of core)) unknown (λ deeds. Unit {0}) lines (contents before) (contents after) →
-        IfErr r (EndsEarly end before after) → IfErr r (EndsBack G contents processors given first end handlers lines before after)
+        IfErr r (EndsUnopened end before after) → IfErr r (EndsBack G contents processors given first end handlers lines before after)
     back_early contents before after (Ok x) left prints early = tt
     back_early {T = T} {X = X} contents before after (Err NotOpened) left prints early = (
       make (λ back last. Unit {0}) (λ back. Unit {0})
           (left_anyhow G core.opening core.before core.processors (λ last. PrintsOver {T = T} {X = X} (Err NotOpened) (Some (line_of core)) last (named_by handlers) lines (contents before) (contents after)) end left) tt,
+      early,
+    )
+    back_early {T = T} {X = X} contents before after (Err NoSeats) left prints early = (
+      make (λ back last. Unit {0}) (λ back. Unit {0})
+          (left_anyhow G core.opening core.before core.processors (λ last. PrintsOver {T = T} {X = X} (Err NoSeats) (Some (line_of core)) last (named_by handlers) lines (contents before) (contents after)) end left) tt,
       early,
     )
     back_early contents before after (Err (Output e)) left prints early =
@@ -61,6 +66,7 @@ module _ {D : Type 0} (G : Ghosts D) where
       given ≡ given_of state blanks → IfErr r (EndsBack G contents processors given first end handlers lines before after) → IfErr r (EndsRestart G state contents processors first end blanks supplies handlers lines before after)
   back_ends state contents processors given first end blanks supplies handlers lines before after (Ok x) same ends = tt
   back_ends {C = C} state contents processors given first end blanks supplies handlers lines before after (Err NotOpened) same ends = subst (λ (b : Blanks). EndsBack G {T = Vec C × Vec C} contents processors b first end handlers lines before after NotOpened) same ends
+  back_ends {C = C} state contents processors given first end blanks supplies handlers lines before after (Err NoSeats) same ends = subst (λ (b : Blanks). EndsBack G {T = Vec C × Vec C} contents processors b first end handlers lines before after NoSeats) same ends
   back_ends {C = C} state contents processors given first end blanks supplies handlers lines before after (Err (Output e)) same ends = subst (λ (b : Blanks). EndsBack G {T = Vec C × Vec C} contents processors b first end handlers lines before after (Output e)) same ends
   back_ends {C = C} state contents processors given first end blanks supplies handlers lines before after (Err NotClosed) same ends = subst (λ (b : Blanks). EndsBack G {T = Vec C × Vec C} contents processors b first end handlers lines before after NotClosed) same ends
   back_ends {C = C} state contents processors given first end blanks supplies handlers lines before after (Err (NotRestarted refusal)) same ends = subst (λ (b : Blanks). EndsBack G {T = Vec C × Vec C} contents processors b first end handlers lines before after (NotRestarted refusal)) same ends

@@ -2,7 +2,7 @@
 use Rattle.charmlet_cli.specs.declared.stop.Stop.{Stop}
 use Rattle.charmlet_cli.specs.declared.stop.Stop.TheVariants as stops
 use Rattle.charmlet_cli_workers.specs.declared.ended.WorkersError.{WorkersError}
-use Rattle.charmlet_cli_workers.specs.declared.ended.WorkersError.TheVariants.{Delivers, TooFewBlanks, Memory, NotCreated, NotRestarted, NotOpened, Output, NotClosed}
+use Rattle.charmlet_cli_workers.specs.declared.ended.WorkersError.TheVariants.{Delivers, TooFewBlanks, Memory, NotCreated, NotRestarted, NotOpened, NoSeats, Output, NotClosed}
 
 -- a store that isn't there is told as that, and all else as a program that can't go on
 abbrev pub stop_after : {T : Type 0} → WorkersError T → Stop
@@ -12,5 +12,6 @@ stop_after (Delivers objects) = stops.CannotGoOn
 stop_after (TooFewBlanks objects) = stops.CannotGoOn
 stop_after Memory = stops.CannotGoOn
 stop_after NotOpened = stops.CannotGoOn
+stop_after NoSeats = stops.CannotGoOn
 stop_after (Output error) = stops.CannotGoOn
 stop_after NotClosed = stops.CannotGoOn

@@ -16,7 +16,7 @@ use Rattle.charmlet_sequencer.specs.Sequencer.{IsOf, is_lawful}
 use Rattle.charmlet_cli.specs.declared.restarting.RestartedLine.{RestartedLine}
 use Rattle.charmlet_cli.specs.Lines.{Names}
 use Rattle.charmlet_cli_workers.specs.declared.ended.WorkersError.{WorkersError}
-use Rattle.charmlet_cli_workers.specs.declared.ended.WorkersError.TheVariants.{NotOpened, Output, NotClosed}
+use Rattle.charmlet_cli_workers.specs.declared.ended.WorkersError.TheVariants.{NotOpened, NoSeats, Output, NotClosed}
 use Rattle.charmlet_cli_workers.specs.Said.{ArePrinted, Clients, Deeds, HaveDone, IsBrokenOff, opening_generation, known_in}
 
 module _ {D : Type 0} (G : Ghosts D) where
@@ -50,10 +50,10 @@ module _ {D : Type 0} (G : Ghosts D) where
     pub own : List MsgId
     pub woven : IsWoven (own ∷ lists) (deliveries_in last.history)
 
--- Lines over an opened runtime end early for want of memory before the first one, where nothing was
--- written, or for a line that couldn't be written.
+-- Lines over an opened runtime end early for want of memory for the workers' seats, where nothing
+-- was written, or for a line that couldn't be written.
 abbrev pub IsEarly : {T W : Type 0} → (before after : W) → WorkersError T → Type 0
-IsEarly before after NotOpened = after ≡ before
+IsEarly before after NoSeats = after ≡ before
 IsEarly before after (Output error) = Unit {0}
 IsEarly before after _ = ⊥
 
@@ -81,8 +81,15 @@ abbrev pub EndsApart : {D T X : Type 0} → Result X (WorkersError T) → (end :
     WorkersError T → Type 0
 EndsApart ran end error = (ran ≡ Err error) ⊎ ((error ≡ NotClosed) × (end ≡ None) × IsOk ran)
 
--- once there is a store, a run ends early for one of these three reasons
+-- once a runtime is open, a run ends early for one of these three reasons
 abbrev pub EndsEarly : {D T W : Type 0} → (end : Option D) → (before after : W) →
     WorkersError T → Type 0
 EndsEarly end before after NotClosed = end ≡ None
 EndsEarly end before after error = IsEarly before after error
+
+-- Over a store that came back, a run may end before that, for want of memory for the runtime. Then
+-- nothing was written.
+abbrev pub EndsUnopened : {D T W : Type 0} → (end : Option D) → (before after : W) →
+    WorkersError T → Type 0
+EndsUnopened end before after NotOpened = after ≡ before
+EndsUnopened end before after error = EndsEarly end before after error

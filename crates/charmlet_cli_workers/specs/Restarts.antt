@@ -16,7 +16,7 @@ use Rattle.charmlet_cli.specs.Lines.{AreEnough, Ledger}
 use Rattle.charmlet_cli.specs.Restarted.{IsBack, WasNotRestarted, given_of, refusal_text}
 use Rattle.charmlet_cli.specs.Writing.{AppendsBeginning}
 use Rattle.charmlet_cli_workers.specs.declared.ended.WorkersError.{WorkersError}
-use Rattle.charmlet_cli_workers.specs.declared.ended.WorkersError.TheVariants.{Delivers, TooFewBlanks, Memory, NotCreated, NotRestarted, NotOpened, Output, NotClosed}
+use Rattle.charmlet_cli_workers.specs.declared.ended.WorkersError.TheVariants.{Delivers, TooFewBlanks, Memory, NotCreated, NotRestarted, NotOpened, NoSeats, Output, NotClosed}
 use Rattle.charmlet_cli_workers.specs.Left.{IsLeft}
 use Rattle.charmlet_cli_workers.specs.Lines.{has_delivery}
 use Rattle.charmlet_cli_workers.specs.Said.{ArePrinted, HaveBrokenOff, IsBrokenOff, unknown}
@@ -32,8 +32,8 @@ line_of back = record {
 
 module _ {D : Type 0} (G : Ghosts D) where
   -- There are 1 to 64 processors, and a store came back from the first disk, as an engine's does.
-  -- The disk at the end, if it comes back, is honest if the first one was, and has a store that went
-  -- on from that one; and this was printed. This was said whether or not the disk comes back.
+  -- The disk at the end, if it comes back, is honest if the first one was, and has a store that
+  -- went on from that one; and this was printed. This was said whether or not the disk comes back.
   pub record IsBackByWorkers (processors : ℕ) (given : Blanks) (first : D) (end : Option D)
       (printed : (back last : Core) → Type 0) (said : Core → Type 0) : Type 0 where
     pub counted : IsTrue (is_processor_count processors)
@@ -60,6 +60,9 @@ module _ {D : Type 0} (G : Ghosts D) where
       Appends (contents before) (contents after) (refusal_text refusal)
       × IsNotBack processors given first end refusal
   EndsBack contents processors given first end handlers lines before after NotOpened =
+      IsBackByWorkers processors given first end (λ back last. Unit {0}) (λ back. Unit {0})
+      × (after ≡ before)
+  EndsBack contents processors given first end handlers lines before after NoSeats =
       IsBackByWorkers processors given first end (λ back last. Unit {0}) (λ back. Unit {0})
       × (after ≡ before)
   EndsBack contents processors given first end handlers lines before after (Output error) =

@@ -13,7 +13,7 @@ use Rattle.charmlet_script.specs.Script.{Contents, processors_of}
 use Rattle.charmlet_cli.specs.Lines.{AreEnough, kinds_of}
 use Rattle.charmlet_cli.specs.Run.{IsCreated, IsHandedBack, IsNotCreated, IsNotSaid}
 use Rattle.charmlet_cli_workers.specs.declared.ended.WorkersError.{WorkersError}
-use Rattle.charmlet_cli_workers.specs.declared.ended.WorkersError.TheVariants.{Delivers, TooFewBlanks, Memory, NotCreated, NotRestarted, NotOpened, Output, NotClosed}
+use Rattle.charmlet_cli_workers.specs.declared.ended.WorkersError.TheVariants.{Delivers, TooFewBlanks, Memory, NotCreated, NotRestarted, NotOpened, NoSeats, Output, NotClosed}
 use Rattle.charmlet_cli_workers.specs.Left.{IsLeft}
 use Rattle.charmlet_cli_workers.specs.Lines.{has_delivery}
 use Rattle.charmlet_cli_workers.specs.Said.{ArePrinted, HaveBrokenOff, IsBrokenOff, unknown}
@@ -39,15 +39,15 @@ module _ {D : Type 0} (G : Ghosts D) where
   IsNotMade first end script refusal = (last : D) × (end ≡ Some last)
       × IsHandedBack G first last script refusal × IsAsHonest first last
 
-  -- What each error means where a store was to be made. A refused creation writes its line. Where
-  -- the disk doesn't come back, what was printed is still of the lines' own forms; and if only the
-  -- runtime wasn't taken apart, all of it.
+  -- What each error means where a store was to be made. Out of memory before that, nothing is
+  -- done; a refused creation writes its line. Where the disk doesn't come back, what was printed
+  -- is still of the lines' own forms; and if only the runtime wasn't taken apart, all of it.
   abbrev pub EndsMade : {T W : Type 0} → (W → Option Text) → (first : D) → (end : Option D) →
       Contents → (before after : W) → WorkersError T → Type 0
   EndsMade contents first end script before after (NotCreated refusal) =
       IsNotCreated script refusal (contents before) (contents after)
       × IsNotMade first end script refusal
-  EndsMade contents first end script before after NotOpened =
+  EndsMade contents first end script before after NoSeats =
       IsMade first end script (λ last. Unit {0}) × (after ≡ before)
   EndsMade contents first end script before after (Output error) =
       ((refusal : Refusal) × IsNotSaid script refusal (contents before) (contents after)
@@ -62,8 +62,9 @@ module _ {D : Type 0} (G : Ghosts D) where
       (contents after)
   EndsMade contents first end script before after (Delivers objects) = ⊥
   EndsMade contents first end script before after (TooFewBlanks objects) = ⊥
-  EndsMade contents first end script before after Memory = ⊥
+  EndsMade contents first end script before after Memory = (end ≡ Some first) × (after ≡ before)
   EndsMade contents first end script before after (NotRestarted refusal) = ⊥
+  EndsMade contents first end script before after NotOpened = ⊥
 
   -- What each error of a run means. All objects come back if and only if a line is `deliver`, or no
   -- line is and there are too few of them. The disk and the output then stay as they were, as they

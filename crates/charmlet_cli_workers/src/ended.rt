@@ -20,9 +20,12 @@ pub enum WorkersError<T: Drop> {
     NotCreated(Refusal),
     /// No store came back, for this reason. Only its line was written, and no line was run.
     NotRestarted(Refusal),
-    /// There is a store, and it is out of memory for the locks of a runtime or for the seats of its
-    /// workers. Nothing was written, and no line was run.
+    /// A store came back, and there is no memory for the locks of its runtime. Nothing was printed,
+    /// and no line was run.
     NotOpened,
+    /// There is a store, and no memory for the seats of its workers. Nothing was printed, and no
+    /// line was run.
+    NoSeats,
     /// A line couldn't be written: the output failed, or there was no memory for its text. A
     /// beginning of what is printed was written.
     Output(io::Error),
@@ -54,6 +57,7 @@ impl<T: Drop> From<WorkersError<T>> for Stop {
             | WorkersError::TooFewBlanks(_)
             | WorkersError::Memory
             | WorkersError::NotOpened
+            | WorkersError::NoSeats
             | WorkersError::Output(_)
             | WorkersError::NotClosed => Stop::CannotGoOn,
         }

@@ -8,7 +8,7 @@ ghost use Rattle.charmlet_agreement.specs.Naming.{table_of};
 ghost use Rattle.charmlet_sequencer.specs.Sequencer.{IsOf};
 ghost use Rattle.charmlet_engine.specs.Engine.{core_of};
 ghost use Rattle.charmlet_cli_workers.specs.Heard.{AreTidy, IsDoneBy, known_by, names_in};
-ghost use Rattle.charmlet_cli_workers.specs.Left.{EndsApart, EndsEarly, IsApart, IsEarly, IsLeft, KeepsDurable, Prints, PrintsOver};
+ghost use Rattle.charmlet_cli_workers.specs.Left.{EndsApart, EndsEarly, EndsUnopened, IsApart, IsEarly, IsLeft, KeepsDurable, Prints, PrintsOver};
 ghost use Rattle.charmlet_cli_workers.specs.Lines.{has_delivery};
 ghost use Rattle.charmlet_cli_workers.specs.Said.{opening_generation, opening_texts, unknown};
 ghost use Rattle.charmlet_cli.specs.Lines.{in_lines};
@@ -87,15 +87,10 @@ pub(crate) fn run_named<
         lines.now.lines.now (W.contents writer.old) (W.contents writer.new) }
     ensures honest { IfSome result.disk (λ disk. D.honest begun.disk → D.honest disk) }
     ensures back { OnOk result.result (IsSome result.disk) }
-    ensures err { IfErr result.result (EndsEarly result.disk writer.old writer.new) }
+    ensures err { IfErr result.result (EndsUnopened result.disk writer.old writer.new) }
 {
-    let Given { handlers, source } = given;
-    let mut floor = Floor::new(alloc, handlers, source);
     match begun.open::<B>(books) {
-        Ok(runtime) => {
-            let ran = run_on(rt, alloc, &runtime, &mut floor, lines, writer);
-            take_apart(runtime, floor, ran)
-        }
+        Ok(runtime) => run_opened(rt, alloc, runtime, given, lines, writer),
         Err(NotOpened { store, halves }) => {
             store.history.facts();
             RanByWorkers {
@@ -104,6 +99,42 @@ pub(crate) fn run_named<
             }
         }
     }
+}
+
+/// Runs lines over a runtime that was opened for them, and takes it apart.
+pub(crate) fn run_opened<
+    D: Disk,
+    C: Chare,
+    T: Drop,
+    B: RuntimeName + Send + Sync,
+    W: Write,
+    R: Threads + Wait + Sync,
+>(
+    rt: &R,
+    alloc: Global,
+    runtime: Runtime<D, C, B>,
+    given: Given<C>,
+    lines: &Lines<'_>,
+    writer: &mut W,
+) -> RanByWorkers<D, T>
+    requires restarted { runtime.generation ≡ opening_generation lines.now.restarted }
+    requires no_delivery { has_delivery lines.now.lines.now ≡ false }
+    requires enough { (kind : Kind) → blanks_of kind lines.now.lines.now
+        ≤ blanks_in given.source kind }
+    ensures left { IfSome result.disk (IsLeft D.Disk runtime.opening runtime.before
+        runtime.processors (λ last. PrintsOver result.result lines.now.restarted last
+        (names_in given.handlers) lines.now.lines.now (W.contents writer.old)
+        (W.contents writer.new))) }
+    ensures prints { Prints result.result lines.now.restarted unknown (λ deeds. Unit {0})
+        lines.now.lines.now (W.contents writer.old) (W.contents writer.new) }
+    ensures honest { IfSome result.disk (λ disk. B.honest → D.honest disk) }
+    ensures back { OnOk result.result (IsSome result.disk) }
+    ensures err { IfErr result.result (EndsEarly result.disk writer.old writer.new) }
+{
+    let Given { handlers, source } = given;
+    let mut floor = Floor::new(alloc, handlers, source);
+    let ran = run_on(rt, alloc, &runtime, &mut floor, lines, writer);
+    take_apart(runtime, floor, ran)
 }
 
 /// Takes the seats of the workers, and runs lines.
@@ -140,7 +171,7 @@ fn run_on<
     let stations = &mut floor.stations;
     let seats = &mut floor.seats;
     let Ok(()) = take_seats(rt, runtime, stations, seats, lines.processors) else {
-        return Err(WorkersError::NotOpened);
+        return Err(WorkersError::NoSeats);
     };
     if let Err(error) = write_opening(alloc, lines.restarted, writer) {
         return Err(WorkersError::Output(error));

@@ -21,7 +21,7 @@ use charmlet_cli::{
     RestartedLine, handlers_of, has_enough, source_of, supplied_at_restart, write_answer,
 };
 use charmlet_disk::Disk;
-use charmlet_model::{Answer, Refusal};
+use charmlet_model::Answer;
 use charmlet_recover::{NotRestarted, stock_of};
 use charmlet_runtime::UnnamedRuntime;
 use charmlet_script::RestartScript;

@@ -7,7 +7,10 @@ ghost use Rattle.charmlet_stock.specs.Stock.{blanks_in};
 ghost use Rattle.charmlet_model.specs.Edition.{AreNewest};
 ghost use Rattle.charmlet_model.specs.Manifest.{manifest_of};
 ghost use Rattle.charmlet_disk.specs.Disk.{IsSettled};
-ghost use Rattle.charmlet_script.specs.Script.{blanks_of, pairs_of};
+ghost use Rattle.charmlet_script.specs.Script.{blanks_of, pairs_of, processors_of};
+ghost use Rattle.charmlet_agreement.specs.Naming.{table_of};
+ghost use Rattle.charmlet_journal.specs.NewStores.{new_core};
+ghost use Rattle.charmlet_sequencer.specs.Sequencer.{IsOf};
 ghost use Rattle.charmlet_requests.specs.Handlers.{handler_of};
 ghost use Rattle.charmlet_cli.specs.Lines.{named_by};
 ghost use Rattle.charmlet_cli_workers.specs.Lines.{has_delivery};
@@ -16,15 +19,16 @@ ghost use Rattle.charmlet_cli_workers.specs.Runs.{EndsMade, EndsRun, IsFit, IsMa
 
 use crate::ended::{RanByWorkers, WorkersError};
 use crate::lines::has_delivery;
-use crate::opened::{Given, Lines, run_named};
+use crate::opened::{Given, Lines, run_opened};
 use charmlet_chare::Chare;
 use charmlet_cli::{handlers_of, has_enough, source_of, supplied_by, write_answer};
 use charmlet_disk::Disk;
 use charmlet_halves::Refused;
-use charmlet_model::{Answer, Manifest, Refusal};
+use charmlet_model::{Answer, Manifest};
 use charmlet_runtime::UnnamedRuntime;
 use charmlet_script::Script;
-use charmlet_workers::UnnamedBooks;
+use charmlet_sequencer::RuntimeName;
+use charmlet_workers::{RuntimeRoom, UnnamedBooks};
 use std::alloc::{AllocError, Global};
 use std::io::Write;
 use std::marker::Brand;
@@ -64,7 +68,9 @@ pub fn run_workers<D: Disk, C: Chare, W: Write, R: Threads + Wait + Sync>(
         blanks.items script.now writer.old writer.new) }
 {
     match prepare(alloc, script, blanks) {
-        Ok(prepared) => run_in_new_store(rt, alloc, disk, script, prepared, writer),
+        Ok(prepared) => {
+            run_in_new_store::<D, C, Brand, W, R>(rt, alloc, disk, script, prepared, writer)
+        }
         Err(error) => RanByWorkers {
             disk: Some(disk),
             result: Err(error),
@@ -136,8 +142,16 @@ fn prepared_with<C: Chare>(
     })
 }
 
-/// Creates the script's store and runs its lines there, or writes why there is no store.
-fn run_in_new_store<D: Disk, C: Chare, W: Write, R: Threads + Wait + Sync>(
+/// Creates the script's store and runs its lines there, under the runtime's name `B`, or writes why
+/// there is no store. The runtime's room is made first; where memory lacks for it, neither disk nor
+/// output is touched.
+fn run_in_new_store<
+    D: Disk,
+    C: Chare,
+    B: RuntimeName + Send + Sync,
+    W: Write,
+    R: Threads + Wait + Sync,
+>(
     rt: &R,
     alloc: Global,
     disk: D,
@@ -146,6 +160,15 @@ fn run_in_new_store<D: Disk, C: Chare, W: Write, R: Threads + Wait + Sync>(
     writer: &mut W,
 ) -> RanByWorkers<D, Vec<C>>
     requires settled { D.honest disk → IsSettled (D.file disk) }
+    requires named { IsOf B.opening B.before B.processors
+        (new_core (processors_of script.now) prepared.manifest) }
+    requires generation { B.generation ≡ 1 }
+    requires parts { table_of prepared.books.parts ≡ B.table }
+    requires seats { table_of prepared.books.seats ≡ B.seats }
+    requires passes { table_of prepared.books.passes ≡ B.passes }
+    requires checkpoints { table_of prepared.books.checkpoints ≡ B.checkpoints }
+    requires honest { B.honest → D.honest disk }
+    requires only_honest { D.honest disk → B.honest }
     requires manifest { manifest_of (pairs_of script.now.arrays) ≡ Some prepared.manifest }
     requires newest { AreNewest prepared.manifest }
     requires no_delivery { has_delivery script.now.lines ≡ false }
@@ -165,14 +188,22 @@ fn run_in_new_store<D: Disk, C: Chare, W: Write, R: Threads + Wait + Sync>(
         books,
         given,
     } = prepared;
-    match UnnamedRuntime::create(alloc, disk, manifest, script.processors()) {
+    let processors = script.processors();
+    let Ok(room) = RuntimeRoom::new(alloc, processors) else {
+        return RanByWorkers {
+            disk: Some(disk),
+            result: Err(WorkersError::Memory),
+        };
+    };
+    match UnnamedRuntime::create(alloc, disk, manifest, processors) {
         Ok(begun) => {
+            let runtime = begun.open_in::<B>(books, room);
             let lines = Lines {
-                processors: script.processors(),
+                processors,
                 restarted: None,
                 lines: script.lines(),
             };
-            run_named::<D, C, Vec<C>, Brand, W, R>(rt, alloc, begun, books, given, &lines, writer)
+            run_opened(rt, alloc, runtime, given, &lines, writer)
         }
         Err(Refused { refusal, disk }) => {
             match write_answer(alloc, writer, &Answer::Refused(refusal)) {

@@ -12,7 +12,7 @@ returns-in-Ok-clause-fit g c = on_ok c.run_in_new_store.result.result c.in-Ok.en
 pub returns-in-Ok-clause-err : goal.returns-in-Ok-clause-err
 returns-in-Ok-clause-err g c =
     let ran = c.run_in_new_store.result in
-    made_ends g.D.Disk g.C.Chare.state g.W.Write.contents c.args.disk ran.disk c.args.blanks.items c.args.script.now c.args.writer.now c.run_in_new_store.new.writer ran.result c.run_in_new_store.ensures.err
+    made_ends g.D.Disk g.C.Chare.state g.W.Write.contents c.args.disk ran.disk c.args.blanks.items c.args.script.now c.args.writer.now c.run_in_new_store.new.writer ran.result c.in-Ok.ensures.fit c.run_in_new_store.ensures.err
 
 pub returns-in-Err-clause-err : goal.returns-in-Err-clause-err
 returns-in-Err-clause-err g c = lacks_ends g.D.Disk g.C.Chare.state g.W.Write.contents c.args.disk c.args.blanks.items c.args.script.now c.args.writer.now c.in-Err.error c.in-Err.ensures.err
