@@ -8,7 +8,7 @@ use std::alloc::{AllocError, AllocGlobal, Global};
 use std::process::Abort;
 use std::thread::Threads;
 
-// How many of the last bytes of the log are changed, one at a time.
+// Every second one of so many last bytes of the log is changed, one at a time.
 const CHANGES: usize = 48;
 
 // The bytes with another one so far from their end.
@@ -21,15 +21,11 @@ fn changed(alloc: Global, bytes: &[u8], from_end: usize) -> Result<Vec<u8>, Allo
     Ok(copy)
 }
 
-// The files come to the same by one worker, by several, and by a restart.
+// The files come to the same by one worker and by three.
 fn assert_same<R: Threads + Sync + AllocGlobal + Abort>(rt: &R, files: Files<'_>) -> String {
     let wanted = by_one(rt, files, 2);
-    for workers in [2, 3] {
-        let found = by_many(rt, files, 2, workers);
-        assert_eq!(rt; found.as_str(), wanted.as_str(), "by {workers} workers");
-    }
-    let found = by_restart(rt, files, 2, 2);
-    assert_eq!(rt; found.as_str(), wanted.as_str(), "by a restart");
+    let found = by_many(rt, files, 2, 3);
+    assert_eq!(rt; found.as_str(), wanted.as_str());
     wanted
 }
 
@@ -44,8 +40,12 @@ fn long_logs_come_back_the_same(rt: HostRuntime) {
     };
     let whole = assert_same(&rt, files);
     assert!(rt; whole.starts_with("events 13204"));
+    let by_two = by_many(&rt, files, 2, 2);
+    assert_eq!(rt; by_two.as_str(), whole.as_str(), "by two workers");
+    let restarted = by_restart(&rt, files, 2, 2);
+    assert_eq!(rt; restarted.as_str(), whole.as_str(), "by a restart");
     let mut faulty = 0;
-    for from_end in 2..CHANGES {
+    for from_end in (2..CHANGES).step_by(2) {
         let other = changed(rt.alloc(), &zero, from_end).expect(&rt, "memory");
         let files = Files {
             zero: &other,
@@ -55,5 +55,5 @@ fn long_logs_come_back_the_same(rt: HostRuntime) {
             faulty += 1;
         }
     }
-    assert!(rt; faulty >= 12);
+    assert!(rt; faulty >= 6);
 }
