@@ -44,7 +44,7 @@ fn long_logs_come_back_the_same(rt: HostRuntime) {
     assert_eq!(rt; by_two.as_str(), whole.as_str(), "by two workers");
     let restarted = by_restart(&rt, files, 2, 2);
     assert_eq!(rt; restarted.as_str(), whole.as_str(), "by a restart");
-    let mut faulty = 0;
+    let mut faulty = 0u64;
     for from_end in (2..CHANGES).step_by(2) {
         let other = changed(rt.alloc(), &zero, from_end).expect(&rt, "memory");
         let files = Files {
@@ -52,7 +52,7 @@ fn long_logs_come_back_the_same(rt: HostRuntime) {
             one: &one,
         };
         if !assert_same(&rt, files).starts_with("events") {
-            faulty += 1;
+            faulty = faulty.saturating_add(1);
         }
     }
     assert!(rt; faulty >= 6);

@@ -3,7 +3,7 @@ use Rattle.charmlet_recover.proofs.Answered.{enough_for_half}
 use Rattle.charmlet_replay_tests.proofs.tests.answers.replay_plainly.Goals as goal
 
 pub replay-requires-clause-half : goal.replay-requires-clause-half
-replay-requires-clause-half g c =
+replay-requires-clause-half g c κs =
     let found = c.args.found.now in
     let s = c.requires.reads.0 in
     let is = c.requires.reads.1.found in
