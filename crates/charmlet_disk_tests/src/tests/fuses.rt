@@ -190,13 +190,17 @@ fn fails_to_sync<D: Disk>(rt: &impl Abort, disk: &mut D) {
 }
 
 // The length of a half can't be read.
-fn has_no_len<D: Disk>(rt: &impl Abort, disk: &mut D) {
+fn has_no_len<D: Disk>(rt: &impl Abort, disk: &mut D)
+    ensures { D.honest disk.new → D.honest disk.old }
+{
     assert!(rt; disk.len(Half::One).is_err());
 }
 
 // A length, a read, a write and a sync are passed on to a disk, one after another, and each of them
 // fails there once.
-fn passes_each_once<D: Disk>(rt: &impl Abort, disk: &mut D) {
+fn passes_each_once<D: Disk>(rt: &impl Abort, disk: &mut D)
+    requires { D.honest disk.old → ⊥ }
+{
     let mut byte = [0; 1];
     has_no_len(rt, disk);
     has_failures(rt, disk, 1);

@@ -116,9 +116,11 @@ impl<B: RuntimeName> Open<B> {
     fn stay_without_each(self, rt: &impl Abort) -> Self {
         let mut open = self;
         for _ in 0..2 {
+            assert!(rt; !open.seats.is_empty());
             let seat = open.seats.remove(0);
             open = open.stay(rt);
             open.seats.push(seat).expect(rt, "memory");
+            assert!(rt; !open.passes.is_empty());
             let pass = open.passes.remove(0);
             open = open.stay(rt);
             open.passes.push(pass).expect(rt, "memory");
@@ -193,13 +195,9 @@ fn close<B: RuntimeName + Send + Sync, R: Wait + AllocGlobal + Abort + Sync>(
 ) {
     assert!(rt; runtime.supply(rt, blanks).is_ok());
     let mut open = Open::lend(rt, runtime).stay_without_each(rt);
-    halt(
-        rt,
-        &open.runtime,
-        switches,
-        &mut open.seats[0],
-        &mut open.passes[0],
-    );
+    let seat = open.seats.get_mut(0).expect(rt, "a seat");
+    let pass = open.passes.get_mut(0).expect(rt, "a pass");
+    halt(rt, &open.runtime, switches, seat, pass);
     let counts = switches.counts();
     end(rt, open.stay_without_each(rt));
     assert_eq!(rt; switches.counts(), counts);

@@ -138,10 +138,11 @@ fn fail<B: RuntimeName, R: Wait + Abort>(
     let [lengths, reads, writes, syncs, failed] = switches.counts();
     switches.once.store(call, Ordering::SeqCst);
     assert_eq!(rt; runtime.flush(rt, passes).err(), Some(Refusal::Device));
-    let passed = [writes + call.div_ceil(2), syncs + call / 2];
+    let written = writes.saturating_add(call.div_ceil(2));
+    let synced = syncs.saturating_add(call / 2);
     assert_eq!(rt;
         switches.counts(),
-        [lengths, reads, passed[0], passed[1], failed + 1]
+        [lengths, reads, written, synced, failed.saturating_add(1)]
     );
     assert_eq!(rt; runtime.flush(rt, passes).err(), Some(Refusal::Halted));
     assert!(rt; runtime.is_halted(rt));
@@ -299,7 +300,7 @@ fn crosses_and_fails<R: Threads + Wait + Sync + AllocGlobal + Abort>(
     assert_eq!(rt; gate.commits_of_one.load(Ordering::SeqCst), 1);
     assert_eq!(rt; gate.others.load(Ordering::SeqCst), 0);
     let is_there = matches!(choice, CrashChoice::New | CrashChoice::Ones);
-    let events = if call + 1 == FLUSH && is_there { 4 } else { 0 };
+    let events = if call == FLUSH - 1 && is_there { 4 } else { 0 };
     restarts(rt, tally, disk, choice, events);
 }
 

@@ -1,7 +1,7 @@
 //! Random stores whose checkpoints run while clients ask and workers deliver. Each crashes and
 //! comes back, and is compared with the world after the events that were durable.
 
-ghost use Rattle.std.specs.Prelude.{◌≡◌};
+ghost use Rattle.std.specs.Prelude.{◌<◌, ◌≡◌, ◌≤◌};
 ghost use Rattle.charmlet_agreement.specs.Naming.{table_of};
 ghost use Rattle.charmlet_history.specs.Kept.{core_in};
 ghost use Rattle.charmlet_model.specs.Edition.{AreNewest};
@@ -60,7 +60,10 @@ const SUPPLY: [(Kind, u64); 6] = [
 // The gate of an open half.
 const OPEN: u8 = 1;
 
-fn some(rng: &mut Pcg32, below: u32) -> u32 {
+fn some(rng: &mut Pcg32, below: u32) -> u32
+    requires { 1 ≤ below }
+    ensures { result < below }
+{
     rng.next_word() % below
 }
 

@@ -7,6 +7,6 @@ use Rattle.charmlet_lab_tests.proofs.tests.judged.held_against.Goals as goal
 
 -- the first events of a run are legal too
 pub lab_outcome-requires-clause-legal : goal.lab_outcome-requires-clause-legal
-lab_outcome-requires-clause-legal c κs =
+lab_outcome-requires-clause-legal g c κs lives =
     let w = new_world (arrays_of c.in_ok-script.script) in
     subst (IsLegal w 0) (sym (c.deref.ensures.value ∙ c.truncate.ensures.items)) (legal_front w _ c.args.count c.in_ok-disk.ensures.ok.legal)

@@ -1,14 +1,14 @@
 use Rattle.charmlet_agreement.specs.Naming.{table_of}
 use Rattle.charmlet_engine.specs.Engine.{core_of}
-use Rattle.charmlet_workers_tests.proofs.tests.hinting.pass_on_once.Given as goal
+use Rattle.charmlet_workers_tests.proofs.tests.hinting.run_once.Given as goal
 
 -- the book of shelves that was just made
-abbrev pub ghosts-pass_on_named-B-BookName : goal.ghosts-pass_on_named-B-BookName
-ghosts-pass_on_named-B-BookName g a = record { table = table_of a.books.parts }
+abbrev pub ghosts-run_named-B-BookName : goal.ghosts-run_named-B-BookName
+ghosts-run_named-B-BookName g a = record { table = table_of a.books.parts }
 
 -- the other two books, and the engine's store
-abbrev pub ghosts-pass_on_named-B-RuntimeName : goal.ghosts-pass_on_named-B-RuntimeName
-ghosts-pass_on_named-B-RuntimeName g a = record {
+abbrev pub ghosts-run_named-B-RuntimeName : goal.ghosts-run_named-B-RuntimeName
+ghosts-run_named-B-RuntimeName g a = record {
   seats = table_of a.books.seats;
   passes = table_of a.books.passes;
   checkpoints = table_of a.books.checkpoints;
