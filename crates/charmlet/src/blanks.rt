@@ -75,9 +75,6 @@ macro_rules! blank {
     }};
 }
 
-pub(crate) use blank;
-pub(crate) use boxed;
-
 /// Makes the blanks that a task needs, and starts it with them. It fails only when there is no
 /// memory for them.
 pub(crate) fn with_blanks<T: Task>(alloc: Global, task: T) -> Result<T::Answer, AllocError>

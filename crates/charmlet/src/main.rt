@@ -21,14 +21,18 @@ use std::sync::Wait;
 use std::thread::Threads;
 use std::{env, io};
 
-/// Shows the store in the two files of a folder on standard output.
-fn show(rt: HostRuntime, dir: &str) -> Result<(), Stop> {
-    let alloc = rt.alloc();
+/// Shows the store in the two files of a folder.
+fn show_in<W: Write>(rt: HostRuntime, dir: &str, writer: &mut W) -> Result<(), Stop> {
     let mut disk = AnyDisk::folder(rt, dir)?;
-    let mut writer = BufWriter::new(alloc, io::writer(&rt))?;
-    let shown = show_store(alloc, &mut disk, &mut writer);
+    Ok(show_store(rt.alloc(), &mut disk, writer)?)
+}
+
+/// The same, on standard output.
+fn show(rt: HostRuntime, dir: &str) -> Result<(), Stop> {
+    let mut writer = BufWriter::new(rt.alloc(), io::writer(&rt))?;
+    let shown = show_in(rt, dir, &mut writer);
     writer.flush()?;
-    Ok(shown?)
+    shown
 }
 
 /// The words of the command line, the first of which is the program's name.

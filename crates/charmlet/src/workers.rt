@@ -1,64 +1,84 @@
 //! Runs of scripts by workers.
 
+ghost use Rattle.std.specs.Thread.{IsSync};
 ghost use Rattle.charmlet_any_disk.specs.AnyDisk.{files_of, is_honest};
 ghost use Rattle.charmlet_disk.specs.Disk.{IsSettled};
 
-use crate::blanks::{Object, blank, boxed};
+use crate::blanks::{Object, Task, with_blanks};
 use crate::output::block;
 use crate::scripts::{restart_script_in, script_in};
 use charmlet_any_disk::AnyDisk;
-use charmlet_chare::Chare;
 use charmlet_cli::{Stop, find_blanks};
 use charmlet_cli_workers::{RanByWorkers, restart_workers, run_workers};
-use charmlet_kinds::{Account, Counter, Ring, Sum, Tape, Tree};
 use charmlet_model::Kind;
 use charmlet_recover::Wanted;
 use charmlet_script::{RestartScript, Runner, Script};
-use std::alloc::AllocError;
+use std::alloc::Global;
 use std::io;
 use std::io::{BufWriter, Write};
 use std::sync::Wait;
 use std::thread::Threads;
 
-/// A run of a script by workers over a new store on this disk, with these objects.
-fn run_with<C: Chare, W: Write, R: Threads + Wait + Sync>(
-    rt: HostRuntime,
-    threads: &R,
+/// A run of a script by workers over a new store on this disk, with its lines written.
+#[derive(Drop)]
+struct WorkersRun<'a, R: Threads + Wait + Sync, W: Write> {
+    threads: &'a R,
+    alloc: Global,
     disk: AnyDisk,
-    script: &Script,
-    supplies: Vec<C>,
-    writer: &mut W,
-) -> Result<(), Stop>
-    requires settled { is_honest disk → IsSettled (files_of disk) }
-{
-    let alloc = rt.alloc();
-    let RanByWorkers { result, .. } = run_workers(threads, alloc, disk, script, supplies, writer);
-    Ok(result?)
+    script: &'a Script,
+    writer: &'a mut W,
 }
 
-/// The same, with the objects that the script supplies.
-fn run_on<W: Write, R: Threads + Wait + Sync>(
+impl<R: Threads + Wait + Sync, W: Write> Task for WorkersRun<'_, R, W> {
+    type Answer = Result<(), Stop>;
+
+    ghost may_begin = { λ run. IsSync R.row × (is_honest run.disk → IsSettled (files_of run.disk)) };
+
+    fn blanks(&self, _kind: Kind) -> u64 {
+        0
+    }
+
+    fn supplies(&self, kind: Kind) -> u64 {
+        self.script.blanks(kind)
+    }
+
+    fn begin(self, _blanks: Vec<Object>, supplies: Vec<Object>) -> Result<(), Stop> {
+        let WorkersRun {
+            threads,
+            alloc,
+            disk,
+            script,
+            writer,
+        } = self;
+        let RanByWorkers { result, .. } = run_workers(
+            threads, alloc, disk, script, supplies, writer,
+        );
+        Ok(result?)
+    }
+}
+
+/// Runs a script by workers over a new store in the two files of a folder, or in memory without
+/// one.
+fn run_in<R: Threads + Wait + Sync, W: Write>(
     rt: HostRuntime,
     threads: &R,
-    disk: AnyDisk,
     script: &Script,
+    dir: Option<&str>,
     writer: &mut W,
-) -> Result<(), Stop>
-    requires settled { is_honest disk → IsSettled (files_of disk) }
-{
+) -> Result<(), Stop> {
     let alloc = rt.alloc();
-    let mut supplies = Vec::new(alloc);
-    for kind in &Kind::ALL {
-        for _ in 0..script.blanks(*kind) {
-            let Ok(blank) = blank!(alloc, kind) else {
-                return Err(Stop::CannotGoOn);
-            };
-            if supplies.push(blank).is_err() {
-                return Err(Stop::CannotGoOn);
-            }
-        }
-    }
-    run_with(rt, threads, disk, script, supplies, writer)
+    let disk = match dir {
+        Some(dir) => AnyDisk::folder(rt, dir)?,
+        None => AnyDisk::memory(alloc),
+    };
+    let run = WorkersRun {
+        threads,
+        alloc,
+        disk,
+        script,
+        writer,
+    };
+    with_blanks(alloc, run)?
 }
 
 /// Reads a script, and then runs it by workers over a new store in the two files of a folder, or in
@@ -69,82 +89,59 @@ pub(crate) fn run_by_workers<R: Threads + Wait + Sync>(
     path: &str,
     dir: Option<&str>,
 ) -> Result<(), Stop> {
-    let alloc = rt.alloc();
     let script = script_in(rt, path, Runner::Workers)?;
-    let disk = match dir {
-        Some(dir) => AnyDisk::folder(rt, dir)?,
-        None => AnyDisk::memory(alloc),
-    };
-    let mut writer = BufWriter::with_capacity(alloc, block(rt), io::writer(&rt))?;
-    let ran = run_on(rt, threads, disk, &script, &mut writer);
+    let mut writer = BufWriter::with_capacity(rt.alloc(), block(rt), io::writer(&rt))?;
+    let ran = run_in(rt, threads, &script, dir, &mut writer);
     writer.flush()?;
     ran
 }
 
 /// A run of a script by workers over the store on this disk, which comes back on this number of
-/// processors, with these objects.
-fn restart_with<C: Chare, W: Write, R: Threads + Wait + Sync>(
-    rt: HostRuntime,
-    threads: &R,
+/// processors, with the blanks that the restart wants.
+#[derive(Drop)]
+struct WorkersRestart<'a, R: Threads + Wait + Sync, W: Write> {
+    threads: &'a R,
+    alloc: Global,
     disk: AnyDisk,
     processors: u16,
-    script: &RestartScript,
-    blanks: Vec<C>,
-    supplies: Vec<C>,
-    writer: &mut W,
-) -> Result<(), Stop> {
-    let RanByWorkers { result, .. } = restart_workers(
-        threads,
-        rt.alloc(),
-        disk,
-        processors,
-        script,
-        blanks,
-        supplies,
-        writer,
-    );
-    Ok(result?)
+    script: &'a RestartScript,
+    wanted: Wanted,
+    writer: &'a mut W,
 }
 
-/// The same, with the blanks that the restart wants and the objects that the script supplies.
-fn restart_on<W: Write, R: Threads + Wait + Sync>(
-    rt: HostRuntime,
-    threads: &R,
-    disk: AnyDisk,
-    processors: u16,
-    script: &RestartScript,
-    wanted: &Wanted,
-    writer: &mut W,
-) -> Result<(), Stop> {
-    let alloc = rt.alloc();
-    let mut blanks = Vec::new(alloc);
-    let mut supplies = Vec::new(alloc);
-    for kind in &Kind::ALL {
-        for _ in 0..wanted.of(*kind) {
-            let Ok(blank) = blank!(alloc, kind) else {
-                return Err(Stop::CannotGoOn);
-            };
-            if blanks.push(blank).is_err() {
-                return Err(Stop::CannotGoOn);
-            }
-        }
-        for _ in 0..script.blanks(*kind) {
-            let Ok(blank) = blank!(alloc, kind) else {
-                return Err(Stop::CannotGoOn);
-            };
-            if supplies.push(blank).is_err() {
-                return Err(Stop::CannotGoOn);
-            }
-        }
+impl<R: Threads + Wait + Sync, W: Write> Task for WorkersRestart<'_, R, W> {
+    type Answer = Result<(), Stop>;
+
+    ghost may_begin = { λ _. IsSync R.row };
+
+    fn blanks(&self, kind: Kind) -> u64 {
+        self.wanted.of(kind)
     }
-    restart_with(
-        rt, threads, disk, processors, script, blanks, supplies, writer,
-    )
+
+    fn supplies(&self, kind: Kind) -> u64 {
+        self.script.blanks(kind)
+    }
+
+    fn begin(self, blanks: Vec<Object>, supplies: Vec<Object>) -> Result<(), Stop> {
+        let WorkersRestart {
+            threads,
+            alloc,
+            disk,
+            processors,
+            script,
+            writer,
+            ..
+        } = self;
+        let RanByWorkers { result, .. } = restart_workers(
+            threads, alloc, disk, processors, script, blanks, supplies, writer,
+        );
+        Ok(result?)
+    }
 }
 
 /// Runs a script by workers over the store in the two files of a folder, which comes back on
 /// `processors` processors.
-fn restart_in<W: Write, R: Threads + Wait + Sync>(
+fn restart_in<R: Threads + Wait + Sync, W: Write>(
     rt: HostRuntime,
     threads: &R,
     dir: &str,
@@ -152,9 +149,19 @@ fn restart_in<W: Write, R: Threads + Wait + Sync>(
     processors: u16,
     writer: &mut W,
 ) -> Result<(), Stop> {
+    let alloc = rt.alloc();
     let mut disk = AnyDisk::folder(rt, dir)?;
-    let wanted = find_blanks(rt.alloc(), &mut disk, processors, writer)?;
-    restart_on(rt, threads, disk, processors, script, &wanted, writer)
+    let wanted = find_blanks(alloc, &mut disk, processors, writer)?;
+    let restart = WorkersRestart {
+        threads,
+        alloc,
+        disk,
+        processors,
+        script,
+        wanted,
+        writer,
+    };
+    with_blanks(alloc, restart)?
 }
 
 /// Reads a script, and then runs it by workers over the store in the two files of a folder, which
