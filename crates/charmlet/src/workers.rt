@@ -32,7 +32,8 @@ struct WorkersRun<'a, R: Threads + Wait + Sync, W: Write> {
 impl<R: Threads + Wait + Sync, W: Write> Task for WorkersRun<'_, R, W> {
     type Answer = Result<(), Stop>;
 
-    ghost may_begin = { λ run. IsSync R.row × (is_honest run.disk → IsSettled (files_of run.disk)) };
+    ghost may_begin = { λ run. IsSync R.row
+        × (is_honest run.disk → IsSettled (files_of run.disk)) };
 
     fn blanks(&self, _kind: Kind) -> u64 {
         0
