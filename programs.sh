@@ -100,16 +100,27 @@ copy_crates() {
   done >"$tree/crates.txt"
 }
 
+# Proves the crates of a copy of the tree, and builds and runs its programs, by `rt ci`: one on each processor where memory
+# holds 4.5 GB for each, or as many at once as RT_JOBS says. Elsewhere rt reckons how many memory holds, with up to 8 GB for a
+# crate, of which the largest takes 4.8.
+prove_in() {
+  local jobs=${RT_JOBS-} processors kilobytes
+  processors=$(nproc)
+  kilobytes=$(awk '/^MemAvailable:/ { print $2 }' /proc/meminfo)
+  [ "$kilobytes" -lt $((processors * 4500000)) ] || jobs=${jobs:-$processors}
+  (cd "$1" && RT_JOBS=$jobs rt ci)
+}
+
 # Proves all crates from nothing, and builds and runs the programs, by `rt ci`, in a copy of the tree, which has no edits since
 # edits.py tries those together. What was built goes into the crates' out/; it stays in the copy too, for what reads it there.
-# rt gives a crate for which others wait more than one processor where it can. Where it leaves one free, edits and tests take it.
+# What processors that leaves free edits and tests take.
 prove_tree() {
   local tree sum crate out
   tree=$(copy_of_tree)
   sum=$(sum_of_tree)
   rm -rf "$tree" "$(tree_file)"
   copy_crates "$tree" || return
-  (cd "$tree" && rt ci) || return
+  prove_in "$tree" || return
   for crate in "$tree"/crates/*; do
     out=$top/crates/$(basename "$crate")/out
     rm -rf "$out"

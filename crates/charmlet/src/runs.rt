@@ -9,10 +9,9 @@ use crate::output::block;
 use crate::scripts::{restart_script_in, script_in};
 use charmlet_any_disk::AnyDisk;
 use charmlet_cli::{
-    Ran, RestartError, Restarted, RunError, Stop, find_blanks, restart_script, run_script,
+    Ran, RestartError, Restarted, RunError, Stop, Wanted, find_blanks, restart_script, run_script,
 };
 use charmlet_model::Kind;
-use charmlet_recover::Wanted;
 use charmlet_script::{RestartScript, Runner, Script};
 use std::alloc::Global;
 use std::io;

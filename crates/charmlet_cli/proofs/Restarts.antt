@@ -24,8 +24,8 @@ use Rattle.charmlet_stock.specs.declared.pile.Tally.{Tally}
 use Rattle.charmlet_stock.specs.declared.stock.Stock.{Stock}
 use Rattle.charmlet_stock.specs.Stock.{blanks_in, supplied_to}
 use Rattle.charmlet_replay.specs.Unused.{IsUnused}
-use Rattle.charmlet_recover.specs.declared.restarting.NotRestarted.{NotRestarted}
-use Rattle.charmlet_recover.specs.Restart.{AnswersBy, bytes_on, is_after_sync}
+use Rattle.charmlet_engine.specs.restarting.NotRestarted.{NotRestarted}
+use Rattle.charmlet_engine.specs.Restart.{AnswersBy, bytes_on, is_after_sync}
 use Rattle.charmlet_script.specs.Script.{RestartContents}
 use Rattle.charmlet_engine.specs.Advances.{Advances}
 use Rattle.charmlet_engine.specs.Engine.{EngineShown, core_of, supplied_of, view_of}

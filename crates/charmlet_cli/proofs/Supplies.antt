@@ -5,8 +5,8 @@ use Rattle.charmlet_model.specs.declared.kind.Kind.{Kind}
 use Rattle.charmlet_model.specs.declared.kind.Kind.TheVariants as kinds
 use Rattle.charmlet_model.specs.declared.state.State.{State}
 use Rattle.charmlet_model.specs.Shelves.{count_of}
-use Rattle.charmlet_recover.specs.declared.wanted.Wanted.{Wanted}
-use Rattle.charmlet_recover.specs.Wanted.{blanks_in}
+use Rattle.charmlet_engine.specs.wanted.Wanted.{Wanted}
+use Rattle.charmlet_engine.specs.Wanted.{blanks_in}
 use Rattle.charmlet_script.specs.declared.script.Line.{Line}
 use Rattle.charmlet_script.specs.Script.{blanks_of}
 use Rattle.charmlet_cli.specs.Lines.{AreEnough}

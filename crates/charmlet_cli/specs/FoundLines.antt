@@ -6,9 +6,9 @@ use Rattle.charmlet_model.specs.declared.edition.Edition.{Edition}
 use Rattle.charmlet_model.specs.declared.kind.Kind.{Kind}
 use Rattle.charmlet_model.specs.Edition.{edition_kind, edition_version}
 use Rattle.charmlet_model.specs.Texts.{Text, half_text, kind_text}
-use Rattle.charmlet_recover.specs.declared.finding.Found.{Found}
-use Rattle.charmlet_recover.specs.declared.wanted.Wanted.{Wanted}
-use Rattle.charmlet_recover.specs.Wanted.{blanks_in}
+use Rattle.charmlet_engine.specs.finding.Found.{Found}
+use Rattle.charmlet_engine.specs.wanted.Wanted.{Wanted}
+use Rattle.charmlet_engine.specs.Wanted.{blanks_in}
 use Rattle.charmlet_cli.specs.declared.found_lines.ArrayLine.{ArrayLine}
 use Rattle.charmlet_cli.specs.declared.found_lines.HalfLine.{HalfLine}
 use Rattle.charmlet_cli.specs.declared.found_lines.WantedLine.{WantedLine}

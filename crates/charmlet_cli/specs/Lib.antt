@@ -24,8 +24,8 @@ pub use Rattle.charmlet_stock.specs.Stock
 pub use Rattle.charmlet_locate.specs.Locations
 pub use Rattle.charmlet_requests.specs.Handlers
 pub use Rattle.charmlet_replay.specs.Unused
-pub use Rattle.charmlet_recover.specs.Found
-pub use Rattle.charmlet_recover.specs.Wanted
+pub use Rattle.charmlet_engine.specs.Found
+pub use Rattle.charmlet_engine.specs.Wanted
 pub use Rattle.charmlet_engine.specs.Advances
 pub use Rattle.charmlet_engine.specs.Engine
 pub use Rattle.charmlet_engine.specs.Taken

@@ -20,9 +20,9 @@ use Rattle.charmlet_disk.specs.declared.disk.Disk as disks
 use Rattle.charmlet_disk.specs.Calls.{IsUnwritten}
 use Rattle.charmlet_disk.specs.Disk.{IsSettled, LeavesOnly, faults_after}
 use Rattle.charmlet_disk.specs.File.{MayLeave, CrashBytes}
-use Rattle.charmlet_recover.specs.declared.finding.Found as findings
-use Rattle.charmlet_recover.specs.declared.wanted.Wanted.{Wanted}
-use Rattle.charmlet_recover.specs.Restart.{AnswersBy, bytes_on, is_after_sync}
+use Rattle.charmlet_engine.specs.finding.Found as findings
+use Rattle.charmlet_engine.specs.wanted.Wanted.{Wanted}
+use Rattle.charmlet_engine.specs.Restart.{AnswersBy, bytes_on, is_after_sync}
 use Rattle.charmlet_script.specs.Script.{RestartContents}
 use Rattle.charmlet_engine.specs.Lives.{ComesBack, Past, Remembers}
 use Rattle.charmlet_engine.specs.Outcomes.{Onward, is_lawful_now, is_lawful_since, not_device}

@@ -4,7 +4,7 @@ use Rattle.std.specs.Io.KnownBytes.{Appends}
 use Rattle.charmlet_model.specs.declared.refusal.Refusal.{Refusal}
 use Rattle.charmlet_model.specs.declared.step.Answer.TheVariants as answers
 use Rattle.charmlet_model.specs.Texts.{Text, answer_text}
-use Rattle.charmlet_recover.specs.declared.finding.Found.{Found}
+use Rattle.charmlet_engine.specs.finding.Found.{Found}
 use Rattle.charmlet_cli.specs.declared.show.Listed.{Listed}
 use Rattle.charmlet_cli.specs.declared.show.ShowError.{ShowError}
 use Rattle.charmlet_cli.specs.declared.show.ShowError.TheVariants.{Refused, Output}

@@ -28,3 +28,4 @@ pub use crate::show::{ShowError, show_store};
 pub use crate::showing::{census_line, pending_line, shown_of, state_line, write_counts};
 pub use crate::stop::Stop;
 pub use crate::writing::{write_answer, write_line, write_memory_refused, write_step_answer};
+pub use charmlet_engine::Wanted;

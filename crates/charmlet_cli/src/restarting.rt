@@ -12,9 +12,9 @@ ghost use Rattle.charmlet_disk.specs.File.{MayLeave};
 ghost use Rattle.charmlet_halves.specs.Answers.{is_no_failure};
 ghost use Rattle.charmlet_stock.specs.Stock.{supplied_to};
 ghost use Rattle.charmlet_replay.specs.Unused.{IsUnused};
-ghost use Rattle.charmlet_recover.specs.declared.finding.Found.{Found};
-ghost use Rattle.charmlet_recover.specs.Found.{IsFoundIn, IsRead};
-ghost use Rattle.charmlet_recover.specs.Wanted.{blanks_in};
+ghost use Rattle.charmlet_engine.specs.finding.Found.{Found};
+ghost use Rattle.charmlet_engine.specs.Found.{IsFoundIn, IsRead};
+ghost use Rattle.charmlet_engine.specs.Wanted.{blanks_in};
 ghost use Rattle.charmlet_engine.specs.Advances.{Advances};
 ghost use Rattle.charmlet_engine.specs.Engine.{core_of};
 ghost use Rattle.charmlet_cli.specs.Lines.{AreEnough, blanks_left, ledger_in, named_at, named_by};
@@ -25,10 +25,9 @@ use crate::running::{has_enough, run_lines, source_of};
 use crate::writing::{write_answer, write_line};
 use charmlet_chare::Chare;
 use charmlet_disk::Disk;
-use charmlet_engine::Engine;
+use charmlet_engine::{Engine, NotRestarted, Wanted, manifest};
 use charmlet_locate::is_processor_count;
 use charmlet_model::{Answer, Kind, Refusal};
-use charmlet_recover::{NotRestarted, Wanted, manifest};
 use charmlet_script::RestartScript;
 use charmlet_stock::Stock;
 use std::alloc::{AllocError, Global};
@@ -100,7 +99,7 @@ impl fmt::Display for RestartedLine {
 ///
 /// If no store is found, the refusal's line is written: `BadPes` if there aren't 1 to 64
 /// processors, before anything is read; otherwise `Damaged`, `NothingHere`, `Memory` or `Device`,
-/// as [`charmlet_recover::manifest`] has them.
+/// as [`charmlet_engine::manifest`] has them.
 pub fn find_blanks<D: Disk, W: Write>(
     alloc: Global,
     disk: &mut D,
@@ -229,7 +228,7 @@ fn prepare<C: Chare>(
     ensures named { IfOk result (λ prepared. (name : List ℕ) →
         named_at prepared.desk name ≡ named_by script.now.handlers name) }
 {
-    let Ok(given) = charmlet_recover::stock_of(alloc, blanks) else {
+    let Ok(given) = charmlet_engine::stock_of(alloc, blanks) else {
         return Err(AllocError);
     };
     let source = source_of(alloc, supplies)?;

@@ -8,9 +8,9 @@ ghost use Rattle.charmlet_model.specs.declared.refusal.Refusal.{Refusal};
 ghost use Rattle.charmlet_disk.specs.Disk.{LeavesOnly, SameFiles, faults_after};
 ghost use Rattle.charmlet_disk.specs.File.{MayLeave};
 ghost use Rattle.charmlet_halves.specs.Answers.{is_no_failure};
-ghost use Rattle.charmlet_recover.specs.declared.finding.Found.{Found};
-ghost use Rattle.charmlet_recover.specs.Found.{IsFoundIn, IsRead};
-ghost use Rattle.charmlet_recover.specs.Wanted.{blanks_in};
+ghost use Rattle.charmlet_engine.specs.finding.Found.{Found};
+ghost use Rattle.charmlet_engine.specs.Found.{IsFoundIn, IsRead};
+ghost use Rattle.charmlet_engine.specs.Wanted.{blanks_in};
 ghost use Rattle.charmlet_cli.specs.FoundLines.{array_texts, count_texts, found_texts, wanted_texts};
 ghost use Rattle.charmlet_cli.specs.Lines.{in_lines};
 ghost use Rattle.charmlet_cli.specs.ShowStore.{IsSaid, found_of};
@@ -20,8 +20,8 @@ ghost use Rattle.charmlet_cli.specs.Writing.{Writes};
 use crate::found_lines::{ArrayLine, HalfLine, WantedLine};
 use crate::writing::{write_answer, write_line};
 use charmlet_disk::Disk;
+use charmlet_engine::{Found, Wanted, manifest};
 use charmlet_model::{Answer, Edition, Kind, Refusal};
-use charmlet_recover::{Found, Wanted, manifest};
 use std::alloc::{AllocError, Global};
 use std::io;
 use std::io::Write;
@@ -42,7 +42,7 @@ pub enum ShowError {
 /// reads the disk.
 ///
 /// If nothing is found, the refusal's line is written: `Damaged`, `NothingHere`, `Memory` or
-/// `Device`, as [`charmlet_recover::manifest`] has them. `ShowError` says what each error means.
+/// `Device`, as [`charmlet_engine::manifest`] has them. `ShowError` says what each error means.
 pub fn show_store<D: Disk, W: Write>(
     alloc: Global,
     disk: &mut D,
@@ -79,7 +79,7 @@ struct Listed {
 }
 
 /// What is found in the two halves of a disk, and the list of its arrays. The refusals are those of
-/// [`charmlet_recover::manifest`].
+/// [`charmlet_engine::manifest`].
 fn list_found<D: Disk>(alloc: Global, disk: &mut D) -> Result<Listed, Refusal>
     ensures found { D.honest disk.old → IsFoundIn (D.file disk.old halves.Zero).now
         (D.file disk.old halves.One).now (found_of result) }

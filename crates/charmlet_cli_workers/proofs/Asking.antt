@@ -33,7 +33,7 @@ use Rattle.charmlet_requests.specs.Pass.{Pass, known, with_accept, with_told}
 use Rattle.charmlet_passes.specs.Passes.{HaveAllAccepts, HeldPass, IsAnswered, IsCurrent, accept_of, accepts_after, accepts_in, lent_since, with_answer, with_flush}
 use Rattle.charmlet_passes.proofs.Lasting.{accepts_in-append, untied}
 use Rattle.charmlet_passes.proofs.Places.{all-last, at_end, at_set}
-use Rattle.charmlet_engine.specs.Engine.{client_answer}
+use Rattle.charmlet_runtime.specs.Engine.{client_answer}
 use Rattle.charmlet_workers.specs.Refusals.{IsRecent, IsRequestCause, is_lending_refusal, is_request_refusal, is_status_refusal}
 use Rattle.std.specs.Prelude.{◌||◌}
 use Rattle.charmlet_cli.specs.Lines.{Names}

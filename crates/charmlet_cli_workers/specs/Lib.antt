@@ -12,7 +12,7 @@ pub use Rattle.charmlet_disk.specs.Disk
 pub use Rattle.charmlet_disk.specs.File
 pub use Rattle.charmlet_agreement.specs.Naming
 pub use Rattle.charmlet_sequencer.specs.Sequencer
-pub use Rattle.charmlet_engine.specs.Engine
+pub use Rattle.charmlet_runtime.specs.Engine
 pub use Rattle.charmlet_stock.specs.Stock
 pub use Rattle.charmlet_script.specs.Script
 pub use Rattle.charmlet_cli.specs.Lines as CliLines

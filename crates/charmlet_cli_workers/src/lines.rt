@@ -8,7 +8,7 @@ ghost use Rattle.charmlet_script.specs.Script.{blanks_of};
 ghost use Rattle.charmlet_script.specs.Script.{blanks_in as supplied_by};
 ghost use Rattle.charmlet_script.specs.declared.script.Line.TheVariants as lines;
 ghost use Rattle.charmlet_model.specs.declared.step.Step.TheVariants as steps;
-ghost use Rattle.charmlet_engine.specs.Engine.{client_answer};
+ghost use Rattle.charmlet_runtime.specs.Engine.{client_answer};
 ghost use Rattle.charmlet_requests.specs.Handlers.{IsTarget};
 ghost use Rattle.charmlet_cli.specs.Lines.{Names};
 ghost use Rattle.charmlet_cli_workers.specs.Heard.{AreLater, AreTidy, IsDoneBy, known_by, names_in};

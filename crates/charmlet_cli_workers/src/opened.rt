@@ -6,7 +6,7 @@ ghost use Rattle.charmlet_script.specs.Script.{blanks_of};
 ghost use Rattle.charmlet_stock.specs.Stock.{blanks_in};
 ghost use Rattle.charmlet_agreement.specs.Naming.{table_of};
 ghost use Rattle.charmlet_sequencer.specs.Sequencer.{IsOf};
-ghost use Rattle.charmlet_engine.specs.Engine.{core_of};
+ghost use Rattle.charmlet_runtime.specs.Engine.{core_of};
 ghost use Rattle.charmlet_cli_workers.specs.Heard.{AreTidy, IsDoneBy, known_by, names_in};
 ghost use Rattle.charmlet_cli_workers.specs.Left.{EndsApart, EndsEarly, EndsUnopened, IsApart, IsEarly, IsLeft, KeepsDurable, Prints, PrintsOver};
 ghost use Rattle.charmlet_cli_workers.specs.Lines.{has_delivery};

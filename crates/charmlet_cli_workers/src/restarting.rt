@@ -22,8 +22,7 @@ use charmlet_cli::{
 };
 use charmlet_disk::Disk;
 use charmlet_model::Answer;
-use charmlet_recover::{NotRestarted, stock_of};
-use charmlet_runtime::UnnamedRuntime;
+use charmlet_runtime::{NotRestarted, UnnamedRuntime, stock_of};
 use charmlet_script::RestartScript;
 use charmlet_stock::Stock;
 use charmlet_workers::UnnamedBooks;

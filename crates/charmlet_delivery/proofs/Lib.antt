@@ -5,3 +5,4 @@ pub mod Delivering
 pub mod Counting
 pub mod Turning
 pub mod Entering
+pub use Rattle.charmlet_history.proofs.Orders

@@ -15,3 +15,5 @@ pub use Rattle.charmlet_shelf.specs.Shelf
 pub use Rattle.charmlet_stock.specs.Stock
 pub use Rattle.charmlet_history.specs.Delivered
 pub use Rattle.charmlet_history.specs.Kept
+pub use Rattle.charmlet_history.specs.element
+pub use Rattle.charmlet_history.specs.declared.history

@@ -8,3 +8,4 @@ mod shelving;
 pub use crate::delivery::deliver_on;
 pub use crate::parts::{assign, commit, finish, release};
 pub use crate::shelving::{assign_newcomer, release_shelf, settle_shelf};
+pub use charmlet_history::History;

@@ -16,10 +16,10 @@ ghost use Rattle.charmlet_delivery.specs.UnderWay.{blank_in};
 ghost use Rattle.charmlet_delivery.specs.Workplace.{IsWithin, held_in};
 
 use charmlet_chare::Chare;
+use charmlet_history::Element;
 use charmlet_model::{Edition, Message, Refusal, Resident};
 use charmlet_shelf::Shelf;
 use charmlet_stock::Stock;
-use charmlet_world::Element;
 
 /// Assigns a message to the element of this edition and with these counts that it constructs, from
 /// a blank of the stock. `NoBlank` where there is none, else `Memory`; then all is as before.

@@ -12,7 +12,7 @@ ghost use Rattle.charmlet_replay.specs.Unused.{IsUnused};
 ghost use Rattle.charmlet_joining.specs.Joined.{drawn_by_lots};
 
 use charmlet_chare::Chare;
-use charmlet_lots::Lot;
+use charmlet_joining::Lot;
 use charmlet_pouring::pour;
 use charmlet_replay::{Restored, clear_shelf};
 use charmlet_shelf::Shelf;

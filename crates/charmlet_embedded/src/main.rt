@@ -7,9 +7,8 @@ mod noisy;
 
 use anyhow::{Context, Result, bail};
 use charmlet_disk::{Disk, FileDisk, MemDisk};
-use charmlet_engine::Engine;
+use charmlet_engine::{Engine, manifest, stock_of};
 use charmlet_model::{CONSTRUCT, Elem, Kind, Manifest, Step};
-use charmlet_recover::{manifest, stock_of};
 use charmlet_requests::{Passes, Request};
 use noisy::{ADD, blanks};
 use std::thread::Threads;

@@ -43,3 +43,8 @@ pub use Rattle.charmlet_store.specs.Look
 pub use Rattle.charmlet_store.specs.Store
 pub use Rattle.charmlet_replay.specs.Unused
 pub use Rattle.charmlet_recover.specs.Restart
+pub use Rattle.charmlet_recover.specs.declared.finding
+pub use Rattle.charmlet_recover.specs.Found
+pub use Rattle.charmlet_recover.specs.Wanted
+pub use Rattle.charmlet_recover.specs.declared.restarting
+pub use Rattle.charmlet_recover.specs.declared.wanted

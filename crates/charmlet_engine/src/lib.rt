@@ -15,3 +15,4 @@ mod seen;
 pub use crate::closing::Closed;
 pub use crate::engine::Engine;
 pub use crate::laws::lives_are_remembered;
+pub use charmlet_recover::{Found, NotRestarted, Wanted, lacking, manifest, stock_of};

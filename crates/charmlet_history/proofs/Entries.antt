@@ -14,7 +14,7 @@ use Rattle.charmlet_model.specs.Sound.{IsAssigned}
 use Rattle.charmlet_model.proofs.Deliveries.{apart_ids, apart_receivers, message-append, message-without}
 use Rattle.charmlet_model.proofs.Fits.{IfSome-map, found-id}
 use Rattle.charmlet_model.proofs.Removals.{lookup-removed}
-use Rattle.charmlet_chare.specs.declared.output.Output.{Output}
+use Rattle.charmlet_world.specs.output.Output.{Output}
 use Rattle.charmlet_record.specs.Backlog.{Batched, HasRoomFor}
 use Rattle.charmlet_world.specs.Seen.{element_at}
 use Rattle.charmlet_history.specs.Delivered.{advanced_by, delivered_in, with_receiver, with_room}

@@ -23,3 +23,4 @@ pub use Rattle.charmlet_locate.specs.Locations
 pub use Rattle.charmlet_world.specs.Changed
 pub use Rattle.charmlet_world.specs.Seen
 pub use Rattle.charmlet_world.specs.Waiting
+pub use Rattle.charmlet_world.specs.declared.element

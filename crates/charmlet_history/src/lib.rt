@@ -18,3 +18,4 @@ pub use crate::history::History;
 pub use crate::opening::Opening;
 pub use crate::request::Request;
 pub use crate::world::{HasWorld, SeenWorld, WorldParts};
+pub use charmlet_world::Element;

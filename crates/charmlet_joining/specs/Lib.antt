@@ -3,3 +3,4 @@ pub mod Taken
 pub mod Joined
 pub mod Merged
 pub mod Rows
+pub use Rattle.charmlet_lots.specs.declared.lot

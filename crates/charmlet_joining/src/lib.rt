@@ -11,3 +11,4 @@ pub use crate::elements::elements_of;
 pub use crate::joining::{Joined, join_lots};
 pub use crate::reopening::reopen;
 pub use crate::rows::fill_rows;
+pub use charmlet_lots::Lot;

@@ -21,8 +21,8 @@ use Rattle.charmlet_recovery.specs.Restarts.{engine_refusal}
 use Rattle.charmlet_recovery.proofs.Restarting.{least_short_is_found}
 use Rattle.charmlet_recovery.proofs.Saving.{newest-world, went_on}
 use Rattle.charmlet_stock.specs.declared.stock.Stock.{Stock}
-use Rattle.charmlet_recover.specs.declared.restarting.NotRestarted.{NotRestarted}
-use Rattle.charmlet_recover.specs.Restart.{AnswersBy, bytes_on}
+use Rattle.charmlet_engine.specs.restarting.NotRestarted.{NotRestarted}
+use Rattle.charmlet_engine.specs.Restart.{AnswersBy, bytes_on}
 use Rattle.charmlet_script.specs.Script.{Contents, processors_of}
 use Rattle.charmlet_engine.specs.Engine.{EngineShown, core_of, view_of, world_of}
 use Rattle.charmlet_engine.specs.Restarted.{IsFound, IsHandedBack, IsOpenedOn, IsReadFrom, core_or_refusal, is_engine_refusal}

@@ -13,7 +13,7 @@ use Rattle.charmlet_checkpoint.specs.Showing.{IsRefusal}
 use Rattle.charmlet_chare.specs.declared.chare.Chare as chares
 use Rattle.charmlet_disk.specs.File.{CrashBytes}
 use Rattle.charmlet_engine.specs.Engine.{EngineShown, supplied_of, view_of}
-use Rattle.charmlet_recover.specs.declared.restarting.NotRestarted.{NotRestarted}
+use Rattle.charmlet_engine.specs.restarting.NotRestarted.{NotRestarted}
 
 -- how many events there are, including those before the opening world
 abbrev pub count_of : Core → ℕ

@@ -23,8 +23,8 @@ pub use Rattle.charmlet_stock.specs.Stock
 pub use Rattle.charmlet_locate.specs.Locations
 pub use Rattle.charmlet_requests.specs.Handlers
 pub use Rattle.charmlet_checkpoint.specs.Showing
-pub use Rattle.charmlet_recover.specs.Restart
-pub use Rattle.charmlet_recover.specs.Wanted
+pub use Rattle.charmlet_engine.specs.Restart
+pub use Rattle.charmlet_engine.specs.Wanted
 pub use Rattle.charmlet_engine.specs.Advances
 pub use Rattle.charmlet_engine.specs.Engine
 pub use Rattle.charmlet_engine.specs.Restarted

@@ -15,10 +15,10 @@ use Rattle.charmlet_disk.specs.File.{MayLeave, clean}
 use Rattle.charmlet_locate.specs.Locations.{is_processor_count}
 use Rattle.charmlet_recovery.specs.RestartLaws.{IsLeastShort}
 use Rattle.charmlet_recovery.specs.Restarts.{engine_refusal}
-use Rattle.charmlet_recover.specs.declared.finding.Found as finding
-use Rattle.charmlet_recover.specs.Found.{IsFoundIn, IsRead}
-use Rattle.charmlet_recover.specs.Restart.{AnswersBy, bytes_on}
-use Rattle.charmlet_recover.specs.Wanted.{blanks_in}
+use Rattle.charmlet_engine.specs.finding.Found as finding
+use Rattle.charmlet_engine.specs.Found.{IsFoundIn, IsRead}
+use Rattle.charmlet_engine.specs.Restart.{AnswersBy, bytes_on}
+use Rattle.charmlet_engine.specs.Wanted.{blanks_in}
 use Rattle.charmlet_engine.specs.Restarted.{IsFound, IsOpenedOn, is_engine_refusal}
 use Rattle.charmlet_script.specs.Script.{Contents, processors_of}
 use Rattle.charmlet_lab.specs.Judged.{IsGood}

@@ -14,11 +14,10 @@ ghost use Rattle.charmlet_lab.specs.Rounds.{arrays_of};
 use crate::same::is_same_world;
 use charmlet_chare::Chare;
 use charmlet_disk::Disk;
-use charmlet_engine::Engine;
+use charmlet_engine::{Engine, NotRestarted};
 use charmlet_model::{Event, Refusal};
 use charmlet_plain::PlainWorld;
 use charmlet_plain_recovery::{Recovered, recover};
-use charmlet_recover::NotRestarted;
 use charmlet_script::Script;
 use std::alloc::{AllocError, Global};
 

@@ -9,7 +9,7 @@ ghost use Rattle.charmlet_disk.specs.Disk.{IsSettled};
 ghost use Rattle.charmlet_locate.specs.Locations.{is_processor_count};
 ghost use Rattle.charmlet_stock.specs.Stock as stocks;
 ghost use Rattle.charmlet_stock.specs.Stock.{part_of};
-ghost use Rattle.charmlet_recover.specs.Wanted as wants;
+ghost use Rattle.charmlet_engine.specs.Wanted as wants;
 ghost use Rattle.charmlet_script.specs.Script.{blanks_in, blanks_of, processors_of};
 ghost use Rattle.charmlet_engine.specs.Advances.{Advances};
 ghost use Rattle.charmlet_engine.specs.Engine.{view_of};
@@ -19,11 +19,10 @@ ghost use Rattle.charmlet_lab.specs.Rounds.{IsNotRun, IsRound, arrays_of, needed
 
 use charmlet_chare::Chare;
 use charmlet_disk::Disk;
-use charmlet_engine::Engine;
+use charmlet_engine::{Engine, Wanted, lacking, stock_of};
 use charmlet_halves::Refused;
 use charmlet_history::Request;
 use charmlet_model::{Answer, Elem, Event, Kind, Refusal, Step, Words};
-use charmlet_recover::{Wanted, lacking, stock_of};
 use charmlet_requests::{Handler, Handlers};
 use charmlet_script::{HandlerLine, Line, Script};
 use charmlet_stock::Stock;

@@ -7,7 +7,7 @@ ghost use Rattle.charmlet_model.specs.World.{IsLegal};
 ghost use Rattle.charmlet_disk.specs.Disk.{IsSettled};
 ghost use Rattle.charmlet_locate.specs.Locations.{is_processor_count};
 ghost use Rattle.charmlet_recovery.specs.RestartLaws.{IsEnough};
-ghost use Rattle.charmlet_recover.specs.Wanted.{blanks_in};
+ghost use Rattle.charmlet_engine.specs.Wanted.{blanks_in};
 ghost use Rattle.charmlet_script.specs.Script.{processors_of};
 ghost use Rattle.charmlet_lab.specs.Lines.{IsRunOf};
 ghost use Rattle.charmlet_lab.specs.Restarts.{IsJudged, IsNotTried};
@@ -15,8 +15,8 @@ ghost use Rattle.charmlet_lab.specs.Rounds.{IsNotRun, IsRound, arrays_of};
 
 use crate::disks::LabDisk;
 use crate::round::Round;
+use charmlet_engine::Wanted;
 use charmlet_model::{Event, Refusal};
-use charmlet_recover::Wanted;
 use charmlet_script::Script;
 use std::alloc::Global;
 

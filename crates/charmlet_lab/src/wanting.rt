@@ -4,12 +4,12 @@ ghost use Rattle.std.specs.Prelude.{◌≡◌, ◌⊎◌, false, IfErr, IfOk};
 ghost use Rattle.charmlet_model.specs.declared.kind.Kind as kinds;
 ghost use Rattle.charmlet_model.specs.declared.refusal.Refusal.TheVariants as refusals;
 ghost use Rattle.charmlet_disk.specs.Disk.{SameFiles, faults_after};
-ghost use Rattle.charmlet_recover.specs.Wanted.{blanks_in};
+ghost use Rattle.charmlet_engine.specs.Wanted.{blanks_in};
 ghost use Rattle.charmlet_lab.specs.Restarts.{AreWanted};
 
 use charmlet_disk::Disk;
+use charmlet_engine::{Wanted, manifest};
 use charmlet_model::Refusal;
-use charmlet_recover::{Wanted, manifest};
 use std::alloc::Global;
 
 /// How many blanks of each kind a restart from this disk wants, and none if no store is found

@@ -15,8 +15,8 @@ use Rattle.charmlet_model.specs.World.{record_at}
 use Rattle.charmlet_model.specs.Shelves.{if_there, shelf_of}
 use Rattle.charmlet_shelf.specs.Shelf.{View}
 use Rattle.charmlet_shelf.specs.declared.phase.Phase.TheVariants.{Idle}
-use Rattle.charmlet_migrate.specs.Moving.{IsIdle, records_on}
-use Rattle.charmlet_migrate.proofs.EachShelf.{records_at}
+use Rattle.charmlet_replay.specs.Moving.{IsIdle, records_on}
+use Rattle.charmlet_replay.proofs.EachShelf.{records_at}
 use Rattle.charmlet_partition.specs.Parts.{is_of_worker, part}
 use Rattle.charmlet_partition.proofs.Parts.{record-part}
 use Rattle.charmlet_replay.specs.Home.{AreHome, at_home}

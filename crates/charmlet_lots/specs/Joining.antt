@@ -7,8 +7,8 @@ use Rattle.std.specs.List.Sorted.{IsStrictlySortedBy}
 use Rattle.std.specs.Map.{keys_of, lookup}
 use Rattle.charmlet_model.specs.Names.{elem_cmp}
 use Rattle.charmlet_model.specs.Core.{home}
-use Rattle.charmlet_history.specs.Opened.{opened_elements}
-use Rattle.charmlet_world.specs.declared.element.Element.{Element}
+use Rattle.charmlet_replay.specs.Opened.{opened_elements}
+use Rattle.charmlet_replay.specs.element.Element.{Element}
 use Rattle.charmlet_shelf.specs.Shelf.{View}
 use Rattle.charmlet_partition.specs.Parts.{is_of_worker, part}
 use Rattle.charmlet_replay.specs.Home.{AreHome}

@@ -15,8 +15,8 @@ use Rattle.charmlet_model.specs.Names.{elem_cmp}
 use Rattle.charmlet_model.specs.Core.{present}
 use Rattle.charmlet_model.specs.Shelves.{shelf_of}
 use Rattle.charmlet_chare.specs.declared.chare.Chare.{Ghosts}
-use Rattle.charmlet_history.specs.declared.history.History.{History}
-use Rattle.charmlet_history.specs.Kept.{core_in}
+use Rattle.charmlet_delivery.specs.history.History.{History}
+use Rattle.charmlet_delivery.specs.Kept.{core_in}
 use Rattle.charmlet_shelf.specs.Count.{objects_on}
 use Rattle.charmlet_shelf.specs.Shelf.{View}
 use Rattle.charmlet_stock.specs.declared.stock.Stock.{Stock}

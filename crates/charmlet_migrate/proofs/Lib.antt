@@ -8,3 +8,4 @@ pub mod Leaving
 pub mod MoveCensus
 pub mod EachShelf
 pub mod Moved
+pub use Rattle.charmlet_delivery.proofs.Places

@@ -11,8 +11,8 @@ use Rattle.charmlet_model.specs.Names.{elem_cmp}
 use Rattle.charmlet_model.specs.World.{edition_of_array}
 use Rattle.charmlet_model.specs.Core.{Core, present, Blanks, Check, When, MayLackMemory, CoreStep, Move, Done, Refuses, checks, away_checks, lacks_blank, assigned_to, first_refusal, may_lack_memory, next_core, with_taken, is_present, is_processor, place_or_home}
 use Rattle.charmlet_model.specs.Run.{StoreView, Goes}
-use Rattle.charmlet_history.specs.Kept.{plenty}
-use Rattle.charmlet_history.proofs.Orders.{none_of_both, some_of_first, in_front, none_in_front, memory_after, is_refused, lacks_memory, is_done}
+use Rattle.charmlet_delivery.specs.Kept.{plenty}
+use Rattle.charmlet_delivery.proofs.Orders.{none_of_both, some_of_first, in_front, none_in_front, memory_after, is_refused, lacks_memory, is_done}
 use Rattle.std.proofs.lemmas.Bool.{ne_eqb}
 
 -- ---- the blank

@@ -18,8 +18,8 @@ use Rattle.charmlet_model.specs.Run.{Goes}
 use Rattle.charmlet_model.specs.Shelves.{Shows, if_here}
 use Rattle.charmlet_model.proofs.SoundLemmas.{step_sound}
 use Rattle.charmlet_chare.specs.declared.chare.Chare.{Ghosts}
-use Rattle.charmlet_history.specs.declared.history.History.{History}
-use Rattle.charmlet_history.specs.Kept.{IsConsistent, core_in}
+use Rattle.charmlet_delivery.specs.history.History.{History}
+use Rattle.charmlet_delivery.specs.Kept.{IsConsistent, core_in}
 use Rattle.charmlet_shelf.specs.Count.{objects_on}
 use Rattle.charmlet_shelf.specs.Shelf.{View}
 use Rattle.charmlet_stock.specs.declared.stock.Stock.{Stock}

@@ -6,8 +6,8 @@ use Rattle.charmlet_model.specs.declared.state.Record.{Record}
 use Rattle.charmlet_model.specs.Core.{assigned_to, present}
 use Rattle.charmlet_model.specs.Shelves.{AddsUp, Shows}
 use Rattle.charmlet_chare.specs.declared.chare.Chare.{Ghosts}
-use Rattle.charmlet_history.specs.declared.history.History.{History}
-use Rattle.charmlet_history.specs.Kept.{core_in}
+use Rattle.charmlet_delivery.specs.history.History.{History}
+use Rattle.charmlet_delivery.specs.Kept.{core_in}
 use Rattle.charmlet_shelf.specs.Count.{objects_on}
 use Rattle.charmlet_shelf.specs.Shelf.{View}
 use Rattle.charmlet_shelf.specs.declared.phase.Phase.TheVariants.{Idle}

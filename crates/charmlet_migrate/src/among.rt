@@ -4,14 +4,14 @@ ghost use Rattle.std.specs.Prelude.{◌≡◌, ◌≢◌, ◌<◌, Some, length}
 ghost use Rattle.charmlet_model.specs.Core as core;
 ghost use Rattle.charmlet_model.specs.Core.{place_of};
 ghost use Rattle.charmlet_model.specs.Run.{Goes};
-ghost use Rattle.charmlet_history.specs.Kept.{core_in};
+ghost use Rattle.charmlet_delivery.specs.Kept.{core_in};
 ghost use Rattle.charmlet_stock.specs.Stock.{keeping_of, supplied_to};
 ghost use Rattle.charmlet_delivery.specs.Workplace.{done_or_refused, store_with};
 ghost use Rattle.charmlet_migrate.specs.StoreParts.{FitTogether};
 
 use crate::moving::move_between;
 use charmlet_chare::Chare;
-use charmlet_history::History;
+use charmlet_delivery::History;
 use charmlet_model::{Elem, Refusal};
 use charmlet_shelf::Shelf;
 use charmlet_stock::Stock;

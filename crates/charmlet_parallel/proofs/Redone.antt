@@ -45,9 +45,9 @@ use Rattle.charmlet_replay.proofs.Offsets.{event_at}
 use Rattle.charmlet_replay.proofs.Faulty.{events_faulty, no_fault, offset_at}
 use Rattle.charmlet_replay.proofs.OpenHalves.{few_before, good_events, image_good, log_is, means_are, read_is, saved}
 use Rattle.charmlet_replay.proofs.Whole.{base_is_fit, log_has_blanks}
-use Rattle.charmlet_lots.specs.declared.lot.Lot.{Lot}
-use Rattle.charmlet_lots.specs.Tasks.{HasNoTask, HaveReplies}
-use Rattle.charmlet_lots.specs.Workers.{AreParts}
+use Rattle.charmlet_recalling.specs.lot.Lot.{Lot}
+use Rattle.charmlet_recalling.specs.Tasks.{HasNoTask, HaveReplies}
+use Rattle.charmlet_recalling.specs.Workers.{AreParts}
 use Rattle.charmlet_dealing.specs.Sharing.{worker_of}
 use Rattle.charmlet_dealing.proofs.One.{shows_follows}
 use Rattle.charmlet_rounds.specs.LogRound.{HasRedone, IsReadyForLog}

@@ -36,11 +36,11 @@ use Rattle.charmlet_replay.specs.Lists.{events_in, places_in}
 use Rattle.charmlet_replay.specs.Ready.{IsReady}
 use Rattle.charmlet_replay.specs.Replayed.{IsOpenIn, IsRepeated}
 use Rattle.charmlet_replay.specs.Restored.{IsHeld}
-use Rattle.charmlet_lots.specs.declared.lot.Lot.{Lot}
-use Rattle.charmlet_lots.specs.Workers.{AreParts}
+use Rattle.charmlet_recalling.specs.lot.Lot.{Lot}
+use Rattle.charmlet_recalling.specs.Workers.{AreParts}
 use Rattle.charmlet_dealing.specs.Keeping.{IsHeldLot}
 use Rattle.charmlet_dealing.specs.Sharing.{worker_of}
-use Rattle.charmlet_joining.specs.Joined.{IsJoinable, blanks_of_lots, drawn_by_lots}
+use Rattle.charmlet_recalling.specs.Joined.{IsJoinable, blanks_of_lots, drawn_by_lots}
 use Rattle.charmlet_reopening.specs.Done.{AreAllDone}
 use Rattle.charmlet_reopening.proofs.Repeated.{is-repeated}
 use Rattle.charmlet_rounds.proofs.LogPlaces.{items_are}

@@ -11,9 +11,9 @@ use Rattle.charmlet_stock.specs.declared.stock.Stock.{Stock}
 use Rattle.charmlet_stock.specs.ByKind.{at}
 use Rattle.charmlet_stock.specs.Stock.{blanks_in, census_of, supplied_to, tally_in}
 use Rattle.charmlet_pouring.specs.Poured.{retired_in}
-use Rattle.charmlet_lots.specs.declared.lot.Lot.{Lot}
+use Rattle.charmlet_recalling.specs.lot.Lot.{Lot}
 use Rattle.charmlet_dealing.specs.Keeping.{IsHeldLot, KeepsAll, supplied_by}
-use Rattle.charmlet_joining.specs.Joined.{drawn_by_lots}
+use Rattle.charmlet_recalling.specs.Joined.{drawn_by_lots}
 use Rattle.charmlet_replay.specs.Unused.{IsUnused}
 use Rattle.charmlet_replay.proofs.Begun.{unused_counts}
 use Rattle.charmlet_recalling.specs.Filled.{IsEmptyLot}

@@ -13,8 +13,8 @@ use Rattle.charmlet_recovery.specs.Replays.{LogPass}
 use Rattle.charmlet_chare.specs.declared.chare.Chare.{Ghosts}
 use Rattle.charmlet_stock.specs.Stock.{blanks_in}
 use Rattle.charmlet_world.specs.Seen.{Seen}
-use Rattle.charmlet_lots.specs.Workers.{AreParts}
-use Rattle.charmlet_lots.specs.declared.lot.Lot.{Lot}
+use Rattle.charmlet_recalling.specs.Workers.{AreParts}
+use Rattle.charmlet_recalling.specs.lot.Lot.{Lot}
 use Rattle.charmlet_dealing.specs.Sharing.{worker_of}
 use Rattle.charmlet_reopening.specs.Done.{AreAllDone}
 

@@ -6,3 +6,4 @@ mod redoing;
 mod replaying;
 
 pub use crate::replaying::{NotRepeated, replay_by};
+pub use charmlet_rounds::Unfinished;

@@ -18,15 +18,14 @@ ghost use Rattle.charmlet_replay.specs.Replayed.{IsFaultAt, IsOpenIn, IsRepeated
 ghost use Rattle.charmlet_replay.specs.Unused.{IsUnused};
 ghost use Rattle.charmlet_rounds.specs.declared.unfinished.Unfinished.TheVariants.{Lack, Read};
 ghost use Rattle.charmlet_dealing.specs.Keeping.{IsHeldLot};
-ghost use Rattle.charmlet_joining.specs.Joined.{drawn_by_lots};
+ghost use Rattle.charmlet_recalling.specs.Joined.{drawn_by_lots};
 
 use crate::redoing::redo_half;
 use charmlet_chare::Chare;
 use charmlet_dismissing::dismiss_lots;
 use charmlet_history::{HasWorld, SeenWorld};
 use charmlet_image::{ImageView, LogView, OpenHalf};
-use charmlet_lots::Lot;
-use charmlet_recalling::empty_lots;
+use charmlet_recalling::{Lot, empty_lots};
 use charmlet_record::ReadError;
 use charmlet_reopening::{Unjoined, go_on, join};
 use charmlet_replay::Replayed;

@@ -5,10 +5,10 @@ ghost use Rattle.charmlet_agreement.specs.Naming.{table_of};
 ghost use Rattle.charmlet_sequencer.specs.Sequencer.{IsOf};
 
 use crate::Probe;
-use charmlet_cli::Stop;
 use charmlet_probe_hub::{Books, HubMachine};
 use charmlet_probe_store::ProbeStore;
 use charmlet_sequencer::RuntimeName;
+use charmlet_testing::Stop;
 use std::io::Write;
 use std::marker::Brand;
 use std::sync::Wait;

@@ -2,10 +2,10 @@
 
 ghost use Rattle.charmlet_replay.specs.Unused.{IsUnused};
 
+use charmlet_engine::{Wanted, manifest, stock_of};
 use charmlet_model::{Kind, Refusal};
 use charmlet_probe_disk::ProbeDisk;
 use charmlet_probe_objects::{Object, Tally, blanks};
-use charmlet_recover::{Wanted, manifest, stock_of};
 use charmlet_stock::Stock;
 use std::alloc::{AllocError, Global};
 use std::marker::Model;

@@ -6,12 +6,11 @@ ghost use Rattle.charmlet_history.specs.Kept.{core_in};
 ghost use Rattle.charmlet_engine.specs.Together.{AreTied};
 
 use crate::blanks::Blanks;
-use charmlet_engine::Engine;
+use charmlet_engine::{Engine, NotRestarted};
 use charmlet_halves::{Halves, Refused};
 use charmlet_model::{Manifest, Refusal};
 use charmlet_probe_disk::ProbeDisk;
 use charmlet_probe_objects::Object;
-use charmlet_recover::NotRestarted;
 use charmlet_store::Store;
 use std::alloc::Global;
 use std::marker::Model;

@@ -13,3 +13,4 @@ mod waiting;
 
 pub use crate::lots::empty_lots;
 pub use crate::recalling::recall;
+pub use charmlet_lots::Lot;

@@ -13,7 +13,7 @@ use Rattle.charmlet_shelf.specs.Shelf.{View}
 use Rattle.charmlet_stock.specs.declared.stock.Stock.{Stock}
 use Rattle.charmlet_world.specs.Seen.{Seen}
 use Rattle.charmlet_replies.proofs.OfEvents.{all-can}
-use Rattle.charmlet_lots.specs.declared.lot.Lot.{Lot}
+use Rattle.charmlet_joining.specs.lot.Lot.{Lot}
 use Rattle.charmlet_joining.specs.Joined.{IsJoinable, worker_at_home}
 use Rattle.charmlet_joining.specs.Merged.{ArePartsOn}
 use Rattle.charmlet_reopening.specs.Done.{AreAllDone}

@@ -8,7 +8,7 @@ use Rattle.charmlet_recovery.specs.Bases.{events_of}
 use Rattle.charmlet_recovery.specs.Replays.{LogPass}
 use Rattle.charmlet_chare.specs.declared.chare.Chare.{Ghosts}
 use Rattle.charmlet_world.specs.Seen.{Seen, present_rows}
-use Rattle.charmlet_lots.specs.declared.lot.Lot.{Lot}
+use Rattle.charmlet_joining.specs.lot.Lot.{Lot}
 use Rattle.charmlet_joining.specs.Joined.{worker_at_home}
 use Rattle.charmlet_joining.specs.Rows.{AreToFill}
 

@@ -12,9 +12,8 @@ ghost use Rattle.charmlet_reopening.specs.Done.{AreAllDone};
 
 use charmlet_chare::Chare;
 use charmlet_history::{Opening, SeenWorld};
-use charmlet_joining::{elements_of, fill_rows};
+use charmlet_joining::{Lot, elements_of, fill_rows};
 use charmlet_kept::KeptWorld;
-use charmlet_lots::Lot;
 use charmlet_model::Manifest;
 use charmlet_resuming::{opening_of, rows_of};
 use std::alloc::{AllocError, Global};

@@ -31,3 +31,4 @@ pub mod OpenHalves
 pub mod Reopened
 pub mod Waits
 pub mod Upgrades
+pub use Rattle.charmlet_store.proofs.EachShelf

@@ -45,7 +45,8 @@ pub use Rattle.charmlet_locate.specs.Locations
 pub use Rattle.charmlet_world.specs.Seen
 pub use Rattle.charmlet_history.specs.Kept
 pub use Rattle.charmlet_history.specs.Opened
-pub use Rattle.charmlet_migrate.specs.Moving
-pub use Rattle.charmlet_migrate.specs.StoreParts
+pub use Rattle.charmlet_store.specs.Moving
+pub use Rattle.charmlet_store.specs.StoreParts
 pub use Rattle.charmlet_delivery.specs.Workplace
 pub use Rattle.charmlet_store.specs.Store
+pub use Rattle.charmlet_world.specs.declared.element

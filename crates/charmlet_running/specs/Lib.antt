@@ -10,3 +10,4 @@ pub use Rattle.charmlet_shelf.specs.Image as OneImage
 pub use Rattle.charmlet_shelf.specs.Risen
 pub use Rattle.charmlet_world.specs.Waiting
 pub use Rattle.charmlet_history.specs.Kept
+pub use Rattle.charmlet_checkpoint.specs.Imaging

@@ -14,7 +14,7 @@ pub use Rattle.charmlet_stock.specs.Stock
 pub use Rattle.charmlet_locate.specs.Locations
 pub use Rattle.charmlet_journal.specs.NewStores
 pub use Rattle.charmlet_replay.specs.Unused
-pub use Rattle.charmlet_recover.specs.Restart
+pub use Rattle.charmlet_engine.specs.Restart
 pub use Rattle.charmlet_agreement.specs.Naming
 pub use Rattle.charmlet_sequencer.specs.Sequencer
 pub use Rattle.charmlet_workers.specs.Runtime

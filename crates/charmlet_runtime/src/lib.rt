@@ -11,3 +11,4 @@ mod unnamed;
 
 pub use crate::laws::passes_are_runs;
 pub use crate::unnamed::UnnamedRuntime;
+pub use charmlet_engine::{NotRestarted, stock_of};

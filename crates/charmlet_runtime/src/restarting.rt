@@ -12,7 +12,7 @@ ghost use Rattle.charmlet_recovery.specs.Outcomes.{IsLawful};
 ghost use Rattle.charmlet_recovery.specs.Restarts.{engine_refusal};
 ghost use Rattle.charmlet_stock.specs.Stock.{blanks_in, supplied_to};
 ghost use Rattle.charmlet_replay.specs.Unused.{IsUnused};
-ghost use Rattle.charmlet_recover.specs.Restart.{AnswersBy, bytes_on};
+ghost use Rattle.charmlet_engine.specs.Restart.{AnswersBy, bytes_on};
 ghost use Rattle.charmlet_engine.specs.Engine.{core_of};
 ghost use Rattle.charmlet_engine.specs.Lives.{ComesBack, Past, Remembers};
 ghost use Rattle.charmlet_engine.specs.Outcomes.{Onward, is_lawful_since};
@@ -21,8 +21,7 @@ ghost use Rattle.charmlet_engine.specs.Restarted.{AnswersAfterCrash, CameBack, C
 use crate::unnamed::UnnamedRuntime;
 use charmlet_chare::Chare;
 use charmlet_disk::Disk;
-use charmlet_engine::Engine;
-use charmlet_recover::NotRestarted;
+use charmlet_engine::{Engine, NotRestarted};
 use charmlet_stock::Stock;
 use std::alloc::Global;
 use std::thread::Threads;

@@ -29,7 +29,7 @@ pub use Rattle.charmlet_stock.specs.Stock
 pub use Rattle.charmlet_history.specs.Kept
 pub use Rattle.charmlet_journal.specs.NewStores
 pub use Rattle.charmlet_journal.specs.Rest
-pub use Rattle.charmlet_checkpoint.specs.Imaging
+pub use Rattle.charmlet_running.specs.Imaging
 pub use Rattle.charmlet_migrate.specs.Copying
 pub use Rattle.charmlet_migrate.specs.Moving
 pub use Rattle.charmlet_migrate.specs.StoreParts

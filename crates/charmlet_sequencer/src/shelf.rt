@@ -62,7 +62,7 @@ impl<C: Chare, B: BookName> LockedShelf<C, B> {
     ghost use Rattle.charmlet_model.specs.declared.refusal.Refusal.TheVariants as refusals;
     ghost use Rattle.charmlet_shelf.specs.Image.{AreImages};
     ghost use Rattle.charmlet_shelf.specs.Shelf.{is_assigned, is_idle};
-    ghost use Rattle.charmlet_checkpoint.specs.Imaging.{AnswersImage};
+    ghost use Rattle.charmlet_running.specs.Imaging.{AnswersImage};
     ghost use Rattle.charmlet_sequencer.specs.Part.{part_on};
     ghost use Rattle.charmlet_sequencer.specs.Shelf.{delivery_in, entered, is_done, sent_in};
 

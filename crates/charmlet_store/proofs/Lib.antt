@@ -5,3 +5,4 @@ pub mod Theres
 pub mod Lifting
 pub mod Residents
 pub mod Upgrades
+pub use Rattle.charmlet_migrate.proofs.EachShelf

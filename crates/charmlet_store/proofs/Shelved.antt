@@ -36,9 +36,9 @@ use Rattle.charmlet_stock.specs.Stock.{tally_in, supplied_to}
 use Rattle.charmlet_migrate.specs.Moving.{IsCountedAmong, IsIdle, ShowsPresent, objects_among, records_on}
 use Rattle.charmlet_migrate.proofs.EachShelf.{each_or_one, number_is, records_at, shows_on, within_supply}
 use Rattle.charmlet_migrate.proofs.Shelves as all_shelves
-use Rattle.charmlet_delivery.specs.Turns.{Turns}
-use Rattle.charmlet_delivery.specs.UnderWay.{IsUnderWay, due_in}
-use Rattle.charmlet_delivery.specs.Workplace.{IsConsistentWorkplace, IsWithin, ShowsOn, workplace_of, held_in}
+use Rattle.charmlet_migrate.specs.Turns.{Turns}
+use Rattle.charmlet_migrate.specs.UnderWay.{IsUnderWay, due_in}
+use Rattle.charmlet_migrate.specs.Workplace.{IsConsistentWorkplace, IsWithin, ShowsOn, workplace_of, held_in}
 use Rattle.charmlet_store.specs.Store.{AreEmpty, IsNew}
 use Rattle.charmlet_migrate.specs.StoreParts.{AreNumbered, FitTogether}
 use Rattle.charmlet_store.specs.declared.store.Store.TheInside.{Inside}

@@ -11,7 +11,7 @@ use Rattle.std.specs.BTreeMap.{is_at}
 use Rattle.std.specs.Map.{lookup}
 use Rattle.charmlet_model.specs.Names.{elem_cmp}
 use Rattle.charmlet_model.proofs.Histories.{world-append}
-use Rattle.charmlet_delivery.proofs.Places.{stepped_core}
+use Rattle.charmlet_migrate.proofs.Places.{stepped_core}
 
 -- the shelves show the core's world, and there are so many processors
 pub record ShowsCore (shelves : List (List (Elem × Record))) (count : ℕ) (core : Core) : Type 0 where

@@ -25,8 +25,8 @@ pub use Rattle.charmlet_stock.specs.Stock
 pub use Rattle.charmlet_locate.specs.Locations
 pub use Rattle.charmlet_history.specs.Kept
 pub use Rattle.charmlet_history.specs.Opened
-pub use Rattle.charmlet_delivery.specs.UnderWay
-pub use Rattle.charmlet_delivery.specs.Workplace
+pub use Rattle.charmlet_migrate.specs.UnderWay
+pub use Rattle.charmlet_migrate.specs.Workplace
 pub use Rattle.charmlet_migrate.specs.Copying
 pub use Rattle.charmlet_migrate.specs.Moving
 pub use Rattle.charmlet_migrate.specs.StoreParts

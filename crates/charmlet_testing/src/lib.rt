@@ -17,3 +17,4 @@ pub use crate::clients::{give, lend, pass};
 pub use crate::hubs::{checkpoint, held, lend_seat, turn};
 pub use crate::saying::say;
 pub use crate::shows::{image, look, next};
+pub use charmlet_cli::{Failure, Stop, end_program, open_script};

@@ -19,3 +19,5 @@ pub use Rattle.charmlet_model.specs.Told
 pub use Rattle.charmlet_model.specs.Upgrade
 pub use Rattle.charmlet_model.specs.World
 pub use Rattle.charmlet_locate.specs.Locations
+pub use Rattle.charmlet_chare.specs.declared.output
+pub use Rattle.charmlet_chare.specs.Output

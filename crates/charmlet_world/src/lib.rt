@@ -23,3 +23,4 @@ pub use crate::letter::Letter;
 pub use crate::messages::Messages;
 pub use crate::pending::{Pending, Taken};
 pub use crate::present::PresentWorld;
+pub use charmlet_chare::Output;

@@ -1,6 +1,6 @@
 use Rattle.charmlet_any_disk.specs.contracts.any_disk.AnyDiskDisk.TheImpl.{ghosts}
 use Rattle.charmlet_model.specs.Shelves.{count_of}
-use Rattle.charmlet_recover.specs.Wanted.{blanks_in}
+use Rattle.charmlet_cli.specs.Wanted.{blanks_in}
 use Rattle.charmlet.proofs.Lacking.{some_judged, some_restart}
 use Rattle.charmlet.proofs.blanks.restart_with.Goals as goal
 

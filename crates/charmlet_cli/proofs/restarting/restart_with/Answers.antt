@@ -1,7 +1,7 @@
 use Rattle.std.proofs.Common.{◌≡◌, Err, true, inl, inr, refl, subst}
 use Rattle.charmlet_model.specs.Core.{Blanks, Core}
 use Rattle.charmlet_recovery.specs.Restarts.{engine_refusal}
-use Rattle.charmlet_recover.specs.Restart.{AnswersBy, bytes_on}
+use Rattle.charmlet_engine.specs.Restart.{AnswersBy, bytes_on}
 use Rattle.charmlet_locate.specs.Locations.{is_processor_count}
 use Rattle.charmlet_stock.specs.Stock.{supplied_to}
 use Rattle.charmlet_engine.specs.Engine.{view_of}

@@ -1,5 +1,5 @@
 use Rattle.std.proofs.Common.{◌≡◌}
-use Rattle.charmlet_recover.specs.Wanted.{blanks_in}
+use Rattle.charmlet_engine.specs.Wanted.{blanks_in}
 use Rattle.charmlet_script.specs.Script.{blanks_of}
 use Rattle.charmlet_cli.proofs.Supplies.{by_kind}
 use Rattle.charmlet_cli.proofs.restarting.supplied_at_restart.Goals as goal

@@ -6,7 +6,7 @@ use Rattle.charmlet_model.specs.declared.kind.Kind.{Kind}
 use Rattle.charmlet_model.specs.declared.kind.Kind.TheVariants as kinds
 use Rattle.charmlet_model.specs.Shelves.{count_of}
 use Rattle.charmlet_model.proofs.Reactions.{AllByRecursion-append}
-use Rattle.charmlet_recover.specs.Wanted.{blanks_in}
+use Rattle.charmlet_engine.specs.Wanted.{blanks_in}
 use Rattle.charmlet_cli.proofs.running.has_enough.Goals as goal
 
 abbrev all_kinds : List Kind

@@ -1,7 +1,7 @@
 use Rattle.std.proofs.Common.{◌≤◌, take}
 use Rattle.std.specs.List.{AllByRecursion}
 use Rattle.charmlet_model.specs.Shelves.{count_of}
-use Rattle.charmlet_recover.specs.Wanted.{blanks_in}
+use Rattle.charmlet_engine.specs.Wanted.{blanks_in}
 use Rattle.charmlet_cli.proofs.running.has_enough.Given as goal
 
 -- of the kinds so far there are enough

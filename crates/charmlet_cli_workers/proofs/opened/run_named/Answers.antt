@@ -1,6 +1,6 @@
 use Rattle.std.proofs.Common.{refl, sym, ap, subst, ◌∙◌}
 use Rattle.std.specs.Prelude.{IfSome}
-use Rattle.charmlet_engine.specs.Engine.{EngineShown, core_of}
+use Rattle.charmlet_runtime.specs.Engine.{EngineShown, core_of}
 use Rattle.charmlet_workers.specs.Runtime.{RuntimeShown}
 use Rattle.charmlet_model.specs.Sound.{IsSound}
 use Rattle.charmlet_history.specs.Kept.{core_in}

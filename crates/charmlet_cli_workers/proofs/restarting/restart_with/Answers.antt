@@ -2,11 +2,11 @@ use Rattle.std.proofs.Common.{◌≡◌, Err, Some, true, inl, refl, sym, ap, su
 use Rattle.std.specs.Prelude.{IfSome}
 use Rattle.charmlet_model.specs.Core.{Blanks, Core}
 use Rattle.charmlet_recovery.specs.Restarts.{engine_refusal}
-use Rattle.charmlet_recover.specs.Restart.{AnswersBy, bytes_on}
+use Rattle.charmlet_runtime.specs.Restart.{AnswersBy, bytes_on}
 use Rattle.charmlet_locate.specs.Locations.{is_processor_count}
 use Rattle.charmlet_stock.specs.Stock.{supplied_to}
-use Rattle.charmlet_engine.specs.Engine.{core_of, view_of}
-use Rattle.charmlet_engine.specs.Restarted.{IsTakenFrom}
+use Rattle.charmlet_runtime.specs.Engine.{core_of, view_of}
+use Rattle.charmlet_runtime.specs.Restarted.{IsTakenFrom}
 use Rattle.charmlet_cli.specs.Lines.{ledger_in, named_by}
 use Rattle.charmlet_cli_workers.specs.Heard.{names_in}
 use Rattle.charmlet_cli.proofs.Restarts.{all_given, counted_processors, is_back, was_not_restarted}

@@ -1,5 +1,5 @@
 use Rattle.charmlet_agreement.specs.Naming.{table_of}
-use Rattle.charmlet_engine.specs.Engine.{core_of}
+use Rattle.charmlet_runtime.specs.Engine.{core_of}
 use Rattle.charmlet_cli_workers.proofs.restarting.restart_with.Given as goal
 
 -- the book of shelves that was just made

@@ -2,7 +2,7 @@ use Rattle.std.proofs.Common.{ℕ, None, inl, refl, sym, ap, subst, ◌∙◌}
 use Rattle.charmlet_locate.specs.Locations.{is_processor_count}
 use Rattle.std.specs.Prelude.{IfSome}
 use Rattle.charmlet_model.specs.Core.{Core}
-use Rattle.charmlet_engine.specs.Engine.{core_of}
+use Rattle.charmlet_runtime.specs.Engine.{core_of}
 use Rattle.charmlet_cli.specs.Lines.{named_by}
 use Rattle.charmlet_cli.specs.Run.{IsCreationRefusal}
 use Rattle.charmlet_cli_workers.specs.Heard.{names_in}

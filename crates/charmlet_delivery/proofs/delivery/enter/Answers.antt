@@ -1,7 +1,7 @@
 use Rattle.std.proofs.Common.{◌≡◌, List, ℕ, sym, ap, subst, ◌∙◌}
 use Rattle.std.specs.Prelude.{Some, is_some, option_map}
 use Rattle.charmlet_model.specs.declared.message.Message.{Message}
-use Rattle.charmlet_world.specs.Waiting.{shown_message}
+use Rattle.charmlet_history.specs.Waiting.{shown_message}
 use Rattle.charmlet_history.specs.Kept.{assigned_message, core_in}
 use Rattle.charmlet_shelf.specs.Due.{Due}
 use Rattle.charmlet_shelf.specs.Lending.{IsCarriedOut}

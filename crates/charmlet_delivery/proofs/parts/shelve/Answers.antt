@@ -3,8 +3,8 @@ use Rattle.std.specs.Prelude.{Some, option_map}
 use Rattle.charmlet_model.specs.declared.message.Message.{Message}
 use Rattle.charmlet_model.specs.Core.{assigned_to, blank_of_id, present}
 use Rattle.charmlet_model.specs.World.{record_of}
-use Rattle.charmlet_world.specs.declared.element.Element.{Element}
-use Rattle.charmlet_world.specs.Waiting.{shown_message}
+use Rattle.charmlet_history.specs.element.Element.{Element}
+use Rattle.charmlet_history.specs.Waiting.{shown_message}
 use Rattle.charmlet_history.specs.Kept.{assigned_message, core_in}
 use Rattle.charmlet_shelf.specs.Due.{newcomer_due}
 use Rattle.charmlet_shelf.specs.Shelf.{Assigns, is_idle}

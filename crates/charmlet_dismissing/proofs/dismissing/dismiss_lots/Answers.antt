@@ -3,7 +3,7 @@ use Rattle.std.specs.List.{AllByRecursion}
 use Rattle.std.proofs.lemmas.List.{nil_from_length}
 use Rattle.std.proofs.lemmas.List.Sums.{sum_by-cons}
 use Rattle.charmlet_model.specs.declared.kind.Kind.{Kind}
-use Rattle.charmlet_lots.specs.declared.lot.Lot.{Lot}
+use Rattle.charmlet_joining.specs.lot.Lot.{Lot}
 use Rattle.charmlet_stock.specs.Stock.{blanks_in, supplied_to}
 use Rattle.charmlet_pouring.specs.Poured.{retired_in}
 use Rattle.charmlet_replay.specs.Restored.{IsHeld}

@@ -1,5 +1,5 @@
 use Rattle.std.proofs.Common.{◌≡◌}
-use Rattle.charmlet_recover.specs.Wanted.{blanks_in}
+use Rattle.charmlet_engine.specs.Wanted.{blanks_in}
 use Rattle.charmlet_script.specs.Script.{blanks_of}
 use Rattle.charmlet_lab.proofs.Rounds.{by_kind}
 use Rattle.charmlet_lab.proofs.round.supplied_by.Goals as goal

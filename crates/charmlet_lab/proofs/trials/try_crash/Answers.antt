@@ -1,5 +1,5 @@
 use Rattle.std.proofs.Common.{◌≡◌, false, refl, subst}
-use Rattle.charmlet_recover.specs.Wanted.{blanks_in}
+use Rattle.charmlet_engine.specs.Wanted.{blanks_in}
 use Rattle.charmlet_script.specs.Script.{processors_of}
 use Rattle.charmlet_lab.specs.Judged.{IsGood}
 use Rattle.charmlet_lab.specs.Rounds.{arrays_of}

@@ -8,8 +8,8 @@ use Rattle.charmlet_stock.specs.Stock.{blanks_in}
 use Rattle.charmlet_locate.specs.Locations.{is_processor_count}
 use Rattle.charmlet_engine.specs.Engine.{core_of}
 use Rattle.charmlet_engine.specs.Restarted.{IsFound, IsOpenedOn, core_or_refusal, is_engine_refusal}
-use Rattle.charmlet_recover.specs.Restart.{AnswersBy, bytes_on}
-use Rattle.charmlet_recover.specs.Wanted as wants
+use Rattle.charmlet_engine.specs.Restart.{AnswersBy, bytes_on}
+use Rattle.charmlet_engine.specs.Wanted as wants
 use Rattle.charmlet_lab.specs.Restarts.{IsRestart}
 use Rattle.charmlet_lab.specs.Rounds.{arrays_of}
 use Rattle.charmlet_lab.proofs.Restarts.{all_why, goes_on_newest, is_restart, told_enough, told_lack}

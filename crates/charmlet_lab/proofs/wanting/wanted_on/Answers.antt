@@ -1,5 +1,5 @@
 use Rattle.std.proofs.Common.{inr, refl}
-use Rattle.charmlet_recover.specs.declared.finding.Found.{Found}
+use Rattle.charmlet_engine.specs.finding.Found.{Found}
 use Rattle.charmlet_lab.proofs.Causes.{failure_counted}
 use Rattle.charmlet_lab.proofs.wanting.wanted_on.Goals as goal
 

@@ -2,7 +2,7 @@ use Rattle.std.proofs.Common.{◌≡◌, ◌<◌, List, length, sym, ap, subst, 
 use Rattle.std.specs.Prelude.{Some, IfSome, slice_index_or}
 use Rattle.charmlet_model.specs.Core.{Move}
 use Rattle.charmlet_model.specs.Run.{Goes}
-use Rattle.charmlet_history.specs.Kept.{core_in}
+use Rattle.charmlet_delivery.specs.Kept.{core_in}
 use Rattle.charmlet_shelf.specs.Shelf.{View}
 use Rattle.charmlet_delivery.specs.Workplace.{done_or_refused, store_with}
 use Rattle.charmlet_migrate.specs.StoreParts.{FitTogether}

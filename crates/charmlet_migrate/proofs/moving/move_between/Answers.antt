@@ -10,8 +10,8 @@ use Rattle.charmlet_model.specs.Names.{elem_cmp}
 use Rattle.charmlet_model.specs.Reaction.{kind_of}
 use Rattle.charmlet_model.specs.Core.{Blanks, Core, Done, Move, Refuses, checks, first_refusal, next_core}
 use Rattle.charmlet_model.specs.Run.{Goes, StoreView}
-use Rattle.charmlet_history.specs.declared.history.History.{History}
-use Rattle.charmlet_history.specs.Kept.{blank_of_move, core_in, plenty}
+use Rattle.charmlet_delivery.specs.history.History.{History}
+use Rattle.charmlet_delivery.specs.Kept.{blank_of_move, core_in, plenty}
 use Rattle.charmlet_shelf.specs.Shelf.{View}
 use Rattle.charmlet_stock.specs.Stock.{blanks_in, census_of, tally_in}
 use Rattle.charmlet_stock.specs.ByKind.{with_at}

@@ -6,7 +6,7 @@ use Rattle.charmlet_recovery.specs.Blanks.{wanted}
 use Rattle.charmlet_recovery.specs.Restarts.{wanted_of}
 use Rattle.charmlet_stock.specs.declared.stock.Stock.{Stock}
 use Rattle.charmlet_stock.specs.Stock.{blanks_in, supplied_to}
-use Rattle.charmlet_lots.specs.declared.lot.Lot.{Lot}
+use Rattle.charmlet_recalling.specs.lot.Lot.{Lot}
 use Rattle.charmlet_dealing.specs.Keeping.{IsHeldLot, KeepsAll}
 use Rattle.charmlet_recalling.specs.Filled.{IsEmptyLot}
 use Rattle.charmlet_replay.proofs.OpenHalves.{few_generations, some_generation}

@@ -1,6 +1,6 @@
 use Rattle.std.proofs.Common.{List, length, sym, subst}
 use Rattle.charmlet_model.specs.Fit.{IsFit}
-use Rattle.charmlet_lots.specs.declared.lot.Lot.{Lot}
+use Rattle.charmlet_joining.specs.lot.Lot.{Lot}
 use Rattle.charmlet_joining.specs.Joined.{worker_at_home}
 use Rattle.charmlet_joining.specs.Merged.{ArePartsOn}
 use Rattle.charmlet_reopening.proofs.AllDone.{are_parts, is_fit}

@@ -2,7 +2,7 @@ use Rattle.std.proofs.Common.{subst}
 use Rattle.std.specs.Prelude.{IfErr}
 use Rattle.charmlet_any_disk.specs.contracts.any_disk.AnyDiskDisk.TheImpl.{ghosts}
 use Rattle.charmlet_model.specs.Core.{Blanks}
-use Rattle.charmlet_recover.specs.Wanted.{blanks_in}
+use Rattle.charmlet_cli.specs.Wanted.{blanks_in}
 use Rattle.charmlet_lab.specs.Restarts.{IsNotTried}
 use Rattle.charmlet.proofs.blanks.AllKindsSupplierAnyDisk.restart.Goals as goal
 

@@ -1,6 +1,6 @@
 use Rattle.std.proofs.Common.{ap, ◌∙◌}
 use Rattle.charmlet_model.specs.World.{record_of}
-use Rattle.charmlet_world.specs.declared.element.Element.{Element}
+use Rattle.charmlet_migrate.specs.element.Element.{Element}
 use Rattle.charmlet_store.specs.Store.{StoreShown, world_in}
 use Rattle.charmlet_store.proofs.store.Store.look.Goals as goal
 

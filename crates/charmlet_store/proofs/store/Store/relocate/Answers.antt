@@ -5,7 +5,7 @@ use Rattle.charmlet_model.specs.Core.{Done, Move, home, place_of, place_or_home}
 use Rattle.charmlet_model.specs.Run.{Goes}
 use Rattle.charmlet_history.specs.Kept.{core_in}
 use Rattle.charmlet_stock.specs.Stock.{blanks_in}
-use Rattle.charmlet_delivery.specs.Workplace.{done_or_refused, store_with}
+use Rattle.charmlet_migrate.specs.Workplace.{done_or_refused, store_with}
 use Rattle.charmlet_migrate.proofs.CanMove.{is_there, is_within}
 use Rattle.charmlet_migrate.proofs.MoveChecks.{refused_so, stays_there}
 use Rattle.charmlet_store.specs.Store.{StoreShown, store_in, supplied_in}

@@ -4,7 +4,7 @@ use Rattle.charmlet_migrate.specs.Moving.{records_on}
 use Rattle.charmlet_store.proofs.Showing.{request_shows}
 use Rattle.charmlet_model.specs.Core.{Request}
 use Rattle.charmlet_model.specs.Run.{Goes}
-use Rattle.charmlet_delivery.specs.Workplace.{store_with}
+use Rattle.charmlet_migrate.specs.Workplace.{store_with}
 use Rattle.charmlet_stock.specs.Stock.{blanks_in}
 use Rattle.charmlet_store.specs.Store.{StoreShown, store_in}
 use Rattle.charmlet_store.proofs.store.Store.request.Goals as goal
