@@ -1,30 +1,11 @@
 //! Blank objects of all kinds, and the tasks that need them.
 
-ghost use Rattle.std.specs.Prelude.{◌≡◌, true, IfErr, IfOk};
-ghost use Rattle.std.specs.Thread.{IsSync};
-ghost use Rattle.charmlet_model.specs.Core.{Blanks};
-ghost use Rattle.charmlet_model.specs.Sound.{new_world};
-ghost use Rattle.charmlet_model.specs.World.{IsLegal};
-ghost use Rattle.charmlet_any_disk.specs.AnyDisk.{files_of, is_honest};
-ghost use Rattle.charmlet_disk.specs.Disk.{IsSettled};
-ghost use Rattle.charmlet_locate.specs.Locations.{is_processor_count};
-ghost use Rattle.charmlet_recovery.specs.RestartLaws.{IsEnough};
-ghost use Rattle.charmlet_cli.specs.Wanted.{blanks_in};
-ghost use Rattle.charmlet_script.specs.Script.{processors_of};
-ghost use Rattle.charmlet_lab.specs.Lines.{IsRunOf};
-ghost use Rattle.charmlet_lab.specs.Restarts.{IsJudged, IsNotTried};
-ghost use Rattle.charmlet_lab.specs.Rounds.{IsNotRun, IsRound, arrays_of};
+ghost use Rattle.std.specs.Prelude.{⊤, IfOk};
 
-use charmlet_any_disk::AnyDisk;
 use charmlet_chare::Chare;
-use charmlet_cli::Wanted;
-use charmlet_disk::Disk;
 use charmlet_kinds::{Account, Counter, Ring, Sum, Tape, Tree};
-use charmlet_lab::{Round, Supplier, lab_outcome, lab_round};
-use charmlet_model::{Event, Kind, Refusal};
-use charmlet_script::Script;
+use charmlet_model::Kind;
 use std::alloc::{AllocError, Global};
-use std::thread::Threads;
 
 /// An object of any kind.
 pub(crate) type Object = Box<dyn Chare + Send>;
@@ -37,6 +18,9 @@ pub(crate) trait Task: Drop {
     /// When it may begin.
     ghost may_begin: { Self → Type 0 };
 
+    /// What its answer means.
+    ghost answers: { Self → Self.Answer → Type 0 } = { λ _ _. ⊤ };
+
     /// How many blanks of a kind the elements of a store that comes back need.
     fn blanks(&self, kind: Kind) -> u64;
 
@@ -45,7 +29,8 @@ pub(crate) trait Task: Drop {
 
     /// Does it, with these blanks.
     fn begin(self, blanks: Vec<Object>, supplies: Vec<Object>) -> Self::Answer
-        requires { may_begin self };
+        requires { may_begin self }
+        ensures { answers self result };
 }
 
 /// A boxed object, or `None` when out of memory.
@@ -79,129 +64,20 @@ macro_rules! blank {
 /// memory for them.
 pub(crate) fn with_blanks<T: Task>(alloc: Global, task: T) -> Result<T::Answer, AllocError>
     requires { T.may_begin task }
+    ensures { IfOk result (T.answers task) }
 {
     let mut blanks = Vec::new(alloc);
     let mut supplies = Vec::new(alloc);
     for kind in &Kind::ALL {
-        for _ in 0..task.blanks(*kind) {
-            blanks.push(blank!(alloc, kind)?)?;
-        }
-        for _ in 0..task.supplies(*kind) {
-            supplies.push(blank!(alloc, kind)?)?;
+        let wanted = task.blanks(*kind);
+        for count in 0..wanted.saturating_add(task.supplies(*kind)) {
+            let blank = blank!(alloc, kind)?;
+            if count < wanted {
+                blanks.push(blank)?;
+            } else {
+                supplies.push(blank)?;
+            }
         }
     }
     Ok(task.begin(blanks, supplies))
-}
-
-/// A run of a script with these blanks.
-fn run_with<C: Chare>(
-    alloc: Global,
-    script: &Script,
-    blanks: Vec<C>,
-    disk: AnyDisk,
-) -> Result<Round<AnyDisk>, Refusal>
-    requires settled { is_honest disk → IsSettled (files_of disk) }
-    ensures ok { IfOk result (IsRound ⟦<AnyDisk as Disk>⟧ (arrays_of script.now) disk) }
-    ensures ran { IfOk result (IsRunOf script.now) }
-    ensures processors { IfOk result (λ _.
-        is_processor_count (processors_of script.now) ≡ true) }
-    ensures err { IfErr result (λ refusal. (given : Blanks)
-        × IsNotRun ⟦<AnyDisk as Disk>⟧ given script.now disk refusal) }
-{
-    lab_round(alloc, script, blanks, disk)
-}
-
-/// Whether a restart after a run's crash is bad, with these blanks.
-fn restart_with<R: Threads + Sync, C: Chare>(
-    threads: &R,
-    alloc: Global,
-    script: &Script,
-    disk: AnyDisk,
-    wanted: &Wanted,
-    blanks: Vec<C>,
-    events: &[Event],
-    durable: Option<u64>,
-) -> Result<bool, Refusal>
-    requires legal { IsLegal (new_world (arrays_of script.now)) 0 events.now }
-    ensures ok { IfOk result (λ bad. (given : Blanks) × IsEnough given (blanks_in wanted.now)
-        × IsJudged ⟦<AnyDisk as Disk>⟧ script.now given disk events.now durable bad) }
-    ensures err { IfErr result (λ refusal. (given : Blanks)
-        × IsNotTried ⟦<AnyDisk as Disk>⟧ script.now given (blanks_in wanted.now) disk refusal) }
-{
-    lab_outcome(
-        threads, alloc, script, disk, wanted, blanks, events, durable,
-    )
-}
-
-/// Objects of all kinds, for the runs and the restarts of the laboratory, which replay in threads
-/// of `threads`.
-#[derive(Drop)]
-pub(crate) struct AllKinds<'a, R: Threads + Sync> {
-    pub(crate) threads: &'a R,
-}
-
-impl<R: Threads + Sync> Supplier<AnyDisk> for AllKinds<'_, R> {
-    ghost may_restart = { λ _. IsSync R.row };
-
-    fn run(&self, alloc: Global, script: &Script, disk: AnyDisk) -> Result<Round<AnyDisk>, Refusal>
-        requires settled { is_honest disk → IsSettled (files_of disk) }
-        ensures ok { IfOk result (IsRound ⟦<AnyDisk as Disk>⟧ (arrays_of script.now) disk) }
-        ensures ran { IfOk result (IsRunOf script.now) }
-        ensures processors { IfOk result (λ _.
-            is_processor_count (processors_of script.now) ≡ true) }
-        ensures err { IfErr result (λ refusal. (given : Blanks)
-            × IsNotRun ⟦<AnyDisk as Disk>⟧ given script.now disk refusal) }
-    {
-        let mut blanks = Vec::new(alloc);
-        for kind in &Kind::ALL {
-            for _ in 0..script.blanks(*kind) {
-                let Ok(blank) = blank!(alloc, kind) else {
-                    return Err(Refusal::Memory);
-                };
-                if blanks.push(blank).is_err() {
-                    return Err(Refusal::Memory);
-                }
-            }
-        }
-        run_with(alloc, script, blanks, disk)
-    }
-
-    fn restart(
-        &self,
-        alloc: Global,
-        script: &Script,
-        disk: AnyDisk,
-        wanted: &Wanted,
-        events: &[Event],
-        durable: Option<u64>,
-    ) -> Result<bool, Refusal>
-        requires may { IsSync R.row }
-        requires legal { IsLegal (new_world (arrays_of script.now)) 0 events.now }
-        ensures ok { IfOk result (λ bad. (given : Blanks) × IsEnough given (blanks_in wanted.now)
-            × IsJudged ⟦<AnyDisk as Disk>⟧ script.now given disk events.now durable bad) }
-        ensures err { IfErr result (λ refusal. (given : Blanks)
-            × IsNotTried ⟦<AnyDisk as Disk>⟧ script.now given (blanks_in wanted.now) disk refusal) }
-    {
-        let mut blanks = Vec::new(alloc);
-        for kind in &Kind::ALL {
-            for _ in 0..wanted.of(*kind) {
-                let Ok(blank) = blank!(alloc, kind) else {
-                    return Err(Refusal::Memory);
-                };
-                if blanks.push(blank).is_err() {
-                    return Err(Refusal::Memory);
-                }
-            }
-        }
-        restart_with(
-            self.threads,
-            alloc,
-            script,
-            disk,
-            wanted,
-            blanks,
-            events,
-            durable,
-        )
-    }
 }

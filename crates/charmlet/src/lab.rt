@@ -1,7 +1,7 @@
 //! The laboratory of crashes, with objects of all kinds.
 
-use crate::blanks::AllKinds;
 use crate::scripts::script_in;
+use crate::trying::AllKinds;
 use charmlet_any_disk::AnyDisk;
 use charmlet_cli::{Stop, write_line};
 use charmlet_lab::{LabLine, Watch, try_crashes};

@@ -7,6 +7,7 @@ mod lab;
 mod output;
 mod runs;
 mod scripts;
+mod trying;
 mod workers;
 
 use crate::lab::lab;

@@ -1,5 +1,5 @@
 -- How a run ends early.
-use Rattle.std.proofs.Common.{◌≡◌, List, Option, Result, Ok, Err, OnOk, OnErr, sym, subst}
+use Rattle.std.proofs.Common.{◌≡◌, List, Option, Result, Ok, Err, sym, subst}
 use Rattle.std.specs.Result.{IfErr, IsErrAnd}
 use Rattle.charmlet_model.specs.declared.state.State.{State}
 use Rattle.charmlet_model.specs.Texts.{Text}
@@ -7,16 +7,8 @@ use Rattle.charmlet_disk.specs.declared.disk.Disk as disks
 use Rattle.charmlet_script.specs.Script.{Contents}
 use Rattle.charmlet_cli.specs.declared.running.RunError.{RunError}
 use Rattle.charmlet_cli.specs.declared.running.RunError.TheVariants.{TooFewBlanks, NotCreated, Memory, Output}
-use Rattle.charmlet_cli.specs.Lines.{AreEnough}
+use Rattle.charmlet_lines.specs.Supplied.{AreEnough}
 use Rattle.charmlet_cli.specs.RunError.{EndsRun, Lacks, Leaves}
-
-pub on_ok : {T E P : Type 0} (r : Result T E) → P → OnOk r P
-on_ok (Ok x) holds = holds
-on_ok (Err e) holds = tt
-
-pub on_err : {T E P : Type 0} (r : Result T E) → P → OnErr r P
-on_err (Ok x) holds = tt
-on_err (Err e) holds = holds
 
 -- memory was refused although there were enough objects
 pub memory_ends : {C T : Type 0} (state : C → State) (objects : List C) (script : Contents) (r : Result T (RunError C)) →

@@ -1,10 +1,8 @@
 pub mod Continuing
 pub mod Endings
 pub mod Openings
-pub mod Printing
 pub mod Restarts
 pub mod Showings
 pub mod Standings
-pub mod Supplies
 pub mod Drainings
 pub mod Naming

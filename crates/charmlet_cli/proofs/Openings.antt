@@ -6,7 +6,8 @@ use Rattle.charmlet_model.specs.declared.kind.Kind.{Kind}
 use Rattle.charmlet_model.specs.Manifest.{manifest_of}
 use Rattle.charmlet_journal.specs.NewStores.{new_core}
 use Rattle.charmlet_script.specs.Script.{Contents, pairs_of, processors_of}
-use Rattle.charmlet_cli.specs.Lines.{Ledger, opening_of}
+use Rattle.charmlet_lines.specs.Ledgers.{Ledger}
+use Rattle.charmlet_cli.specs.Lines.{opening_of}
 
 -- a new store has the script's processors and arrays, and nothing else
 pub opens : {D : Type 0} (script : Contents) (manifest : List (ℕ × Edition)) (processors : ℕ) (ledger : Ledger D) → manifest_of (pairs_of script.arrays) ≡ Some manifest → processors ≡ processors_of script →

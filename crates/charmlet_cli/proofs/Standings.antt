@@ -1,30 +1,20 @@
 -- What stands on a disk on which a store was made and run.
-use Rattle.std.proofs.Common.{◌≡◌, ◌≢◌, ◌⊎◌, Option, Some, inl, inr, ⊎_elim, ℕ, Bool, Err, List, [], refl, sym, ap, subst, ◌∙◌, arith}
-use Rattle.std.specs.Prelude.{unwrap_or}
-use Rattle.charmlet_model.specs.declared.half.Half.TheVariants.{Zero, One}
+use Rattle.std.proofs.Common.{◌≡◌, ◌⊎◌, inl, inr, ⊎_elim, ℕ, List, refl, sym, ap, subst, ◌∙◌, arith}
 use Rattle.charmlet_model.specs.declared.edition.Edition.{Edition}
-use Rattle.charmlet_model.specs.declared.refusal.Refusal.{Refusal}
-use Rattle.charmlet_model.specs.declared.refusal.Refusal.TheVariants as refusals
-use Rattle.charmlet_model.specs.Manifest.{manifest_of}
-use Rattle.charmlet_image.specs.Spelled.{IsClosed}
-use Rattle.charmlet_halves.specs.Answers.{is_no_failure}
-use Rattle.charmlet_halves.specs.Bytes.{IsOpen}
-use Rattle.charmlet_script.specs.Script.{Contents, pairs_of}
 use Rattle.charmlet_model.specs.Core.{Core}
 use Rattle.charmlet_model.specs.Sound.{new_world}
 use Rattle.charmlet_model.specs.World.{World}
 use Rattle.charmlet_disk.specs.declared.disk.Disk as disks
-use Rattle.charmlet_disk.specs.Calls.{IsOnlyRead}
-use Rattle.charmlet_disk.specs.Disk.{LeavesOnly, faults_after}
+use Rattle.charmlet_disk.specs.Disk.{LeavesOnly}
 use Rattle.charmlet_disk.specs.File.{MayLeave, CrashBytes}
 use Rattle.charmlet_disk.proofs.Moments.{after_that}
 use Rattle.charmlet_journal.specs.NewStores.{new_core}
 use Rattle.charmlet_recovery.specs.Recovered.{Found}
 use Rattle.charmlet_engine.specs.Advances.{Advances}
 use Rattle.charmlet_engine.specs.Engine.{EngineShown, core_of}
-use Rattle.charmlet_engine.specs.Outcomes.{IsNothingOrNew, Onward, is_lawful_now, is_lawful_since, not_device}
-use Rattle.charmlet_cli.specs.Lines.{kinds_of, ledger_in}
-use Rattle.charmlet_cli.specs.Run.{IsCreated, IsEarlierOrLawful, IsHandedBack, IsNothing, Stands}
+use Rattle.charmlet_engine.specs.Outcomes.{IsNothingOrNew, Onward, is_lawful_now, is_lawful_since}
+use Rattle.charmlet_lines.specs.Ledgers.{ledger_in}
+use Rattle.charmlet_cli.specs.Run.{IsEarlierOrLawful, IsNothing, Stands}
 
 -- a new store that went on to this one
 module _ (manifest : List (ℕ × Edition)) (processors : ℕ) (old new : Core) (opens : old ≡ new_core processors manifest) (on : Onward old new) where
@@ -85,44 +75,4 @@ module _ {D : Type 0} (G : disks.Ghosts D) where
   stays_honest disk end first last honest advances is = (
     (λ h. subst G.honest (sym is) (advances.honest.0 (honest.0 h))),
     (λ h. honest.1 (advances.honest.1 (subst G.honest is h))),
-  )
-
--- the arrays that a script's store has
-made_of : (script : Contents) (manifest : List (ℕ × Edition)) → manifest_of (pairs_of script.arrays) ≡ Some manifest → manifest ≡ kinds_of script
-made_of script manifest is = sym (ap (λ (o : Option (List (ℕ × Edition))). unwrap_or o []) is)
-
--- a refusal is a failure of the device if and only if it says so
-pub failure_said : (X : Type 0) (refusal : Refusal) → is_no_failure {X = X} (Err refusal) ≡ not_device refusal
-failure_said X refusals.Device = refl
-failure_said X _ = refl
-
-module _ {D : Type 0} (G : disks.Ghosts D) (first last : D) (script : Contents) (manifest : List (ℕ × Edition)) (is : manifest_of (pairs_of script.arrays) ≡ Some manifest) where
-  -- a disk on which a store was made
-  pub created : (G.honest first → IsClosed (G.file first Zero).now × IsClosed (G.file first One).now) → G.faults last ≡ G.faults first →
-      (G.honest first → G.honest last) × (G.honest last → G.honest first) → (G.honest first → LeavesOnly G.moment G.since first last (IsNothingOrNew manifest)) → IsCreated G (kinds_of script) first last
-  created closed counted honest leaves = record {
-    closed = closed;
-    counted = counted;
-    honest = honest;
-    any_moment = λ still. subst (λ (kinds : List (ℕ × Edition)). LeavesOnly G.moment G.since first last (IsNothingOrNew kinds)) (made_of script manifest is) (leaves still);
-  }
-
-  -- a disk that a refused creation handed back
-  pub handed_back : (refusal : Refusal) → G.faults last ≡ faults_after (is_no_failure {X = D} (Err refusal)) (G.faults first) →
-      (G.honest first → refusal ≡ refusals.AlreadyHere → IsOpen (G.file first Zero).now ⊎ IsOpen (G.file first One).now) →
-      (G.honest first → refusal ≡ refusals.Memory → IsClosed (G.file first Zero).now × IsClosed (G.file first One).now) →
-      (G.honest first → refusal ≢ refusals.Device → IsOnlyRead G first last) →
-      (G.honest first → IsOpen (G.file first Zero).now ⊎ IsOpen (G.file first One).now → LeavesOnly G.moment G.since first last (MayLeave (G.file first))) →
-      (G.honest first → IsClosed (G.file first Zero).now → IsClosed (G.file first One).now → LeavesOnly G.moment G.since first last (IsNothingOrNew manifest)) →
-      IsHandedBack G first last script refusal
-  handed_back refusal counted here lacked unwritten open_kept any_moment = (
-    counted ∙ ap (λ (b : Bool). faults_after b (G.faults first)) (failure_said D refusal),
-    λ honest. record {
-      here = here honest;
-      lacked = lacked honest;
-      unwritten = unwritten honest;
-      open_kept = open_kept honest;
-      any_moment = λ zero one.
-          subst (λ (kinds : List (ℕ × Edition)). LeavesOnly G.moment G.since first last (IsNothingOrNew kinds)) (made_of script manifest is) (any_moment honest zero one);
-    },
   )

@@ -6,9 +6,9 @@ use Rattle.charmlet_command.specs.declared.CommandError.{CommandError}
 use Rattle.charmlet_command.specs.declared.CommandError.TheVariants as commands
 use Rattle.charmlet_cli.specs.declared.ending.Failure.{Failure}
 use Rattle.charmlet_cli.specs.declared.ending.Failure.TheVariants.{Command, Stopped}
-use Rattle.charmlet_cli.specs.declared.stop.Stop.TheVariants as stops
-use Rattle.charmlet_cli.specs.Lines.{in_lines}
-use Rattle.charmlet_cli.specs.Stop.{status_of, stop_text}
+use Rattle.charmlet_lines.specs.declared.stop.Stop.TheVariants as stops
+use Rattle.charmlet_lines.specs.Writing.{in_lines}
+use Rattle.charmlet_lines.specs.Stop.{status_of, stop_text}
 
 -- the failure of a command line that asks for nothing
 abbrev pub failure_of : CommandError → Failure

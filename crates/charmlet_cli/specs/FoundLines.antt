@@ -12,7 +12,7 @@ use Rattle.charmlet_engine.specs.Wanted.{blanks_in}
 use Rattle.charmlet_cli.specs.declared.found_lines.ArrayLine.{ArrayLine}
 use Rattle.charmlet_cli.specs.declared.found_lines.HalfLine.{HalfLine}
 use Rattle.charmlet_cli.specs.declared.found_lines.WantedLine.{WantedLine}
-use Rattle.charmlet_cli.specs.Shown.{all_kinds}
+use Rattle.charmlet_lines.specs.Shown.{all_kinds}
 
 -- half H generation G base B log L
 abbrev pub half_line_text : HalfLine → Text

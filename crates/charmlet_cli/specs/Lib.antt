@@ -7,9 +7,6 @@ pub mod Restarted
 pub mod Run
 pub mod RunError
 pub mod ShowStore
-pub mod Shown
-pub mod Stop
-pub mod Writing
 pub use Rattle.charmlet_model.specs.Core
 pub use Rattle.charmlet_model.specs.Edition
 pub use Rattle.charmlet_model.specs.Manifest
@@ -31,3 +28,11 @@ pub use Rattle.charmlet_engine.specs.Engine
 pub use Rattle.charmlet_engine.specs.Taken
 pub use Rattle.charmlet_script.specs.Printed
 pub use Rattle.charmlet_script.specs.Script
+pub use Rattle.charmlet_lines.specs.Writing
+pub use Rattle.charmlet_lines.specs.Named
+pub use Rattle.charmlet_lines.specs.Supplied
+pub use Rattle.charmlet_lines.specs.Ledgers
+pub use Rattle.charmlet_lines.specs.Shown
+pub use Rattle.charmlet_lines.specs.Stop
+pub use Rattle.charmlet_lines.specs.Created
+pub use Rattle.charmlet_lines.specs.Back

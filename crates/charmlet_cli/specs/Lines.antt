@@ -1,71 +1,35 @@
 -- What the lines of a script do to a store, and what they print.
-use Rattle.std.specs.Prelude.{◌≡◌, ◌⊎◌, ℕ, ◌+◌, ◌≤◌, false, true, List, [], ◌∷◌, ◌++◌, map, take, if◌then◌else◌, is_some, Option, Some, None, IsSome, Result, unwrap_or}
-use Rattle.std.specs.Str.{bytes_eq}
+use Rattle.std.specs.Prelude.{◌≡◌, ◌⊎◌, ℕ, ◌+◌, false, true, List, [], ◌∷◌, ◌++◌, map, take, Option, None, IsSome, Result}
 use Rattle.std.specs.Io.KnownBytes.{Appends}
 use Rattle.std.specs.List.{flat_map}
 use Rattle.charmlet_model.specs.declared.kind.Kind.{Kind}
 use Rattle.charmlet_model.specs.declared.names.Elem.{Elem}
 use Rattle.charmlet_model.specs.declared.refusal.Refusal.{Refusal}
-use Rattle.charmlet_model.specs.declared.refusal.Refusal.TheVariants.{Memory}
 use Rattle.charmlet_model.specs.declared.step.Answer.{Answer}
-use Rattle.charmlet_model.specs.declared.step.Answer.TheVariants.{Refused}
 use Rattle.charmlet_model.specs.declared.step.Step.{Step}
-use Rattle.charmlet_model.specs.Manifest.{manifest_of}
 use Rattle.charmlet_model.specs.Texts.{Text, answer_text}
 use Rattle.charmlet_model.specs.Run.{StoreView, Does}
 use Rattle.charmlet_model.specs.RunLaws.{IsToldTrue}
 use Rattle.charmlet_model.specs.declared.step.Step.TheVariants as steps
-use Rattle.charmlet_requests.specs.declared.handlers.Handler.{Handler}
 use Rattle.charmlet_requests.specs.Handlers.{IsTarget, handler_of}
 use Rattle.charmlet_cli.specs.declared.desk.Desk.{Desk}
-use Rattle.charmlet_script.specs.declared.script.HandlerLine.{HandlerLine}
 use Rattle.charmlet_script.specs.declared.script.Line.{Line}
 use Rattle.charmlet_script.specs.declared.script.Line.TheVariants.{Supply, Drain, State, Pending, Census}
 use Rattle.charmlet_script.specs.declared.script.Line.TheVariants as lines
 use Rattle.charmlet_script.specs.Printed.{pending_text, supplied_text}
-use Rattle.charmlet_script.specs.Script.{Contents, blanks_of, pairs_of, processors_of}
-use Rattle.charmlet_model.specs.declared.state.State as states
+use Rattle.charmlet_script.specs.Script.{Contents, processors_of}
 use Rattle.charmlet_model.specs.Core.{present, place_or_home}
-use Rattle.charmlet_model.specs.Shelves.{count_of}
 use Rattle.charmlet_model.specs.World.{record_of}
-use Rattle.charmlet_chare.specs.declared.chare.Chare.{Ghosts}
 use Rattle.charmlet_disk.specs.declared.disk.Disk as disks
 use Rattle.charmlet_disk.specs.Disk.{LeavesOnly, faults_after}
-use Rattle.charmlet_record.specs.Reading.{Kinds}
 use Rattle.charmlet_journal.specs.NewStores.{new_core}
-use Rattle.charmlet_engine.specs.Engine.{EngineShown, supplied_of, view_of}
 use Rattle.charmlet_engine.specs.Outcomes.{IsFlushedAnyway, IsOldOrImage, Onward, is_lawful_since, is_no_fault, is_still}
-use Rattle.charmlet_stock.specs.declared.stock.Stock.{Stock}
-use Rattle.charmlet_stock.specs.Stock.{blanks_in, part_of}
+use Rattle.charmlet_stock.specs.Stock.{part_of}
 use Rattle.charmlet_cli.specs.Drain.{DrainsUpTo, drain_texts}
-use Rattle.charmlet_cli.specs.Shown.{IsWhole, all_kinds, counted_in, counted_texts, record_text}
-use Rattle.charmlet_cli.specs.Writing.{AppendsBeginning, Writes}
-
--- there are as many objects of each kind as the lines supply
-abbrev pub AreEnough : {C : Type 0} → (C → states.State) → List C → List Line → Type 0
-AreEnough state objects lines = (kind : Kind) → blanks_of kind lines ≤ count_of state objects kind
-
--- how many blanks of a kind are still to be supplied
-abbrev pub blanks_left : {C : Type 0} {G : Ghosts C} → Stock C G → Kind → ℕ
-blanks_left source kind = blanks_in source kind
-
--- a store, how many objects of each kind were supplied to it so far, and the disk that it is on
-pub record Ledger (D : Type 0) : Type 0 where
-  pub store : StoreView
-  pub supplied : Kind → ℕ
-  pub disk : D
-
--- the ledger of a running engine
-abbrev pub ledger_in : {D : Type 0} → EngineShown D → Ledger D
-ledger_in engine = record {
-  store = view_of engine;
-  supplied = supplied_of engine;
-  disk = engine.disk;
-}
-
--- the script's arrays, each in the newest version of its kind
-abbrev pub kinds_of : Contents → Kinds
-kinds_of script = unwrap_or (manifest_of (pairs_of script.arrays)) []
+use Rattle.charmlet_lines.specs.Shown.{IsWhole, all_kinds, counted_in, counted_texts, record_text}
+use Rattle.charmlet_lines.specs.Writing.{AppendsBeginning, Writes, in_lines, memory_text}
+use Rattle.charmlet_lines.specs.Ledgers.{Ledger, kinds_of}
+use Rattle.charmlet_lines.specs.Named.{Names}
 
 -- before the first line: the script's processors and arrays on this disk, and nothing else
 abbrev pub opening_of : {D : Type 0} → Contents → D → Ledger D
@@ -75,33 +39,13 @@ opening_of script disk = record {
   disk = disk;
 }
 
--- the handler that a name stands for, if there is one
-abbrev pub Names : Type 0
-Names = Text → Option Handler
-
 -- no name stands for one
 abbrev pub no_names : Names
 no_names name = None
 
--- the last of these lines with the name tells
-abbrev pub named_by : List HandlerLine → Names
-named_by [] name = None
-named_by (line ∷ lines) name =
-    if is_some (named_by lines name) then named_by lines name
-    else if bytes_eq line.name name then Some (record { array = line.array; entry = line.entry })
-    else None
-
 -- the handlers of a desk
 abbrev pub named_at : Desk → Names
 named_at desk name = handler_of desk.handlers name
-
--- the texts as lines, each with its line feed
-abbrev pub in_lines : List Text → Text
-in_lines = flat_map (λ text. text ++ 10 ∷ [])
-
--- the line when out of memory
-abbrev pub memory_text : Text
-memory_text = answer_text (Refused Memory)
 
 -- `count` more blanks of a kind, in the stock and in what was supplied
 pub record IsSupplied {D : Type 0} (kind : Kind) (count : ℕ) (old new : Ledger D) : Type 0 where

@@ -7,10 +7,11 @@ use Rattle.charmlet_disk.specs.declared.disk.Disk as disks
 use Rattle.charmlet_script.specs.Script.{Contents}
 use Rattle.charmlet_cli.specs.declared.running.RunError.{RunError}
 use Rattle.charmlet_cli.specs.declared.running.RunError.TheVariants.{TooFewBlanks, NotCreated, Memory, Output}
-use Rattle.charmlet_cli.specs.declared.stop.Stop.{Stop}
-use Rattle.charmlet_cli.specs.declared.stop.Stop.TheVariants as stops
-use Rattle.charmlet_cli.specs.Lines.{AreEnough}
-use Rattle.charmlet_cli.specs.Run.{IsCutOff, IsHandedBack, IsNotCreated, IsNotSaid}
+use Rattle.charmlet_lines.specs.declared.stop.Stop.{Stop}
+use Rattle.charmlet_lines.specs.declared.stop.Stop.TheVariants as stops
+use Rattle.charmlet_lines.specs.Supplied.{AreEnough}
+use Rattle.charmlet_lines.specs.Created.{IsHandedBack, IsNotCreated, IsNotSaid}
+use Rattle.charmlet_cli.specs.Run.{IsCutOff}
 
 module _ {D : Type 0} (G : disks.Ghosts D) where
   -- a line couldn't be written: the refusal of the store's creation, or one of a run

@@ -8,11 +8,10 @@ use Rattle.charmlet_engine.specs.finding.Found.{Found}
 use Rattle.charmlet_cli.specs.declared.show.Listed.{Listed}
 use Rattle.charmlet_cli.specs.declared.show.ShowError.{ShowError}
 use Rattle.charmlet_cli.specs.declared.show.ShowError.TheVariants.{Refused, Output}
-use Rattle.charmlet_cli.specs.declared.stop.Stop.{Stop}
-use Rattle.charmlet_cli.specs.declared.stop.Stop.TheVariants as stops
+use Rattle.charmlet_lines.specs.declared.stop.Stop.{Stop}
+use Rattle.charmlet_lines.specs.declared.stop.Stop.TheVariants as stops
 use Rattle.charmlet_cli.specs.FoundLines.{found_texts}
-use Rattle.charmlet_cli.specs.Lines.{in_lines}
-use Rattle.charmlet_cli.specs.Writing.{AppendsBeginning}
+use Rattle.charmlet_lines.specs.Writing.{in_lines, AppendsBeginning}
 
 -- what is found, without its list of arrays
 abbrev pub found_of : Result Listed Refusal → Result Found Refusal

@@ -3,17 +3,19 @@
 ghost use Rattle.std.specs.Prelude.{◌≡◌, ℕ, List, IfOk, IfSome};
 ghost use Rattle.charmlet_model.specs.declared.names.Elem as names;
 ghost use Rattle.charmlet_model.specs.declared.step.Step.TheVariants as steps;
-ghost use Rattle.charmlet_requests.specs.Handlers.{IsTarget, handler_of};
+ghost use Rattle.charmlet_requests.specs.Handlers.{IsTarget};
 ghost use Rattle.charmlet_engine.specs.Engine.{client_answer, world_of};
 ghost use Rattle.charmlet_engine.specs.Taken.{Takes};
-ghost use Rattle.charmlet_cli.specs.Lines.{named_at, named_by};
+ghost use Rattle.charmlet_lines.specs.Named.{named_by};
+ghost use Rattle.charmlet_cli.specs.Lines.{named_at};
 
 use charmlet_chare::Chare;
 use charmlet_disk::Disk;
 use charmlet_engine::Engine;
 use charmlet_history::Request;
+use charmlet_lines::{Call, handlers_of};
 use charmlet_model::{Elem, Refusal, Told};
-use charmlet_requests::{ClientPass, Handler, Handlers, Passes};
+use charmlet_requests::{ClientPass, Handlers, Passes};
 use charmlet_script::HandlerLine;
 use std::alloc::{AllocError, Global};
 use std::collections::BTreeMap;
@@ -26,16 +28,6 @@ pub(crate) struct Desk {
     handlers: Handlers,
     passes: Passes,
     held: BTreeMap<u32, ClientPass>,
-}
-
-/// What a client asks of a named handler.
-#[derive(Clone, Copy)]
-pub struct Call<'a> {
-    pub client: u32,
-    pub number: u64,
-    pub name: &'a str,
-    pub index: u64,
-    pub words: &'a [u64],
 }
 
 impl Desk {
@@ -141,23 +133,4 @@ impl Desk {
         };
         self.request(engine, call.client, &request)
     }
-}
-
-/// The handlers of these lines. If a name comes twice, the last line counts. It fails only when out
-/// of memory.
-pub fn handlers_of(alloc: Global, lines: &[HandlerLine]) -> Result<Handlers, AllocError>
-    ensures { IfOk result (λ handlers. (name : List ℕ) →
-        handler_of handlers name ≡ named_by lines.now name) }
-{
-    let mut handlers = Handlers::new(alloc);
-    for line in lines {
-        let handler = Handler {
-            array: line.array,
-            entry: line.entry,
-        };
-        if handlers.register(line.name.as_str(), handler).is_err() {
-            return Err(AllocError);
-        }
-    }
-    Ok(handlers)
 }

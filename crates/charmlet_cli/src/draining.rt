@@ -5,12 +5,13 @@ ghost use Rattle.charmlet_script.specs.declared.script.Line.TheVariants as lines
 ghost use Rattle.charmlet_engine.specs.Advances.{Advances};
 ghost use Rattle.charmlet_engine.specs.Engine.{supplied_of, view_of};
 ghost use Rattle.charmlet_cli.specs.Drain.{DeliversNext, DrainsUpTo};
-ghost use Rattle.charmlet_cli.specs.Lines.{IsPrinted, no_names, ledger_in};
+ghost use Rattle.charmlet_lines.specs.Ledgers.{ledger_in};
+ghost use Rattle.charmlet_cli.specs.Lines.{IsPrinted, no_names};
 
-use crate::writing::{write_answer, write_line};
 use charmlet_chare::Chare;
 use charmlet_disk::Disk;
 use charmlet_engine::Engine;
+use charmlet_lines::{write_answer, write_line};
 use charmlet_model::{Answer, Refusal, Step};
 use charmlet_script::Drained;
 use std::alloc::Global;

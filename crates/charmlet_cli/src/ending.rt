@@ -3,8 +3,8 @@
 ghost use Rattle.std.specs.Prelude.{◌≡◌, IfErr, IsOk, OnOk};
 ghost use Rattle.charmlet_cli.specs.Failure.{Says, exit_status};
 
-use crate::stop::Stop;
 use charmlet_command::CommandError;
+use charmlet_lines::Stop;
 use std::io;
 use std::io::Write;
 
@@ -73,7 +73,7 @@ impl From<Stop> for Failure {
 impl From<io::Error> for Failure {
     ghost use Rattle.std.specs.Prelude.{◌≡◌};
     ghost use Rattle.charmlet_cli.specs.declared.ending.Failure.TheVariants.{Stopped};
-    ghost use Rattle.charmlet_cli.specs.declared.stop.Stop.TheVariants.{CannotGoOn};
+    ghost use Rattle.charmlet_lines.specs.declared.stop.Stop.TheVariants.{CannotGoOn};
 
     ghost from_gives = { λ _ failure. failure ≡ Stopped CannotGoOn };
 

@@ -1,9 +1,9 @@
 //! Scripts in files.
 
 ghost use Rattle.std.specs.Prelude.{◌≡◌, IfErr};
-ghost use Rattle.charmlet_cli.specs.declared.stop.Stop.TheVariants as stops;
+ghost use Rattle.charmlet_lines.specs.declared.stop.Stop.TheVariants as stops;
 
-use crate::stop::Stop;
+use charmlet_lines::Stop;
 use std::fs::File;
 use std::rt::Files;
 

@@ -11,21 +11,12 @@ mod restarting;
 mod running;
 mod show;
 mod showing;
-mod stop;
-mod writing;
 
-pub use crate::desk::{Call, handlers_of};
 pub use crate::ending::{Failure, end_program};
 pub use crate::files::open_script;
-pub use crate::restarting::{
-    FindError, RestartError, Restarted, RestartedLine, find_blanks, restart_script,
-    supplied_at_restart,
-};
-pub use crate::running::{
-    Ran, RunError, has_enough, run_script, source_of, supplied_by, told_answer,
-};
+pub use crate::restarting::{FindError, RestartError, Restarted, find_blanks, restart_script};
+pub use crate::running::{Ran, RunError, run_script};
 pub use crate::show::{ShowError, show_store};
-pub use crate::showing::{census_line, pending_line, shown_of, state_line, write_counts};
-pub use crate::stop::Stop;
-pub use crate::writing::{write_answer, write_line, write_memory_refused, write_step_answer};
+pub use crate::showing::{census_line, pending_line, state_line};
 pub use charmlet_engine::Wanted;
+pub use charmlet_lines::{RestartedLine, Stop, handlers_of, write_line};

@@ -14,26 +14,31 @@ ghost use Rattle.charmlet_stock.specs.Stock.{supplied_to};
 ghost use Rattle.charmlet_replay.specs.Unused.{IsUnused};
 ghost use Rattle.charmlet_engine.specs.finding.Found.{Found};
 ghost use Rattle.charmlet_engine.specs.Found.{IsFoundIn, IsRead};
-ghost use Rattle.charmlet_engine.specs.Wanted.{blanks_in};
 ghost use Rattle.charmlet_engine.specs.Advances.{Advances};
 ghost use Rattle.charmlet_engine.specs.Engine.{core_of};
-ghost use Rattle.charmlet_cli.specs.Lines.{AreEnough, blanks_left, ledger_in, named_at, named_by};
-ghost use Rattle.charmlet_cli.specs.Restarted.{BreaksOffRestart, EndsRestart, IsRestarted, PrintsRestart, RestartLeaves, TellsWanted, given_of};
+ghost use Rattle.charmlet_lines.specs.Supplied.{AreEnough, blanks_left};
+ghost use Rattle.charmlet_lines.specs.Ledgers.{ledger_in};
+ghost use Rattle.charmlet_lines.specs.Named.{named_by};
+ghost use Rattle.charmlet_cli.specs.Lines.{named_at};
+ghost use Rattle.charmlet_lines.specs.Back.{given_of};
+ghost use Rattle.charmlet_cli.specs.Restarted.{BreaksOffRestart, EndsRestart, IsRestarted, PrintsRestart, RestartLeaves, TellsWanted};
 
 use crate::desk::Desk;
-use crate::running::{has_enough, run_lines, source_of};
-use crate::writing::{write_answer, write_line};
+use crate::running::run_lines;
 use charmlet_chare::Chare;
 use charmlet_disk::Disk;
 use charmlet_engine::{Engine, NotRestarted, Wanted, manifest};
+use charmlet_lines::{
+    RestartedLine, Stop, has_enough, source_of, supplied_at_restart, write_answer, write_line,
+};
 use charmlet_locate::is_processor_count;
 use charmlet_model::{Answer, Kind, Refusal};
 use charmlet_script::RestartScript;
 use charmlet_stock::Stock;
 use std::alloc::{AllocError, Global};
+use std::io;
 use std::io::Write;
 use std::thread::Threads;
-use std::{fmt, io};
 
 /// Why it isn't known which blanks a restart needs.
 #[derive(Debug, Drop)]
@@ -59,39 +64,42 @@ pub enum RestartError<C: Chare> {
     Output(io::Error),
 }
 
+impl From<FindError> for Stop {
+    ghost use Rattle.std.specs.Prelude.{◌≡◌};
+    ghost use Rattle.charmlet_cli.specs.Restarted.{stop_found};
+
+    ghost from_gives = { λ error stop. stop ≡ stop_found error };
+
+    fn from(error: FindError) -> Stop {
+        match error {
+            FindError::Refused(refusal) => Stop::NotRestarted(refusal),
+            FindError::Output(_) => Stop::CannotGoOn,
+        }
+    }
+}
+
+impl<C: Chare> From<RestartError<C>> for Stop {
+    ghost use Rattle.std.specs.Prelude.{◌≡◌};
+    ghost use Rattle.charmlet_cli.specs.Restarted.{stop_restarted};
+
+    ghost from_gives = { λ error stop. stop ≡ stop_restarted error };
+
+    fn from(error: RestartError<C>) -> Stop {
+        match error {
+            RestartError::NotRestarted(refusal) => Stop::NotRestarted(refusal),
+            RestartError::TooFewBlanks(_, _) | RestartError::Memory | RestartError::Output(_) => {
+                Stop::CannotGoOn
+            }
+        }
+    }
+}
+
 /// How a script was run over a store that was to come back: the disk, which comes back in any case,
 /// and whether each line was run.
 #[derive(Drop)]
 pub struct Restarted<D: Disk, C: Chare> {
     pub disk: D,
     pub result: Result<(), RestartError<C>>,
-}
-
-/// A store came back: the generation that it goes on at, how many events came back, and the number
-/// of processors.
-#[derive(Clone, Copy, Debug, PartialEq, Eq)]
-pub struct RestartedLine {
-    pub generation: u64,
-    pub events: u64,
-    pub processors: u16,
-}
-
-/// Writes `restarted generation G events E on N`, without a line feed.
-impl fmt::Display for RestartedLine {
-    ghost use Rattle.std.specs.Prelude.{Some};
-    ghost use Rattle.charmlet_cli.specs.Restarted.{restarted_line_text};
-
-    ghost output = { λ line. Some (restarted_line_text line) };
-
-    fn fmt<W: fmt::Write>(&self, f: &mut fmt::Formatter<W>) -> fmt::Result {
-        let generation = self.generation;
-        let events = self.events;
-        let processors = self.processors;
-        write!(
-            f,
-            "restarted generation {generation} events {events} on {processors}"
-        )
-    }
 }
 
 /// How many blank objects of each kind a restart of the store on this disk needs, on this number of
@@ -187,20 +195,6 @@ pub fn restart_script<R: Threads + Sync, D: Disk, C: Chare, W: Write>(
             let result = Err(RestartError::Memory);
             Restarted { disk, result }
         }
-    }
-}
-
-/// How many blanks of each kind the script's lines supply.
-pub fn supplied_at_restart(script: &RestartScript) -> Wanted
-    ensures { (kind : Kind) → blanks_in result kind ≡ blanks_of kind script.now.lines }
-{
-    Wanted {
-        counters: script.blanks(Kind::Counter),
-        rings: script.blanks(Kind::Ring),
-        accounts: script.blanks(Kind::Account),
-        sums: script.blanks(Kind::Sum),
-        trees: script.blanks(Kind::Tree),
-        tapes: script.blanks(Kind::Tape),
     }
 }
 

@@ -1,37 +1,41 @@
 //! Runs of scripts.
 
-ghost use Rattle.std.specs.Prelude.{◌≡◌, ◌↔◌, ◌+◌, ◌≤◌, ℕ, List, Some, true, OnOk, OnErr, IfErr, IfOk};
+ghost use Rattle.std.specs.Prelude.{◌≡◌, ◌+◌, ◌≤◌, ℕ, List, Some, OnOk, OnErr, IfErr, IfOk};
 ghost use Rattle.charmlet_model.specs.declared.kind.Kind.{Kind};
 ghost use Rattle.charmlet_model.specs.Edition.{AreNewest};
 ghost use Rattle.charmlet_model.specs.Manifest.{manifest_of};
-ghost use Rattle.charmlet_model.specs.Shelves.{count_of};
 ghost use Rattle.charmlet_script.specs.Script.{blanks_in, blanks_of, pairs_of};
 ghost use Rattle.charmlet_script.specs.declared.script.Line.TheVariants as lines;
 ghost use Rattle.charmlet_model.specs.declared.names.Elem as names;
 ghost use Rattle.charmlet_model.specs.declared.step.Step.TheVariants as steps;
 ghost use Rattle.charmlet_requests.specs.Handlers.{IsTarget};
-ghost use Rattle.charmlet_engine.specs.Engine.{client_answer, world_of};
-ghost use Rattle.charmlet_engine.specs.Wanted as wants;
+ghost use Rattle.charmlet_engine.specs.Engine.{world_of};
 ghost use Rattle.charmlet_stock.specs.Stock.{part_of};
-ghost use Rattle.charmlet_cli.specs.Lines.{AreEnough, AreRun, BreakOff, IsAnswered, IsPrinted, blanks_left, ledger_in, named_at, named_by, no_names};
+ghost use Rattle.charmlet_lines.specs.Supplied.{AreEnough, blanks_left};
+ghost use Rattle.charmlet_lines.specs.Ledgers.{ledger_in};
+ghost use Rattle.charmlet_lines.specs.Named.{named_by};
+ghost use Rattle.charmlet_cli.specs.Lines.{AreRun, BreakOff, IsAnswered, IsPrinted, named_at, no_names};
 ghost use Rattle.charmlet_cli.specs.RunError.{EndsRun, Lacks, Leaves};
 ghost use Rattle.charmlet_cli.specs.Run.{IsRun};
 ghost use Rattle.charmlet_disk.specs.Disk.{IsSettled};
 ghost use Rattle.charmlet_engine.specs.Advances.{Advances};
 ghost use Rattle.charmlet_cli.specs.declared.running.RunError.TheVariants as errors;
 
-use crate::desk::{Call, Desk};
+use crate::desk::Desk;
 use crate::draining::drain_line;
 use crate::showing::{census_line, pending_line, state_line};
-use crate::writing::{write_answer, write_line, write_memory_refused, write_step_answer};
 use charmlet_chare::Chare;
 use charmlet_disk::Disk;
-use charmlet_engine::{Engine, Wanted};
+use charmlet_engine::Engine;
 use charmlet_halves::Refused;
 use charmlet_history::Request;
-use charmlet_model::{Answer, Kind, Manifest, Refusal, Step, Told};
+use charmlet_lines::{
+    Call, Stop, has_enough, source_of, supplied_by, told_answer, write_answer, write_line,
+    write_memory_refused, write_step_answer,
+};
+use charmlet_model::{Answer, Kind, Manifest, Refusal, Step};
 use charmlet_script::{Line, Script, Supplied};
-use charmlet_stock::{Stock, count_of};
+use charmlet_stock::Stock;
 use std::alloc::{AllocError, Global};
 use std::io;
 use std::io::Write;
@@ -64,6 +68,20 @@ impl<C: Chare> From<io::Error> for RunError<C> {
 
     fn from(error: io::Error) -> Self {
         RunError::Output(error)
+    }
+}
+
+impl<C: Chare> From<RunError<C>> for Stop {
+    ghost use Rattle.std.specs.Prelude.{◌≡◌};
+    ghost use Rattle.charmlet_cli.specs.RunError.{stop_after};
+
+    ghost from_gives = { λ error stop. stop ≡ stop_after error };
+
+    fn from(error: RunError<C>) -> Stop {
+        match error {
+            RunError::NotCreated(refusal) => Stop::NotCreated(refusal),
+            RunError::TooFewBlanks(_) | RunError::Memory | RunError::Output(_) => Stop::CannotGoOn,
+        }
     }
 }
 
@@ -156,18 +174,6 @@ fn prepare<C: Chare>(
         desk,
         source,
     })
-}
-
-/// A stock with these objects. It fails only when out of memory.
-pub fn source_of<C: Chare>(alloc: Global, objects: Vec<C>) -> Result<Stock<C>, AllocError>
-    ensures { IfOk result (λ stock. (kind : Kind) →
-        blanks_left stock kind ≡ count_of C.state objects.items kind) }
-{
-    let mut stock = Stock::new(alloc);
-    if stock.supply(objects).is_err() {
-        return Err(AllocError);
-    }
-    Ok(stock)
 }
 
 /// Creates the script's store and runs its lines there, or writes why there is no store.
@@ -348,16 +354,6 @@ fn answer_to<D: Disk, C: Chare>(engine: &mut Engine<D, C>, desk: &mut Desk, step
     }
 }
 
-/// The answer to what a client asks.
-pub fn told_answer(told: Result<Told, Refusal>) -> Answer
-    ensures { result ≡ client_answer told }
-{
-    match told {
-        Ok(told) => Answer::Told(told),
-        Err(refusal) => Answer::Refused(refusal),
-    }
-}
-
 /// Supplies `count` objects of a kind, and writes that it did, or that it is out of memory.
 fn supply_line<D: Disk, C: Chare, W: Write>(
     alloc: Global,
@@ -379,31 +375,4 @@ fn supply_line<D: Disk, C: Chare, W: Write>(
         return write_memory_refused(writer);
     }
     write_line(alloc, writer, &Supplied { kind, count })
-}
-
-/// How many blanks of each kind the script's lines supply.
-pub fn supplied_by(script: &Script) -> Wanted
-    ensures { (kind : Kind) → wants.blanks_in result kind ≡ blanks_of kind script.now.lines }
-{
-    Wanted {
-        counters: script.blanks(Kind::Counter),
-        rings: script.blanks(Kind::Ring),
-        accounts: script.blanks(Kind::Account),
-        sums: script.blanks(Kind::Sum),
-        trees: script.blanks(Kind::Tree),
-        tapes: script.blanks(Kind::Tape),
-    }
-}
-
-/// Whether there are at least as many objects of each kind as are wanted.
-pub fn has_enough<C: Chare>(wanted: &Wanted, objects: &[C]) -> bool
-    ensures { (result ≡ true) ↔ ((kind : Kind) →
-        wants.blanks_in wanted.now kind ≤ count_of C.state objects.now kind) }
-{
-    for kind in &Kind::ALL {
-        if (count_of(objects, *kind) as u64) < wanted.of(*kind) {
-            return false;
-        }
-    }
-    true
 }

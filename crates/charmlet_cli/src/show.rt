@@ -10,17 +10,15 @@ ghost use Rattle.charmlet_disk.specs.File.{MayLeave};
 ghost use Rattle.charmlet_halves.specs.Answers.{is_no_failure};
 ghost use Rattle.charmlet_engine.specs.finding.Found.{Found};
 ghost use Rattle.charmlet_engine.specs.Found.{IsFoundIn, IsRead};
-ghost use Rattle.charmlet_engine.specs.Wanted.{blanks_in};
 ghost use Rattle.charmlet_cli.specs.FoundLines.{array_texts, count_texts, found_texts, wanted_texts};
-ghost use Rattle.charmlet_cli.specs.Lines.{in_lines};
+ghost use Rattle.charmlet_lines.specs.Writing.{in_lines, Writes};
 ghost use Rattle.charmlet_cli.specs.ShowStore.{IsSaid, found_of};
-ghost use Rattle.charmlet_cli.specs.Shown.{all_kinds};
-ghost use Rattle.charmlet_cli.specs.Writing.{Writes};
+ghost use Rattle.charmlet_lines.specs.Shown.{all_kinds};
 
 use crate::found_lines::{ArrayLine, HalfLine, WantedLine};
-use crate::writing::{write_answer, write_line};
 use charmlet_disk::Disk;
 use charmlet_engine::{Found, Wanted, manifest};
+use charmlet_lines::{Stop, write_answer, write_line};
 use charmlet_model::{Answer, Edition, Kind, Refusal};
 use std::alloc::{AllocError, Global};
 use std::io;
@@ -34,6 +32,20 @@ pub enum ShowError {
     /// A line couldn't be written: the output failed, or there was no memory for its text. A
     /// beginning of what is shown was written.
     Output(io::Error),
+}
+
+impl From<ShowError> for Stop {
+    ghost use Rattle.std.specs.Prelude.{◌≡◌};
+    ghost use Rattle.charmlet_cli.specs.ShowStore.{stop_shown};
+
+    ghost from_gives = { λ error stop. stop ≡ stop_shown error };
+
+    fn from(error: ShowError) -> Stop {
+        match error {
+            ShowError::Refused(refusal) => Stop::NotShown(refusal),
+            ShowError::Output(_) => Stop::CannotGoOn,
+        }
+    }
 }
 
 /// Shows what is found in the two halves of a disk: the taken half, with its generation, how many

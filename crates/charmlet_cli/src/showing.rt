@@ -1,7 +1,6 @@
 //! Running lines that show something of an engine, and change nothing.
 
 ghost use Rattle.std.specs.Prelude.{◌≡◌, map, IfOk, IsOk, None};
-ghost use Rattle.std.specs.List.{flat_map};
 ghost use Rattle.charmlet_model.specs.declared.kind.Kind as kinds;
 ghost use Rattle.charmlet_model.specs.Core.{place_or_home};
 ghost use Rattle.charmlet_model.specs.World.{record_of};
@@ -9,17 +8,16 @@ ghost use Rattle.charmlet_script.specs.Printed.{shown_text};
 ghost use Rattle.charmlet_script.specs.declared.script.Line.TheVariants as lines;
 ghost use Rattle.charmlet_engine.specs.Advances.{Advances};
 ghost use Rattle.charmlet_engine.specs.Engine.{view_of, world_of};
-ghost use Rattle.charmlet_cli.specs.Lines.{IsPrinted, no_names, in_lines, ledger_in};
-ghost use Rattle.charmlet_cli.specs.Shown.{IsWhole, all_kinds, counted_of, counted_texts, look_text, record_text};
-ghost use Rattle.charmlet_cli.specs.Writing.{Writes};
+ghost use Rattle.charmlet_lines.specs.Ledgers.{ledger_in};
+ghost use Rattle.charmlet_cli.specs.Lines.{IsPrinted, no_names};
+ghost use Rattle.charmlet_lines.specs.Shown.{IsWhole, all_kinds, counted_of, record_text};
 
-use crate::writing::{write_line, write_memory_refused};
 use charmlet_chare::Chare;
 use charmlet_disk::Disk;
 use charmlet_engine::Engine;
+use charmlet_lines::{shown_of, write_counts, write_line, write_memory_refused};
 use charmlet_model::{Elem, Kind};
-use charmlet_script::{Counted, PendingIds, Shown, Standing};
-use charmlet_store::Look;
+use charmlet_script::{Counted, PendingIds, Shown};
 use std::alloc::{AllocError, Global};
 use std::io;
 use std::io::Write;
@@ -58,33 +56,6 @@ fn shown<D: Disk, C: Chare>(
 {
     let look = engine.look(elem)?;
     shown_of(alloc, elem, look)
-}
-
-/// What a line shows of an element of which this is seen. It fails only when out of memory, and
-/// only if the element is there.
-pub fn shown_of(alloc: Global, elem: Elem, look: Look) -> Result<Shown, AllocError>
-    ensures ok { IfOk result (λ shown. shown_text shown ≡ look_text elem look) }
-    ensures absent { look.standing ≡ None → IsOk result }
-{
-    let (sent, received) = (look.sent, look.received);
-    let Some(standing) = look.standing else {
-        return Ok(Shown {
-            elem,
-            standing: None,
-            sent,
-            received,
-        });
-    };
-    let packed = hex::encode(alloc, standing.packed)?;
-    Ok(Shown {
-        elem,
-        standing: Some(Standing {
-            processor: standing.processor,
-            packed,
-        }),
-        sent,
-        received,
-    })
 }
 
 /// Writes the ids of the pending messages, or that it is out of memory. Fails as `write_line` does.
@@ -144,26 +115,4 @@ fn count<D: Disk, C: Chare>(engine: &Engine<D, C>, kind: Kind) -> Counted
         in_stock: census.in_stock,
         retired: census.retired,
     }
-}
-
-/// Writes the counts of each kind that objects were supplied of.
-pub fn write_counts<W: Write>(alloc: Global, writer: &mut W, counts: &[Counted]) -> io::Result<()>
-    ensures { Writes result (W.contents writer.old) (W.contents writer.new)
-        (in_lines (flat_map counted_texts counts.now)) }
-{
-    for counted in counts {
-        write_count(alloc, writer, counted)?;
-    }
-    Ok(())
-}
-
-/// Writes the counts of a kind, if objects of it were supplied.
-fn write_count<W: Write>(alloc: Global, writer: &mut W, counted: &Counted) -> io::Result<()>
-    ensures { Writes result (W.contents writer.old) (W.contents writer.new)
-        (in_lines (counted_texts counted.now)) }
-{
-    if counted.supplied == 0 {
-        return Ok(());
-    }
-    write_line(alloc, writer, counted)
 }

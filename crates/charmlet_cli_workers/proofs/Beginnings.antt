@@ -14,7 +14,9 @@ use Rattle.charmlet_disk.specs.declared.disk.Disk.{Ghosts}
 use Rattle.charmlet_journal.specs.NewStores.{new_core}
 use Rattle.charmlet_script.specs.declared.script.Line.{Line}
 use Rattle.charmlet_script.specs.Script.{Contents, blanks_of, pairs_of, processors_of}
-use Rattle.charmlet_cli.specs.Lines.{AreEnough, kinds_of, named_by}
+use Rattle.charmlet_lines.specs.Supplied.{AreEnough}
+use Rattle.charmlet_lines.specs.Ledgers.{kinds_of}
+use Rattle.charmlet_lines.specs.Named.{named_by}
 use Rattle.charmlet_cli_workers.specs.declared.ended.WorkersError.{WorkersError}
 use Rattle.charmlet_cli_workers.specs.declared.ended.WorkersError.TheVariants.{Delivers, TooFewBlanks, Memory, NotCreated, NotRestarted, NotOpened, NoSeats, Output, NotClosed}
 use Rattle.charmlet_cli_workers.specs.Left.{EndsEarly, IsLeft, Prints, PrintsOver}

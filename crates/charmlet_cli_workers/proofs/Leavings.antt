@@ -11,9 +11,9 @@ use Rattle.charmlet_hub.specs.Hub.{deliveries_in}
 use Rattle.charmlet_passes.specs.Passes.{HaveAllAccepts, HeldPass, IsCurrent}
 use Rattle.charmlet_seats.specs.Woven.{IsWoven}
 use Rattle.charmlet_script.specs.declared.script.Line.{Line}
-use Rattle.charmlet_cli.specs.declared.restarting.RestartedLine.{RestartedLine}
+use Rattle.charmlet_lines.specs.declared.restarting.RestartedLine.{RestartedLine}
 use Rattle.charmlet_requests.specs.Handlers.{IsTarget}
-use Rattle.charmlet_cli.specs.Lines.{Names}
+use Rattle.charmlet_lines.specs.Named.{Names}
 use Rattle.charmlet_workers.specs.Refusals.{IsRecent}
 use Rattle.charmlet_workers.specs.Runtime.{ArePending, RuntimeShown}
 use Rattle.charmlet_workers.specs.Sealing.{IsLaterGeneration}

@@ -8,9 +8,9 @@ use Rattle.charmlet_model.specs.Texts.{Text}
 use Rattle.charmlet_disk.specs.declared.disk.Disk.{Ghosts}
 use Rattle.charmlet_script.specs.declared.script.HandlerLine.{HandlerLine}
 use Rattle.charmlet_script.specs.declared.script.Line.{Line}
-use Rattle.charmlet_cli.specs.Lines.{named_by}
+use Rattle.charmlet_lines.specs.Named.{named_by}
 use Rattle.charmlet_runtime.specs.Restarted.{IsOpenedOn}
-use Rattle.charmlet_cli.specs.Restarted.{given_of}
+use Rattle.charmlet_lines.specs.Back.{given_of}
 use Rattle.charmlet_cli_workers.specs.declared.ended.WorkersError.{WorkersError}
 use Rattle.charmlet_cli_workers.specs.declared.ended.WorkersError.TheVariants.{Delivers, TooFewBlanks, Memory, NotCreated, NotRestarted, NotOpened, NoSeats, Output, NotClosed}
 use Rattle.charmlet_cli_workers.specs.Left.{EndsUnopened, IsLeft, Prints, PrintsOver}

@@ -1,6 +1,6 @@
 -- Why the program stops after a run by workers.
-use Rattle.charmlet_cli.specs.declared.stop.Stop.{Stop}
-use Rattle.charmlet_cli.specs.declared.stop.Stop.TheVariants as stops
+use Rattle.charmlet_lines.specs.declared.stop.Stop.{Stop}
+use Rattle.charmlet_lines.specs.declared.stop.Stop.TheVariants as stops
 use Rattle.charmlet_cli_workers.specs.declared.ended.WorkersError.{WorkersError}
 use Rattle.charmlet_cli_workers.specs.declared.ended.WorkersError.TheVariants.{Delivers, TooFewBlanks, Memory, NotCreated, NotRestarted, NotOpened, NoSeats, Output, NotClosed}
 

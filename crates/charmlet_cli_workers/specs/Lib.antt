@@ -15,9 +15,11 @@ pub use Rattle.charmlet_sequencer.specs.Sequencer
 pub use Rattle.charmlet_runtime.specs.Engine
 pub use Rattle.charmlet_stock.specs.Stock
 pub use Rattle.charmlet_script.specs.Script
-pub use Rattle.charmlet_cli.specs.Lines as CliLines
-pub use Rattle.charmlet_cli.specs.Run
-pub use Rattle.charmlet_cli.specs.Restarted
+pub use Rattle.charmlet_lines.specs.Named
+pub use Rattle.charmlet_lines.specs.Supplied
+pub use Rattle.charmlet_lines.specs.Ledgers
+pub use Rattle.charmlet_lines.specs.Created
+pub use Rattle.charmlet_lines.specs.Back
 pub use Rattle.charmlet_replay.specs.Unused
 pub use Rattle.charmlet_model.specs.Sound
 pub use Rattle.charmlet_model.specs.Told
@@ -25,5 +27,5 @@ pub use Rattle.charmlet_model.specs.Texts
 pub use Rattle.charmlet_passes.specs.Passes
 pub use Rattle.charmlet_script.specs.Printed
 pub use Rattle.charmlet_workers.specs.Sealing
-pub use Rattle.charmlet_cli.specs.Shown
-pub use Rattle.charmlet_cli.specs.Writing
+pub use Rattle.charmlet_lines.specs.Shown
+pub use Rattle.charmlet_lines.specs.Writing

@@ -3,13 +3,13 @@
 ghost use Rattle.std.specs.Prelude.{◌≡◌, ℕ, ◌-◌, ◌^◌, ◌<◌, min, sum_by, true, List, IfSome, length, map, slice_index_or};
 ghost use Rattle.charmlet_workers.specs.Refusals.{is_work_refusal};
 ghost use Rattle.charmlet_passes.specs.Passes.{HeldPass};
-ghost use Rattle.charmlet_cli.specs.Lines.{Names};
+ghost use Rattle.charmlet_lines.specs.Named.{Names};
 ghost use Rattle.charmlet_cli_workers.specs.Heard.{known_by};
 ghost use Rattle.charmlet_cli_workers.specs.Said.{Deeds, IsDrained, IsWritten};
 
 use charmlet_chare::Chare;
-use charmlet_cli::{write_answer, write_line};
 use charmlet_disk::Disk;
+use charmlet_lines::{write_answer, write_line};
 use charmlet_model::{Answer, Refusal};
 use charmlet_script::Drained;
 use charmlet_sequencer::RuntimeName;

@@ -1,7 +1,7 @@
 //! How a run by workers ends.
 
-use charmlet_cli::Stop;
 use charmlet_disk::Disk;
+use charmlet_lines::Stop;
 use charmlet_model::Refusal;
 use std::io;
 

@@ -11,16 +11,15 @@ ghost use Rattle.charmlet_cli_workers.specs.Heard.{AreTidy, IsDoneBy, known_by, 
 ghost use Rattle.charmlet_cli_workers.specs.Left.{EndsApart, EndsEarly, EndsUnopened, IsApart, IsEarly, IsLeft, KeepsDurable, Prints, PrintsOver};
 ghost use Rattle.charmlet_cli_workers.specs.Lines.{has_delivery};
 ghost use Rattle.charmlet_cli_workers.specs.Said.{opening_generation, opening_texts, unknown};
-ghost use Rattle.charmlet_cli.specs.Lines.{in_lines};
-ghost use Rattle.charmlet_cli.specs.Writing.{Writes};
+ghost use Rattle.charmlet_lines.specs.Writing.{in_lines, Writes};
 
 use crate::ended::{RanByWorkers, WorkersError};
 use crate::floor::{Floor, Lent, give_up, take_seats};
 use crate::lines::run_lines;
 use charmlet_chare::Chare;
-use charmlet_cli::{RestartedLine, write_line};
 use charmlet_disk::Disk;
 use charmlet_hub::Closed;
+use charmlet_lines::{RestartedLine, write_line};
 use charmlet_requests::Handlers;
 use charmlet_runtime::UnnamedRuntime;
 use charmlet_script::Line;

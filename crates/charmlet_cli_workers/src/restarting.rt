@@ -4,10 +4,10 @@ ghost use Rattle.std.specs.Prelude.{◌≡◌, ℕ, ◌≤◌, List, Some, false
 ghost use Rattle.charmlet_model.specs.declared.kind.Kind.{Kind};
 ghost use Rattle.charmlet_script.specs.Script.{blanks_of};
 ghost use Rattle.charmlet_requests.specs.Handlers.{handler_of};
-ghost use Rattle.charmlet_cli.specs.Lines.{named_by};
+ghost use Rattle.charmlet_lines.specs.Named.{named_by};
 ghost use Rattle.charmlet_stock.specs.Stock.{blanks_in, supplied_to};
 ghost use Rattle.charmlet_replay.specs.Unused.{IsUnused};
-ghost use Rattle.charmlet_cli.specs.Restarted.{given_of};
+ghost use Rattle.charmlet_lines.specs.Back.{given_of};
 ghost use Rattle.charmlet_cli_workers.specs.Lines.{has_delivery};
 ghost use Rattle.charmlet_cli_workers.specs.Said.{HaveRun};
 ghost use Rattle.charmlet_cli_workers.specs.Restarts.{EndsBack, EndsRestart, IsBackByWorkers, line_of};
@@ -17,10 +17,10 @@ use crate::ended::{RanByWorkers, WorkersError};
 use crate::lines::has_delivery;
 use crate::opened::{Given, Lines, run_named};
 use charmlet_chare::Chare;
-use charmlet_cli::{
+use charmlet_disk::Disk;
+use charmlet_lines::{
     RestartedLine, handlers_of, has_enough, source_of, supplied_at_restart, write_answer,
 };
-use charmlet_disk::Disk;
 use charmlet_model::Answer;
 use charmlet_runtime::{NotRestarted, UnnamedRuntime, stock_of};
 use charmlet_script::RestartScript;
@@ -32,11 +32,11 @@ use std::marker::Brand;
 use std::sync::Wait;
 use std::thread::Threads;
 
-/// Goes on with the store on a disk, as [`charmlet_cli::restart_script`] does, and runs a script's
-/// lines there over a runtime with threads, as [`crate::run_workers`] does. First it writes the
-/// generation that the store goes on at, how many events came back, and the number of processors.
-/// `blanks` are the objects that the store's elements are made from, as many as
-/// [`charmlet_cli::find_blanks`] says; `supplies` are those that the script's lines supply.
+/// Goes on with the store on a disk, as `restart_script` of `charmlet_cli` does, and runs a
+/// script's lines there over a runtime with threads, as [`crate::run_workers`] does. First it
+/// writes the generation that the store goes on at, how many events came back, and the number of
+/// processors. `blanks` are the objects that the store's elements are made from, as many as
+/// `find_blanks` of `charmlet_cli` says; `supplies` are those that the script's lines supply.
 pub fn restart_workers<D: Disk, C: Chare, W: Write, R: Threads + Wait + Sync>(
     rt: &R,
     alloc: Global,

@@ -12,7 +12,7 @@ ghost use Rattle.charmlet_agreement.specs.Naming.{table_of};
 ghost use Rattle.charmlet_journal.specs.NewStores.{new_core};
 ghost use Rattle.charmlet_sequencer.specs.Sequencer.{IsOf};
 ghost use Rattle.charmlet_requests.specs.Handlers.{handler_of};
-ghost use Rattle.charmlet_cli.specs.Lines.{named_by};
+ghost use Rattle.charmlet_lines.specs.Named.{named_by};
 ghost use Rattle.charmlet_cli_workers.specs.Lines.{has_delivery};
 ghost use Rattle.charmlet_cli_workers.specs.Said.{HaveRun};
 ghost use Rattle.charmlet_cli_workers.specs.Runs.{EndsMade, EndsRun, IsFit, IsMade, Lacks};
@@ -21,9 +21,9 @@ use crate::ended::{RanByWorkers, WorkersError};
 use crate::lines::has_delivery;
 use crate::opened::{Given, Lines, run_opened};
 use charmlet_chare::Chare;
-use charmlet_cli::{handlers_of, has_enough, source_of, supplied_by, write_answer};
 use charmlet_disk::Disk;
 use charmlet_halves::Refused;
+use charmlet_lines::{handlers_of, has_enough, source_of, supplied_by, write_answer};
 use charmlet_model::{Answer, Manifest};
 use charmlet_runtime::UnnamedRuntime;
 use charmlet_script::Script;
@@ -35,7 +35,7 @@ use std::marker::Brand;
 use std::sync::Wait;
 use std::thread::Threads;
 
-/// Makes the script's store on a disk, as [`charmlet_cli::run_script`] does, and runs its lines
+/// Makes the script's store on a disk, as `run_script` of `charmlet_cli` does, and runs its lines
 /// there over a runtime with threads, a worker for each processor.
 ///
 /// A `drain N` line starts a thread for each processor, in which its worker takes N turns, and ends

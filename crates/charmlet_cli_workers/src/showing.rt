@@ -4,12 +4,12 @@ ghost use Rattle.std.specs.Prelude.{◌≡◌, map};
 ghost use Rattle.charmlet_model.specs.declared.kind.Kind as kinds;
 ghost use Rattle.charmlet_stock.specs.ByKind.{at};
 ghost use Rattle.charmlet_workers.specs.Runtime.{IsWithin};
-ghost use Rattle.charmlet_cli.specs.Shown.{IsWhole, all_kinds};
+ghost use Rattle.charmlet_lines.specs.Shown.{IsWhole, all_kinds};
 ghost use Rattle.charmlet_cli_workers.specs.Said.{IsCensusText, IsPendingText, IsStateText, IsWritten, counted_by};
 
 use charmlet_chare::Chare;
-use charmlet_cli::{shown_of, write_answer, write_counts, write_line, write_memory_refused};
 use charmlet_disk::Disk;
+use charmlet_lines::{shown_of, write_answer, write_counts, write_line, write_memory_refused};
 use charmlet_model::{Answer, Elem, Kind};
 use charmlet_script::{Counted, PendingIds};
 use charmlet_sequencer::RuntimeName;

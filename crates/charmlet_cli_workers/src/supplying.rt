@@ -6,8 +6,8 @@ ghost use Rattle.charmlet_stock.specs.Stock.{blanks_in, part_of};
 ghost use Rattle.charmlet_cli_workers.specs.Said.{IsSupplyText, IsWritten};
 
 use charmlet_chare::Chare;
-use charmlet_cli::{write_line, write_memory_refused};
 use charmlet_disk::Disk;
+use charmlet_lines::{write_line, write_memory_refused};
 use charmlet_model::Kind;
 use charmlet_script::Supplied;
 use charmlet_sequencer::RuntimeName;

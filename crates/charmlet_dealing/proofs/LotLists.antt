@@ -17,8 +17,8 @@ use Rattle.charmlet_stock.specs.Stock.{blanks_in, keeping_of, supplied_to}
 use Rattle.charmlet_partition.specs.declared.task.Task.{Task}
 use Rattle.charmlet_partition.specs.Parts.{is_of_worker}
 use Rattle.charmlet_routing.specs.Routed.{tasks_of}
-use Rattle.charmlet_replay.specs.Restored.{IsHeld}
-use Rattle.charmlet_replay.specs.declared.restored.Restored.{Restored}
+use Rattle.charmlet_restoring.specs.Restored.{IsHeld}
+use Rattle.charmlet_restoring.specs.declared.restored.Restored.{Restored}
 use Rattle.charmlet_lots.specs.declared.lot.Lot.{Lot}
 use Rattle.charmlet_dealing.specs.Blank.{AreGivenTo, AreSameLots, GoesTo, HasMore}
 use Rattle.charmlet_dealing.specs.Keeping.{IsDrawnFrom, IsHeldLot, KeepsAll, supplied_by}

@@ -11,7 +11,7 @@ use Rattle.charmlet_stock.specs.Stock.{blanks_in}
 use Rattle.charmlet_partition.specs.declared.task.Task.{Task}
 use Rattle.charmlet_partition.specs.Parts.{is_of_worker}
 use Rattle.charmlet_routing.specs.Routed.{tasks_of}
-use Rattle.charmlet_replay.specs.Restored.{IsHeld}
+use Rattle.charmlet_restoring.specs.Restored.{IsHeld}
 use Rattle.charmlet_lots.specs.Tasks.{taken_by_all}
 use Rattle.charmlet_lots.specs.declared.lot.Lot.{Lot}
 

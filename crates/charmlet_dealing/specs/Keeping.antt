@@ -6,7 +6,7 @@ use Rattle.charmlet_model.specs.Core.{Blanks}
 use Rattle.charmlet_chare.specs.declared.chare.Chare.{Ghosts}
 use Rattle.charmlet_stock.specs.declared.stock.Stock.{Stock}
 use Rattle.charmlet_stock.specs.Stock.{blanks_in, keeping_of, supplied_to, tally_in}
-use Rattle.charmlet_replay.specs.Restored.{IsHeld}
+use Rattle.charmlet_restoring.specs.Restored.{IsHeld}
 use Rattle.charmlet_lots.specs.declared.lot.Lot.{Lot}
 
 -- all that was supplied to the worker is there, and none of its shelves is in use

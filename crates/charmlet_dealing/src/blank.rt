@@ -7,7 +7,7 @@ ghost use Rattle.std.specs.Ordering.{nat_cmp};
 ghost use Rattle.charmlet_model.specs.declared.kind.Kind as kinds;
 ghost use Rattle.charmlet_recovery.specs.Blanks.{array_is};
 ghost use Rattle.charmlet_model.specs.declared.logged.Effect.TheVariants as effects;
-ghost use Rattle.charmlet_replay.specs.Restored.{IsHeld};
+ghost use Rattle.charmlet_restoring.specs.Restored.{IsHeld};
 ghost use Rattle.charmlet_stock.specs.Stock.{blanks_in, keeping_of, part_of, supplied_to};
 ghost use Rattle.charmlet_lots.specs.Tasks.{taken_by};
 ghost use Rattle.charmlet_dealing.specs.Blank.{LacksBlank};
@@ -16,7 +16,7 @@ ghost use Rattle.charmlet_dealing.specs.Keeping.{IsDrawnFrom};
 use charmlet_chare::Chare;
 use charmlet_model::{Effect, Kind, Manifest};
 use charmlet_partition::Task;
-use charmlet_replay::Restored;
+use charmlet_restoring::Restored;
 use charmlet_stock::Stock;
 use std::alloc::AllocError;
 

@@ -6,7 +6,7 @@ ghost use Rattle.std.specs.List.{All};
 ghost use Rattle.std.specs.Map.{lookup};
 ghost use Rattle.std.specs.Ordering.{nat_cmp};
 ghost use Rattle.charmlet_model.specs.declared.kind.Kind as kinds;
-ghost use Rattle.charmlet_replay.specs.Restored.{IsHeld};
+ghost use Rattle.charmlet_restoring.specs.Restored.{IsHeld};
 ghost use Rattle.charmlet_stock.specs.Stock.{blanks_in, keeping_of, supplied_to};
 ghost use Rattle.charmlet_dealing.specs.Blank.{AreGivenTo, AreSameLots, GoesTo, HasGivenOut, HasMore, LacksBlank, list_of};
 ghost use Rattle.charmlet_dealing.specs.Keeping.{IsDrawnFrom, IsHeldLot, KeepsAll};

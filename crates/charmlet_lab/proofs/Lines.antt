@@ -1,8 +1,7 @@
 -- Lines that are run one after another.
-use Rattle.std.proofs.Common.{◌≡◌, inl, inr, ◌<◌, ◌≤◌, ℕ, suc, ◌+◌, ◌-◌, true, false, List, [], ◌∷◌, ◌++◌, Option, Some, None, length, drop, refl, sym, ap, subst, ◌∙◌, arith}
+use Rattle.std.proofs.Common.{◌≡◌, inl, inr, ◌<◌, ◌≤◌, ℕ, suc, ◌+◌, ◌-◌, true, false, List, [], ◌∷◌, Option, Some, length, drop, refl, sym, ap, subst, ◌∙◌, arith}
 use Rattle.std.proofs.lemmas.List.{drop_all}
-use Rattle.std.specs.Prelude.{if◌then◌else◌, is_some, unwrap_or}
-use Rattle.std.specs.Str.{bytes_eq}
+use Rattle.std.specs.Prelude.{unwrap_or}
 use Rattle.charmlet_model.specs.declared.kind.Kind.{Kind}
 use Rattle.charmlet_model.specs.Manifest.{manifest_of}
 use Rattle.charmlet_model.specs.Run.{StoreView}
@@ -10,29 +9,10 @@ use Rattle.charmlet_journal.specs.NewStores.{new_core}
 use Rattle.charmlet_requests.specs.declared.handlers.Handlers.{Handlers}
 use Rattle.charmlet_requests.specs.Handlers.{handler_of}
 use Rattle.charmlet_record.specs.Reading.{Kinds}
-use Rattle.charmlet_script.specs.declared.script.HandlerLine.{HandlerLine}
 use Rattle.charmlet_script.specs.declared.script.Line.{Line}
 use Rattle.charmlet_script.specs.Script.{Contents, pairs_of, processors_of}
-use Rattle.charmlet_lab.specs.Lines.{AreRun, DeliversNext, DeliversNone, Drains, Follows, Names, named_by, opening_of}
-
--- ---- names of handlers
-
--- what one line says of a name
-abbrev pub says_of : HandlerLine → Names
-says_of line name = if bytes_eq line.name name then Some (record { array = line.array; entry = line.entry }) else None
-
--- a line after others says it of its name, and they say it of the others
-pub named_more : (lines : List HandlerLine) (line : HandlerLine) (name : List ℕ) →
-    named_by (lines ++ line ∷ []) name ≡ (if bytes_eq line.name name then Some (record { array = line.array; entry = line.entry }) else named_by lines name)
-named_more [] line name = refl
-named_more (l ∷ lines) line name =
-    let later = named_more lines line name in
-    elim (bytes_eq line.name name) as (λ b. named_by (lines ++ line ∷ []) name ≡ (if b then Some (record { array = line.array; entry = line.entry }) else named_by lines name) →
-    (if is_some (named_by (lines ++ line ∷ []) name) then named_by (lines ++ line ∷ []) name else says_of l name)
-    ≡ (if b then Some (record { array = line.array; entry = line.entry }) else (if is_some (named_by lines name) then named_by lines name else says_of l name))) [
-      | true ↦ λ is. ap (λ o. if is_some o then o else says_of l name) is
-      | false ↦ λ is. ap (λ o. if is_some o then o else says_of l name) is
-    ] later
+use Rattle.charmlet_lines.specs.Named.{Names, named_by}
+use Rattle.charmlet_lab.specs.Lines.{AreRun, DeliversNext, DeliversNone, Drains, Follows, opening_of}
 
 -- ---- drains
 

@@ -63,15 +63,6 @@ module _ (kinds : Kinds) (processors : ℕ) (first last : Core) (opens : first �
 
 -- ---- why nothing was run
 
--- what holds of each of the kinds holds of all
-pub by_kind : (P : Kind → Type 0) → P kinds.Counter → P kinds.Ring → P kinds.Account → P kinds.Sum → P kinds.Tree → P kinds.Tape → (kind : Kind) → P kind
-by_kind P counter ring account sum tree tape kinds.Counter = counter
-by_kind P counter ring account sum tree tape kinds.Ring = ring
-by_kind P counter ring account sum tree tape kinds.Account = account
-by_kind P counter ring account sum tree tape kinds.Sum = sum
-by_kind P counter ring account sum tree tape kinds.Tree = tree
-by_kind P counter ring account sum tree tape kinds.Tape = tape
-
 module _ {D : Type 0} (G : disks.Ghosts D) (given : Blanks) (script : Contents) (first : D) where
   -- blanks lack
   pub blanks_lack : (found : Option (Kind × ℕ)) → Lacks given (needed_by script) found → (refusal : Refusal) →

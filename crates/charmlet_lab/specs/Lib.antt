@@ -29,3 +29,4 @@ pub use Rattle.charmlet_engine.specs.Advances
 pub use Rattle.charmlet_engine.specs.Engine
 pub use Rattle.charmlet_engine.specs.Restarted
 pub use Rattle.charmlet_script.specs.Script
+pub use Rattle.charmlet_lines.specs.Named

@@ -1,6 +1,5 @@
 -- What the lines of a script do to a store.
-use Rattle.std.specs.Prelude.{◌≡◌, ◌⊎◌, ℕ, zero, suc, ◌+◌, Bool, true, false, List, [], ◌∷◌, if◌then◌else◌, is_some, Option, Some, None}
-use Rattle.std.specs.Str.{bytes_eq}
+use Rattle.std.specs.Prelude.{◌≡◌, ◌⊎◌, ℕ, zero, suc, ◌+◌, Bool, true, false, List, [], ◌∷◌, Option, Some, None}
 use Rattle.charmlet_model.specs.declared.event.Event.{Event}
 use Rattle.charmlet_model.specs.declared.kind.Kind.{Kind}
 use Rattle.charmlet_model.specs.declared.names.Elem.{Elem}
@@ -12,31 +11,17 @@ use Rattle.charmlet_model.specs.declared.step.Answer.TheVariants as answers
 use Rattle.charmlet_model.specs.declared.step.Step.TheVariants as steps
 use Rattle.charmlet_model.specs.Core.{present}
 use Rattle.charmlet_model.specs.Run.{Does, IsDelivered, IsNotDelivered, StoreView}
-use Rattle.charmlet_model.specs.Texts.{Text}
 use Rattle.charmlet_history.specs.Kept.{next_in}
 use Rattle.charmlet_journal.specs.NewStores.{new_core}
-use Rattle.charmlet_requests.specs.declared.handlers.Handler.{Handler}
 use Rattle.charmlet_requests.specs.Handlers.{IsTarget}
-use Rattle.charmlet_script.specs.declared.script.HandlerLine.{HandlerLine}
 use Rattle.charmlet_script.specs.declared.script.Line.{Line}
 use Rattle.charmlet_script.specs.declared.script.Line.TheVariants.{Supply, Drain, State, Pending, Census}
 use Rattle.charmlet_script.specs.declared.script.Line.TheVariants as lines
 use Rattle.charmlet_script.specs.Script.{Contents, processors_of}
 use Rattle.charmlet_stock.specs.Stock.{part_of}
+use Rattle.charmlet_lines.specs.Named.{Names, named_by}
 use Rattle.charmlet_lab.specs.declared.round.Round.{Round}
 use Rattle.charmlet_lab.specs.Rounds.{arrays_of}
-
--- the handler that a name stands for, if there is one
-abbrev pub Names : Type 0
-Names = Text → Option Handler
-
--- the last of these lines with the name tells
-abbrev pub named_by : List HandlerLine → Names
-named_by [] name = None
-named_by (line ∷ lines) name =
-    if is_some (named_by lines name) then named_by lines name
-    else if bytes_eq line.name name then Some (record { array = line.array; entry = line.entry })
-    else None
 
 -- `count` more blanks of a kind
 pub record IsSupplied (kind : Kind) (count : ℕ) (old new : StoreView) : Type 0 where

@@ -1,30 +1,29 @@
 //! A run of a script over a disk that may fail.
 
-ghost use Rattle.std.specs.Prelude.{◌≡◌, ◌≤◌, ◌+◌, ℕ, List, Ok, false, true, IfErr, IfOk, OnOk};
+ghost use Rattle.std.specs.Prelude.{◌≡◌, ◌≤◌, ◌+◌, Ok, false, true, IfErr, IfOk, OnOk};
 ghost use Rattle.charmlet_model.specs.declared.kind.Kind as kinds;
-ghost use Rattle.charmlet_model.specs.declared.refusal.Refusal.TheVariants as refusals;
 ghost use Rattle.charmlet_model.specs.Shelves.{count_of};
 ghost use Rattle.charmlet_recovery.specs.RestartLaws.{IsEnough};
 ghost use Rattle.charmlet_disk.specs.Disk.{IsSettled};
 ghost use Rattle.charmlet_locate.specs.Locations.{is_processor_count};
 ghost use Rattle.charmlet_stock.specs.Stock as stocks;
 ghost use Rattle.charmlet_stock.specs.Stock.{part_of};
-ghost use Rattle.charmlet_engine.specs.Wanted as wants;
 ghost use Rattle.charmlet_script.specs.Script.{blanks_in, blanks_of, processors_of};
 ghost use Rattle.charmlet_engine.specs.Advances.{Advances};
 ghost use Rattle.charmlet_engine.specs.Engine.{view_of};
 ghost use Rattle.charmlet_requests.specs.Handlers.{handler_of};
-ghost use Rattle.charmlet_lab.specs.Lines.{AreRun, DeliversNext, DeliversNone, Drains, Follows, IsRunOf, IsSupplied, named_by};
+ghost use Rattle.charmlet_lab.specs.Lines.{AreRun, DeliversNext, DeliversNone, Drains, Follows, IsRunOf, IsSupplied};
 ghost use Rattle.charmlet_lab.specs.Rounds.{IsNotRun, IsRound, arrays_of, needed_by};
 
 use charmlet_chare::Chare;
 use charmlet_disk::Disk;
-use charmlet_engine::{Engine, Wanted, lacking, stock_of};
+use charmlet_engine::{Engine, lacking, stock_of};
 use charmlet_halves::Refused;
 use charmlet_history::Request;
+use charmlet_lines::{handlers_of, supplied_by};
 use charmlet_model::{Answer, Elem, Event, Kind, Refusal, Step, Words};
-use charmlet_requests::{Handler, Handlers};
-use charmlet_script::{HandlerLine, Line, Script};
+use charmlet_requests::Handlers;
+use charmlet_script::{Line, Script};
 use charmlet_stock::Stock;
 use std::alloc::{AllocError, Global};
 
@@ -109,40 +108,6 @@ pub fn lab_round<D: Disk, C: Chare>(
         }),
         Err(Refused { refusal, .. }) => Err(refusal),
     }
-}
-
-/// How many blanks of each kind the script's lines supply.
-fn supplied_by(script: &Script) -> Wanted
-    ensures { (kind : kinds.Kind) → wants.blanks_in result kind ≡ blanks_of kind script.now.lines }
-{
-    Wanted {
-        counters: script.blanks(Kind::Counter),
-        rings: script.blanks(Kind::Ring),
-        accounts: script.blanks(Kind::Account),
-        sums: script.blanks(Kind::Sum),
-        trees: script.blanks(Kind::Tree),
-        tapes: script.blanks(Kind::Tape),
-    }
-}
-
-/// The handlers of these lines. If a name comes twice, the last line counts. It fails only with
-/// `Memory`.
-fn handlers_of(alloc: Global, lines: &[HandlerLine]) -> Result<Handlers, Refusal>
-    ensures named { IfOk result (λ handlers. (name : List ℕ) →
-        handler_of handlers name ≡ named_by lines.now name) }
-    ensures err { IfErr result (λ refusal. refusal ≡ refusals.Memory) }
-{
-    let mut handlers = Handlers::new(alloc);
-    for line in lines {
-        let handler = Handler {
-            array: line.array,
-            entry: line.entry,
-        };
-        if handlers.register(line.name.as_str(), handler).is_err() {
-            return Err(Refusal::Memory);
-        }
-    }
-    Ok(handlers)
 }
 
 /// A copy of the events. It fails only when out of memory.

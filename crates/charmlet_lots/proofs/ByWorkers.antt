@@ -19,9 +19,9 @@ use Rattle.charmlet_partition.specs.Parts.{Worked, Stopped, Done, catch_ups, cau
 use Rattle.charmlet_partition.proofs.CatchUps.{catch-ups-stop}
 use Rattle.charmlet_partition.proofs.Stops.{AreStopsOf, earliest-first}
 use Rattle.charmlet_lots.proofs.LotStops.{before, no-stop, same-stops, stops-are, zip-length}
-use Rattle.charmlet_replay.specs.Lists.{IsFirstFault}
+use Rattle.charmlet_restoring.specs.Places.{IsFirstFault}
 use Rattle.charmlet_lots.specs.Lots.{IsCaughtUpLot, IsKnownBy}
-use Rattle.charmlet_replay.specs.Restored.{IsRestored}
+use Rattle.charmlet_restoring.specs.Restored.{IsRestored}
 use Rattle.charmlet_lots.specs.Workers.{AreDealt, AreParts, IsSpared, is_refused, left_at, left_of}
 use Rattle.charmlet_lots.specs.declared.lot.Lot.{Lot}
 

@@ -15,11 +15,11 @@ use Rattle.charmlet_model.specs.World.{record_at}
 use Rattle.charmlet_model.specs.Shelves.{if_there, shelf_of}
 use Rattle.charmlet_shelf.specs.Shelf.{View}
 use Rattle.charmlet_shelf.specs.declared.phase.Phase.TheVariants.{Idle}
-use Rattle.charmlet_replay.specs.Moving.{IsIdle, records_on}
-use Rattle.charmlet_replay.proofs.EachShelf.{records_at}
+use Rattle.charmlet_restoring.specs.Moving.{IsIdle, records_on}
+use Rattle.charmlet_restoring.proofs.EachShelf.{records_at}
 use Rattle.charmlet_partition.specs.Parts.{is_of_worker, part}
 use Rattle.charmlet_partition.proofs.Parts.{record-part}
-use Rattle.charmlet_replay.specs.Home.{AreHome, at_home}
+use Rattle.charmlet_restoring.specs.Home.{AreHome, at_home}
 
 past : {X : Type 0} (xs : List X) (i : ℕ) (d : X) → length xs ≤ i → get_or xs i d ≡ d
 past [] i d over = refl

@@ -17,10 +17,10 @@ use Rattle.charmlet_chare.specs.declared.chare.Chare.{Ghosts}
 use Rattle.charmlet_stock.specs.Stock.{blanks_in, supplied_to}
 use Rattle.charmlet_partition.specs.declared.task.Task.{Task}
 use Rattle.charmlet_partition.specs.Parts.{Stopped, worked}
-use Rattle.charmlet_replay.specs.Lists.{IsFirstFault}
+use Rattle.charmlet_restoring.specs.Places.{IsFirstFault}
 use Rattle.charmlet_replies.specs.Replies.{replies_of}
 use Rattle.charmlet_lots.specs.Lots.{IsCaughtUpLot, IsKnownBy}
-use Rattle.charmlet_replay.specs.Restored.{AreRedelivered, IsHeld}
+use Rattle.charmlet_restoring.specs.Restored.{AreRedelivered, IsHeld}
 use Rattle.charmlet_lots.specs.Tasks.{AreDone, CanDo, HasNoTask, IsDoneLot, taken_by_all}
 use Rattle.charmlet_lots.specs.Workers.{stop_from}
 use Rattle.charmlet_lots.specs.declared.lot.Lot.{Lot}

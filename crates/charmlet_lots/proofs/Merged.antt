@@ -11,8 +11,8 @@ use Rattle.charmlet_model.specs.declared.names.Elem.{Elem}
 use Rattle.charmlet_model.specs.declared.state.Record.{Record}
 use Rattle.charmlet_model.specs.Names.{elem_cmp}
 use Rattle.charmlet_model.proofs.Maps.{elem_exact, elem_total, same_maps}
-use Rattle.charmlet_replay.specs.Opened.{opened_element, opened_elements}
-use Rattle.charmlet_replay.specs.element.Element.{Element}
+use Rattle.charmlet_restoring.specs.Opened.{opened_element, opened_elements}
+use Rattle.charmlet_restoring.specs.element.Element.{Element}
 use Rattle.charmlet_partition.specs.Parts.{is_of_worker, part}
 use Rattle.charmlet_partition.proofs.Parts.{lookup-part}
 

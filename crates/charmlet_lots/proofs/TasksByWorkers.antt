@@ -20,8 +20,8 @@ use Rattle.charmlet_chare.specs.declared.chare.Chare.{Ghosts}
 use Rattle.charmlet_partition.specs.Parts.{Worked, Stopped, Done, earliest_stop, first_left, is_of_worker, part, stop_of, tasks, worked}
 use Rattle.charmlet_partition.proofs.Events.{ends-alike, events-stop, first-left-is}
 use Rattle.charmlet_partition.proofs.Stops.{AreStopsOf, earliest-first}
-use Rattle.charmlet_replay.specs.Lists.{IsFirstFault}
-use Rattle.charmlet_replay.specs.Restored.{IsRestored}
+use Rattle.charmlet_restoring.specs.Places.{IsFirstFault}
+use Rattle.charmlet_restoring.specs.Restored.{IsRestored}
 use Rattle.charmlet_replies.specs.Replies.{replies_of}
 use Rattle.charmlet_lots.specs.Tasks.{AreDealtTasks, CanDo, HaveMoreReplies, IsDoneLot}
 use Rattle.charmlet_lots.specs.Workers.{AreParts, IsSpared, is_refused, left_at, left_of}

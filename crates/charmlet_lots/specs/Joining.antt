@@ -7,11 +7,11 @@ use Rattle.std.specs.List.Sorted.{IsStrictlySortedBy}
 use Rattle.std.specs.Map.{keys_of, lookup}
 use Rattle.charmlet_model.specs.Names.{elem_cmp}
 use Rattle.charmlet_model.specs.Core.{home}
-use Rattle.charmlet_replay.specs.Opened.{opened_elements}
-use Rattle.charmlet_replay.specs.element.Element.{Element}
+use Rattle.charmlet_restoring.specs.Opened.{opened_elements}
+use Rattle.charmlet_restoring.specs.element.Element.{Element}
 use Rattle.charmlet_shelf.specs.Shelf.{View}
 use Rattle.charmlet_partition.specs.Parts.{is_of_worker, part}
-use Rattle.charmlet_replay.specs.Home.{AreHome}
+use Rattle.charmlet_restoring.specs.Home.{AreHome}
 
 -- Where each worker has a shelf for each processor, its part of the records is on them, and each
 -- processor's elements are one worker's, the shelves that are taken from that worker show all

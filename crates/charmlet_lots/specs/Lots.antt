@@ -13,10 +13,10 @@ use Rattle.charmlet_recovery.specs.Blanks.{made_by_catch_up}
 use Rattle.charmlet_recovery.specs.Faults.{catch_up_tests}
 use Rattle.charmlet_chare.specs.declared.chare.Chare.{Ghosts}
 use Rattle.charmlet_stock.specs.Stock.{blanks_in, supplied_to}
-use Rattle.charmlet_replay.specs.Lists.{IsFirstFault}
-use Rattle.charmlet_replay.specs.Restored.{AreRedelivered, HasBlanksAgain, IsHeld, IsRestored, StayGood}
+use Rattle.charmlet_restoring.specs.Places.{IsFirstFault}
+use Rattle.charmlet_restoring.specs.Restored.{AreRedelivered, HasBlanksAgain, IsHeld, IsRestored, StayGood}
 use Rattle.charmlet_lots.specs.declared.lot.Lot.{Lot}
-use Rattle.charmlet_replay.specs.declared.restored.Restored.{Restored}
+use Rattle.charmlet_restoring.specs.declared.restored.Restored.{Restored}
 
 -- the elements with these records came back, which stay good up to each delivery that is reached,
 -- and there are blanks for what is constructed

@@ -17,7 +17,7 @@ use Rattle.charmlet_recovery.specs.Replays.{LogPass}
 use Rattle.charmlet_recovery.specs.Blanks.{wanted_by_catch_up}
 use Rattle.charmlet_partition.specs.declared.task.Task.{Task}
 use Rattle.charmlet_partition.specs.Parts.{part, tasks}
-use Rattle.charmlet_replay.specs.Restored.{AreGood, HasBlanksAgain, StayGood}
+use Rattle.charmlet_restoring.specs.Restored.{AreGood, HasBlanksAgain, StayGood}
 use Rattle.charmlet_lots.specs.Tasks.{StayGoodTo}
 
 -- the words of a message are words of 64 bits

@@ -14,7 +14,7 @@ use Rattle.charmlet_record.specs.Reading.{Kinds}
 use Rattle.charmlet_chare.specs.declared.chare.Chare.{Ghosts}
 use Rattle.charmlet_partition.specs.Parts.{Falls, catch_ups, is_of_worker, part}
 use Rattle.charmlet_lots.specs.Lots.{IsKnownBy}
-use Rattle.charmlet_replay.specs.Restored.{IsHeld, IsRestored}
+use Rattle.charmlet_restoring.specs.Restored.{IsHeld, IsRestored}
 use Rattle.charmlet_stock.specs.Stock.{supplied_to}
 use Rattle.charmlet_lots.specs.declared.lot.Lot.{Lot}
 

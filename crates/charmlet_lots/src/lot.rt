@@ -4,8 +4,8 @@ use charmlet_chare::Chare;
 use charmlet_model::CaughtUp;
 use charmlet_partition::Task;
 use charmlet_record::{Placed, ReadError};
-use charmlet_replay::Restored;
 use charmlet_replies::Reply;
+use charmlet_restoring::Restored;
 use std::alloc::Global;
 
 /// What a worker has of a recovery: its elements, with a shelf for each processor and a stock of

@@ -14,7 +14,7 @@ ghost use Rattle.charmlet_model.specs.World.{World, world};
 ghost use Rattle.charmlet_recovery.specs.Bases.{events_of, redelivered_all};
 ghost use Rattle.charmlet_recovery.specs.Faults.{catch_up_tests, event_tests, first_failure};
 ghost use Rattle.charmlet_recovery.specs.Replays.{IsBeginning, LogPass, pass_after};
-ghost use Rattle.charmlet_replay.specs.Lists.{IsFirstFault};
+ghost use Rattle.charmlet_restoring.specs.Places.{IsFirstFault};
 ghost use Rattle.charmlet_lots.specs.Lots.{HasTakenAgain, IsReadyLot};
 ghost use Rattle.charmlet_lots.specs.Tasks.{AreDealtTasks, HasNoTask, HasTaken, HaveMoreReplies, IsReadyToDo};
 ghost use Rattle.charmlet_lots.specs.Workers.{AreDealt, AreParts, HasSameTasks, IsWhole};

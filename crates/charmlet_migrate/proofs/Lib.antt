@@ -9,3 +9,6 @@ pub mod MoveCensus
 pub mod EachShelf
 pub mod Moved
 pub use Rattle.charmlet_delivery.proofs.Places
+pub use Rattle.charmlet_delivery.proofs.Assigning
+pub use Rattle.charmlet_delivery.proofs.Counting
+pub use Rattle.charmlet_delivery.proofs.Delivering

@@ -39,7 +39,8 @@ use Rattle.charmlet_replies.specs.Filled.{AreButForReplies}
 use Rattle.charmlet_replies.proofs.Kept.{keeps-others}
 use Rattle.charmlet_routing.specs.Kept.{IsAsPass, IsSomeWorld}
 use Rattle.charmlet_routing.proofs.Following.{follows_begins, is_pass, pass_of}
-use Rattle.charmlet_replay.specs.Lists.{HasBlanksFor, IsFirstFault, events_in, places_in}
+use Rattle.charmlet_replay.specs.Places.{IsFirstFault, events_in, places_in}
+use Rattle.charmlet_replay.specs.Lists.{HasBlanksFor}
 use Rattle.charmlet_replay.specs.Replayed.{HasBlanksForImage, IsFaultAt, IsOpenIn}
 use Rattle.charmlet_replay.proofs.Offsets.{event_at}
 use Rattle.charmlet_replay.proofs.Faulty.{events_faulty, no_fault, offset_at}

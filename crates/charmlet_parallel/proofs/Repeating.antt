@@ -32,7 +32,7 @@ use Rattle.charmlet_stock.specs.Stock.{blanks_in, supplied_to}
 use Rattle.charmlet_store.specs.Store.{AreEmpty, StoreShown, blanks_of}
 use Rattle.charmlet_pouring.specs.Poured.{retired_in}
 use Rattle.charmlet_world.specs.Seen.{Seen}
-use Rattle.charmlet_replay.specs.Lists.{events_in, places_in}
+use Rattle.charmlet_replay.specs.Places.{events_in, places_in}
 use Rattle.charmlet_replay.specs.Ready.{IsReady}
 use Rattle.charmlet_replay.specs.Replayed.{IsOpenIn, IsRepeated}
 use Rattle.charmlet_replay.specs.Restored.{IsHeld}

@@ -12,7 +12,7 @@ ghost use Rattle.charmlet_recovery.specs.Blanks.{wanted};
 ghost use Rattle.charmlet_recovery.specs.RestartLaws.{IsEnough};
 ghost use Rattle.charmlet_recovery.specs.Restarts.{wanted_of};
 ghost use Rattle.charmlet_stock.specs.Stock.{blanks_in};
-ghost use Rattle.charmlet_replay.specs.Lists.{places_in};
+ghost use Rattle.charmlet_replay.specs.Places.{places_in};
 ghost use Rattle.charmlet_replay.specs.Replayed.{IsFaultAt, IsOpenIn};
 ghost use Rattle.charmlet_dealing.specs.Keeping.{KeepsAll};
 ghost use Rattle.charmlet_rounds.specs.declared.unfinished.Unfinished.TheVariants.{Lack, Read};

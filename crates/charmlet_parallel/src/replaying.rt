@@ -56,7 +56,7 @@ struct Given<'a, 'b, 'c> {
 impl HasWorld for Given<'_, '_, '_> {
     ghost use Rattle.charmlet_image.specs.Views.{image_said};
     ghost use Rattle.charmlet_recovery.specs.Bases.{recovered_world};
-    ghost use Rattle.charmlet_replay.specs.Lists.{events_in};
+    ghost use Rattle.charmlet_replay.specs.Places.{events_in};
 
     ghost world = { λ g. recovered_world (image_said g.image.now)
         (events_in g.image.now.manifest g.log.now.rest.now) };

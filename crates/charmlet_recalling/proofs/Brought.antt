@@ -31,7 +31,7 @@ use Rattle.charmlet_partition.proofs.CatchUps.{catch-ups-stop}
 use Rattle.charmlet_partition.proofs.Stops.{none-left}
 use Rattle.charmlet_replay.specs.Images.{AreOfImage}
 use Rattle.charmlet_replay.specs.Restored.{AreGood, IsHeld, IsRestored}
-use Rattle.charmlet_replay.specs.declared.restored.Restored.{Restored}
+use Rattle.charmlet_replay.specs.restored.Restored.{Restored}
 use Rattle.charmlet_replay.proofs.Whole.{parts_are_records, parts_stay_good}
 use Rattle.charmlet_lots.specs.declared.lot.Lot.{Lot}
 use Rattle.charmlet_lots.specs.Lots.{HasTakenAgain, IsKnownBy, IsReadyLot}

@@ -13,7 +13,7 @@ use Rattle.charmlet_recovery.specs.Blanks.{wanted_by_catch_up, with_count}
 use Rattle.charmlet_chare.specs.declared.chare.Chare.{Ghosts}
 use Rattle.charmlet_stock.specs.declared.stock.Stock.{Stock}
 use Rattle.charmlet_stock.specs.Stock.{blanks_in}
-use Rattle.charmlet_replay.specs.declared.restored.Restored.{Restored}
+use Rattle.charmlet_replay.specs.restored.Restored.{Restored}
 use Rattle.charmlet_recalling.specs.Counts.{AreCountsOf}
 use Rattle.charmlet_recalling.proofs.Counting.{one_then}
 

@@ -22,7 +22,7 @@ use Rattle.charmlet_stock.specs.Stock.{blanks_in, supplied_to}
 use Rattle.charmlet_partition.specs.Parts.{catch_ups, is_of_worker, part}
 use Rattle.charmlet_shares.specs.Laws.{together}
 use Rattle.charmlet_replay.specs.Restored.{IsHeld, IsRestored}
-use Rattle.charmlet_replay.specs.declared.restored.Restored.{Restored}
+use Rattle.charmlet_replay.specs.restored.Restored.{Restored}
 use Rattle.charmlet_lots.specs.declared.lot.Lot.{Lot}
 use Rattle.charmlet_dealing.specs.Keeping.{IsHeldLot, KeepsAll, supplied_by}
 use Rattle.charmlet_dealing.specs.Sharing.{worker_of}

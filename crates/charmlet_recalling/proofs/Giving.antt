@@ -13,7 +13,7 @@ use Rattle.charmlet_chare.specs.declared.chare.Chare.{Ghosts}
 use Rattle.charmlet_stock.specs.Stock.{supplied_to}
 use Rattle.charmlet_partition.specs.Parts.{catch_ups, is_of_worker}
 use Rattle.charmlet_replay.specs.Restored.{IsHeld}
-use Rattle.charmlet_replay.specs.declared.restored.Restored.{Restored}
+use Rattle.charmlet_replay.specs.restored.Restored.{Restored}
 use Rattle.charmlet_lots.specs.declared.lot.Lot.{Lot}
 use Rattle.charmlet_dealing.specs.Keeping.{IsHeldLot, supplied_by}
 use Rattle.charmlet_recalling.specs.Given.{AreGivenOne, HasMoreDeliveries, HaveDeliveries, KeepsSupply}

@@ -9,7 +9,7 @@ use Rattle.charmlet_stock.specs.declared.pile.Tally.{Tally}
 use Rattle.charmlet_stock.specs.declared.stock.Stock.{Stock}
 use Rattle.charmlet_stock.specs.Stock.{blanks_in, supplied_to}
 use Rattle.charmlet_replay.specs.Restored.{IsHeld, IsRestored}
-use Rattle.charmlet_replay.specs.declared.restored.Restored.{Restored}
+use Rattle.charmlet_replay.specs.restored.Restored.{Restored}
 use Rattle.charmlet_replay.proofs.Redelivered.{known_element}
 use Rattle.charmlet_world.specs.declared.element.Element.{Element}
 use Rattle.charmlet_world.specs.Seen.{element_at}

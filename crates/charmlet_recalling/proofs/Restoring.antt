@@ -17,7 +17,7 @@ use Rattle.charmlet_stock.specs.Stock.{blanks_in}
 use Rattle.charmlet_partition.specs.Parts.{is_of_worker, part}
 use Rattle.charmlet_dealing.specs.Sharing.{worker_of}
 use Rattle.charmlet_replay.specs.Restored.{IsRestored}
-use Rattle.charmlet_replay.specs.declared.restored.Restored.{Restored}
+use Rattle.charmlet_replay.specs.restored.Restored.{Restored}
 use Rattle.charmlet_recalling.specs.Keeping.{KeepsOne}
 use Rattle.charmlet_recalling.proofs.Keeping.{keeps_then}
 use Rattle.charmlet_recalling.proofs.Own.{inserted, others, said, wanted_more, wanted_within}

@@ -5,7 +5,7 @@ use Rattle.charmlet_chare.specs.declared.chare.Chare.{Ghosts}
 use Rattle.charmlet_stock.specs.declared.stock.Stock.{Stock}
 use Rattle.charmlet_stock.specs.Stock.{blanks_in, keeping_of, supplied_to}
 use Rattle.charmlet_replay.specs.Restored.{IsHeld}
-use Rattle.charmlet_replay.specs.declared.restored.Restored.{Restored}
+use Rattle.charmlet_replay.specs.restored.Restored.{Restored}
 use Rattle.charmlet_dealing.specs.Keeping.{IsDrawnFrom}
 
 -- The worker has all that was supplied to it, and what went out of the stock was supplied to it.

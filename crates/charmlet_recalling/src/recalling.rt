@@ -13,7 +13,7 @@ ghost use Rattle.charmlet_history.specs.Opened.{opened_elements};
 ghost use Rattle.charmlet_stock.specs.Stock.{blanks_in};
 ghost use Rattle.charmlet_partition.specs.Parts.{Falls};
 ghost use Rattle.charmlet_replay.specs.Images.{AreOfImage};
-ghost use Rattle.charmlet_replay.specs.Lists.{IsFirstFault};
+ghost use Rattle.charmlet_replay.specs.Places.{IsFirstFault};
 ghost use Rattle.charmlet_replay.specs.Replayed.{HasBlanksForImage, IsFaultInImage};
 ghost use Rattle.charmlet_dealing.specs.Keeping.{KeepsAll};
 ghost use Rattle.charmlet_dealing.specs.Sharing.{worker_of};

@@ -14,7 +14,7 @@ ghost use Rattle.charmlet_image.specs.Placed.{items_of};
 ghost use Rattle.charmlet_recovery.specs.Faults.{first_failure, pending_tests};
 ghost use Rattle.charmlet_world.specs.Seen.{Shows};
 ghost use Rattle.charmlet_history.specs.Opened.{opened_elements};
-ghost use Rattle.charmlet_replay.specs.Lists.{IsFirstFault};
+ghost use Rattle.charmlet_replay.specs.Places.{IsFirstFault};
 ghost use Rattle.charmlet_recalling.specs.Recalled.{world_with};
 
 use charmlet_kept::KeptWorld;

@@ -9,7 +9,7 @@ use Rattle.charmlet_recovery.proofs.Values.{whole-from}
 use Rattle.charmlet_store.specs.Store.{blanks_of}
 use Rattle.charmlet_image.specs.Views.{image_said}
 use Rattle.charmlet_replay.proofs.OpenHalves.{before_is, log_is}
-use Rattle.charmlet_replay.specs.Lists.{events_in}
+use Rattle.charmlet_replay.specs.Places.{events_in}
 use Rattle.charmlet_reopening.specs.Laws.{ReopenedIsRepeated}
 
 pub is-repeated : ReopenedIsRepeated

@@ -12,7 +12,7 @@ use Rattle.charmlet_recovery.specs.Blanks.{made}
 use Rattle.charmlet_recovery.specs.Faults.{first_fault}
 use Rattle.charmlet_history.specs.Kept.{core_in}
 use Rattle.charmlet_store.specs.Store.{StoreShown, blanks_of}
-use Rattle.charmlet_replay.specs.Lists.{events_in}
+use Rattle.charmlet_replay.specs.Places.{events_in}
 use Rattle.charmlet_replay.specs.Ready.{IsReady}
 use Rattle.charmlet_replay.specs.Replayed.{IsOpenIn, IsRepeated}
 

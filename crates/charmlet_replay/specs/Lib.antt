@@ -1,11 +1,8 @@
 -- The definitions that contracts cite.
 pub mod Ready
 pub mod Made
-pub mod Home
 pub mod Lists
 pub mod Counted
-pub mod Receiving
-pub mod Restored
 pub mod Images
 pub mod Unused
 pub mod Replayed
@@ -50,3 +47,7 @@ pub use Rattle.charmlet_store.specs.StoreParts
 pub use Rattle.charmlet_delivery.specs.Workplace
 pub use Rattle.charmlet_store.specs.Store
 pub use Rattle.charmlet_world.specs.declared.element
+pub use Rattle.charmlet_restoring.specs.Home
+pub use Rattle.charmlet_restoring.specs.Places
+pub use Rattle.charmlet_restoring.specs.Restored
+pub use Rattle.charmlet_restoring.specs.declared.restored

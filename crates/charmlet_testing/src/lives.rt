@@ -2,37 +2,16 @@
 
 use crate::bench::Bench;
 use crate::saying::say;
-use charmlet_cli::RestartedLine;
+use charmlet_cli::{RestartedLine, handlers_of};
 use charmlet_halves::Refused;
 use charmlet_model::{Kind, Refusal};
 use charmlet_probe_objects::{Object, blanks};
 use charmlet_probe_store::{
     Blanks, Ended, Failed, Machine, NotBack, Parts, ProbeStore, Without, wanted_objects,
 };
-use charmlet_requests::{Handler, Handlers};
-use charmlet_script::{HandlerLine, Runner, Script, read_script};
-use std::alloc::Global;
+use charmlet_script::{Runner, Script, read_script};
 use std::io::Write;
 use std::thread::Threads;
-
-/// The handlers of a script, by their names.
-fn handlers_of(alloc: Global, script: &Script) -> Result<Handlers, Refusal> {
-    let mut handlers = Handlers::new(alloc);
-    register(&mut handlers, script.handlers())?;
-    Ok(handlers)
-}
-
-/// Registers handlers by their names.
-fn register(handlers: &mut Handlers, lines: &[HandlerLine]) -> Result<(), Refusal> {
-    for HandlerLine { name, array, entry } in lines {
-        let handler = Handler {
-            array: *array,
-            entry: *entry,
-        };
-        handlers.register(name.as_str(), handler)?;
-    }
-    Ok(())
-}
 
 impl Bench {
     /// Makes a store by the header.
@@ -44,7 +23,7 @@ impl Bench {
 
     /// Makes a store by a script. Its handlers are those of the bench from then on.
     fn create_by(&mut self, script: &Script) -> Result<(), Failed> {
-        let handlers = handlers_of(self.alloc, script)?;
+        let handlers = handlers_of(self.alloc, script.handlers())?;
         self.begin(script)?;
         self.handlers = handlers;
         Ok(())

@@ -8,9 +8,8 @@ use Rattle.charmlet_model.specs.Texts.{Text, answer_text}
 use Rattle.charmlet_script.specs.Printed.{drained_text}
 use Rattle.charmlet_engine.specs.Engine.{view_of}
 use Rattle.charmlet_cli.specs.Drain.{DrainsUpTo, drain_text, drain_texts}
-use Rattle.charmlet_cli.specs.Lines.{in_lines}
-use Rattle.charmlet_cli.specs.Writing.{AppendsBeginning}
-use Rattle.charmlet_cli.proofs.Printing.{beginning_written, kept_appends, kept_begins, line_begins, line_then}
+use Rattle.charmlet_lines.specs.Writing.{in_lines, AppendsBeginning}
+use Rattle.charmlet_lines.proofs.Printing.{beginning_written, kept_appends, kept_begins, line_begins, line_then}
 use Rattle.charmlet_cli.proofs.draining.drain_line.Goals as goal
 
 -- a beginning of its own line is one of what it prints

@@ -2,10 +2,11 @@ use Rattle.std.proofs.Common.{◌≡◌, ◌≤◌, true, false, rules, refl, sy
 use Rattle.charmlet_model.specs.Core.{Blanks}
 use Rattle.charmlet_script.specs.Script.{blanks_of}
 use Rattle.charmlet_stock.specs.Stock.{supplied_to}
-use Rattle.charmlet_cli.specs.Restarted.{IsRestarted, given_of}
-use Rattle.charmlet_cli.proofs.Endings.{on_ok}
-use Rattle.charmlet_cli.proofs.Restarts.{ok_map, restart_ends}
-use Rattle.charmlet_cli.proofs.Supplies.{is_enough, is_too_few}
+use Rattle.charmlet_lines.specs.Back.{given_of}
+use Rattle.charmlet_cli.specs.Restarted.{IsRestarted}
+use Rattle.charmlet_lines.proofs.Results.{on_ok, ok_map}
+use Rattle.charmlet_cli.proofs.Restarts.{restart_ends}
+use Rattle.charmlet_lines.proofs.Enough.{is_enough, is_too_few}
 use Rattle.charmlet_cli.proofs.restarting.restart_script.Goals as goal
 
 pub returns-then-not-has_enough-clause-err : goal.returns-then-not-has_enough-clause-err

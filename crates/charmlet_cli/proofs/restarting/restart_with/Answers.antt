@@ -6,8 +6,9 @@ use Rattle.charmlet_locate.specs.Locations.{is_processor_count}
 use Rattle.charmlet_stock.specs.Stock.{supplied_to}
 use Rattle.charmlet_engine.specs.Engine.{view_of}
 use Rattle.charmlet_engine.specs.Restarted.{IsTakenFrom}
-use Rattle.charmlet_cli.specs.Lines.{ledger_in}
-use Rattle.charmlet_cli.proofs.Restarts.{all_given, counted_processors, is_back, stands_back, was_not_restarted}
+use Rattle.charmlet_lines.specs.Ledgers.{ledger_in}
+use Rattle.charmlet_lines.proofs.Backs.{all_given, counted_processors, is_back, was_not_restarted}
+use Rattle.charmlet_cli.proofs.Restarts.{stands_back}
 use Rattle.charmlet_cli.proofs.restarting.restart_with.Goals as goal
 
 pub returns-in-Ok-ran-clause-ran : goal.returns-in-Ok-ran-clause-ran

@@ -1,11 +1,12 @@
 use Rattle.std.proofs.Common.{inl, inr, refl, subst}
 use Rattle.charmlet_engine.specs.Engine.{core_of}
 use Rattle.std.specs.Io.KnownBytes.{Appends}
-use Rattle.charmlet_cli.specs.Lines.{AreRun, BreakOff, ledger_in, named_at}
-use Rattle.charmlet_cli.specs.Writing.{AppendsBeginning}
+use Rattle.charmlet_lines.specs.Ledgers.{ledger_in}
+use Rattle.charmlet_cli.specs.Lines.{AreRun, BreakOff, named_at}
+use Rattle.charmlet_lines.specs.Writing.{AppendsBeginning}
 use Rattle.charmlet_cli.proofs.Naming.{same_names}
-use Rattle.charmlet_cli.proofs.Endings.{on_err}
-use Rattle.charmlet_cli.proofs.Restarts.{err_map, ok_map, said_of}
+use Rattle.charmlet_lines.proofs.Results.{on_err, err_map, ok_map}
+use Rattle.charmlet_cli.proofs.Restarts.{said_of}
 use Rattle.charmlet_cli.proofs.restarting.run_restarted.Goals as goal
 
 pub returns-in_err-write_line-clause-breaks_off : goal.returns-in_err-write_line-clause-breaks_off

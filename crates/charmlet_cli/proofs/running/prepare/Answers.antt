@@ -1,8 +1,8 @@
 use Rattle.std.proofs.Common.{rules, ◌≡◌, ◌≤◌, true, false, refl, sym, ap, subst, ◌∙◌}
 use Rattle.charmlet_script.specs.Script.{blanks_of}
-use Rattle.charmlet_cli.specs.Lines.{named_by}
+use Rattle.charmlet_lines.specs.Named.{named_by}
 use Rattle.charmlet_cli.proofs.Endings.{memory_ends}
-use Rattle.charmlet_cli.proofs.Supplies.{is_enough, is_too_few}
+use Rattle.charmlet_lines.proofs.Enough.{is_enough, is_too_few}
 use Rattle.charmlet_cli.proofs.running.prepare.Goals as goal
 
 pub returns-then-not-has_enough-clause-err : goal.returns-then-not-has_enough-clause-err

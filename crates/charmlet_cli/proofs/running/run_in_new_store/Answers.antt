@@ -1,10 +1,13 @@
 use Rattle.std.proofs.Common.{◌≡◌, ℕ, inl, inr, sym, ap, subst, ◌∙◌}
 use Rattle.charmlet_locate.specs.Locations.{is_processor_count}
-use Rattle.charmlet_cli.specs.Lines.{AreRun, BreakOff, ledger_in, named_at, named_by, opening_of}
-use Rattle.charmlet_cli.specs.Run.{IsCreationRefusal}
+use Rattle.charmlet_lines.specs.Ledgers.{ledger_in}
+use Rattle.charmlet_lines.specs.Named.{named_by}
+use Rattle.charmlet_cli.specs.Lines.{AreRun, BreakOff, named_at, opening_of}
+use Rattle.charmlet_lines.specs.Created.{IsCreationRefusal}
 use Rattle.charmlet_cli.proofs.Naming.{same_names}
 use Rattle.charmlet_cli.proofs.Openings.{opens}
-use Rattle.charmlet_cli.proofs.Standings.{created, handed_back, stands, stays_honest}
+use Rattle.charmlet_lines.proofs.Creations.{created, handed_back}
+use Rattle.charmlet_cli.proofs.Standings.{stands, stays_honest}
 use Rattle.charmlet_cli.proofs.running.run_in_new_store.Goals as goal
 
 pub returns-in-Ok-ran-clause-ran : goal.returns-in-Ok-ran-clause-ran

@@ -7,7 +7,9 @@ use Rattle.charmlet_model.specs.declared.step.Step.TheVariants as steps
 use Rattle.charmlet_requests.specs.Handlers.{IsTarget}
 use Rattle.charmlet_script.specs.declared.script.Line.TheVariants.{Supply}
 use Rattle.charmlet_script.specs.Script.{blanks_in}
-use Rattle.charmlet_cli.specs.Lines.{Follows, IsAnswered, IsPrinted, blanks_left, ledger_in, named_at}
+use Rattle.charmlet_lines.specs.Supplied.{blanks_left}
+use Rattle.charmlet_lines.specs.Ledgers.{ledger_in}
+use Rattle.charmlet_cli.specs.Lines.{Follows, IsAnswered, IsPrinted, named_at}
 use Rattle.charmlet_cli.proofs.running.run_line.Goals as goal
 
 pub supply_line-requires-clause-enough : goal.supply_line-requires-clause-enough

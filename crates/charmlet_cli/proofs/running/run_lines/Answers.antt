@@ -7,11 +7,14 @@ use Rattle.charmlet_model.specs.Texts.{Text}
 use Rattle.charmlet_script.specs.declared.script.Line.{Line}
 use Rattle.charmlet_script.specs.Script.{blanks_in, blanks_of}
 use Rattle.charmlet_engine.proofs.Advancing.{advances_after}
-use Rattle.charmlet_cli.specs.Lines.{AreRun, Continues, Follows, Names, Prints, blanks_left, ledger_in, named_at}
+use Rattle.charmlet_lines.specs.Named.{Names}
+use Rattle.charmlet_lines.specs.Supplied.{blanks_left}
+use Rattle.charmlet_lines.specs.Ledgers.{ledger_in}
+use Rattle.charmlet_cli.specs.Lines.{AreRun, Continues, Follows, Prints, named_at}
 use Rattle.charmlet_cli.proofs.Continuing.{continued, prints_more, prints_until}
-use Rattle.charmlet_cli.proofs.Endings.{on_err}
+use Rattle.charmlet_lines.proofs.Results.{on_err}
 use Rattle.charmlet_cli.proofs.Naming.{same_desk}
-use Rattle.charmlet_cli.proofs.Printing.{lines_then, split_at}
+use Rattle.charmlet_lines.proofs.Printing.{lines_then, split_at}
 use Rattle.charmlet_cli.proofs.running.run_lines.Goals as goal
 
 -- blanks that are enough for lines are so for the first of them and the others

@@ -2,7 +2,9 @@ use Rattle.std.proofs.Common.{◌≡◌, ◌≤◌, drop, take}
 use Rattle.charmlet_model.specs.declared.kind.Kind.{Kind}
 use Rattle.charmlet_script.specs.Script.{blanks_of}
 use Rattle.charmlet_engine.specs.Advances.{Advances}
-use Rattle.charmlet_cli.specs.Lines.{AreRun, blanks_left, ledger_in, named_at}
+use Rattle.charmlet_lines.specs.Supplied.{blanks_left}
+use Rattle.charmlet_lines.specs.Ledgers.{ledger_in}
+use Rattle.charmlet_cli.specs.Lines.{AreRun, named_at}
 use Rattle.charmlet_cli.proofs.running.run_lines.Given as goal
 
 -- the lines so far are run, and there are blanks for the others

@@ -1,7 +1,7 @@
 use Rattle.std.proofs.Common.{inl, inr, ◌∷◌, [], refl, sym, ◌∙◌}
 use Rattle.charmlet_script.specs.Printed.{supplied_text}
 use Rattle.charmlet_stock.proofs.Results.{when_ok, when_err}
-use Rattle.charmlet_cli.specs.Lines.{memory_text}
+use Rattle.charmlet_lines.specs.Writing.{memory_text}
 use Rattle.charmlet_cli.proofs.running.supply_line.Goals as goal
 
 pub returns-then-is_err-clause-prints : goal.returns-then-is_err-clause-prints

@@ -4,10 +4,9 @@ use Rattle.std.specs.List.{flat_map}
 use Rattle.charmlet_model.specs.declared.edition.Edition.{Edition}
 use Rattle.charmlet_model.specs.Texts.{Text}
 use Rattle.charmlet_cli.specs.FoundLines.{array_texts, found_texts, half_line, half_line_text, wanted_texts}
-use Rattle.charmlet_cli.specs.Lines.{in_lines}
-use Rattle.charmlet_cli.specs.Shown.{all_kinds}
-use Rattle.charmlet_cli.specs.Writing.{AppendsBeginning}
-use Rattle.charmlet_cli.proofs.Printing.{beginning_written, line_begins, line_then}
+use Rattle.charmlet_lines.specs.Writing.{in_lines, AppendsBeginning}
+use Rattle.charmlet_lines.specs.Shown.{all_kinds}
+use Rattle.charmlet_lines.proofs.Printing.{beginning_written, line_begins, line_then}
 use Rattle.charmlet_cli.proofs.show.write_found.Goals as goal
 
 pub returns-in_err-write_line : goal.returns-in_err-write_line

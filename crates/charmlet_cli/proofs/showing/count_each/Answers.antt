@@ -1,5 +1,5 @@
-use Rattle.charmlet_cli.specs.Shown.{IsWhole, counted_of}
-use Rattle.charmlet_cli.proofs.Supplies.{by_kind}
+use Rattle.charmlet_lines.specs.Shown.{IsWhole, counted_of}
+use Rattle.charmlet_lines.proofs.Enough.{by_kind}
 use Rattle.charmlet_cli.proofs.showing.count_each.Goals as goal
 
 pub returns-clause-whole : goal.returns-clause-whole

@@ -1,6 +1,6 @@
 use Rattle.std.proofs.Common.{inl, inr, ◌∷◌, [], refl, ap, ◌∙◌}
 use Rattle.charmlet_script.specs.Printed.{pending_text}
-use Rattle.charmlet_cli.specs.Lines.{memory_text}
+use Rattle.charmlet_lines.specs.Writing.{memory_text}
 use Rattle.charmlet_cli.proofs.showing.pending_line.Goals as goal
 
 pub returns-in_default : goal.returns-in_default

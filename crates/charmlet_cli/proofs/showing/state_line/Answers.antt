@@ -2,7 +2,8 @@ use Rattle.std.proofs.Common.{ap, inl, inr, ◌∷◌, [], refl}
 use Rattle.charmlet_model.specs.World.{record_of}
 use Rattle.charmlet_script.specs.Printed.{shown_text}
 use Rattle.charmlet_engine.specs.Engine.{world_of}
-use Rattle.charmlet_cli.specs.Lines.{ledger_in, memory_text}
+use Rattle.charmlet_lines.specs.Ledgers.{ledger_in}
+use Rattle.charmlet_lines.specs.Writing.{memory_text}
 use Rattle.charmlet_cli.proofs.Showings.{is_some_unless}
 use Rattle.charmlet_cli.proofs.showing.state_line.Goals as goal
 

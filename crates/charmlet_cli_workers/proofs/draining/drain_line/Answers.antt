@@ -4,8 +4,8 @@ use Rattle.charmlet_model.specs.Texts.{answer_text}
 use Rattle.charmlet_script.specs.declared.printed.Drained.{Drained}
 use Rattle.charmlet_script.specs.Printed.{drained_text}
 use Rattle.charmlet_workers.specs.declared.working.Station.{Station}
-use Rattle.charmlet_cli.specs.Lines.{in_lines}
-use Rattle.charmlet_cli.proofs.Printing.{beginning_written, kept_appends, kept_begins, line_then}
+use Rattle.charmlet_lines.specs.Writing.{in_lines}
+use Rattle.charmlet_lines.proofs.Printing.{beginning_written, kept_appends, kept_begins, line_then}
 use Rattle.charmlet_cli_workers.specs.Heard.{known_by}
 use Rattle.charmlet_cli_workers.specs.Said.{Deeds, IsDrained}
 use Rattle.charmlet_cli_workers.proofs.Delivering.{drained_so}

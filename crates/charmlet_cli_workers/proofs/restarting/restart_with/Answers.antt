@@ -7,11 +7,12 @@ use Rattle.charmlet_locate.specs.Locations.{is_processor_count}
 use Rattle.charmlet_stock.specs.Stock.{supplied_to}
 use Rattle.charmlet_runtime.specs.Engine.{core_of, view_of}
 use Rattle.charmlet_runtime.specs.Restarted.{IsTakenFrom}
-use Rattle.charmlet_cli.specs.Lines.{ledger_in, named_by}
+use Rattle.charmlet_lines.specs.Ledgers.{ledger_in}
+use Rattle.charmlet_lines.specs.Named.{named_by}
 use Rattle.charmlet_cli_workers.specs.Heard.{names_in}
-use Rattle.charmlet_cli.proofs.Restarts.{all_given, counted_processors, is_back, was_not_restarted}
+use Rattle.charmlet_lines.proofs.Backs.{all_given, counted_processors, is_back, was_not_restarted}
 use Rattle.charmlet_cli_workers.specs.Left.{IsLeft}
-use Rattle.charmlet_cli.specs.declared.restarting.RestartedLine.{RestartedLine}
+use Rattle.charmlet_lines.specs.declared.restarting.RestartedLine.{RestartedLine}
 use Rattle.charmlet_cli_workers.specs.Restarts.{IsBackByWorkers, line_of}
 use Rattle.charmlet_cli_workers.proofs.Leavings.{left_of_lines, prints_of_lines, some_on}
 use Rattle.charmlet_cli_workers.proofs.Returnings.{back_early, back_ok, left_back}

@@ -1,9 +1,9 @@
 use Rattle.std.proofs.Common.{rules, ◌≡◌, Some, true, false, refl, sym, ap, subst, ◌∙◌}
 use Rattle.charmlet_model.specs.Core.{Blanks, Core}
 use Rattle.charmlet_stock.specs.Stock.{blanks_in, supplied_to}
-use Rattle.charmlet_cli.specs.Restarted.{given_of}
-use Rattle.charmlet_cli.proofs.Restarts.{ok_map}
-use Rattle.charmlet_cli.proofs.Supplies.{is_enough, is_too_few}
+use Rattle.charmlet_lines.specs.Back.{given_of}
+use Rattle.charmlet_lines.proofs.Results.{ok_map}
+use Rattle.charmlet_lines.proofs.Enough.{is_enough, is_too_few}
 use Rattle.charmlet_cli_workers.specs.Lines.{has_delivery}
 use Rattle.charmlet_cli_workers.specs.Restarts.{IsBackByWorkers, line_of}
 use Rattle.charmlet_cli_workers.specs.Said.{HaveRun}

@@ -1,5 +1,5 @@
 use Rattle.std.proofs.Common.{rules, ◌≡◌, true, false, refl, sym, ap, ◌∙◌}
-use Rattle.charmlet_cli.proofs.Supplies.{is_enough, is_too_few}
+use Rattle.charmlet_lines.proofs.Enough.{is_enough, is_too_few}
 use Rattle.charmlet_cli_workers.specs.Lines.{has_delivery}
 use Rattle.charmlet_cli_workers.proofs.running.prepare.Goals as goal
 

@@ -1,5 +1,5 @@
 use Rattle.std.proofs.Common.{ap, ◌∙◌}
-use Rattle.charmlet_cli.specs.Lines.{named_by}
+use Rattle.charmlet_lines.specs.Named.{named_by}
 use Rattle.charmlet_cli_workers.proofs.running.prepared_with.Goals as goal
 
 pub returns-clause-handlers : goal.returns-clause-handlers

@@ -3,10 +3,10 @@ use Rattle.charmlet_locate.specs.Locations.{is_processor_count}
 use Rattle.std.specs.Prelude.{IfSome}
 use Rattle.charmlet_model.specs.Core.{Core}
 use Rattle.charmlet_runtime.specs.Engine.{core_of}
-use Rattle.charmlet_cli.specs.Lines.{named_by}
-use Rattle.charmlet_cli.specs.Run.{IsCreationRefusal}
+use Rattle.charmlet_lines.specs.Named.{named_by}
+use Rattle.charmlet_lines.specs.Created.{IsCreationRefusal}
 use Rattle.charmlet_cli_workers.specs.Heard.{names_in}
-use Rattle.charmlet_cli.proofs.Standings.{created, handed_back}
+use Rattle.charmlet_lines.proofs.Creations.{created, handed_back}
 use Rattle.charmlet_cli_workers.specs.Left.{IsLeft, PrintsOver}
 use Rattle.charmlet_journal.specs.NewStores.{new_core}
 use Rattle.charmlet_sequencer.specs.Sequencer.{IsOf}

@@ -1,9 +1,8 @@
 use Rattle.std.proofs.Common.{List, refl, subst}
 use Rattle.std.specs.List.{flat_map}
 use Rattle.charmlet_script.specs.declared.printed.Counted.{Counted}
-use Rattle.charmlet_cli.specs.Lines.{in_lines}
-use Rattle.charmlet_cli.specs.Shown.{all_kinds, counted_texts}
-use Rattle.charmlet_cli.specs.Writing.{Writes}
+use Rattle.charmlet_lines.specs.Writing.{in_lines, Writes}
+use Rattle.charmlet_lines.specs.Shown.{all_kinds, counted_texts}
 use Rattle.charmlet_cli_workers.specs.Said.{counted_by}
 use Rattle.charmlet_cli_workers.proofs.showing.census_line.Goals as goal
 

@@ -1,5 +1,5 @@
-use Rattle.charmlet_cli.specs.Shown.{IsWhole}
-use Rattle.charmlet_cli.proofs.Supplies.{by_kind}
+use Rattle.charmlet_lines.specs.Shown.{IsWhole}
+use Rattle.charmlet_lines.proofs.Enough.{by_kind}
 use Rattle.charmlet_cli_workers.specs.Said.{counted_by}
 use Rattle.charmlet_cli_workers.proofs.showing.count_each.Goals as goal
 

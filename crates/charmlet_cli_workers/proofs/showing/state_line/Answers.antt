@@ -3,7 +3,7 @@ use Rattle.charmlet_model.specs.declared.refusal.Refusal.TheVariants.{Memory}
 use Rattle.charmlet_model.specs.declared.step.Answer.TheVariants.{Refused}
 use Rattle.charmlet_model.specs.Texts.{Text, answer_text}
 use Rattle.charmlet_script.specs.Printed.{shown_text}
-use Rattle.charmlet_cli.specs.Lines.{memory_text}
+use Rattle.charmlet_lines.specs.Writing.{memory_text}
 use Rattle.charmlet_cli_workers.proofs.showing.state_line.Goals as goal
 
 pub returns-in-Err : goal.returns-in-Err

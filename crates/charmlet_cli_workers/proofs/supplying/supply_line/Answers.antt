@@ -1,6 +1,6 @@
 use Rattle.std.proofs.Common.{inl, inr, ◌∷◌, [], refl}
 use Rattle.charmlet_script.specs.Printed.{supplied_text}
-use Rattle.charmlet_cli.specs.Lines.{memory_text}
+use Rattle.charmlet_lines.specs.Writing.{memory_text}
 use Rattle.charmlet_cli_workers.proofs.supplying.supply_line.Goals as goal
 
 pub returns-in_default-clause-written : goal.returns-in_default-clause-written

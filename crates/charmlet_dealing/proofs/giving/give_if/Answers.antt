@@ -1,5 +1,5 @@
 use Rattle.std.proofs.Common.{◌≡◌, true, ap, length, ◌∙◌}
-use Rattle.charmlet_replay.proofs.Results.{value_then}
+use Rattle.charmlet_restoring.proofs.Results.{value_then}
 use Rattle.charmlet_dealing.specs.Blank.{AreGivenTo, GoesTo}
 use Rattle.charmlet_dealing.specs.Sharing.{worker_of}
 use Rattle.charmlet_dealing.proofs.LotLists.{given_to}

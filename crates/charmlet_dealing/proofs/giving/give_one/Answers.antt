@@ -1,7 +1,7 @@
 use Rattle.std.proofs.Common.{◌≡◌, true, false, [], ◌∷◌, ap, get_or}
 use Rattle.std.specs.Prelude.{slice_set}
 use Rattle.std.proofs.lemmas.List.Elements.{All-get_or}
-use Rattle.charmlet_replay.proofs.Results.{value_then}
+use Rattle.charmlet_restoring.proofs.Results.{value_then}
 use Rattle.charmlet_dealing.specs.Blank.{AreSameLots, GoesTo, HasMore}
 use Rattle.charmlet_dealing.specs.Keeping.{IsHeldLot}
 use Rattle.charmlet_dealing.proofs.LotLists.{goes_to, keeps_one, same_lots}

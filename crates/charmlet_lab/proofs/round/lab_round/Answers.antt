@@ -12,7 +12,8 @@ use Rattle.charmlet_script.specs.declared.script.Line.{Line}
 use Rattle.charmlet_script.specs.Script.{blanks_of}
 use Rattle.charmlet_requests.specs.Handlers.{handler_of}
 use Rattle.charmlet_engine.specs.Engine.{view_of}
-use Rattle.charmlet_lab.specs.Lines.{AreRun, named_by}
+use Rattle.charmlet_lines.specs.Named.{named_by}
+use Rattle.charmlet_lab.specs.Lines.{AreRun}
 use Rattle.charmlet_lab.specs.Rounds.{IsRound}
 use Rattle.charmlet_lab.proofs.Lines.{opens, run_by}
 use Rattle.charmlet_lab.proofs.Rounds.{all_blanks, durable_within, lawful_events, legal_events, memory_lacks, same_arrays, told_enough, told_lack}
@@ -116,7 +117,7 @@ returns-in-Ok-create-clause-ran g c =
     let ran = subst (λ ls. AreRun (handler_of c.in_ok-handlers.handlers) first ls last) c.lines.ensures c.in_ok-run_lines-in-Ok-create.ensures.ran in
     let before = on.before ∙ ap (λ (k : Core). k.before) core in (
       last,
-      subst (λ store. AreRun (named_by script.handlers) store script.lines last) opening (run_by c.in_ok-handlers.handlers script first last (λ name. c.in_ok-handlers.ensures.named name ∙ ap (λ ls. named_by ls name) c.handlers.ensures) ran),
+      subst (λ store. AreRun (named_by script.handlers) store script.lines last) opening (run_by c.in_ok-handlers.handlers script first last (λ name. c.in_ok-handlers.ensures name ∙ ap (λ ls. named_by ls name) c.handlers.ensures) ran),
       c.in_ok-events-in-Ok-create.ensures ∙ rw c.in-Some-events.is at c.events.ensures,
       omega (arith, c.durable.ensures, before),
       c.is_halted-is_stopped.ensures,

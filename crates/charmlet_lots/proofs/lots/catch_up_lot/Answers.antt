@@ -3,7 +3,7 @@ use Rattle.charmlet_model.specs.declared.logged.CaughtUp.{CaughtUp}
 use Rattle.charmlet_record.specs.declared.placed.Placed.{Placed}
 use Rattle.charmlet_image.specs.Placed.{items_of}
 use Rattle.charmlet_stock.specs.Stock.{blanks_in}
-use Rattle.charmlet_replay.specs.Restored.{HasBlanksAgain, StayGood}
+use Rattle.charmlet_restoring.specs.Restored.{HasBlanksAgain, StayGood}
 use Rattle.charmlet_lots.proofs.LotLemmas.{caught_again}
 use Rattle.charmlet_lots.proofs.lots.catch_up_lot.Goals as goal
 

@@ -2,7 +2,7 @@ use Rattle.charmlet_lots.specs.Lots.{HasTakenAgain, IsCaughtUpLot}
 use Rattle.charmlet_lots.specs.Workers.{HasSameTasks, IsWhole}
 use Rattle.charmlet_lots.proofs.LotStops.{go-on, zip-map}
 use Rattle.charmlet_lots.proofs.ByWorkers.{fault-is, parts-are, passes}
-use Rattle.charmlet_replay.proofs.Results.{ok_then}
+use Rattle.charmlet_restoring.proofs.Results.{ok_then}
 use Rattle.charmlet_lots.proofs.workers.catch_up_by_workers.Goals as goal
 
 pub returns-clause-ok : goal.returns-clause-ok

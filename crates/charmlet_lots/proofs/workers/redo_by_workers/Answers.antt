@@ -3,7 +3,7 @@ use Rattle.std.specs.List.{AllZip}
 use Rattle.charmlet_lots.specs.Tasks.{HasNoTask, HasTaken, IsDoneLot}
 use Rattle.charmlet_lots.specs.Workers.{IsWhole}
 use Rattle.charmlet_lots.proofs.LotStops.{go-on, zip-all, zip-map}
-use Rattle.charmlet_replay.proofs.Results.{ok_then}
+use Rattle.charmlet_restoring.proofs.Results.{ok_then}
 use Rattle.charmlet_lots.proofs.TasksByWorkers.{begins, fault-is, parts-are, passes, replies-are}
 use Rattle.charmlet_lots.proofs.workers.redo_by_workers.Goals as goal
 

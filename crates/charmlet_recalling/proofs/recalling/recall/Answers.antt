@@ -9,7 +9,7 @@ use Rattle.charmlet_recovery.specs.Bases.{base, redelivered_all}
 use Rattle.charmlet_recovery.specs.Faults.{catch_up_tests}
 use Rattle.charmlet_stock.specs.Stock.{blanks_in}
 use Rattle.charmlet_history.specs.Opened.{opened_elements}
-use Rattle.charmlet_replay.specs.Lists.{IsFirstFault}
+use Rattle.charmlet_replay.specs.Places.{IsFirstFault}
 use Rattle.charmlet_dealing.specs.Sharing.{worker_of}
 use Rattle.charmlet_recalling.specs.Recalled.{AreCaughtUp}
 use Rattle.charmlet_recalling.proofs.recalling.recall.Goals as goal

@@ -19,10 +19,11 @@ use Rattle.charmlet_history.specs.Kept.{core_in}
 use Rattle.charmlet_stock.specs.Pile.{nothing, supplied_more}
 use Rattle.charmlet_stock.specs.Stock.{blanks_in, supplied_to, tally_in}
 use Rattle.charmlet_replay.specs.declared.reopening.NotReplayed.{NotReplayed}
-use Rattle.charmlet_replay.specs.Lists.{AreMade, HasBlanksFor, IsFirstFault, events_in, places_in}
+use Rattle.charmlet_restoring.specs.Places.{IsFirstFault, events_in, places_in}
+use Rattle.charmlet_replay.specs.Lists.{AreMade, HasBlanksFor}
 use Rattle.charmlet_replay.specs.Ready.{IsReady}
 use Rattle.charmlet_replay.specs.Replayed.{IsFaultAt, IsRepeated}
-use Rattle.charmlet_replay.proofs.Results.{all_then, refused_then}
+use Rattle.charmlet_restoring.proofs.Results.{all_then, refused_then}
 use Rattle.charmlet_replay.proofs.OpenHalves.{blanks_for_image, event_at_fault, few_before, few_generations, fit, good_bytes, good_events, has_blanks, image_at_fault, is_repeated, some_generation, supplied_back, unused_back}
 use Rattle.charmlet_replay.proofs.replaying.repeat.Goals as goal
 use Rattle.charmlet_store.specs.Store.{blanks_of, StoreShown}

@@ -1,0 +1,147 @@
+//! Why the program stops before its work is done.
+
+ghost use Rattle.std.specs.Prelude.{◌≡◌};
+ghost use Rattle.charmlet_lines.specs.Stop.{advice_of};
+
+use charmlet_model::Refusal;
+use charmlet_script::ReadError;
+use std::alloc::{AllocError, AllocFailed};
+use std::error::Error;
+use std::{fmt, io};
+
+/// Why the program stops.
+#[derive(Clone, Copy, Debug, PartialEq, Eq)]
+pub enum Stop {
+    /// Memory or the output failed outside a step.
+    CannotGoOn,
+    /// The store wasn't created, for this reason, and no line was run. The output says why.
+    NotCreated(Refusal),
+    /// No store came back, for this reason, and no line was run. The output says why.
+    NotRestarted(Refusal),
+    /// No store was shown, for this reason. The output says why.
+    NotShown(Refusal),
+    /// The laboratory found bad outcomes. The output says how many.
+    NotSurvived,
+    /// The script isn't there, is a folder, or a read of it failed.
+    UnreadableScript,
+    /// The script's first malformed line. Lines count from 1.
+    MalformedLine(u64),
+}
+
+impl Stop {
+    ghost use Rattle.std.specs.Prelude.{◌≡◌};
+    ghost use Rattle.charmlet_lines.specs.Stop.{status_of};
+
+    /// The program's exit status: 1 if it can't go on, has no store, shows none, or found bad
+    /// outcomes, and 2 for a script that can't be run.
+    pub fn exit_status(&self) -> u8
+        ensures { result ≡ status_of self.now }
+    {
+        match self {
+            Stop::CannotGoOn
+            | Stop::NotCreated(_)
+            | Stop::NotRestarted(_)
+            | Stop::NotShown(_)
+            | Stop::NotSurvived => 1,
+            Stop::UnreadableScript | Stop::MalformedLine(_) => 2,
+        }
+    }
+}
+
+/// What to do if there is no store for this reason, to follow `cannot create store` and its like.
+/// It is empty if the refusal's own line says it all.
+fn advice(refusal: &Refusal) -> &'static str
+    ensures { result.now ≡ advice_of refusal.now }
+{
+    match refusal {
+        Refusal::AlreadyHere => { ": the folder has one; go on with 'charmlet restart DIR SCRIPT'" }
+        Refusal::NothingHere => {
+            ": the folder has none; 'charmlet run SCRIPT --dir DIR' makes one"
+        }
+        Refusal::Device => {
+            ": is the folder there, may you read and write it, and does no other program use it?"
+        }
+        Refusal::Damaged { .. } => ": see 'Damaged' in docs/OPERATING.md",
+        _ => "",
+    }
+}
+
+/// Writes what is said on standard error, without a line feed: why the program stops, and what to
+/// do.
+impl fmt::Display for Stop {
+    ghost use Rattle.std.specs.Prelude.{Some};
+    ghost use Rattle.charmlet_lines.specs.Stop.{stop_text};
+
+    ghost output = { λ stop. Some (stop_text stop) };
+
+    fn fmt<W: fmt::Write>(&self, f: &mut fmt::Formatter<W>) -> fmt::Result {
+        match self {
+            Stop::CannotGoOn => write!(f, "cannot go on"),
+            Stop::NotCreated(refusal) => {
+                let advice = advice(refusal);
+                write!(f, "cannot create store{advice}")
+            }
+            Stop::NotRestarted(refusal) => {
+                let advice = advice(refusal);
+                write!(f, "cannot restart store{advice}")
+            }
+            Stop::NotShown(refusal) => {
+                let advice = advice(refusal);
+                write!(f, "cannot show store{advice}")
+            }
+            Stop::NotSurvived => write!(f, "cannot survive each crash"),
+            Stop::UnreadableScript => write!(f, "cannot read script"),
+            Stop::MalformedLine(line) => write!(f, "script line {line}"),
+        }
+    }
+}
+
+impl Error for Stop {}
+
+impl From<ReadError> for Stop {
+    ghost use Rattle.std.specs.Prelude.{◌≡◌};
+    ghost use Rattle.charmlet_lines.specs.Stop.{stop_of};
+
+    ghost from_gives = { λ error stop. stop ≡ stop_of error };
+
+    fn from(error: ReadError) -> Stop {
+        match error {
+            ReadError::Memory => Stop::CannotGoOn,
+            ReadError::Failed(_) => Stop::UnreadableScript,
+            ReadError::Malformed(line) => Stop::MalformedLine(line),
+        }
+    }
+}
+
+impl From<AllocError> for Stop {
+    ghost use Rattle.std.specs.Prelude.{◌≡◌};
+    ghost use Rattle.charmlet_lines.specs.declared.stop.Stop.TheVariants.{CannotGoOn};
+
+    ghost from_gives = { λ _ stop. stop ≡ CannotGoOn };
+
+    fn from(_error: AllocError) -> Stop {
+        Stop::CannotGoOn
+    }
+}
+
+impl<T: Drop> From<AllocFailed<T>> for Stop {
+    ghost use Rattle.std.specs.Prelude.{◌≡◌};
+    ghost use Rattle.charmlet_lines.specs.declared.stop.Stop.TheVariants.{CannotGoOn};
+
+    ghost from_gives = { λ _ stop. stop ≡ CannotGoOn };
+
+    fn from(_error: AllocFailed<T>) -> Stop {
+        Stop::CannotGoOn
+    }
+}
+
+impl From<io::Error> for Stop {
+    ghost use Rattle.std.specs.Prelude.{◌≡◌};
+    ghost use Rattle.charmlet_lines.specs.declared.stop.Stop.TheVariants.{CannotGoOn};
+
+    ghost from_gives = { λ _ stop. stop ≡ CannotGoOn };
+
+    fn from(_error: io::Error) -> Stop {
+        Stop::CannotGoOn
+    }
+}

@@ -1,0 +1,12 @@
+pub mod Results
+pub mod Tests
+pub mod Walks
+pub mod OnShelf
+pub mod Reacted
+pub mod Entries
+pub mod AtHome
+pub mod Received
+pub mod ReactedAtHome
+pub mod Redelivered
+pub mod Caught
+pub use Rattle.charmlet_migrate.proofs.EachShelf
