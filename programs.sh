@@ -87,6 +87,29 @@ copy_of_tree() { echo "$top/out/tree"; }
 # has to prove.
 crates_of_tests() { sed -n 's/^\(charmlet_[a-z]*_tests\):.*/\1/p' "$top/crates.txt" | grep -vx charmlet_pup_tests; }
 
+# What the toolchain's quick build is told of the libraries that a crate in this copy of the tree stands on: the words by which
+# it is given each one's name, those that it uses, and its source. `rt try` tells it the same.
+words_of_sources() {
+  local tree=$1 program=$2 kit crate name at uses libraries=(std)
+  kit=$(dirname "$(rt doc)")
+  for crate in $(top=$tree crates_of "$program"); do
+    uses=core,std
+    for name in $(sed -n "s/^$crate: *//p" "$tree/crates.txt"); do
+      uses+=,$name
+      [ -d "$tree/crates/$name" ] || libraries+=("$name")
+    done
+    [ "$crate" = "$program" ] || printf '%s\n' --lib "$crate:$uses=$tree/crates/$crate/src/lib.rt"
+  done
+  # Those of the toolchain, and the ones that these use.
+  for ((at = 0; at < ${#libraries[@]}; at++)); do
+    name=${libraries[at]}
+    [[ " ${libraries[*]:0:at} " != *" $name "* ]] || continue
+    libraries+=($(sed -n 's/^dep //p' "$kit/rlibs/$name.rlib/format"))
+    uses=$(sed -n 's/^dep //p' "$kit/rlibs/$name.rlib/format" | paste -sd ,)
+    printf '%s\n' --lib "$name:$uses=$kit/rattle/$name/src/lib.rt"
+  done
+}
+
 # Copies these crates, or else all but those of tests that are run, into an empty folder, without their edits, so that it is the
 # top of a repository for rt: `copy_crates FOLDER [CRATE..]`.
 copy_crates() {

@@ -1,8 +1,8 @@
 -- What is under way on one shelf after another ends.
-use Rattle.std.proofs.Common.{◌≡◌, ℕ, zero, suc, ◌+◌, ◌<◌, ◌≤◌, List, [], ◌∷◌, ◌++◌, get_or, length, map, take, drop, refl, sym, ap, subst, ◌∙◌, arith}
+use Rattle.std.proofs.Common.{◌≡◌, Bool, true, false, ◌&&◌, ℕ, zero, suc, ◌+◌, ◌<◌, ◌≤◌, List, [], ◌∷◌, ◌++◌, get_or, length, map, take, drop, refl, sym, ap, subst, ◌∙◌, arith}
 use Rattle.std.specs.Prelude.{Some, slice_get, slice_set}
 use Rattle.std.specs.List.{All, AllByRecursion}
-use Rattle.std.proofs.lemmas.List.{append-nil, drop_all, take_all}
+use Rattle.std.proofs.lemmas.List.{append-nil, drop_all, take-append-le, take_all}
 use Rattle.std.proofs.lemmas.List.Elements.{All-from_recursion}
 use Rattle.charmlet_sequencer.specs.Moving.{IsIdle}
 use Rattle.charmlet_shelf.specs.Shelf.{View}
@@ -24,9 +24,20 @@ next_left f (y ∷ xs) (suc i) x at = next_left f xs i x at
 pub none_left : {A : Type 0} (f : A → A) (xs : List A) (i : ℕ) → length xs ≤ i → map f (take i xs) ++ drop i xs ≡ map f xs
 none_left f xs i all = (λ k. map f (take_all i xs all k) ++ drop_all i xs all k) ∙ append-nil (map f xs)
 
-pub all_ended : (xs : List View) → AllByRecursion IsIdle (map ended xs)
+all_ended : (xs : List View) → AllByRecursion IsIdle (map ended xs)
 all_ended [] = tt
 all_ended (x ∷ xs) = (refl, all_ended xs)
+
+pub shelves_idle : (xs now : List View) → now ≡ map ended xs → All IsIdle now
+shelves_idle xs now is = All-from_recursion IsIdle now (subst (AllByRecursion IsIdle) (sym is) (all_ended xs))
+
+-- all of a list stands behind its slice
+pub behind : (xs ys : List View) (n : ℕ) → n ≡ length ys → take n (ys ++ drop (length ys) xs) ≡ ys
+behind xs ys n all = take-append-le n ys (drop (length ys) xs) (omega arith) ∙ take_all n ys (omega arith)
+
+pub left_true : (a b : Bool) → (a && b) ≡ true → a ≡ true
+left_true true b both = refl
+left_true false b both = both
 
 module _ {D : Type 0} where
   same_out : (hub next : HubShown D) (phase : Phase) (processor : ℕ) → SettlesIn phase hub processor next → next.seats.out ≡ hub.seats.out
@@ -70,6 +81,3 @@ module _ {D : Type 0} where
 
       pub shelves_ended : now ≡ map ended xs
       shelves_ended = so_far.shelves ∙ none_left ended xs i all
-
-      pub shelves_idle : All IsIdle now
-      shelves_idle = All-from_recursion IsIdle now (subst (AllByRecursion IsIdle) (sym shelves_ended) (all_ended xs))

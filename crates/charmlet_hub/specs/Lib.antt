@@ -30,7 +30,6 @@ pub use Rattle.charmlet_delivery.specs.UnderWay
 pub use Rattle.charmlet_sequencer.specs.Book
 pub use Rattle.charmlet_sequencer.specs.Part
 pub use Rattle.charmlet_sequencer.specs.Relocating
-pub use Rattle.charmlet_sequencer.specs.Rest
 pub use Rattle.charmlet_shelf.specs.Image
 pub use Rattle.charmlet_running.specs.Laws
 pub use Rattle.charmlet_running.specs.Running

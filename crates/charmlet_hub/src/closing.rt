@@ -14,7 +14,7 @@ ghost use Rattle.charmlet_seats.specs.Seats.{HeldSeat};
 ghost use Rattle.charmlet_seats.specs.Woven.{IsWoven};
 ghost use Rattle.charmlet_sequencer.specs.Sequencer.{IsOf, is_lawful};
 ghost use Rattle.charmlet_hub.specs.Hub.{HubShown, deliveries_in};
-ghost use Rattle.charmlet_hub.specs.Settling.{SettleAll, are_all_in};
+ghost use Rattle.charmlet_hub.specs.Settling.{SettleAll, are_all_in, ended};
 
 use crate::hub::{Hub, HubParts};
 use crate::names::{PassesOf, SeatsOf};
@@ -102,7 +102,7 @@ impl<D: Disk, C: Chare, B: RuntimeName> Hub<D, C, B> {
         ensures back { IfErr result (λ back. (back.hub ≡ self) × (back.shelves ≡ shelves)
             × (back.empty ≡ empty) × (back.seats ≡ seats) × (back.passes ≡ passes)) }
     {
-        if seats.len() != self.seats.seat_count() || passes.len() != self.passes.pass_count() {
+        if !self.has_all(seats.len(), passes.len()) {
             return Err(NotClosed {
                 refusal: Refusal::PassOut,
                 hub: self,
@@ -114,9 +114,7 @@ impl<D: Disk, C: Chare, B: RuntimeName> Hub<D, C, B> {
         }
         let mut hub = self;
         let mut shelves = shelves;
-        for i in 0..shelves.len() {
-            hub.settle(&mut shelves[i]);
-        }
+        hub.settle_all(shelves.as_mut_slice());
         hub.facts();
         let HubParts {
             sequencer,
@@ -135,5 +133,25 @@ impl<D: Disk, C: Chare, B: RuntimeName> Hub<D, C, B> {
             halves: apart.halves,
             own,
         })
+    }
+
+    /// Whether so many seats and passes are all that are out.
+    fn has_all(&self, seats: usize, passes: usize) -> bool
+        ensures { result ≡ are_all_in self.now seats passes }
+    {
+        seats == self.seats.seat_count() && passes == self.passes.pass_count()
+    }
+
+    /// Ends what is under way on each of these shelves.
+    fn settle_all(&mut self, shelves: &mut [LockedShelf<C, B>])
+        ensures settles { SettleAll self.old shelves.old self.new }
+        ensures shelves { shelves.new ≡ map ended shelves.old }
+        ensures passes { self.new.passes ≡ self.old.passes }
+        ensures out { self.new.seats.out ≡ self.old.seats.out }
+        ensures disk { self.new.disk ≡ self.old.disk }
+    {
+        for i in 0..shelves.len() {
+            self.settle(&mut shelves[i]);
+        }
     }
 }

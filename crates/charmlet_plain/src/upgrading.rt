@@ -12,20 +12,20 @@ pub(crate) fn upgrade_records(records: &mut BTreeMap<Elem, Record>)
     ensures { records.new.entries ≡ up_records records.old.entries }
 {
     records.retain(
-        |_elem: &Elem, record: &mut Record| -> bool
-            ensures { (result ≡ true) × (record.new ≡ up_record record.old) }
+        |_elem: &Elem, entry: &mut Record| -> bool
+            ensures { (result ≡ true) × (entry.new ≡ up_record entry.old) }
         {
-            upgrade_record(record);
+            upgrade_record(entry);
             true
         },
     );
 }
 
 /// Brings what is kept of an element forward to the newest version: its state, if it is there.
-fn upgrade_record(record: &mut Record)
-    ensures { record.new ≡ up_record record.old }
+fn upgrade_record(entry: &mut Record)
+    ensures { entry.new ≡ up_record entry.old }
 {
-    record.state = newest_of(record.state.take());
+    entry.state = newest_of(entry.state.take());
 }
 
 /// The state in the newest version of its kind, if there is one.

@@ -5,3 +5,4 @@ pub mod Causes
 pub mod Rows
 pub mod Flushing
 pub mod Repeats
+pub mod Looks

@@ -16,7 +16,7 @@ use Rattle.charmlet_requests.specs.declared.handlers.Handler.{Handler}
 use Rattle.charmlet_requests.specs.Handlers.{IsTarget}
 use Rattle.charmlet_model.specs.declared.refusal.Refusal.{Refusal}
 use Rattle.charmlet_passes.specs.Passes.{HeldPass, lent_since}
-use Rattle.charmlet_workers.specs.Runtime.{ArePendingIds, IsLent, IsMoment, RuntimeShown}
+use Rattle.charmlet_workers.specs.Runtime.{ArePendingIds, IsLent, IsMoment, RuntimeShown, WasTrue}
 
 -- a pass that is lent after no fewer events
 pub lent_if : (client before last since : ℕ) (r : Result HeldPass Refusal) → before ≤ since → IfOk r (λ pass. pass ≡ lent_since client last since) → IfOk r (IsLent client before)
@@ -29,9 +29,13 @@ lent_if client before last since (Ok pass) least is =
     }
 lent_if client before last since (Err refusal) least is = tt
 
+-- what is true of a core that is a moment's was true at a moment
+pub seen_at : {shown : RuntimeShown} {core seen : Core} → IsMoment shown core → seen ≡ core → (property : Core → Type 0) → property seen → WasTrue shown property
+seen_at {shown} {core} {seen} moment same property is = record { core = seen; moment = subst (IsMoment shown) (sym same) moment; was = is }
+
 -- the ids of messages that are pending at a moment
 pub pending_if : {E : Type 0} (shown : RuntimeShown) (core : Core) (r : Result (Vec MsgId) E) → IsMoment shown core → IfOk r (λ ids. ids.items ≡ map (λ m. m.id) (present core).pending) → IfOk r (λ ids. ArePendingIds shown ids.items)
-pending_if shown core (Ok ids) moment are = record { core = core; moment = moment; ids_are = are }
+pending_if shown core (Ok ids) moment are = record { core = core; moment = moment; was = are }
 pending_if shown core (Err e) moment are = tt
 
 -- no event changes the arrays

@@ -1,10 +1,11 @@
 -- What is seen of a runtime, and what it opens with.
 use Rattle.std.specs.Prelude.{◌≡◌, ℕ, ◌+◌, ◌≤◌, false, List, [], length, map}
 use Rattle.std.specs.List.{AllByRecursion}
+use Rattle.charmlet_model.specs.declared.names.Elem.{Elem}
 use Rattle.charmlet_model.specs.declared.names.MsgId.{MsgId}
-use Rattle.charmlet_model.specs.Core.{Core, present}
+use Rattle.charmlet_model.specs.Core.{Core, place_of, present}
 use Rattle.charmlet_model.specs.Sound.{IsSound}
-use Rattle.charmlet_model.specs.World.{World}
+use Rattle.charmlet_model.specs.World.{World, record_of}
 use Rattle.charmlet_disk.specs.declared.disk.Disk.{Ghosts}
 use Rattle.charmlet_halves.specs.declared.halves.Halves.{Halves}
 use Rattle.charmlet_halves.specs.Halves.{disk_of}
@@ -14,6 +15,8 @@ use Rattle.charmlet_passes.specs.Passes.{HeldPass, IsCurrent as IsCurrentPass, l
 use Rattle.charmlet_sequencer.specs.Sequencer.{HasOpened}
 use Rattle.charmlet_stock.specs.declared.pile.Tally.{Tally}
 use Rattle.charmlet_stock.specs.ByKind.{for_all}
+use Rattle.charmlet_store.specs.declared.look.Look.{Look}
+use Rattle.charmlet_store.specs.Look.{IsLook}
 use Rattle.charmlet_store.specs.Store.{StoreShown}
 
 -- the world with which it opened, how many events came before it, how many processors it has, and
@@ -43,17 +46,24 @@ pub record IsMoment (shown : RuntimeShown) (core : Core) : Type 0 where
   pub of : HasOpened shown.opening shown.before shown.processors shown.generation core
   pub sound : IsSound core
 
--- at a moment so many messages were pending
-pub record ArePending (shown : RuntimeShown) (count : ℕ) : Type 0 where
+-- this was true of the store at a moment
+pub record WasTrue (shown : RuntimeShown) (property : Core → Type 0) : Type 0 where
   pub core : Core
   pub moment : IsMoment shown core
-  pub counted : count ≡ length (present core).pending
+  pub was : property core
+
+-- at a moment so many messages were pending
+abbrev pub ArePending : RuntimeShown → ℕ → Type 0
+ArePending shown count = WasTrue shown (λ core. count ≡ length (present core).pending)
 
 -- at a moment just these messages were pending, in order of birth
-pub record ArePendingIds (shown : RuntimeShown) (ids : List MsgId) : Type 0 where
-  pub core : Core
-  pub moment : IsMoment shown core
-  pub ids_are : ids ≡ map (λ m. m.id) (present core).pending
+abbrev pub ArePendingIds : RuntimeShown → List MsgId → Type 0
+ArePendingIds shown ids = WasTrue shown (λ core. ids ≡ map (λ m. m.id) (present core).pending)
+
+-- what is seen of the element was so at a moment
+abbrev pub WasSeen : RuntimeShown → Elem → Look → Type 0
+WasSeen shown x look = WasTrue shown (λ core. IsLook (place_of core x)
+    (record_of (present core) x) look)
 
 -- At a moment all events were durable, and they were so many, with those before the opening world.
 -- Each of these passes was current then: it was lent after no more events than these, and had its

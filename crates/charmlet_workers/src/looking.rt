@@ -1,10 +1,13 @@
 //! What is seen of a runtime: of an element on its shelf, and all else in one hold of the hub.
 
-ghost use Rattle.std.specs.Prelude.{◌≡◌, ◌≤◌, ◌⊎◌, IfErr, IfOk, length, map};
+ghost use Rattle.std.specs.Prelude.{◌≡◌, ◌+◌, ◌⊎◌, Some, IfErr, IfOk, IfSome, length, map};
 ghost use Rattle.charmlet_model.specs.declared.refusal.Refusal.TheVariants as refusals;
-ghost use Rattle.charmlet_model.specs.Core.{present};
-ghost use Rattle.charmlet_history.specs.Kept.{core_in};
-ghost use Rattle.charmlet_workers.specs.Runtime.{ArePending, ArePendingIds};
+ghost use Rattle.charmlet_model.specs.Core.{place_of, present};
+ghost use Rattle.charmlet_model.specs.World.{record_of};
+ghost use Rattle.charmlet_history.specs.Kept.{core_in, is_quiet};
+ghost use Rattle.charmlet_store.specs.Look.{IsLook};
+ghost use Rattle.charmlet_delivery.specs.Workplace.{ShowsOn};
+ghost use Rattle.charmlet_workers.specs.Runtime.{ArePending, ArePendingIds, WasSeen, WasTrue};
 
 use crate::runtime::Runtime;
 use charmlet_chare::Chare;
@@ -20,7 +23,7 @@ use std::sync::Wait;
 impl<D: Disk, C: Chare, B: RuntimeName> Runtime<D, C, B> {
     /// How many events there are, those before the opening world among them.
     pub fn event_count<R: Wait>(&self, rt: &R) -> u64
-        ensures { self.now.before ≤ result }
+        ensures { WasTrue self.now (λ core. result ≡ core.before + length core.history) }
     {
         let hub = self.hub.lock(rt);
         hub.facts();
@@ -29,7 +32,7 @@ impl<D: Disk, C: Chare, B: RuntimeName> Runtime<D, C, B> {
 
     /// How many events are durable, those before the opening world among them.
     pub fn durable<R: Wait>(&self, rt: &R) -> u64
-        ensures { self.now.before ≤ result }
+        ensures { WasTrue self.now (λ core. result ≡ core.before + core.durable) }
     {
         let hub = self.hub.lock(rt);
         hub.facts();
@@ -37,18 +40,30 @@ impl<D: Disk, C: Chare, B: RuntimeName> Runtime<D, C, B> {
     }
 
     /// The generation of the image in the half that is taken.
-    pub fn generation<R: Wait>(&self, rt: &R) -> u64 {
-        self.hub.lock(rt).history().generation()
+    pub fn generation<R: Wait>(&self, rt: &R) -> u64
+        ensures { WasTrue self.now (λ core. result ≡ core.generation) }
+    {
+        let hub = self.hub.lock(rt);
+        hub.facts();
+        hub.history().generation()
     }
 
     /// Whether the device failed in an earlier call. Then each step is refused.
-    pub fn is_halted<R: Wait>(&self, rt: &R) -> bool {
-        self.hub.lock(rt).history().is_halted()
+    pub fn is_halted<R: Wait>(&self, rt: &R) -> bool
+        ensures { WasTrue self.now (λ core. result ≡ core.halted) }
+    {
+        let hub = self.hub.lock(rt);
+        hub.facts();
+        hub.history().is_halted()
     }
 
     /// Whether no pending message can be delivered. It takes no memory.
-    pub fn quiet<R: Wait>(&self, rt: &R) -> bool {
-        self.hub.lock(rt).history().quiet()
+    pub fn quiet<R: Wait>(&self, rt: &R) -> bool
+        ensures { WasTrue self.now (λ core. result ≡ is_quiet core) }
+    {
+        let hub = self.hub.lock(rt);
+        hub.facts();
+        hub.history().quiet()
     }
 
     /// How many messages are pending.
@@ -70,23 +85,20 @@ impl<D: Disk, C: Chare, B: RuntimeName> Runtime<D, C, B> {
     }
 
     /// What is seen of an element: its counts, and, if it is there, where it stands and its packed
-    /// state. The hub is locked to find it, and then the shelf on which it stands; where the
-    /// element has moved meanwhile, it is looked for again.
+    /// state, as they were at one moment. The hub is locked to find it, and then the shelf on which
+    /// it stands; where the element has moved meanwhile, it is looked for again.
     ///
     /// A delivery that was made on that shelf and isn't committed is committed first, or refused as
     /// `Halted`. `Memory` is the only other refusal, for the packed state.
     pub fn look<R: Wait>(&self, rt: &R, elem: Elem) -> Result<Look, Refusal>
-        ensures { IfErr result (λ refusal. (refusal ≡ refusals.Halted)
+        ensures seen { IfOk result (WasSeen self.now elem) }
+        ensures err { IfErr result (λ refusal. (refusal ≡ refusals.Halted)
             ⊎ (refusal ≡ refusals.Memory)) }
     {
         for _ in rt.forever() {
-            let element = self.hub.lock(rt).history().element(elem);
-            let Some(place) = element.place else {
-                return Ok(Look {
-                    standing: None,
-                    sent: element.sent,
-                    received: element.received,
-                });
+            let place = match self.find(rt, elem) {
+                Ok(place) => place,
+                Err(look) => return Ok(look),
             };
             match self.look_at(rt, elem, place) {
                 Ok(Some(look)) => return Ok(look),
@@ -97,9 +109,19 @@ impl<D: Disk, C: Chare, B: RuntimeName> Runtime<D, C, B> {
         unreachable!()
     }
 
-    /// The same, if the element stands on the processor.
+    /// Where an element stands, or what is seen of one that isn't there.
+    fn find<R: Wait>(&self, rt: &R, elem: Elem) -> Result<u16, Look>
+        ensures { IfErr result (WasSeen self.now elem) }
+    {
+        let hub = self.hub.lock(rt);
+        hub.facts();
+        absent_look(hub.history(), elem)
+    }
+
+    /// What is seen of an element, if it stands on the processor.
     fn look_at<R: Wait>(&self, rt: &R, elem: Elem, place: u16) -> Result<Option<Look>, Refusal>
-        ensures { IfErr result (λ refusal. (refusal ≡ refusals.Halted)
+        ensures seen { IfOk result (λ o. IfSome o (WasSeen self.now elem)) }
+        ensures err { IfErr result (λ refusal. (refusal ≡ refusals.Halted)
             ⊎ (refusal ≡ refusals.Memory)) }
     {
         match self.shelves.get(usize::from(place)) {
@@ -115,22 +137,59 @@ impl<D: Disk, C: Chare, B: RuntimeName> Runtime<D, C, B> {
         locked: &mut LockedShelf<C, B>,
         elem: Elem,
     ) -> Result<Option<Look>, Refusal>
-        ensures { IfErr result (λ refusal. (refusal ≡ refusals.Halted)
+        ensures seen { IfOk result (λ o. IfSome o (WasSeen self.now elem)) }
+        ensures err { IfErr result (λ refusal. (refusal ≡ refusals.Halted)
             ⊎ (refusal ≡ refusals.Memory)) }
     {
         if let Err(refusal) = self.settle(rt, locked) {
             return Err(refusal);
         }
+        self.agree(rt, locked);
         match locked.image(elem) {
             Ok(Some(image)) => Ok(Some(standing_look(locked.number(), image))),
             Ok(None) => Ok(None),
             Err(refusal) => Err(refusal),
         }
     }
+
+    /// Takes the hub's lock, to show that at that moment what stood on the processor of the shelf
+    /// was what the shelf has. Nothing changes.
+    fn agree<R: Wait>(&self, rt: &R, locked: &mut LockedShelf<C, B>)
+        ensures shows { WasTrue self.now (λ core. ShowsOn locked.old.number locked.old.records
+            core.places (present core)) }
+        ensures same { locked.new ≡ locked.old }
+    {
+        let mut hub = self.hub.lock(rt);
+        hub.facts();
+        hub.agree(locked);
+    }
+}
+
+/// Where an element stands, or what is seen of one that isn't there.
+fn absent_look(history: &History, elem: Elem) -> Result<u16, Look>
+    ensures { IfErr result (IsLook (place_of (core_in history.now) elem)
+        (record_of (present (core_in history.now)) elem)) }
+{
+    history.facts();
+    if let Some(place) = history.where_is(elem) {
+        return Ok(place);
+    }
+    let counts = history.element(elem);
+    Err(Look {
+        standing: None,
+        sent: counts.sent,
+        received: counts.received,
+    })
 }
 
 /// What is seen of an element of which this is the image, on this processor.
-fn standing_look(processor: u16, image: Image) -> Look {
+fn standing_look(processor: u16, image: Image) -> Look
+    ensures { result ≡ record {
+      standing = Some (record { processor = processor; packed = image.packed });
+      sent = image.sent;
+      received = image.received;
+    } }
+{
     let Image {
         elem: _,
         sent,

@@ -7,7 +7,7 @@ use Rattle.charmlet_lines.specs.Writing.{memory_text}
 use Rattle.charmlet_cli_workers.proofs.showing.state_line.Goals as goal
 
 pub returns-in-Err : goal.returns-in-Err
-returns-in-Err g c = (answer_text (Refused c.in-Err.refusal) ∷ [], inr (c.in-Err.refusal, c.in-Err.ensures, refl), c.write_answer.ensures)
+returns-in-Err g c = (answer_text (Refused c.in-Err.refusal) ∷ [], inr (c.in-Err.refusal, c.in-Err.ensures.err, refl), c.write_answer.ensures)
 
 pub returns-in-Ok-shown_of : goal.returns-in-Ok-shown_of
 returns-in-Ok-shown_of g c = (shown_text c.in-Ok-shown_of.shown ∷ [], inl (c.in-Ok.look, ap (λ (t : Text). t ∷ []) c.in-Ok-shown_of.ensures.ok), c.write_line.ensures)
