@@ -129,8 +129,11 @@ knows_later shown names old new later = record {
   refused = λ accepts step refusal cause. still_cause shown old new accepts step refusal later cause;
   target = λ name index to entry is. is;
   flushed = λ accepts knows count is. (is.0, ⊎_elim (λ none. inl none) (λ flushed. inr (still_flushed old new count later flushed)) is.1);
-  pending = λ count is. is;
   sealed = λ generation is. is;
+  pending = λ count is. is;
+  pending_ids = λ ids are. are;
+  seen = λ elem look was. was;
+  stood = λ elem processor was. was;
 }
 
 -- ---- what is true

@@ -15,10 +15,9 @@ use Rattle.charmlet_lines.specs.declared.restarting.RestartedLine.{RestartedLine
 use Rattle.charmlet_requests.specs.Handlers.{IsTarget}
 use Rattle.charmlet_lines.specs.Named.{Names}
 use Rattle.charmlet_workers.specs.Refusals.{IsRecent}
-use Rattle.charmlet_workers.specs.Runtime.{ArePending, RuntimeShown}
-use Rattle.charmlet_workers.specs.Sealing.{IsLaterGeneration}
+use Rattle.charmlet_workers.specs.Runtime.{ArePending, ArePendingIds, RuntimeShown, StoodOn, WasSeen}
 use Rattle.charmlet_cli_workers.specs.Heard.{IsDoneBy, IsStepCauseBy, known_by}
-use Rattle.charmlet_cli_workers.specs.Said.{ArePrinted, AreCutOff, AreSaid, Clients, Deeds, HaveDone, IsBrokenOff, WereFlushed, opening_generation, known_in, shown_since, unknown}
+use Rattle.charmlet_cli_workers.specs.Said.{ArePrinted, AreCutOff, AreSaid, Clients, Deeds, HaveDone, IsBrokenOff, IsOfCheckpoint, WereFlushed, opening_generation, known_in, shown_since, unknown}
 use Rattle.charmlet_cli_workers.proofs.Asking.{accepts_are, all_accepts, cause_in, lent_in}
 use Rattle.charmlet_cli_workers.proofs.Hearing.{flushed_is_durable, heard_stays_true, reached_is_accepted, sure_stays_true}
 use Rattle.charmlet_cli_workers.proofs.Sayings.{KnowsMore, said_all_on, said_on}
@@ -78,8 +77,11 @@ knows_more shown first names core passes since of sound current = record {
   refused = λ accepts step refusal cause. cause_in first core passes accepts step refusal current (subst (λ (v : RuntimeShown). IsStepCauseBy v passes accepts step refusal) (shown_is shown first core since of) cause);
   target = λ name index to entry is. subst (λ (v : RuntimeShown). IsTarget v.opening index (names name) to entry) (shown_is shown first core since of) is;
   flushed = λ accepts knows count is. (subst (λ (v : RuntimeShown). WereFlushed v accepts knows count) (shown_is shown first core since of) is.0, ⊎_elim (λ none. inl none) (λ flushed. inr (flushed_is_durable core passes count current flushed)) is.1);
+  sealed = λ generation is. subst (λ (v : RuntimeShown). IsOfCheckpoint v generation) (shown_is shown first core since of) is;
   pending = λ count is. subst (λ (v : RuntimeShown). ArePending v count) (shown_is shown first core since of) is;
-  sealed = λ generation is. subst (λ n. IsLaterGeneration n generation) since is;
+  pending_ids = λ ids are. subst (λ (v : RuntimeShown). ArePendingIds v ids) (shown_is shown first core since of) are;
+  seen = λ elem look was. subst (λ (v : RuntimeShown). WasSeen v elem look) (shown_is shown first core since of) was;
+  stood = λ elem processor was. subst (λ (v : RuntimeShown). StoodOn v elem processor) (shown_is shown first core since of) was;
 }
 
 -- or nothing is known of it
@@ -92,8 +94,11 @@ knows_nothing here = record {
   refused = λ accepts step refusal is. tt;
   target = λ name index to entry is. tt;
   flushed = λ accepts knows count is. tt;
-  pending = λ count is. tt;
   sealed = λ generation is. tt;
+  pending = λ count is. tt;
+  pending_ids = λ ids are. tt;
+  seen = λ elem look was. tt;
+  stood = λ elem processor was. tt;
 }
 
 module _ (here there : Clients) (did was : Deeds → Type 0) (more : KnowsMore here there) (on : (deeds : Deeds) → did deeds → was deeds) where

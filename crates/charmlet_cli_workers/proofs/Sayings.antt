@@ -5,6 +5,7 @@ use Rattle.std.proofs.lemmas.List.{append-nil}
 use Rattle.charmlet_model.specs.declared.client.ClientRow.{ClientRow}
 use Rattle.charmlet_model.specs.declared.event.Event.{Event}
 use Rattle.charmlet_model.specs.declared.names.Elem.{Elem}
+use Rattle.charmlet_model.specs.declared.names.MsgId.{MsgId}
 use Rattle.charmlet_model.specs.declared.refusal.Refusal.{Refusal}
 use Rattle.charmlet_model.specs.declared.step.Answer.{Answer}
 use Rattle.charmlet_model.specs.declared.step.Answer.TheVariants as answers
@@ -14,6 +15,7 @@ use Rattle.charmlet_model.specs.declared.told.Told.{Told}
 use Rattle.charmlet_model.specs.Texts.{Text}
 use Rattle.charmlet_script.specs.declared.script.Line.{Line}
 use Rattle.charmlet_script.specs.declared.script.Line.TheVariants as lines
+use Rattle.charmlet_store.specs.declared.look.Look.{Look}
 use Rattle.charmlet_cli_workers.specs.Said.{Answers, Clients, Deeds, IsAccepted, IsDrained, SayInTurn, Says, SaysStep, having_flushed, having_told}
 
 -- all that is known of clients here is known there
@@ -25,8 +27,11 @@ pub record KnowsMore (here there : Clients) : Type 0 where
   pub refused : (accepts : List Event) (step : Step) (refusal : Refusal) → here.refused accepts step refusal → there.refused accepts step refusal
   pub target : (name : Text) (index : ℕ) (to : Elem) (entry : ℕ) → here.target name index to entry → there.target name index to entry
   pub flushed : (accepts : List Event) (knows : ℕ → ClientRow) (count : ℕ) → here.flushed accepts knows count → there.flushed accepts knows count
-  pub pending : (count : ℕ) → here.pending count → there.pending count
   pub sealed : (generation : ℕ) → here.sealed generation → there.sealed generation
+  pub pending : (count : ℕ) → here.pending count → there.pending count
+  pub pending_ids : (ids : List MsgId) → here.pending_ids ids → there.pending_ids ids
+  pub seen : (elem : Elem) (look : Look) → here.seen elem look → there.seen elem look
+  pub stood : (elem : Elem) (processor : ℕ) → here.stood elem processor → there.stood elem processor
 
 module _ (here there : Clients) (more : KnowsMore here there) where
   accepted_on : (before : Deeds) (client number : ℕ) (to : Elem) (entry : ℕ) (words : List ℕ) (after : Deeds) → IsAccepted here before client number to entry words after → IsAccepted there before client number to entry words after
@@ -42,7 +47,7 @@ module _ (here there : Clients) (more : KnowsMore here there) where
   answers_on before (answers.Told told) steps.Flush after is = absurd is
   answers_on before (answers.Told told) steps.Checkpoint after is = absurd is
   answers_on before (answers.Delivered id) step after is = absurd is
-  answers_on before (answers.Moved elem processor) (steps.Move moved place) after is = is
+  answers_on before (answers.Moved moved place) (steps.Move elem processor) after is = (is.0, is.1, more.stood elem processor is.2, is.3)
   answers_on before (answers.Flushed durable) steps.Flush after is = ((λ client number some last. more.durable client number (is.0 client number some last)), more.flushed before.accepts (having_flushed before).knows durable is.1, is.2)
   answers_on before (answers.Checkpointed generation) steps.Checkpoint after is = (more.sealed generation is.0, is.1)
   answers_on before (answers.Moved elem processor) (steps.Request client number to entry words) after is = absurd is
@@ -84,8 +89,8 @@ module _ (here there : Clients) (more : KnowsMore here there) where
       (said.0, said.1, more.target name index (record { array = said.0; index = index }) said.1 said.2, step_on before (steps.Request client number (record { array = said.0; index = index }) said.1 words) texts after said.3)
   said_on before (lines.Supply kind count) texts after said = said
   said_on before (lines.Drain count) texts after said = drained_on count before after texts said
-  said_on before (lines.State elem) texts after said = said
-  said_on before lines.Pending texts after said = said
+  said_on before (lines.State elem) texts after said = (⊎_elim (λ seen. inl (seen.0, more.seen elem seen.0 seen.1, seen.2)) (λ refused. inr refused) said.0, said.1)
+  said_on before lines.Pending texts after said = (⊎_elim (λ ids. inl (ids.0, more.pending_ids ids.0 ids.1, ids.2)) (λ refused. inr refused) said.0, said.1)
   said_on before lines.Census texts after said = said
 
   pub said_all_on : (first : Deeds) (lines : List Line) (texts : List Text) (last : Deeds) → SayInTurn here first lines texts last → SayInTurn there first lines texts last

@@ -23,9 +23,8 @@ use Rattle.charmlet_requests.specs.Handlers.{IsTarget, handler_of}
 use Rattle.charmlet_requests.specs.Knowing.{IsNoLess, heard}
 use Rattle.charmlet_lines.specs.Named.{Names}
 use Rattle.charmlet_workers.specs.Refusals.{IsRecent}
-use Rattle.charmlet_workers.specs.Runtime.{ArePending, RuntimeShown}
-use Rattle.charmlet_workers.specs.Sealing.{IsLaterGeneration}
-use Rattle.charmlet_cli_workers.specs.Said.{Clients, Deeds, IsAskingCause, IsStepCause, WereFlushed, last_of}
+use Rattle.charmlet_workers.specs.Runtime.{ArePending, ArePendingIds, RuntimeShown, StoodOn, WasSeen}
+use Rattle.charmlet_cli_workers.specs.Said.{Clients, Deeds, IsAskingCause, IsOfCheckpoint, IsStepCause, WereFlushed, last_of}
 
 -- a client's pass is among these, and its client was told this about the request with this number
 abbrev pub IsHeard : List HeldPass → ℕ → ℕ → Told → Type 0
@@ -94,8 +93,11 @@ known_by shown names passes = record {
   refused = IsStepCauseBy shown passes;
   target = λ name index to entry. IsTarget shown.opening index (names name) to entry;
   flushed = WereFlushedBy shown passes;
+  sealed = IsOfCheckpoint shown;
   pending = ArePending shown;
-  sealed = IsLaterGeneration shown.generation;
+  pending_ids = ArePendingIds shown;
+  seen = WasSeen shown;
+  stood = StoodOn shown;
 }
 
 -- the accepts of the client's pass among these, which is the first one

@@ -38,7 +38,7 @@ use Rattle.charmlet_stock.specs.declared.pile.Tally.{Tally}
 use Rattle.charmlet_stock.specs.ByKind.{at}
 use Rattle.charmlet_store.specs.declared.look.Look.{Look}
 use Rattle.charmlet_workers.specs.Refusals.{IsCauseAfter, IsMoveCause, IsRecent, is_flush_refusal, is_lending_refusal, is_move_refusal, is_request_refusal, is_status_refusal, is_work_refusal}
-use Rattle.charmlet_workers.specs.Runtime.{ArePending, IsMoment, RuntimeShown, named}
+use Rattle.charmlet_workers.specs.Runtime.{ArePending, ArePendingIds, IsMoment, RuntimeShown, StoodOn, WasSealed, WasSeen, named}
 use Rattle.charmlet_workers.specs.Sealing.{IsLaterGeneration, is_sealing_refusal}
 use Rattle.charmlet_lines.specs.declared.restarting.RestartedLine.{RestartedLine}
 use Rattle.charmlet_lines.specs.Named.{Names, named_by}
@@ -159,9 +159,10 @@ IsStepCause shown accepts step refusal = Unit {0}
 
 -- What is known of clients: what a client was told about which of its requests, which of them were
 -- accepted, which before the store opened, and which are durable. Why a step is refused after these
--- accepts. Where a call of a name goes, to the element with this index, and at which entry. And how
+-- accepts. Where a call of a name goes, to the element with this index, and at which entry. How
 -- many events there were when they were flushed after these accepts, where clients know so much,
--- how many pending messages at some moment, and which generation a checkpoint is of.
+-- and which generation a checkpoint is of. And what was so at some moment: how many messages were
+-- pending, which ones, what was seen of an element, and on which processor it stood.
 pub record Clients : Type 1 where
   pub told : ℕ → ℕ → Told → Type 0
   pub accepted : ℕ → ℕ → Type 0
@@ -170,14 +171,23 @@ pub record Clients : Type 1 where
   pub refused : List Event → Step → Refusal → Type 0
   pub target : Text → ℕ → Elem → ℕ → Type 0
   pub flushed : List Event → (ℕ → ClientRow) → ℕ → Type 0
-  pub pending : ℕ → Type 0
   pub sealed : ℕ → Type 0
+  pub pending : ℕ → Type 0
+  pub pending_ids : List MsgId → Type 0
+  pub seen : Elem → Look → Type 0
+  pub stood : Elem → ℕ → Type 0
 
 -- What a client was told about a request is true whichever events of this core a crash leaves, all
 -- durable ones among them.
 abbrev pub StaysTrue : Core → ℕ → ℕ → Told → Type 0
 StaysTrue core client number told = (kept : ℕ) → core.durable ≤ kept → kept ≤ length core.history →
     Holds core.opening (take kept core.history) client number told
+
+-- a checkpoint made this generation, a later one than that at which it opened; and at a moment the
+-- store had it, and all its events were durable
+abbrev pub IsOfCheckpoint : RuntimeShown → ℕ → Type 0
+IsOfCheckpoint shown generation = IsLaterGeneration shown.generation generation
+    × WasSealed shown generation
 
 -- What was told stays true of this core, what was accepted is so in its present world, what is
 -- durable is so whichever events a crash leaves, steps are refused for their causes, and a
@@ -191,8 +201,11 @@ known_in opened core names = record {
   refused = IsStepCause (shown_since opened core);
   target = λ name index to entry. IsTarget core.opening index (names name) to entry;
   flushed = WereFlushedIn opened core;
+  sealed = IsOfCheckpoint (shown_since opened core);
   pending = ArePending (shown_since opened core);
-  sealed = IsLaterGeneration opened;
+  pending_ids = ArePendingIds (shown_since opened core);
+  seen = WasSeen (shown_since opened core);
+  stood = StoodOn (shown_since opened core);
 }
 
 -- nothing is known of clients
@@ -205,8 +218,11 @@ unknown = record {
   refused = λ accepts step refusal. Unit {0};
   target = λ name index to entry. Unit {0};
   flushed = λ accepts knows count. Unit {0};
-  pending = λ count. Unit {0};
   sealed = λ generation. Unit {0};
+  pending = λ count. Unit {0};
+  pending_ids = λ ids. Unit {0};
+  seen = λ elem look. Unit {0};
+  stood = λ elem processor. Unit {0};
 }
 
 -- ---- what lines print
@@ -258,7 +274,7 @@ Answers clients before (answers.Told told) (steps.Request client number to entry
 Answers clients before (answers.Told told) (steps.Status client number) after =
     IsTold clients before client number told × (after ≡ having_told before client number told)
 Answers clients before (answers.Moved moved place) (steps.Move elem processor) after =
-    (moved ≡ elem) × (place ≡ processor) × (after ≡ before)
+    (moved ≡ elem) × (place ≡ processor) × clients.stood elem processor × (after ≡ before)
 Answers clients before (answers.Flushed durable) steps.Flush after =
     AreDurable clients before.accepts
     × clients.flushed before.accepts (having_flushed before).knows durable
@@ -306,15 +322,15 @@ pub record IsDrained (clients : Clients) (turns : ℕ) (before after : Deeds) (t
   pub known : IfSome refusal (λ refusal. is_work_refusal refusal ≡ true)
   pub texts_are : texts ≡ drained_text drained ∷ refused_texts refusal
 
--- what a line prints that shows an element, or why it can't be seen
-abbrev pub IsStateText : Elem → List Text → Type 0
-IsStateText elem texts = ((look : Look) × (texts ≡ look_text elem look ∷ []))
+-- what a line prints that shows an element as it was seen, or why it can't be seen
+abbrev pub IsStateText : (Elem → Look → Type 0) → Elem → List Text → Type 0
+IsStateText seen elem texts = ((look : Look) × seen elem look × (texts ≡ look_text elem look ∷ []))
     ⊎ ((refusal : Refusal) × ((refusal ≡ refusals.Halted) ⊎ (refusal ≡ refusals.Memory))
     × (texts ≡ answer_text (answers.Refused refusal) ∷ []))
 
--- what a line prints that shows the pending messages, or is out of memory
-abbrev pub IsPendingText : List Text → Type 0
-IsPendingText texts = ((ids : List MsgId) × (texts ≡ pending_text ids ∷ []))
+-- what a line prints that shows the pending messages, by their ids, or is out of memory
+abbrev pub IsPendingText : (List MsgId → Type 0) → List Text → Type 0
+IsPendingText pending texts = ((ids : List MsgId) × pending ids × (texts ≡ pending_text ids ∷ []))
     ⊎ (texts ≡ memory_text ∷ [])
 
 -- the numbers of a kind: what is neither in the stock nor retired is on shelves
@@ -345,8 +361,10 @@ Says clients before (lines.Call client number name index words) texts after =
 Says clients before (lines.Supply kind count) texts after = IsSupplyText kind count texts
     × (after ≡ before)
 Says clients before (lines.Drain count) texts after = IsDrained clients count before after texts
-Says clients before (lines.State elem) texts after = IsStateText elem texts × (after ≡ before)
-Says clients before lines.Pending texts after = IsPendingText texts × (after ≡ before)
+Says clients before (lines.State elem) texts after = IsStateText clients.seen elem texts
+    × (after ≡ before)
+Says clients before lines.Pending texts after = IsPendingText clients.pending_ids texts
+    × (after ≡ before)
 Says clients before lines.Census texts after = IsCensusText texts × (after ≡ before)
 
 -- the texts of lines one after another, and what they do

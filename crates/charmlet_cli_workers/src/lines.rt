@@ -113,7 +113,8 @@ fn run_line<D: Disk, C: Chare, B: RuntimeName + Send + Sync, W: Write, R: Thread
         (after : Deeds) × IsDoneBy floor.new.clients.passes.items
         (map (λ station. station.seat.ids) floor.new.stations.items) after
         × IsWritten result (λ texts. Says (known_by runtime.now (names_in floor.old.handlers)
-        floor.new.clients.passes.items) before line.now texts after) (W.contents writer.old) (W.contents writer.new) }
+        floor.new.clients.passes.items) before line.now texts after) (W.contents writer.old)
+        (W.contents writer.new) }
     ensures later { AreLater floor.old.clients.passes.items floor.new.clients.passes.items }
 {
     match line {

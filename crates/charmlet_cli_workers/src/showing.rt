@@ -3,7 +3,7 @@
 ghost use Rattle.std.specs.Prelude.{◌≡◌, map};
 ghost use Rattle.charmlet_model.specs.declared.kind.Kind as kinds;
 ghost use Rattle.charmlet_stock.specs.ByKind.{at};
-ghost use Rattle.charmlet_workers.specs.Runtime.{IsWithin};
+ghost use Rattle.charmlet_workers.specs.Runtime.{ArePendingIds, IsWithin, WasSeen};
 ghost use Rattle.charmlet_lines.specs.Shown.{IsWhole, all_kinds};
 ghost use Rattle.charmlet_cli_workers.specs.Said.{IsCensusText, IsPendingText, IsStateText, IsWritten, counted_by};
 
@@ -29,7 +29,7 @@ pub(crate) fn state_line<D: Disk, C: Chare, B: RuntimeName, W: Write, R: Wait>(
     elem: Elem,
     writer: &mut W,
 ) -> io::Result<()>
-    ensures { IsWritten result (IsStateText elem) (W.contents writer.old)
+    ensures { IsWritten result (IsStateText (WasSeen runtime.now) elem) (W.contents writer.old)
         (W.contents writer.new) }
 {
     let look = match runtime.look(rt, elem) {
@@ -49,7 +49,7 @@ pub(crate) fn pending_line<D: Disk, C: Chare, B: RuntimeName, W: Write, R: Wait>
     runtime: &Runtime<D, C, B>,
     writer: &mut W,
 ) -> io::Result<()>
-    ensures { IsWritten result IsPendingText (W.contents writer.old)
+    ensures { IsWritten result (IsPendingText (ArePendingIds runtime.now)) (W.contents writer.old)
         (W.contents writer.new) }
 {
     match runtime.pending(rt, alloc) {

@@ -6,3 +6,4 @@ pub mod Rows
 pub mod Flushing
 pub mod Repeats
 pub mod Looks
+pub mod Moves

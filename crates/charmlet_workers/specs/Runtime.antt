@@ -1,5 +1,5 @@
 -- What is seen of a runtime, and what it opens with.
-use Rattle.std.specs.Prelude.{◌≡◌, ℕ, ◌+◌, ◌≤◌, false, List, [], length, map}
+use Rattle.std.specs.Prelude.{◌≡◌, ℕ, ◌+◌, ◌≤◌, false, List, [], length, map, Some}
 use Rattle.std.specs.List.{AllByRecursion}
 use Rattle.charmlet_model.specs.declared.names.Elem.{Elem}
 use Rattle.charmlet_model.specs.declared.names.MsgId.{MsgId}
@@ -64,6 +64,15 @@ ArePendingIds shown ids = WasTrue shown (λ core. ids ≡ map (λ m. m.id) (pres
 abbrev pub WasSeen : RuntimeShown → Elem → Look → Type 0
 WasSeen shown x look = WasTrue shown (λ core. IsLook (place_of core x)
     (record_of (present core) x) look)
+
+-- the element stood on the processor at a moment
+abbrev pub StoodOn : RuntimeShown → Elem → ℕ → Type 0
+StoodOn shown x processor = WasTrue shown (λ core. place_of core x ≡ Some processor)
+
+-- at a moment the store had this generation, and all its events were durable
+abbrev pub WasSealed : RuntimeShown → ℕ → Type 0
+WasSealed shown generation = WasTrue shown (λ core. (core.generation ≡ generation)
+    × (core.durable ≡ length core.history))
 
 -- At a moment all events were durable, and they were so many, with those before the opening world.
 -- Each of these passes was current then: it was lent after no more events than these, and had its

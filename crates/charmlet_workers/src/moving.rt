@@ -1,6 +1,6 @@
 //! Moves of elements between two processors.
 
-ghost use Rattle.std.specs.Prelude.{◌≡◌, ◌≢◌, ℕ, ◌<◌, false, true, Ok, IfErr, IfOk, IfSome, OnErr};
+ghost use Rattle.std.specs.Prelude.{◌≡◌, ◌≢◌, ℕ, ◌<◌, false, true, None, Ok, IfErr, IfOk, IfSome, OnErr, OnOk};
 ghost use Rattle.charmlet_model.specs.Core as core;
 ghost use Rattle.charmlet_model.specs.Core.{Done};
 ghost use Rattle.charmlet_model.specs.Run.{Goes};
@@ -8,7 +8,7 @@ ghost use Rattle.charmlet_migrate.specs.Moving.{IsIdle};
 ghost use Rattle.charmlet_sequencer.specs.Relocating.{Carries};
 ghost use Rattle.charmlet_hub.specs.Hub.{store_in};
 ghost use Rattle.charmlet_workers.specs.Refusals.{IsMoveCause, is_move_refusal};
-ghost use Rattle.charmlet_workers.specs.Runtime.{named};
+ghost use Rattle.charmlet_workers.specs.Runtime.{StoodOn, named};
 
 use crate::runtime::Runtime;
 use charmlet_chare::Chare;
@@ -27,6 +27,7 @@ impl<D: Disk, C: Chare, B: RuntimeName> Runtime<D, C, B> {
     /// The refusal is the first that applies of `Halted`, `Checkpointing`, `BadPes`, `Absent`,
     /// `NoBlank` and `Memory`. Then nothing has moved.
     pub fn move_to<R: Wait>(&self, rt: &R, elem: Elem, processor: u16) -> Result<(), Refusal>
+        ensures moved { OnOk result (StoodOn self.now elem processor) }
         ensures err { IfErr result (λ refusal. is_move_refusal refusal ≡ true) }
         ensures cause { IfErr result (IsMoveCause self.now elem processor) }
     {
@@ -55,6 +56,7 @@ impl<D: Disk, C: Chare, B: RuntimeName> Runtime<D, C, B> {
     ) -> Result<Option<u16>, Refusal>
         ensures source { IfOk result (λ source. IfSome source (λ place. (place < B.processors)
             × (processor < B.processors) × (place ≢ processor))) }
+        ensures there { result ≡ Ok None → StoodOn self.now elem processor }
         ensures cause { IfErr result (IsMoveCause self.now elem processor) }
     {
         let hub = self.hub.lock(rt);
@@ -72,16 +74,17 @@ impl<D: Disk, C: Chare, B: RuntimeName> Runtime<D, C, B> {
         processor: u16,
     ) -> Result<bool, Refusal>
         requires { (place < B.processors) × (processor < B.processors) × (place ≢ processor) }
-        ensures { (any : ℕ) → IfErr result (IsMoveCause self.now elem any) }
+        ensures moved { result ≡ Ok true → StoodOn self.now elem processor }
+        ensures cause { (any : ℕ) → IfErr result (IsMoveCause self.now elem any) }
     {
         let first = &self.shelves[usize::from(place.min(processor))];
         let second = &self.shelves[usize::from(place.max(processor))];
         let mut first = first.lock(rt);
         let mut second = second.lock(rt);
         if place < processor {
-            self.carry_between(rt, &mut first, &mut second, elem)
+            self.carry_between(rt, &mut first, &mut second, elem, processor)
         } else {
-            self.carry_between(rt, &mut second, &mut first, elem)
+            self.carry_between(rt, &mut second, &mut first, elem, processor)
         }
     }
 
@@ -92,8 +95,10 @@ impl<D: Disk, C: Chare, B: RuntimeName> Runtime<D, C, B> {
         from: &mut LockedShelf<C, B>,
         to: &mut LockedShelf<C, B>,
         elem: Elem,
+        processor: u16,
     ) -> Result<bool, Refusal>
-        ensures { (any : ℕ) → IfErr result (IsMoveCause self.now elem any) }
+        ensures moved { result ≡ Ok true → StoodOn self.now elem processor }
+        ensures cause { (any : ℕ) → IfErr result (IsMoveCause self.now elem any) }
     {
         if let Err(refusal) = self.settle(rt, from) {
             return Err(refusal);
@@ -101,19 +106,23 @@ impl<D: Disk, C: Chare, B: RuntimeName> Runtime<D, C, B> {
         if let Err(refusal) = self.settle(rt, to) {
             return Err(refusal);
         }
-        relocate_from(&mut self.hub.lock(rt), from, to, elem)
+        relocate_from(&mut self.hub.lock(rt), from, to, elem, processor)
     }
 }
 
-/// Moves the element from the one shelf to the other, if it stands on the one. It answers whether
-/// it did. If nothing is under way on either, the refusal is the first that applies of `Halted`,
-/// `Checkpointing`, `NoBlank` and `Memory`. When refused, all is as before.
+/// Moves the element from the one shelf to the other, if it stands on the one, and the other is
+/// that of the processor. It answers whether it did. If nothing is under way on either, the refusal
+/// is the first that applies of `Halted`, `Checkpointing`, `NoBlank` and `Memory`. When refused, all
+/// is as before.
 fn relocate_from<D: Disk, C: Chare, B: RuntimeName>(
     hub: &mut Hub<D, C, B>,
     from: &mut LockedShelf<C, B>,
     to: &mut LockedShelf<C, B>,
     elem: Elem,
+    processor: u16,
 ) -> Result<bool, Refusal>
+    ensures stood { result ≡ Ok true →
+        StoodOn (named B.opening B.before B.processors B.generation) elem processor }
     ensures moves { result ≡ Ok true → Goes (store_in hub.old) (core.Move elem to.old.number) Done
         (store_in hub.new) × Carries elem from.old to.old from.new to.new }
     ensures stays { result ≡ Ok false → (hub.new ≡ hub.old) × (from.new ≡ from.old)
@@ -128,11 +137,15 @@ fn relocate_from<D: Disk, C: Chare, B: RuntimeName>(
     let Some(place) = hub.history().where_is(elem) else {
         return Ok(false);
     };
-    if place != from.number() || place == to.number() {
+    // No fact of a type says that the locks are in the order of their shelves.
+    if place != from.number() || place == to.number() || processor != to.number() {
         return Ok(false);
     }
     match hub.relocate(from, to, elem) {
-        Ok(()) => Ok(true),
+        Ok(()) => {
+            hub.facts();
+            Ok(true)
+        }
         Err(refusal) => {
             // If nothing is under way on them, this shows that nothing is assigned there.
             hub.agree(from);

@@ -4,6 +4,7 @@ ghost use Rattle.std.specs.Prelude.{◌≡◌, ◌+◌, ◌<◌, true, Ok, IfErr
 ghost use Rattle.charmlet_model.specs.declared.refusal.Refusal.TheVariants as refusals;
 ghost use Rattle.charmlet_migrate.specs.Moving.{IsIdle};
 ghost use Rattle.charmlet_hub.specs.Checkpoint.{IsSealed};
+ghost use Rattle.charmlet_workers.specs.Runtime.{WasSealed, named};
 ghost use Rattle.charmlet_workers.specs.Sealing.{IsLaterGeneration, is_sealing_refusal};
 
 use crate::pause::{NoPause, Pause};
@@ -31,6 +32,7 @@ impl<D: Disk, C: Chare, B: RuntimeName> Runtime<D, C, B> {
     /// `Device` halts the store.
     pub fn checkpoint<R: Wait>(&self, rt: &R) -> Result<u64, Refusal>
         ensures ok { IfOk result (IsLaterGeneration self.now.generation) }
+        ensures sealed { IfOk result (WasSealed self.now) }
         ensures err { IfErr result (λ refusal. is_sealing_refusal refusal ≡ true) }
     {
         self.checkpoint_with(rt, &NoPause)
@@ -39,6 +41,7 @@ impl<D: Disk, C: Chare, B: RuntimeName> Runtime<D, C, B> {
     /// The same, with a pause that is told of each shelf.
     pub fn checkpoint_with<P: Pause, R: Wait>(&self, rt: &R, pause: &P) -> Result<u64, Refusal>
         ensures ok { IfOk result (IsLaterGeneration self.now.generation) }
+        ensures sealed { IfOk result (WasSealed self.now) }
         ensures err { IfErr result (λ refusal. is_sealing_refusal refusal ≡ true) }
     {
         for _ in rt.forever() {
@@ -55,6 +58,7 @@ impl<D: Disk, C: Chare, B: RuntimeName> Runtime<D, C, B> {
     /// The same, if the shelves are found in the order of their numbers.
     fn checkpoint_once<P: Pause, R: Wait>(&self, rt: &R, pause: &P) -> Result<Option<u64>, Refusal>
         ensures ok { IfOk result (λ sealed. IfSome sealed (IsLaterGeneration self.now.generation)) }
+        ensures sealed { IfOk result (λ sealed. IfSome sealed (WasSealed self.now)) }
         ensures err { IfErr result (λ refusal. is_sealing_refusal refusal ≡ true) }
     {
         let begun = self.begin(rt);
@@ -173,6 +177,7 @@ impl<D: Disk, C: Chare, B: RuntimeName> Runtime<D, C, B> {
     fn seal<R: Wait>(&self, rt: &R, checkpoint: Checkpoint<B>) -> Result<Option<u64>, Refusal>
         requires { checkpoint.shelves ≡ B.processors }
         ensures ok { IfOk result (λ sealed. IfSome sealed (IsLaterGeneration self.now.generation)) }
+        ensures sealed { IfOk result (λ sealed. IfSome sealed (WasSealed self.now)) }
         ensures err { IfErr result (λ refusal. is_sealing_refusal refusal ≡ true) }
     {
         let sealed = self.seal_locked(rt, checkpoint);
@@ -194,6 +199,7 @@ impl<D: Disk, C: Chare, B: RuntimeName> Runtime<D, C, B> {
     fn seal_locked<R: Wait>(&self, rt: &R, checkpoint: Checkpoint<B>) -> Result<u64, NotSealed<B>>
         requires { checkpoint.shelves ≡ B.processors }
         ensures ok { IfOk result (IsLaterGeneration self.now.generation) }
+        ensures sealed { IfOk result (WasSealed self.now) }
         ensures err { IfErr result (λ back. is_sealing_refusal back.refusal ≡ true) }
     {
         seal(&mut self.hub.lock(rt), checkpoint)
@@ -227,8 +233,12 @@ fn seal<D: Disk, C: Chare, B: RuntimeName>(
     requires { checkpoint.shelves ≡ B.processors }
     ensures sealed { OnOk result (IsSealed hub.old hub.new) }
     ensures ok { IfOk result (IsLaterGeneration B.generation) }
+    ensures was { IfOk result
+        (WasSealed (named B.opening B.before B.processors B.generation)) }
     ensures err { IfErr result (λ back. is_sealing_refusal back.refusal ≡ true) }
 {
     hub.facts();
-    hub.seal(checkpoint)
+    let sealed = hub.seal(checkpoint);
+    hub.facts();
+    sealed
 }

@@ -59,7 +59,7 @@ pub returns-in-Ok-clause-answers : goal.returns-in-Ok-clause-answers
 returns-in-Ok-clause-answers g c = λ named lists before done.
     let move = c.in-Move in
     let clients = known_by c.args.runtime.now named c.args.clients.now.passes.items in
-    (before, done, subst (λ (step : Step). Answers clients before (answers.Moved move.elem move.processor) step before) (sym move.is) (refl, refl, refl))
+    (before, done, subst (λ (step : Step). Answers clients before (answers.Moved move.elem move.processor) step before) (sym move.is) (refl, refl, c.in-Ok.ensures.moved, refl))
 
 pub returns-in-Err-clause-answers : goal.returns-in-Err-clause-answers
 returns-in-Err-clause-answers g c = λ named lists before done.
@@ -89,7 +89,7 @@ returns-in-Err-flush-clause-answers g c = λ named lists before done.
 pub returns-in-Ok-checkpoint-clause-answers : goal.returns-in-Ok-checkpoint-clause-answers
 returns-in-Ok-checkpoint-clause-answers g c = λ named lists before done.
     let clients = known_by c.args.runtime.now named c.args.clients.now.passes.items in
-    (before, done, subst (λ (step : Step). Answers clients before (answers.Checkpointed c.in-Ok-checkpoint.generation) step before) (sym c.in-Checkpoint.is) (c.in-Ok-checkpoint.ensures.ok, refl))
+    (before, done, subst (λ (step : Step). Answers clients before (answers.Checkpointed c.in-Ok-checkpoint.generation) step before) (sym c.in-Checkpoint.is) ((c.in-Ok-checkpoint.ensures.ok, c.in-Ok-checkpoint.ensures.sealed), refl))
 
 pub returns-in-Err-checkpoint-clause-answers : goal.returns-in-Err-checkpoint-clause-answers
 returns-in-Err-checkpoint-clause-answers g c = λ named lists before done.

@@ -1,10 +1,11 @@
-use Rattle.std.proofs.Common.{◌≡◌, ◌<◌, ◌∙◌, None, Some, rules, sym, ap, subst}
-use Rattle.charmlet_model.specs.Core.{Core, assigned_to, place_of}
+use Rattle.std.proofs.Common.{◌≡◌, ◌<◌, ◌∙◌, None, Some, rules, refl, sym, ap, subst}
+use Rattle.charmlet_model.specs.Core.{Core, Done, Stepped, assigned_to, place_of}
 use Rattle.charmlet_migrate.specs.Moving.{IsIdle}
 use Rattle.charmlet_shelf.specs.Shelf.{View}
 use Rattle.charmlet_hub.specs.Hub.{HubShown, store_in}
 use Rattle.charmlet_workers.specs.Runtime.{RuntimeShown, named}
 use Rattle.charmlet_workers.proofs.Causes.{relocation_caused}
+use Rattle.charmlet_workers.proofs.Moves.{stands_moved}
 use Rattle.charmlet_workers.proofs.Refusals.{none_assigned}
 use Rattle.charmlet_workers.proofs.moving.relocate_from.Goals as goal
 
@@ -27,3 +28,19 @@ returns-in-Err-clause-cause g c = λ from_idle to_idle any.
     let stands : place_of hub.core c.args.elem ≡ Some from.number = search rules in
     let shown : RuntimeShown = named g.B.RuntimeName.opening g.B.RuntimeName.before g.B.RuntimeName.processors g.B.RuntimeName.generation in
     relocation_caused hub shown c.facts.ensures.of.opening_is (store_in left.self) c.args.elem from.number to.number c.in-Err.refusal any within stands from_none to_none c.in-Err.ensures.goes
+
+pub returns-in-Ok-clause-stood : goal.returns-in-Ok-clause-stood
+returns-in-Ok-clause-stood g c _ =
+    let store = store_in c.args.hub.now in
+    let next = store_in c.relocate.new.self in
+    let elem = c.args.elem in
+    let to = c.args.to.now.number in
+    let same : to ≡ c.args.processor = search rules in
+    let moved : Stepped = record { answer = Done; core = next.core; blanks = next.blanks } in
+    let stands = stands_moved store.core store.blanks elem to (c.facts.ensures.sound.placed elem).there moved refl c.in-Ok.ensures.goes in
+    let left = c.facts-in-Ok.ensures in
+    record {
+      core = c.relocate.new.self.core;
+      moment = record { of = record { of = left.of; later = left.later }; sound = left.sound };
+      was = subst (λ p. place_of c.relocate.new.self.core elem ≡ Some p) same stands;
+    }
