@@ -134,6 +134,7 @@ knows_later shown names old new later = record {
   pending_ids = λ ids are. are;
   seen = λ elem look was. was;
   stood = λ elem processor was. was;
+  counted = λ census were. were;
 }
 
 -- ---- what is true

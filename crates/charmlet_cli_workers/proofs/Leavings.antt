@@ -15,7 +15,7 @@ use Rattle.charmlet_lines.specs.declared.restarting.RestartedLine.{RestartedLine
 use Rattle.charmlet_requests.specs.Handlers.{IsTarget}
 use Rattle.charmlet_lines.specs.Named.{Names}
 use Rattle.charmlet_workers.specs.Refusals.{IsRecent}
-use Rattle.charmlet_workers.specs.Runtime.{ArePending, ArePendingIds, RuntimeShown, StoodOn, WasSeen}
+use Rattle.charmlet_workers.specs.Runtime.{ArePending, ArePendingIds, RuntimeShown, StoodOn, WasSeen, WereCounted}
 use Rattle.charmlet_cli_workers.specs.Heard.{IsDoneBy, IsStepCauseBy, known_by}
 use Rattle.charmlet_cli_workers.specs.Said.{ArePrinted, AreCutOff, AreSaid, Clients, Deeds, HaveDone, IsBrokenOff, IsOfCheckpoint, WereFlushed, opening_generation, known_in, shown_since, unknown}
 use Rattle.charmlet_cli_workers.proofs.Asking.{accepts_are, all_accepts, cause_in, lent_in}
@@ -82,6 +82,7 @@ knows_more shown first names core passes since of sound current = record {
   pending_ids = λ ids are. subst (λ (v : RuntimeShown). ArePendingIds v ids) (shown_is shown first core since of) are;
   seen = λ elem look was. subst (λ (v : RuntimeShown). WasSeen v elem look) (shown_is shown first core since of) was;
   stood = λ elem processor was. subst (λ (v : RuntimeShown). StoodOn v elem processor) (shown_is shown first core since of) was;
+  counted = λ census were. subst (λ (v : RuntimeShown). WereCounted v census) (shown_is shown first core since of) were;
 }
 
 -- or nothing is known of it
@@ -99,6 +100,7 @@ knows_nothing here = record {
   pending_ids = λ ids are. tt;
   seen = λ elem look was. tt;
   stood = λ elem processor was. tt;
+  counted = λ census were. tt;
 }
 
 module _ (here there : Clients) (did was : Deeds → Type 0) (more : KnowsMore here there) (on : (deeds : Deeds) → did deeds → was deeds) where

@@ -15,6 +15,8 @@ use Rattle.charmlet_model.specs.declared.told.Told.{Told}
 use Rattle.charmlet_model.specs.Texts.{Text}
 use Rattle.charmlet_script.specs.declared.script.Line.{Line}
 use Rattle.charmlet_script.specs.declared.script.Line.TheVariants as lines
+use Rattle.charmlet_stock.specs.declared.by_kind.ByKind.{ByKind}
+use Rattle.charmlet_stock.specs.declared.pile.Tally.{Tally}
 use Rattle.charmlet_store.specs.declared.look.Look.{Look}
 use Rattle.charmlet_cli_workers.specs.Said.{Answers, Clients, Deeds, IsAccepted, IsDrained, SayInTurn, Says, SaysStep, having_flushed, having_told}
 
@@ -32,6 +34,7 @@ pub record KnowsMore (here there : Clients) : Type 0 where
   pub pending_ids : (ids : List MsgId) → here.pending_ids ids → there.pending_ids ids
   pub seen : (elem : Elem) (look : Look) → here.seen elem look → there.seen elem look
   pub stood : (elem : Elem) (processor : ℕ) → here.stood elem processor → there.stood elem processor
+  pub counted : (census : ByKind Tally) → here.counted census → there.counted census
 
 module _ (here there : Clients) (more : KnowsMore here there) where
   accepted_on : (before : Deeds) (client number : ℕ) (to : Elem) (entry : ℕ) (words : List ℕ) (after : Deeds) → IsAccepted here before client number to entry words after → IsAccepted there before client number to entry words after
@@ -91,7 +94,7 @@ module _ (here there : Clients) (more : KnowsMore here there) where
   said_on before (lines.Drain count) texts after said = drained_on count before after texts said
   said_on before (lines.State elem) texts after said = (⊎_elim (λ seen. inl (seen.0, more.seen elem seen.0 seen.1, seen.2)) (λ refused. inr refused) said.0, said.1)
   said_on before lines.Pending texts after said = (⊎_elim (λ ids. inl (ids.0, more.pending_ids ids.0 ids.1, ids.2)) (λ refused. inr refused) said.0, said.1)
-  said_on before lines.Census texts after said = said
+  said_on before lines.Census texts after said = ((said.0.0, more.counted said.0.0 said.0.1, said.0.2, said.0.3), said.1)
 
   pub said_all_on : (first : Deeds) (lines : List Line) (texts : List Text) (last : Deeds) → SayInTurn here first lines texts last → SayInTurn there first lines texts last
   said_all_on first [] texts last said = said

@@ -23,7 +23,7 @@ use Rattle.charmlet_requests.specs.Handlers.{IsTarget, handler_of}
 use Rattle.charmlet_requests.specs.Knowing.{IsNoLess, heard}
 use Rattle.charmlet_lines.specs.Named.{Names}
 use Rattle.charmlet_workers.specs.Refusals.{IsRecent}
-use Rattle.charmlet_workers.specs.Runtime.{ArePending, ArePendingIds, RuntimeShown, StoodOn, WasSeen}
+use Rattle.charmlet_workers.specs.Runtime.{ArePending, ArePendingIds, RuntimeShown, StoodOn, WasSeen, WereCounted}
 use Rattle.charmlet_cli_workers.specs.Said.{Clients, Deeds, IsAskingCause, IsOfCheckpoint, IsStepCause, WereFlushed, last_of}
 
 -- a client's pass is among these, and its client was told this about the request with this number
@@ -98,6 +98,7 @@ known_by shown names passes = record {
   pending_ids = ArePendingIds shown;
   seen = WasSeen shown;
   stood = StoodOn shown;
+  counted = WereCounted shown;
 }
 
 -- the accepts of the client's pass among these, which is the first one

@@ -38,7 +38,7 @@ use Rattle.charmlet_stock.specs.declared.pile.Tally.{Tally}
 use Rattle.charmlet_stock.specs.ByKind.{at}
 use Rattle.charmlet_store.specs.declared.look.Look.{Look}
 use Rattle.charmlet_workers.specs.Refusals.{IsCauseAfter, IsMoveCause, IsRecent, is_flush_refusal, is_lending_refusal, is_move_refusal, is_request_refusal, is_status_refusal, is_work_refusal}
-use Rattle.charmlet_workers.specs.Runtime.{ArePending, ArePendingIds, IsMoment, RuntimeShown, StoodOn, WasSealed, WasSeen, named}
+use Rattle.charmlet_workers.specs.Runtime.{ArePending, ArePendingIds, IsMoment, RuntimeShown, StoodOn, WasSealed, WasSeen, WereCounted, named}
 use Rattle.charmlet_workers.specs.Sealing.{IsLaterGeneration, is_sealing_refusal}
 use Rattle.charmlet_lines.specs.declared.restarting.RestartedLine.{RestartedLine}
 use Rattle.charmlet_lines.specs.Named.{Names, named_by}
@@ -162,7 +162,8 @@ IsStepCause shown accepts step refusal = Unit {0}
 -- accepts. Where a call of a name goes, to the element with this index, and at which entry. How
 -- many events there were when they were flushed after these accepts, where clients know so much,
 -- and which generation a checkpoint is of. And what was so at some moment: how many messages were
--- pending, which ones, what was seen of an element, and on which processor it stood.
+-- pending, which ones, what was seen of an element, on which processor it stood, and how many
+-- objects there were.
 pub record Clients : Type 1 where
   pub told : ℕ → ℕ → Told → Type 0
   pub accepted : ℕ → ℕ → Type 0
@@ -176,6 +177,7 @@ pub record Clients : Type 1 where
   pub pending_ids : List MsgId → Type 0
   pub seen : Elem → Look → Type 0
   pub stood : Elem → ℕ → Type 0
+  pub counted : ByKind Tally → Type 0
 
 -- What a client was told about a request is true whichever events of this core a crash leaves, all
 -- durable ones among them.
@@ -206,6 +208,7 @@ known_in opened core names = record {
   pending_ids = ArePendingIds (shown_since opened core);
   seen = WasSeen (shown_since opened core);
   stood = StoodOn (shown_since opened core);
+  counted = WereCounted (shown_since opened core);
 }
 
 -- nothing is known of clients
@@ -223,6 +226,7 @@ unknown = record {
   pending_ids = λ ids. Unit {0};
   seen = λ elem look. Unit {0};
   stood = λ elem processor. Unit {0};
+  counted = λ census. Unit {0};
 }
 
 -- ---- what lines print
@@ -333,6 +337,10 @@ abbrev pub IsPendingText : (List MsgId → Type 0) → List Text → Type 0
 IsPendingText pending texts = ((ids : List MsgId) × pending ids × (texts ≡ pending_text ids ∷ []))
     ⊎ (texts ≡ memory_text ∷ [])
 
+-- no more objects are in the stock or retired than were supplied
+abbrev pub IsWithin : Tally → Type 0
+IsWithin tally = tally.in_stock + tally.retired ≤ tally.supplied
+
 -- the numbers of a kind: what is neither in the stock nor retired is on shelves
 abbrev pub counted_by : ByKind Tally → Kind → Counted
 counted_by census kind = record {
@@ -345,8 +353,9 @@ counted_by census kind = record {
 
 -- What a census prints: a line for each kind that objects were supplied of, in rising order, by
 -- which each of them is on a shelf, in the stock, or retired.
-abbrev pub IsCensusText : List Text → Type 0
-IsCensusText texts = (census : ByKind Tally) × ((kind : Kind) → IsWhole (counted_by census kind))
+abbrev pub IsCensusText : (ByKind Tally → Type 0) → List Text → Type 0
+IsCensusText counted texts = (census : ByKind Tally) × counted census
+    × ((kind : Kind) → IsWhole (counted_by census kind))
     × (texts ≡ flat_map (λ kind. counted_texts (counted_by census kind)) all_kinds)
 
 -- What a line prints, those texts of its own form or of a refusal, and what it does. What it isn't
@@ -365,7 +374,8 @@ Says clients before (lines.State elem) texts after = IsStateText clients.seen el
     × (after ≡ before)
 Says clients before lines.Pending texts after = IsPendingText clients.pending_ids texts
     × (after ≡ before)
-Says clients before lines.Census texts after = IsCensusText texts × (after ≡ before)
+Says clients before lines.Census texts after = IsCensusText clients.counted texts
+    × (after ≡ before)
 
 -- the texts of lines one after another, and what they do
 abbrev pub SayInTurn : Clients → (first : Deeds) → List Line → List Text → (last : Deeds) → Type 0

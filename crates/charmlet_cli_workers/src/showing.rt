@@ -3,9 +3,9 @@
 ghost use Rattle.std.specs.Prelude.{◌≡◌, map};
 ghost use Rattle.charmlet_model.specs.declared.kind.Kind as kinds;
 ghost use Rattle.charmlet_stock.specs.ByKind.{at};
-ghost use Rattle.charmlet_workers.specs.Runtime.{ArePendingIds, IsWithin, WasSeen};
+ghost use Rattle.charmlet_workers.specs.Runtime.{ArePendingIds, WasSeen, WereCounted};
 ghost use Rattle.charmlet_lines.specs.Shown.{IsWhole, all_kinds};
-ghost use Rattle.charmlet_cli_workers.specs.Said.{IsCensusText, IsPendingText, IsStateText, IsWritten, counted_by};
+ghost use Rattle.charmlet_cli_workers.specs.Said.{IsCensusText, IsPendingText, IsStateText, IsWithin, IsWritten, counted_by};
 
 use charmlet_chare::Chare;
 use charmlet_disk::Disk;
@@ -66,7 +66,7 @@ pub(crate) fn census_line<D: Disk, C: Chare, B: RuntimeName, W: Write, R: Wait>(
     runtime: &Runtime<D, C, B>,
     writer: &mut W,
 ) -> io::Result<()>
-    ensures { IsWritten result IsCensusText (W.contents writer.old)
+    ensures { IsWritten result (IsCensusText (WereCounted runtime.now)) (W.contents writer.old)
         (W.contents writer.new) }
 {
     let counts = count_each(&runtime.census(rt));

@@ -7,3 +7,4 @@ pub mod Flushing
 pub mod Repeats
 pub mod Looks
 pub mod Moves
+pub mod Counts

@@ -52,7 +52,3 @@ pub target_since : (core : Core) (opening : World) (index : ℕ) (handler : Opti
     IsTarget (present core) index handler to entry → IsTarget opening index handler to entry
 target_since core opening index handler to entry is target =
     same_target (present core) opening index handler to entry (kept_arrays core.opening core.history ∙ ap (λ (w : World). w.manifest) is) target
-
--- what is counted on shelves is what is left
-pub within_counts : (supplied shelved in_stock retired : ℕ) → supplied ≡ shelved + in_stock + retired → in_stock + retired ≤ supplied
-within_counts supplied shelved in_stock retired all = omega (arith, all)

@@ -1,9 +1,11 @@
 -- What is seen of a runtime, and what it opens with.
 use Rattle.std.specs.Prelude.{◌≡◌, ℕ, ◌+◌, ◌≤◌, false, List, [], length, map, Some}
 use Rattle.std.specs.List.{AllByRecursion}
+use Rattle.charmlet_model.specs.declared.kind.Kind.{Kind}
 use Rattle.charmlet_model.specs.declared.names.Elem.{Elem}
 use Rattle.charmlet_model.specs.declared.names.MsgId.{MsgId}
 use Rattle.charmlet_model.specs.Core.{Core, place_of, present}
+use Rattle.charmlet_model.specs.Shelves.{there_in}
 use Rattle.charmlet_model.specs.Sound.{IsSound}
 use Rattle.charmlet_model.specs.World.{World, record_of}
 use Rattle.charmlet_disk.specs.declared.disk.Disk.{Ghosts}
@@ -13,8 +15,9 @@ use Rattle.charmlet_history.specs.Kept.{core_in}
 use Rattle.charmlet_journal.specs.Rest.{Agrees, IsCurrent, IsKept}
 use Rattle.charmlet_passes.specs.Passes.{HeldPass, IsCurrent as IsCurrentPass, lent_since}
 use Rattle.charmlet_sequencer.specs.Sequencer.{HasOpened}
+use Rattle.charmlet_stock.specs.declared.by_kind.ByKind.{ByKind}
 use Rattle.charmlet_stock.specs.declared.pile.Tally.{Tally}
-use Rattle.charmlet_stock.specs.ByKind.{for_all}
+use Rattle.charmlet_stock.specs.ByKind.{at, for_all}
 use Rattle.charmlet_store.specs.declared.look.Look.{Look}
 use Rattle.charmlet_store.specs.Look.{IsLook}
 use Rattle.charmlet_store.specs.Store.{StoreShown}
@@ -74,6 +77,20 @@ abbrev pub WasSealed : RuntimeShown → ℕ → Type 0
 WasSealed shown generation = WasTrue shown (λ core. (core.generation ≡ generation)
     × (core.durable ≡ length core.history))
 
+-- Of this kind an object is on a shelf for each element that is there, and for some deliveries
+-- under way one more, at most one on each processor, and none where nothing is assigned. All others
+-- that were supplied are in the stock or retired.
+pub record AddUp (core : Core) (kind : Kind) (tally : Tally) : Type 0 where
+  pub coming : ℕ
+  pub few : coming ≤ core.processors
+  pub none : core.assigned ≡ [] → coming ≡ 0
+  pub all : tally.supplied ≡ there_in (present core).records kind + coming + tally.in_stock
+      + tally.retired
+
+-- the objects of all kinds were so many at a moment
+abbrev pub WereCounted : RuntimeShown → ByKind Tally → Type 0
+WereCounted shown census = WasTrue shown (λ core. (kind : Kind) → AddUp core kind (at census kind))
+
 -- At a moment all events were durable, and they were so many, with those before the opening world.
 -- Each of these passes was current then: it was lent after no more events than these, and had its
 -- client's accepts among them, and no others; and all that its client was told is true of them.
@@ -83,10 +100,6 @@ pub record AreFlushed (shown : RuntimeShown) (passes : List HeldPass) (count : �
   pub durable : core.durable ≡ length core.history
   pub counted : count ≡ core.before + length core.history
   pub current : AllByRecursion (λ held. IsCurrentPass held core) passes
-
--- no more objects are in the stock or retired than were supplied
-abbrev pub IsWithin : Tally → Type 0
-IsWithin tally = tally.in_stock + tally.retired ≤ tally.supplied
 
 -- the pass was lent to the client after at least so many events, and was told nothing yet
 pub record IsLent (client before : ℕ) (held : HeldPass) : Type 0 where

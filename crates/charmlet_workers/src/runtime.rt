@@ -5,7 +5,7 @@ ghost use Rattle.charmlet_model.specs.declared.refusal.Refusal.TheVariants as re
 ghost use Rattle.charmlet_model.specs.declared.kind.Kind.{Kind};
 ghost use Rattle.charmlet_stock.specs.ByKind.{at};
 ghost use Rattle.charmlet_workers.specs.Refusals.{is_lending_refusal};
-ghost use Rattle.charmlet_workers.specs.Runtime.{IsLent, IsWithin};
+ghost use Rattle.charmlet_workers.specs.Runtime.{IsLent, WereCounted};
 
 use charmlet_chare::Chare;
 use charmlet_disk::Disk;
@@ -81,7 +81,7 @@ impl<D: Disk, C: Chare, B: RuntimeName> Runtime<D, C, B> {
     /// How many objects of each kind were supplied, are in the stock, and were retired. The others
     /// are on shelves.
     pub fn census<R: Wait>(&self, rt: &R) -> ByKind<Tally>
-        ensures { (kind : Kind) → IsWithin (at result kind) }
+        ensures { WereCounted self.now result }
     {
         let hub = self.hub.lock(rt);
         hub.facts();

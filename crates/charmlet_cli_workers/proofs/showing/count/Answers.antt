@@ -1,6 +1,6 @@
 use Rattle.std.proofs.Common.{sym, subst, arith}
 use Rattle.charmlet_stock.specs.ByKind.{at}
-use Rattle.charmlet_workers.specs.Runtime.{IsWithin}
+use Rattle.charmlet_cli_workers.specs.Said.{IsWithin}
 use Rattle.charmlet_cli_workers.proofs.showing.count.Goals as goal
 
 pub overflow_sub-result : goal.overflow_sub-result

@@ -1,15 +1,14 @@
 use Rattle.std.proofs.Common.{◌≡◌, sym, ap, subst, ◌∙◌}
-use Rattle.charmlet_stock.specs.declared.by_kind.ByKind.{ByKind}
-use Rattle.charmlet_stock.specs.declared.pile.Tally.{Tally}
-use Rattle.charmlet_stock.specs.ByKind.{at}
 use Rattle.charmlet_hub.specs.Hub.{HubShown}
-use Rattle.charmlet_workers.specs.Runtime.{IsWithin}
-use Rattle.charmlet_workers.proofs.Runtimes.{within_counts}
+use Rattle.charmlet_workers.specs.Runtime.{RuntimeShown, WereCounted}
+use Rattle.charmlet_workers.proofs.Counts.{add_up}
 use Rattle.charmlet_workers.proofs.runtime.Runtime.census.Goals as goal
 
 pub returns : goal.returns
-returns g c = λ kind.
+returns g c =
     let hub = c.deref.result.now in
+    let facts = c.facts.ensures in
     let same : c.census.result ≡ hub.census = c.census.ensures ∙ ap (λ (h : HubShown _). h.census) (c.deref-2.ensures ∙ sym c.deref.ensures) in
-    let tally = at hub.census kind in
-    subst (λ (v : ByKind Tally). IsWithin (at v kind)) (sym same) (within_counts tally.supplied _ tally.in_stock tally.retired (c.facts.ensures.book.1.counted kind))
+    subst (λ (v : RuntimeShown). WereCounted v c.census.result) c.self.view_is
+    (subst (λ census. WereCounted _ census) (sym same)
+    (record { core = hub.core; moment = record { of = record { of = facts.of; later = facts.later }; sound = facts.sound }; was = add_up hub.core hub.census facts.book.0 facts.sound facts.book.1 }))
