@@ -18,7 +18,7 @@ use Rattle.charmlet_stock.specs.declared.pile.Tally.{Tally}
 use Rattle.charmlet_stock.specs.ByKind.{at}
 use Rattle.charmlet_sequencer.specs.Book.{IsBookIn, IsDueOn, objects_in_all, part_at, part_in, records_in}
 use Rattle.charmlet_sequencer.specs.Part.{Part, brings, objects_in}
-use Rattle.charmlet_workers.specs.Runtime.{AddUp}
+use Rattle.charmlet_workers.specs.Runtime.{IsTallyOf}
 
 -- how many objects of the kind come by a delivery that is under way there
 abbrev comes : Kind → Option Due → ℕ
@@ -63,8 +63,9 @@ none_due core processor (Some due) none on =
     let never : ⊥ = cc in
     absurd never
 
-pub add_up : (core : Core) (census : ByKind Tally) (parts : List (Option Part)) → IsSound core → IsBookIn core census parts → (kind : Kind) → AddUp core kind (at census kind)
-add_up core census parts sound book kind =
+-- so each tally is that of its kind
+pub tally_of : (core : Core) (census : ByKind Tally) (parts : List (Option Part)) → IsSound core → IsBookIn core census parts → (kind : Kind) → IsTallyOf core kind (at census kind)
+tally_of core census parts sound book kind =
     let tally = at census kind in
     let there = shelves_count (records_in parts) core.places (present core) kind (sound_fit core sound).rising_records book.shows in
     record {

@@ -77,19 +77,20 @@ abbrev pub WasSealed : RuntimeShown → ℕ → Type 0
 WasSealed shown generation = WasTrue shown (λ core. (core.generation ≡ generation)
     × (core.durable ≡ length core.history))
 
--- Of this kind an object is on a shelf for each element that is there, and for some deliveries
--- under way one more, at most one on each processor, and none where nothing is assigned. All others
--- that were supplied are in the stock or retired.
-pub record AddUp (core : Core) (kind : Kind) (tally : Tally) : Type 0 where
+-- The tally of a kind's objects: for each element that is there one is on a shelf, and for some
+-- deliveries under way one more, at most one on each processor, and none where nothing is assigned.
+-- All others that were supplied are in the stock or retired.
+pub record IsTallyOf (core : Core) (kind : Kind) (tally : Tally) : Type 0 where
   pub coming : ℕ
   pub few : coming ≤ core.processors
   pub none : core.assigned ≡ [] → coming ≡ 0
   pub all : tally.supplied ≡ there_in (present core).records kind + coming + tally.in_stock
       + tally.retired
 
--- the objects of all kinds were so many at a moment
+-- the objects of each kind were so many at a moment
 abbrev pub WereCounted : RuntimeShown → ByKind Tally → Type 0
-WereCounted shown census = WasTrue shown (λ core. (kind : Kind) → AddUp core kind (at census kind))
+WereCounted shown census = WasTrue shown (λ core. (kind : Kind) →
+    IsTallyOf core kind (at census kind))
 
 -- At a moment all events were durable, and they were so many, with those before the opening world.
 -- Each of these passes was current then: it was lent after no more events than these, and had its
