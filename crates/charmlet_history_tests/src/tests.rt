@@ -1,4 +1,5 @@
 mod knowing;
+mod locks;
 mod opening;
 mod passes;
 mod seats;

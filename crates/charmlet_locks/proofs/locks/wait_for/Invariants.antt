@@ -1,0 +1,8 @@
+use Rattle.std.proofs.Common.{◌≡◌}
+use Rattle.charmlet_locks.proofs.locks.wait_for.Given as goal
+
+abbrev pub invariant-loop : goal.invariant-loop
+invariant-loop g l = record {
+  table : l.seat.table_id ≡ l.fn.seat.table_id;
+  me : l.seat.me ≡ l.fn.seat.me;
+}

@@ -1,0 +1,3 @@
+-- The definitions that contracts cite.
+pub mod Home
+pub mod Locks
