@@ -20,7 +20,7 @@ use Rattle.charmlet_model.specs.Core as core
 use Rattle.charmlet_model.specs.Core.{Blanks, Core, MayLackMemory, assigned_to, away_checks, home, is_present, is_processor, is_repeat, move_checks, new_request_checks, place_of, place_or_home, present, request_checks}
 use Rattle.charmlet_model.specs.Edition.{edition_kind}
 use Rattle.charmlet_model.specs.Reaction.{greatest}
-use Rattle.charmlet_model.specs.Row.{follows_last, in_window, no_client}
+use Rattle.charmlet_model.specs.Row.{below, follows_last, in_window, no_client}
 use Rattle.charmlet_model.specs.Run.{Goes, StoreView}
 use Rattle.charmlet_model.specs.Sound.{IsSound}
 use Rattle.charmlet_model.specs.World.{World, client_of, edition_of_array}
@@ -33,10 +33,11 @@ use Rattle.charmlet_history.specs.Kept.{told_or_refused}
 use Rattle.charmlet_passes.specs.Passes.{HeldPass, IsCurrent}
 use Rattle.charmlet_sequencer.specs.Relocating.{IsAway}
 use Rattle.charmlet_hub.specs.Hub.{HubShown, store_in}
-use Rattle.charmlet_workers.specs.Refusals.{IsMoveCause, IsRequestCause, is_move_refusal}
+use Rattle.charmlet_workers.specs.Refusals.{IsMoveCause, IsRecent, IsRequestCause, is_move_refusal}
 use Rattle.charmlet_workers.specs.Runtime.{RuntimeShown}
 use Rattle.charmlet_workers.proofs.Refusals.{Fit, blank_fit, no_more, refusal_fits}
 use Rattle.charmlet_workers.proofs.Runtimes.{kept_arrays}
+use Rattle.charmlet_workers.proofs.Windows.{reaches}
 
 -- ---- a client's row
 
@@ -109,6 +110,16 @@ module _ (k : Core) (sound : IsSound k) (opening : World) (same : k.opening ≡ 
       let never : ⊥ = cc in
       never
 
+  -- nor one of the pass's own among the last eight
+  not_own : is_repeat k client request.number ≡ false → held.pass.lent_at < request.number → IsRecent held.pass.last request.number → ⊥
+  not_own fresh own recent =
+      let first = current.lent_at in
+      let few = recent.2 in
+      let under : below row < request.number = reaches k.opening k.history client request.number sound.legal.each_can (omega (arith, own, first)) (omega (arith, few, by_pass)) in
+      let no : false ≡ true = sym fresh ∙ inside-true row request.number under (omega (arith, recent.1, by_pass)) in
+      let never : ⊥ = cc in
+      never
+
   zero_or_not : (n : ℕ) → (n ≢ 0 → ⊥) → n ≡ 0
   zero_or_not n above = elim (n == 0) as (λ b. (n == 0) ≡ b → n ≡ 0) [
     | true ↦ λ is. exact_unsigned_eq n 0 is
@@ -124,6 +135,7 @@ module _ (k : Core) (sound : IsSound k) (opening : World) (same : k.opening ≡ 
         λ turn. (
           λ follows. subst (λ n. greatest ≤ n) by_pass (no_next row request.number turn (follows ∙ ap (λ n. n + 1) (sym by_pass))),
           λ last. zero_or_not request.number (not_last fresh last),
+          not_own fresh,
         ),
         λ turn.
             let follows = is_next turn in (

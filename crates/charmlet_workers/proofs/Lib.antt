@@ -4,7 +4,9 @@ pub mod Refusals
 pub mod Causes
 pub mod Rows
 pub mod Flushing
+pub mod Windows
 pub mod Repeats
 pub mod Looks
 pub mod Moves
 pub mod Counts
+pub mod Orders

@@ -69,29 +69,33 @@ IsRecent last number = (0 < number) × (number ≤ last) × (last < number + 8)
 
 -- ---- causes
 
--- What a client's last number and the arrays tell of why its request with this number, for this
--- element and with these words, is refused. One that is out of turn isn't the next one, as long as
--- there are more, nor a repeat of the last. For all else it is the next one that is refused: there
--- is no such array, or it has too many words; the client waits only after eight requests, and is
--- one too many only before its first.
-abbrev pub IsCauseAfter : World → (last number : ℕ) → Elem → List ℕ → Refusal → Type 0
-IsCauseAfter opening last number to words refusals.Memory = Unit {0}
-IsCauseAfter opening last number to words refusals.Halted = Unit {0}
-IsCauseAfter opening last number to words (refusals.OutOfTurn wanted) =
+-- What the arrays tell of why a request with this number, for this element and with these words, is
+-- refused to a client whose last number is this one, and was the first one when the store opened.
+-- One that is out of turn isn't the next one, as long as there are more; nor a repeat of the last,
+-- or of one of the last eight that was accepted since. For all else it is the next one that is
+-- refused: there is no such array, or it has too many words; the client waits only after eight
+-- requests, and is one too many only before its first.
+abbrev pub IsCauseAfter : World → (first last number : ℕ) → Elem → List ℕ → Refusal → Type 0
+IsCauseAfter opening first last number to words refusals.Memory = Unit {0}
+IsCauseAfter opening first last number to words refusals.Halted = Unit {0}
+IsCauseAfter opening first last number to words (refusals.OutOfTurn wanted) =
     (number ≡ last + 1 → greatest ≤ last) × (number ≡ last → number ≡ 0)
-IsCauseAfter opening last number to words refusals.Waiting = (number ≡ last + 1) × (8 ≤ last)
-IsCauseAfter opening last number to words refusals.NoArray = (number ≡ last + 1)
+    × (first < number → ¬ IsRecent last number)
+IsCauseAfter opening first last number to words refusals.Waiting = (number ≡ last + 1)
+    × (8 ≤ last)
+IsCauseAfter opening first last number to words refusals.NoArray = (number ≡ last + 1)
     × (edition_of_array opening to.array ≡ None)
-IsCauseAfter opening last number to words refusals.TooLong = (number ≡ last + 1)
+IsCauseAfter opening first last number to words refusals.TooLong = (number ≡ last + 1)
     × (512 < length words)
-IsCauseAfter opening last number to words refusals.ClientsFull = (number ≡ last + 1) × (last ≡ 0)
-IsCauseAfter opening last number to words refusals.HistoryFull = number ≡ last + 1
-IsCauseAfter opening last number to words _ = ⊥
+IsCauseAfter opening first last number to words refusals.ClientsFull = (number ≡ last + 1)
+    × (last ≡ 0)
+IsCauseAfter opening first last number to words refusals.HistoryFull = number ≡ last + 1
+IsCauseAfter opening first last number to words _ = ⊥
 
 -- what is known of it by the client's pass
 abbrev pub IsRequestCause : World → HeldPass → Request → Refusal → Type 0
-IsRequestCause opening held request =
-    IsCauseAfter opening held.pass.last request.number request.to request.words.now
+IsRequestCause opening held request = IsCauseAfter opening held.pass.lent_at held.pass.last
+    request.number request.to request.words.now
 
 -- What is known by its arguments of why a move is refused: there is no such processor, or a blank
 -- of the array's own kind is lacking.

@@ -1,17 +1,20 @@
 -- What is seen of a runtime, and what it opens with.
-use Rattle.std.specs.Prelude.{◌≡◌, ℕ, ◌+◌, ◌≤◌, false, List, [], length, map, Some}
+use Rattle.std.specs.Prelude.{◌≡◌, ℕ, zero, suc, ◌+◌, ◌≤◌, ◌==◌, ◌&&◌, Bool, false, List, [], length, map, if◌then◌else◌, Some, is_none}
 use Rattle.std.specs.List.{AllByRecursion}
+use Rattle.std.specs.Option.{option_map_or}
 use Rattle.charmlet_model.specs.declared.kind.Kind.{Kind}
 use Rattle.charmlet_model.specs.declared.names.Elem.{Elem}
 use Rattle.charmlet_model.specs.declared.names.MsgId.{MsgId}
 use Rattle.charmlet_model.specs.Core.{Core, place_of, present}
 use Rattle.charmlet_model.specs.Shelves.{there_in}
 use Rattle.charmlet_model.specs.Sound.{IsSound}
-use Rattle.charmlet_model.specs.World.{World, record_of}
+use Rattle.charmlet_model.specs.Edition.{edition_kind}
+use Rattle.charmlet_model.specs.Kind.{kind_number}
+use Rattle.charmlet_model.specs.World.{World, edition_of_array, record_of}
 use Rattle.charmlet_disk.specs.declared.disk.Disk.{Ghosts}
 use Rattle.charmlet_halves.specs.declared.halves.Halves.{Halves}
 use Rattle.charmlet_halves.specs.Halves.{disk_of}
-use Rattle.charmlet_history.specs.Kept.{core_in}
+use Rattle.charmlet_history.specs.Kept.{assigned_message, core_in}
 use Rattle.charmlet_journal.specs.Rest.{Agrees, IsCurrent, IsKept}
 use Rattle.charmlet_passes.specs.Passes.{HeldPass, IsCurrent as IsCurrentPass, lent_since}
 use Rattle.charmlet_sequencer.specs.Sequencer.{HasOpened}
@@ -77,15 +80,23 @@ abbrev pub WasSealed : RuntimeShown → ℕ → Type 0
 WasSealed shown generation = WasTrue shown (λ core. (core.generation ≡ generation)
     × (core.durable ≡ length core.history))
 
--- The tally of a kind's objects: for each element that is there one is on a shelf, and for some
--- deliveries under way one more, at most one on each processor, and none where nothing is assigned.
--- All others that were supplied are in the stock or retired.
-pub record IsTallyOf (core : Core) (kind : Kind) (tally : Tally) : Type 0 where
-  pub coming : ℕ
-  pub few : coming ≤ core.processors
-  pub none : core.assigned ≡ [] → coming ≡ 0
-  pub all : tally.supplied ≡ there_in (present core).records kind + coming + tally.in_stock
-      + tally.retired
+-- the delivery that is assigned to the processor constructs an object of the kind
+abbrev pub brings_on : Core → Kind → ℕ → Bool
+brings_on core kind processor = option_map_or (λ m. is_none (record_of (present core) m.to).state
+    && option_map_or (λ edition. kind_number (edition_kind edition) == kind_number kind)
+    (edition_of_array (present core) m.to.array) false) (assigned_message core processor) false
+
+-- how many such objects come on the first processors
+abbrev pub coming_on : Core → Kind → ℕ → ℕ
+coming_on core kind zero = 0
+coming_on core kind (suc n) = coming_on core kind n + (if brings_on core kind n then 1 else 0)
+
+-- The tally of a kind's objects: for each element that is there one is on a shelf, and for each
+-- delivery under way that constructs one. All others that were supplied are in the stock or
+-- retired.
+abbrev pub IsTallyOf : Core → Kind → Tally → Type 0
+IsTallyOf core kind tally = tally.supplied ≡ there_in (present core).records kind
+    + coming_on core kind core.processors + tally.in_stock + tally.retired
 
 -- the objects of each kind were so many at a moment
 abbrev pub WereCounted : RuntimeShown → ByKind Tally → Type 0

@@ -1,8 +1,7 @@
 //! The end of a runtime.
 
-ghost use Rattle.std.specs.Prelude.{◌≡◌, [], ◌∷◌, ◌≤◌, false, IfErr, IfOk, map, vec_len};
+ghost use Rattle.std.specs.Prelude.{◌≡◌, [], ◌∷◌, ◌≤◌, false, IfErr, IfOk, map};
 ghost use Rattle.std.specs.List.{AllByRecursion};
-ghost use Rattle.std.specs.Vec.{vec_capacity};
 ghost use Rattle.charmlet_model.specs.declared.refusal.Refusal.TheVariants as refusals;
 ghost use Rattle.charmlet_disk.specs.File.{CrashBytes, MayLeave};
 ghost use Rattle.charmlet_halves.specs.Halves.{disk_of};
@@ -23,7 +22,7 @@ use charmlet_hub::{Closed, PassesOf, SeatsOf};
 use charmlet_model::Refusal;
 use charmlet_passes::ClientPass;
 use charmlet_seats::Seat;
-use charmlet_sequencer::{LockedShelf, RuntimeName};
+use charmlet_sequencer::RuntimeName;
 use std::sync::Mutex;
 
 /// A runtime that wasn't closed, why not, and the seats and passes that were handed in.
@@ -78,42 +77,36 @@ impl<D: Disk, C: Chare, B: RuntimeName> Runtime<D, C, B> {
             × (back.passes ≡ passes)) }
     {
         let Runtime {
-            shelves: mut locks,
+            shelves: locks,
             hub,
             spare,
         } = self;
         let Spare { shelves, empty } = spare.into_inner();
-        let shelves = unlock_all(&mut locks, shelves);
+        let (room, shelves) = match locks.into_values(shelves) {
+            Ok(out) => out,
+            Err((locks, shelves)) => {
+                return Err(NotClosed {
+                    refusal: Refusal::PassOut,
+                    runtime: Runtime {
+                        shelves: locks,
+                        hub,
+                        spare: Mutex::new(Spare { shelves, empty }),
+                    },
+                    seats,
+                    passes,
+                });
+            }
+        };
         let hub = hub.into_inner();
         hub.facts();
         match hub.close(shelves, empty, seats, passes) {
             Ok(closed) => Ok(closed),
             Err(back) => Err(NotClosed {
                 refusal: back.refusal,
-                runtime: lock_all(back.shelves, locks, back.hub, back.empty),
+                runtime: lock_all(back.shelves, room, back.hub, back.empty),
                 seats: back.seats,
                 passes: back.passes,
             }),
         }
     }
-}
-
-/// Takes the shelves out of their locks, last first, into a list that has room for them. The list
-/// of locks keeps its room.
-fn unlock_all<C: Chare, B: RuntimeName>(
-    locks: &mut Vec<Mutex<LockedShelf<C, B>>>,
-    spare: Vec<LockedShelf<C, B>>,
-) -> Vec<LockedShelf<C, B>>
-    requires locks { vec_len locks.old ≡ B.processors }
-    requires none { vec_len spare ≡ 0 }
-    requires room { B.processors ≤ vec_capacity spare }
-    ensures shelves { vec_len result ≡ B.processors }
-    ensures none { vec_len locks.new ≡ 0 }
-    ensures room { B.processors ≤ vec_capacity locks.new }
-{
-    let mut shelves = spare;
-    while let Some(lock) = locks.pop() {
-        shelves.push_reserved(lock.into_inner());
-    }
-    shelves
 }

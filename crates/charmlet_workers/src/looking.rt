@@ -1,6 +1,6 @@
 //! What is seen of a runtime: of an element on its shelf, and all else in one hold of the hub.
 
-ghost use Rattle.std.specs.Prelude.{◌≡◌, ◌+◌, ◌⊎◌, Some, IfErr, IfOk, IfSome, length, map};
+ghost use Rattle.std.specs.Prelude.{◌≡◌, ◌+◌, ◌<◌, ◌⊎◌, Some, IfErr, IfOk, IfSome, length, map};
 ghost use Rattle.charmlet_model.specs.declared.refusal.Refusal.TheVariants as refusals;
 ghost use Rattle.charmlet_model.specs.Core.{place_of, present};
 ghost use Rattle.charmlet_model.specs.World.{record_of};
@@ -111,7 +111,8 @@ impl<D: Disk, C: Chare, B: RuntimeName> Runtime<D, C, B> {
 
     /// Where an element stands, or what is seen of one that isn't there.
     fn find<R: Wait>(&self, rt: &R, elem: Elem) -> Result<u16, Look>
-        ensures { IfErr result (WasSeen self.now elem) }
+        ensures place { IfOk result (λ place. place < B.processors) }
+        ensures seen { IfErr result (WasSeen self.now elem) }
     {
         let hub = self.hub.lock(rt);
         hub.facts();
@@ -120,14 +121,13 @@ impl<D: Disk, C: Chare, B: RuntimeName> Runtime<D, C, B> {
 
     /// What is seen of an element, if it stands on the processor.
     fn look_at<R: Wait>(&self, rt: &R, elem: Elem, place: u16) -> Result<Option<Look>, Refusal>
+        requires { place < B.processors }
         ensures seen { IfOk result (λ o. IfSome o (WasSeen self.now elem)) }
         ensures err { IfErr result (λ refusal. (refusal ≡ refusals.Halted)
             ⊎ (refusal ≡ refusals.Memory)) }
     {
-        match self.shelves.get(usize::from(place)) {
-            Some(lock) => self.look_on(rt, &mut lock.lock(rt), elem),
-            None => Ok(None),
-        }
+        let mut held = self.shelves.lock(rt, usize::from(place));
+        self.look_on(rt, held.grip.get_mut(), elem)
     }
 
     /// The same, on its locked shelf.
@@ -137,6 +137,7 @@ impl<D: Disk, C: Chare, B: RuntimeName> Runtime<D, C, B> {
         locked: &mut LockedShelf<C, B>,
         elem: Elem,
     ) -> Result<Option<Look>, Refusal>
+        ensures number { locked.new.number ≡ locked.old.number }
         ensures seen { IfOk result (λ o. IfSome o (WasSeen self.now elem)) }
         ensures err { IfErr result (λ refusal. (refusal ≡ refusals.Halted)
             ⊎ (refusal ≡ refusals.Memory)) }
@@ -167,7 +168,8 @@ impl<D: Disk, C: Chare, B: RuntimeName> Runtime<D, C, B> {
 
 /// Where an element stands, or what is seen of one that isn't there.
 fn absent_look(history: &History, elem: Elem) -> Result<u16, Look>
-    ensures { IfErr result (IsLook (place_of (core_in history.now) elem)
+    ensures place { IfOk result (λ place. place < (core_in history.now).processors) }
+    ensures look { IfErr result (IsLook (place_of (core_in history.now) elem)
         (record_of (present (core_in history.now)) elem)) }
 {
     history.facts();

@@ -1,8 +1,8 @@
 //! Moves of elements between two processors.
 
-ghost use Rattle.std.specs.Prelude.{◌≡◌, ◌≢◌, ℕ, ◌<◌, false, true, None, Ok, IfErr, IfOk, IfSome, OnErr, OnOk};
+ghost use Rattle.std.specs.Prelude.{◌≡◌, ◌≢◌, ℕ, ◌<◌, false, true, None, Some, Ok, IfErr, IfOk, IfSome, OnErr, OnOk};
 ghost use Rattle.charmlet_model.specs.Core as core;
-ghost use Rattle.charmlet_model.specs.Core.{Done};
+ghost use Rattle.charmlet_model.specs.Core.{Done, place_of};
 ghost use Rattle.charmlet_model.specs.Run.{Goes};
 ghost use Rattle.charmlet_migrate.specs.Moving.{IsIdle};
 ghost use Rattle.charmlet_sequencer.specs.Relocating.{Carries};
@@ -77,14 +77,14 @@ impl<D: Disk, C: Chare, B: RuntimeName> Runtime<D, C, B> {
         ensures moved { result ≡ Ok true → StoodOn self.now elem processor }
         ensures cause { (any : ℕ) → IfErr result (IsMoveCause self.now elem any) }
     {
-        let first = &self.shelves[usize::from(place.min(processor))];
-        let second = &self.shelves[usize::from(place.max(processor))];
-        let mut first = first.lock(rt);
-        let mut second = second.lock(rt);
+        let mut first = self.shelves.lock(rt, usize::from(place.min(processor)));
+        let mut second = self.shelves.lock(rt, usize::from(place.max(processor)));
+        let first = first.grip.get_mut();
+        let second = second.grip.get_mut();
         if place < processor {
-            self.carry_between(rt, &mut first, &mut second, elem, processor)
+            self.carry_between(rt, first, second, elem)
         } else {
-            self.carry_between(rt, &mut second, &mut first, elem, processor)
+            self.carry_between(rt, second, first, elem)
         }
     }
 
@@ -95,9 +95,11 @@ impl<D: Disk, C: Chare, B: RuntimeName> Runtime<D, C, B> {
         from: &mut LockedShelf<C, B>,
         to: &mut LockedShelf<C, B>,
         elem: Elem,
-        processor: u16,
     ) -> Result<bool, Refusal>
-        ensures moved { result ≡ Ok true → StoodOn self.now elem processor }
+        requires { from.old.number ≢ to.old.number }
+        ensures from { from.new.number ≡ from.old.number }
+        ensures to { to.new.number ≡ to.old.number }
+        ensures moved { result ≡ Ok true → StoodOn self.now elem to.old.number }
         ensures cause { (any : ℕ) → IfErr result (IsMoveCause self.now elem any) }
     {
         if let Err(refusal) = self.settle(rt, from) {
@@ -106,27 +108,28 @@ impl<D: Disk, C: Chare, B: RuntimeName> Runtime<D, C, B> {
         if let Err(refusal) = self.settle(rt, to) {
             return Err(refusal);
         }
-        relocate_from(&mut self.hub.lock(rt), from, to, elem, processor)
+        relocate_from(&mut self.hub.lock(rt), from, to, elem)
     }
 }
 
-/// Moves the element from the one shelf to the other, if it stands on the one, and the other is
-/// that of the processor. It answers whether it did. If nothing is under way on either, the refusal
-/// is the first that applies of `Halted`, `Checkpointing`, `NoBlank` and `Memory`. When refused, all
-/// is as before.
+/// Moves the element from the one shelf to the other, if it stands on the one. It answers whether
+/// it did. If nothing is under way on either, the refusal is the first that applies of `Halted`,
+/// `Checkpointing`, `NoBlank` and `Memory`. When refused, all is as before.
 fn relocate_from<D: Disk, C: Chare, B: RuntimeName>(
     hub: &mut Hub<D, C, B>,
     from: &mut LockedShelf<C, B>,
     to: &mut LockedShelf<C, B>,
     elem: Elem,
-    processor: u16,
 ) -> Result<bool, Refusal>
+    requires { from.old.number ≢ to.old.number }
+    ensures from { from.new.number ≡ from.old.number }
+    ensures to { to.new.number ≡ to.old.number }
     ensures stood { result ≡ Ok true →
-        StoodOn (named B.opening B.before B.processors B.generation) elem processor }
+        StoodOn (named B.opening B.before B.processors B.generation) elem to.old.number }
     ensures moves { result ≡ Ok true → Goes (store_in hub.old) (core.Move elem to.old.number) Done
         (store_in hub.new) × Carries elem from.old to.old from.new to.new }
     ensures stays { result ≡ Ok false → (hub.new ≡ hub.old) × (from.new ≡ from.old)
-        × (to.new ≡ to.old) }
+        × (to.new ≡ to.old) × (place_of hub.old.core elem ≢ Some from.old.number) }
     ensures err { OnErr result ((hub.new ≡ hub.old) × (from.new ≡ from.old)
         × (to.new ≡ to.old)) }
     ensures cause { IsIdle from.old → IsIdle to.old → (any : ℕ) →
@@ -134,11 +137,7 @@ fn relocate_from<D: Disk, C: Chare, B: RuntimeName>(
         any) }
 {
     hub.facts();
-    let Some(place) = hub.history().where_is(elem) else {
-        return Ok(false);
-    };
-    // No fact of a type says that the locks are in the order of their shelves.
-    if place != from.number() || place == to.number() || processor != to.number() {
+    if hub.history().where_is(elem) != Some(from.number()) {
         return Ok(false);
     }
     match hub.relocate(from, to, elem) {

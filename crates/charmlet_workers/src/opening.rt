@@ -4,17 +4,20 @@ ghost use Rattle.std.specs.Prelude.{◌≡◌, ◌≤◌, IfErr, IfOk, vec_len};
 ghost use Rattle.std.specs.Vec.{vec_capacity};
 ghost use Rattle.charmlet_agreement.specs.Naming.{table_of};
 ghost use Rattle.charmlet_halves.specs.Halves.{disk_of};
+ghost use Rattle.charmlet_locks.specs.Locks.{AreInOrder, shown};
 ghost use Rattle.charmlet_history.specs.Kept.{core_in};
 ghost use Rattle.charmlet_sequencer.specs.Sequencer.{IsOf};
+ghost use Rattle.charmlet_shelf.specs.Shelf.{View};
 ghost use Rattle.charmlet_store.specs.Store.{AreEmpty};
 ghost use Rattle.charmlet_workers.specs.Runtime.{IsReady, named, shown_of};
 
-use crate::runtime::{Runtime, Spare};
+use crate::runtime::{ByProcessor, Runtime, Spare};
 use charmlet_agreement::Unnamed;
 use charmlet_chare::Chare;
 use charmlet_disk::Disk;
 use charmlet_halves::Halves;
 use charmlet_hub::{Hub, SeenToken};
+use charmlet_locks::LockRoom;
 use charmlet_passes::SeenPass;
 use charmlet_seats::SeenIds;
 use charmlet_sequencer::{LockedShelf, Opened, RuntimeName, SeenPart, open_store};
@@ -55,19 +58,19 @@ impl UnnamedBooks {
 /// the store, memory can't be lacking once the store is written. A contract sees nothing of it.
 #[derive(Drop)]
 pub struct RuntimeRoom<C: Chare, B: RuntimeName> {
-    locks: Vec<Mutex<LockedShelf<C, B>>>,
+    locks: LockRoom<LockedShelf<C, B>, ByProcessor>,
     spare: Spare<C, B>,
 }
 
 impl<C: Chare, B: RuntimeName> Model for RuntimeRoom<C, B> {
-    ghost use Rattle.std.specs.Prelude.{◌≡◌, ◌≤◌};
-    ghost use Rattle.std.specs.Vec.{vec_capacity, vec_len};
+    ghost use Rattle.std.specs.Prelude.{◌≡◌};
+    ghost use Rattle.charmlet_locks.specs.Locks.{shown};
 
     ghost Value = { Unit {0} };
 
     ghost view = { λ _. tt };
 
-    ghost invariant = { λ r. (vec_len r.locks ≡ 0) × (B.processors ≤ vec_capacity r.locks) };
+    ghost invariant = { λ r. r.locks ≡ shown B.processors 0 };
 }
 
 impl<C: Chare, B: RuntimeName> RuntimeRoom<C, B> {
@@ -76,7 +79,7 @@ impl<C: Chare, B: RuntimeName> RuntimeRoom<C, B> {
         requires { processors ≡ B.processors }
     {
         let count = usize::from(processors);
-        let locks = Vec::with_capacity(alloc, count)?;
+        let locks = LockRoom::new(alloc, count)?;
         let shelves = Vec::with_capacity(alloc, count)?;
         let empty = empty_shelves(alloc, processors)?;
         Ok(RuntimeRoom {
@@ -162,34 +165,30 @@ impl<D: Disk, C: Chare, B: RuntimeName> Runtime<D, C, B> {
             passes.named(),
             checkpoints.named(),
         );
-        let mut shelves = shelves;
-        // The last one is locked first.
-        shelves.as_mut_slice().reverse();
         lock_all(shelves, locks, hub, empty)
     }
 }
 
-/// Puts each shelf and the hub under its lock. The shelves are handed in last first, and there is
-/// room for their locks. The empty ones are for the end.
+/// Puts each shelf and the hub under its lock. The shelves are handed in by rising number. The empty
+/// ones are for the end.
 pub(crate) fn lock_all<D: Disk, C: Chare, B: RuntimeName>(
     shelves: Vec<LockedShelf<C, B>>,
-    locks: Vec<Mutex<LockedShelf<C, B>>>,
+    locks: LockRoom<LockedShelf<C, B>, ByProcessor>,
     hub: Hub<D, C, B>,
     empty: Vec<Shelf<C>>,
 ) -> Runtime<D, C, B>
-    requires shelves { vec_len shelves ≡ B.processors }
-    requires none { vec_len locks ≡ 0 }
-    requires room { B.processors ≤ vec_capacity locks }
+    requires shelves { AreInOrder (λ (shelf : View). shelf.number) B.processors shelves.items }
+    requires room { locks ≡ shown B.processors 0 }
     requires empty { AreEmpty B.processors empty.items }
     ensures { result ≡ named B.opening B.before B.processors B.generation }
 {
     let mut shelves = shelves;
     let mut locks = locks;
-    while let Some(shelf) = shelves.pop() {
-        locks.push_reserved(Mutex::new(shelf));
+    while !shelves.is_empty() {
+        locks.put(shelves.remove(0));
     }
     Runtime {
-        shelves: locks,
+        shelves: locks.into_locks(),
         hub: Mutex::new(hub),
         spare: Mutex::new(Spare { shelves, empty }),
     }

@@ -10,6 +10,7 @@ ghost use Rattle.charmlet_workers.specs.Runtime.{IsLent, WereCounted};
 use charmlet_chare::Chare;
 use charmlet_disk::Disk;
 use charmlet_hub::{Hub, PassesOf, SeatsOf};
+use charmlet_locks::{Locks, Numbering};
 use charmlet_model::Refusal;
 use charmlet_passes::ClientPass;
 use charmlet_seats::Seat;
@@ -22,13 +23,10 @@ use std::sync::{Mutex, Wait};
 /// A shelf for each processor, and the hub, each under its lock. A contract sees the world with
 /// which the runtime opened, how many events came before it, how many processors there are, and the
 /// generation at which it opened: they are the hub's, and take no bytes.
-///
-/// No fact of a type can say which shelf lies under which lock. Each call goes by the number of the
-/// shelf that it finds there.
 #[derive(Drop)]
 pub struct Runtime<D: Disk, C: Chare, B: RuntimeName> {
-    /// The lock of each processor's shelf. They count from 0.
-    pub(crate) shelves: Vec<Mutex<LockedShelf<C, B>>>,
+    /// The lock of each processor's shelf. They count from 0, and each shelf lies under its own.
+    pub(crate) shelves: ShelfLocks<C, B>,
     pub(crate) hub: Mutex<Hub<D, C, B>>,
     /// For the end. No call takes this lock, which lets threads share objects that they don't look
     /// at.
@@ -37,14 +35,23 @@ pub struct Runtime<D: Disk, C: Chare, B: RuntimeName> {
 
 impl<D: Disk, C: Chare, B: RuntimeName> Model for Runtime<D, C, B> {
     ghost use Rattle.std.specs.Prelude.{◌≡◌};
-    ghost use Rattle.std.specs.Vec.{vec_len};
     ghost use Rattle.charmlet_workers.specs.Runtime.{RuntimeShown, named};
 
     ghost Value = { RuntimeShown };
 
     ghost view = { λ _. named B.opening B.before B.processors B.generation };
 
-    ghost invariant = { λ r. vec_len r.shelves ≡ B.processors };
+    ghost invariant = { λ r. r.shelves ≡ B.processors };
+}
+
+/// The locks of shelves, which are numbered by their processors.
+pub(crate) type ShelfLocks<C, B> = Locks<LockedShelf<C, B>, ByProcessor>;
+
+/// A shelf has the number of its processor.
+pub struct ByProcessor;
+
+impl<C: Chare, B: RuntimeName> Numbering<LockedShelf<C, B>> for ByProcessor {
+    ghost number = { λ s. s.number };
 }
 
 /// What it takes to close a runtime without memory: an empty list with room for all shelves, so

@@ -1,6 +1,6 @@
 //! Checkpoints, one shelf after another, while others work.
 
-ghost use Rattle.std.specs.Prelude.{◌≡◌, ◌+◌, ◌<◌, true, Ok, IfErr, IfOk, IfSome, OnOk};
+ghost use Rattle.std.specs.Prelude.{◌≡◌, ◌+◌, ◌<◌, true, IfErr, IfOk, OnOk};
 ghost use Rattle.charmlet_model.specs.declared.refusal.Refusal.TheVariants as refusals;
 ghost use Rattle.charmlet_migrate.specs.Moving.{IsIdle};
 ghost use Rattle.charmlet_hub.specs.Checkpoint.{IsSealed};
@@ -44,23 +44,6 @@ impl<D: Disk, C: Chare, B: RuntimeName> Runtime<D, C, B> {
         ensures sealed { IfOk result (WasSealed self.now) }
         ensures err { IfErr result (λ refusal. is_sealing_refusal refusal ≡ true) }
     {
-        for _ in rt.forever() {
-            match self.checkpoint_once(rt, pause) {
-                Ok(Some(generation)) => return Ok(generation),
-                // No fact of a type says that the locks are in the order of their shelves.
-                Ok(None) => {}
-                Err(refusal) => return Err(refusal),
-            }
-        }
-        unreachable!()
-    }
-
-    /// The same, if the shelves are found in the order of their numbers.
-    fn checkpoint_once<P: Pause, R: Wait>(&self, rt: &R, pause: &P) -> Result<Option<u64>, Refusal>
-        ensures ok { IfOk result (λ sealed. IfSome sealed (IsLaterGeneration self.now.generation)) }
-        ensures sealed { IfOk result (λ sealed. IfSome sealed (WasSealed self.now)) }
-        ensures err { IfErr result (λ refusal. is_sealing_refusal refusal ≡ true) }
-    {
         let begun = self.begin(rt);
         let mut checkpoint = match begun {
             Ok(checkpoint) => checkpoint,
@@ -68,11 +51,7 @@ impl<D: Disk, C: Chare, B: RuntimeName> Runtime<D, C, B> {
         };
         let imaged = self.image_all(rt, &mut checkpoint, pause);
         match imaged {
-            Ok(true) => self.seal(rt, checkpoint),
-            Ok(false) => {
-                self.abandon(rt, checkpoint);
-                Ok(None)
-            }
+            Ok(()) => self.seal(rt, checkpoint),
             Err(refusal) => {
                 self.abandon(rt, checkpoint);
                 Err(refusal)
@@ -93,44 +72,43 @@ impl<D: Disk, C: Chare, B: RuntimeName> Runtime<D, C, B> {
         self.hub.lock(rt).abandon(checkpoint);
     }
 
-    /// Hands in all shelves, one after another, if they are found in the order of their numbers. It
-    /// answers whether they were.
+    /// Hands in all shelves, one after another.
     fn image_all<P: Pause, R: Wait>(
         &self,
         rt: &R,
         checkpoint: &mut Checkpoint<B>,
         pause: &P,
-    ) -> Result<bool, Refusal>
+    ) -> Result<(), Refusal>
         requires { checkpoint.old.shelves ≡ 0 }
-        ensures all { result ≡ Ok true → checkpoint.new.shelves ≡ B.processors }
+        ensures all { OnOk result (checkpoint.new.shelves ≡ B.processors) }
         ensures err { IfErr result (λ refusal. is_sealing_refusal refusal ≡ true) }
     {
-        for i in 0..self.shelves.len() {
-            match self.image_at(rt, checkpoint, i) {
-                Ok(true) => pause.imaged(checkpoint.shelves() - 1),
-                Ok(false) => return Ok(false),
+        for place in 0..self.shelves.len() {
+            match self.image_at(rt, checkpoint, place) {
+                Ok(()) => pause.imaged(checkpoint.shelves() - 1),
                 Err(refusal) => return Err(refusal),
             }
         }
-        Ok(true)
+        Ok(())
     }
 
-    /// Hands in the shelf under one of the locks, if it is the next one. It answers whether it is.
+    /// Hands in the shelf of the next processor.
     fn image_at<R: Wait>(
         &self,
         rt: &R,
         checkpoint: &mut Checkpoint<B>,
         place: usize,
-    ) -> Result<bool, Refusal>
-        requires { place < B.processors }
-        ensures next { result ≡ Ok true →
-            checkpoint.new.shelves ≡ checkpoint.old.shelves + 1 }
+    ) -> Result<(), Refusal>
+        requires place { place < B.processors }
+        requires next { place ≡ checkpoint.old.shelves }
+        ensures next { OnOk result (checkpoint.new.shelves ≡ checkpoint.old.shelves + 1) }
         ensures err { IfErr result (λ refusal. is_sealing_refusal refusal ≡ true) }
     {
         let Ok(room) = self.image_room(rt, place) else {
             return Err(Refusal::Memory);
         };
-        self.image_shelf(rt, checkpoint, &mut self.shelves[place].lock(rt), room)
+        let mut held = self.shelves.lock(rt, place);
+        self.image_shelf(rt, checkpoint, held.grip.get_mut(), room)
     }
 
     /// Room for the images of the shelf under one of the locks, by what its objects pack to now. No
@@ -138,9 +116,13 @@ impl<D: Disk, C: Chare, B: RuntimeName> Runtime<D, C, B> {
     fn image_room<R: Wait>(&self, rt: &R, place: usize) -> Result<ImageRoom, AllocError>
         requires { place < B.processors }
     {
-        let mut room = self.shelves[place].lock(rt).image_room();
+        let mut room = self.shelves.lock(rt, place).grip.get_mut().image_room();
         room.prepare()?;
-        self.shelves[place].lock(rt).measure(&mut room);
+        self.shelves
+            .lock(rt, place)
+            .grip
+            .get_mut()
+            .measure(&mut room);
         room.reserve()?;
         Ok(room)
     }
@@ -152,37 +134,35 @@ impl<D: Disk, C: Chare, B: RuntimeName> Runtime<D, C, B> {
         checkpoint: &mut Checkpoint<B>,
         locked: &mut LockedShelf<C, B>,
         room: ImageRoom,
-    ) -> Result<bool, Refusal>
-        ensures next { result ≡ Ok true →
-            checkpoint.new.shelves ≡ checkpoint.old.shelves + 1 }
+    ) -> Result<(), Refusal>
+        requires { locked.old.number ≡ checkpoint.old.shelves }
+        ensures number { locked.new.number ≡ locked.old.number }
+        ensures next { OnOk result (checkpoint.new.shelves ≡ checkpoint.old.shelves + 1) }
         ensures err { IfErr result (λ refusal. is_sealing_refusal refusal ≡ true) }
     {
         if let Err(refusal) = self.settle(rt, locked) {
             return Err(refusal);
-        }
-        if locked.number() != checkpoint.shelves() {
-            return Ok(false);
         }
         let images = match locked.images(room) {
             Ok(images) => images,
             Err(refusal) => return Err(refusal),
         };
         match self.hub.lock(rt).image(checkpoint, locked, images) {
-            Ok(()) => Ok(true),
+            Ok(()) => Ok(()),
             Err(_) => Err(Refusal::Memory),
         }
     }
 
     /// Ends a checkpoint to which all shelves were handed in, or gives it up.
-    fn seal<R: Wait>(&self, rt: &R, checkpoint: Checkpoint<B>) -> Result<Option<u64>, Refusal>
+    fn seal<R: Wait>(&self, rt: &R, checkpoint: Checkpoint<B>) -> Result<u64, Refusal>
         requires { checkpoint.shelves ≡ B.processors }
-        ensures ok { IfOk result (λ sealed. IfSome sealed (IsLaterGeneration self.now.generation)) }
-        ensures sealed { IfOk result (λ sealed. IfSome sealed (WasSealed self.now)) }
+        ensures ok { IfOk result (IsLaterGeneration self.now.generation) }
+        ensures sealed { IfOk result (WasSealed self.now) }
         ensures err { IfErr result (λ refusal. is_sealing_refusal refusal ≡ true) }
     {
         let sealed = self.seal_locked(rt, checkpoint);
         match sealed {
-            Ok(generation) => Ok(Some(generation)),
+            Ok(generation) => Ok(generation),
             Err(
                 NotSealed {
                     refusal,
@@ -212,6 +192,7 @@ impl<D: Disk, C: Chare, B: RuntimeName> Runtime<D, C, B> {
         rt: &R,
         locked: &mut LockedShelf<C, B>,
     ) -> Result<(), Refusal>
+        ensures number { locked.new.number ≡ locked.old.number }
         ensures idle { OnOk result (IsIdle locked.new) }
         ensures err { IfErr result (λ refusal. refusal ≡ refusals.Halted) }
     {

@@ -130,17 +130,31 @@ impl<D: Disk, C: Chare, B: RuntimeName> Runtime<D, C, B> {
             thread::yield_now();
             return Ok(None);
         }
-        let processor = seat.processor();
-        let lock = &self.shelves[usize::from(processor)];
-        let delivered = self.deliver(rt, &mut lock.lock(rt), seat, gate, pace);
+        let delivered = self.deliver_there(rt, seat, gate, pace);
         if let Ok(Some(id)) = &delivered {
-            gate.committed(processor, id);
+            gate.committed(seat.processor(), id);
         }
         delivered
     }
 
-    /// A delivery on a locked shelf. The hub is taken only while a message is assigned and while
-    /// its delivery is committed or released.
+    /// A delivery on the seat's processor, whose shelf is locked for it.
+    fn deliver_there<G: Gate, R: Wait>(
+        &self,
+        rt: &R,
+        seat: &mut Seat<SeatsOf<B>>,
+        gate: &G,
+        pace: &mut Pace,
+    ) -> Result<Option<MsgId>, Refusal>
+        ensures ok { IfOk result (Takes seat.old seat.new) }
+        ensures err { OnErr result (Takes seat.old seat.new None) }
+        ensures refused { IfErr result (λ refusal. is_work_refusal refusal ≡ true) }
+    {
+        let mut held = self.shelves.lock(rt, usize::from(seat.processor()));
+        self.deliver(rt, held.grip.get_mut(), seat, gate, pace)
+    }
+
+    /// A delivery on the locked shelf of the seat's processor. The hub is taken only while a message
+    /// is assigned and while its delivery is committed or released.
     fn deliver<G: Gate, R: Wait>(
         &self,
         rt: &R,
@@ -149,6 +163,8 @@ impl<D: Disk, C: Chare, B: RuntimeName> Runtime<D, C, B> {
         gate: &G,
         pace: &mut Pace,
     ) -> Result<Option<MsgId>, Refusal>
+        requires { locked.old.number ≡ seat.old.processor }
+        ensures number { locked.new.number ≡ locked.old.number }
         ensures ok { IfOk result (Takes seat.old seat.new) }
         ensures err { OnErr result (Takes seat.old seat.new None) }
         ensures refused { IfErr result (λ refusal. is_work_refusal refusal ≡ true) }
@@ -187,6 +203,7 @@ impl<D: Disk, C: Chare, B: RuntimeName> Runtime<D, C, B> {
         locked: &mut LockedShelf<C, B>,
         pace: &mut Pace,
     ) -> Result<Option<MsgId>, Refusal>
+        ensures number { locked.new.number ≡ locked.old.number }
         ensures assigned { IfOk result (λ o. IfSome o (λ _. is_assigned locked.new.phase ≡ true)) }
         ensures refused { IfErr result (λ refusal. is_work_refusal refusal ≡ true) }
     {
@@ -231,6 +248,7 @@ impl<D: Disk, C: Chare, B: RuntimeName> Runtime<D, C, B> {
         rt: &R,
         locked: &mut LockedShelf<C, B>,
     ) -> Result<(), Refusal>
+        ensures number { locked.new.number ≡ locked.old.number }
         ensures settled { OnOk result (is_done locked.new.phase ≡ false) }
         ensures err { IfErr result (λ refusal. refusal ≡ refusals.Halted) }
     {
@@ -292,6 +310,7 @@ fn commit_and_go_on<D: Disk, C: Chare, B: RuntimeName>(
 ) -> Result<MsgId, Refusal>
     requires done { is_done locked.old.phase ≡ true }
     requires room { 0 < seat.old.room }
+    ensures number { locked.new.number ≡ locked.old.number }
     ensures seat { IfOk result (λ id. Takes seat.old seat.new (Some id)) }
     ensures same { OnErr result (seat.new ≡ seat.old) }
     ensures err { IfErr result (λ refusal. refusal ≡ refusals.Halted) }
@@ -312,6 +331,7 @@ fn assign_oldest<D: Disk, C: Chare, B: RuntimeName>(
     hub: &mut Hub<D, C, B>,
     locked: &mut LockedShelf<C, B>,
 ) -> Result<Option<MsgId>, Refusal>
+    ensures number { locked.new.number ≡ locked.old.number }
     ensures oldest { IfOk result (λ o. o ≡ oldest_on_in hub.old.core locked.old.number) }
     ensures assigned { IfOk result (λ o. IfSome o (λ _. is_assigned locked.new.phase ≡ true)) }
     ensures err { OnErr result ((roomless hub.new ≡ roomless hub.old)
@@ -331,6 +351,7 @@ fn assign_counted<L: Ledger, D: Disk, C: Chare, B: RuntimeName>(
     requires name { blank.name ≡ L.name }
     requires parts { blank.parts ≡ L.parts }
     requires some { 0 < blank.parts }
+    ensures number { locked.new.number ≡ locked.old.number }
     ensures oldest { IfOk result (λ o. o ≡ oldest_on_in hub.old.core locked.old.number) }
     ensures assigned { IfOk result (λ o. IfSome o (λ _. is_assigned locked.new.phase ≡ true)) }
     ensures err { OnErr result ((roomless hub.new ≡ roomless hub.old)

@@ -1,8 +1,11 @@
 mod closing;
 mod crossing;
 mod hinting;
+mod idling;
 mod moving;
 mod opening;
+mod opposing;
 mod packing;
 mod pausing;
 mod random;
+mod watching;

@@ -1,5 +1,5 @@
-//! A store that is halted while a delivery goes on, and the close that commits it; and closes
-//! without each seat and each pass.
+//! A store that is halted while a delivery goes on, and the close that commits it; closes without
+//! each seat and each pass; and the close of a store that isn't halted, which writes nothing.
 
 ghost use Rattle.std.specs.Prelude.{◌≡◌};
 ghost use Rattle.charmlet_agreement.specs.Naming.{table_of};
@@ -203,10 +203,51 @@ fn close<B: RuntimeName + Send + Sync, R: Wait + AllocGlobal + Abort + Sync>(
     assert_eq!(rt; switches.counts(), counts);
 }
 
-// The same under the name `B`.
+// A request is accepted and isn't durable. No seat was lent. Without the client's pass a close is
+// refused; with it no call of the disk is made, and the request stays as it was.
+fn close_quietly<B: RuntimeName, R: Wait + AllocGlobal + Abort>(
+    rt: &R,
+    runtime: Runtime<ProbeDisk, Object, B>,
+    switches: &Switches,
+) {
+    let mut pass = runtime.client(rt, 7).expect(rt, "it isn't out");
+    let request = Request {
+        number: 1,
+        to: ELEM,
+        entry: CONSTRUCT,
+        words: &[5],
+    };
+    assert!(rt; matches!(runtime.request(rt, &mut pass, &request), Ok(Told::Unknown)));
+    let mut passes = Vec::new(rt.alloc());
+    passes.push(pass).expect(rt, "memory");
+    let mut open = Open {
+        runtime,
+        seats: Vec::new(rt.alloc()),
+        passes,
+    };
+    let counts = switches.counts();
+    let pass = open.passes.remove(0);
+    open = open.stay(rt);
+    open.passes.push(pass).expect(rt, "memory");
+    let Open {
+        runtime,
+        seats,
+        passes,
+    } = open;
+    let Ok(Closed { store, .. }) = runtime.close(seats, passes) else {
+        panic!(rt; "no seat is out")
+    };
+    assert_eq!(rt; switches.counts(), counts);
+    let history = &store.history;
+    assert_eq!(rt; [history.durable_count(), history.event_count()], [0, 1]);
+    assert!(rt; !history.is_halted());
+}
+
+// The same under the name `B`, of a store that is halted or not.
 fn close_named<B: RuntimeName + Send + Sync, R: Wait + AllocGlobal + Abort + Sync>(
     rt: &R,
     start: Start,
+    halts: bool,
 )
     requires ready { IsReady start.store start.halves }
     requires named { IsOf B.opening B.before B.processors (core_in start.store.history) }
@@ -225,20 +266,27 @@ fn close_named<B: RuntimeName + Send + Sync, R: Wait + AllocGlobal + Abort + Syn
         blanks,
     } = start;
     match Runtime::<ProbeDisk, Object, B>::open(store, halves, books) {
-        Ok(runtime) => close(rt, runtime, &switches, blanks),
+        Ok(runtime) if halts => close(rt, runtime, &switches, blanks),
+        Ok(runtime) => close_quietly(rt, runtime, &switches),
         Err(_) => panic!(rt; "memory"),
     }
 }
 
 // The same, under a name of its own.
-fn close_once<R: Wait + AllocGlobal + Abort + Sync>(rt: &R, start: Start)
+fn close_once<R: Wait + AllocGlobal + Abort + Sync>(rt: &R, start: Start, halts: bool)
     requires { IsReady start.store start.halves }
 {
-    close_named::<Brand, R>(rt, start)
+    close_named::<Brand, R>(rt, start, halts)
 }
 
 #[test]
 fn a_close_commits_what_a_halted_worker_left(rt: HostRuntime) {
     let tally = Arc::new(rt.alloc(), Tally::new()).expect(&rt, "memory");
-    close_once(&rt, Start::new(&rt, rt.alloc(), &tally));
+    close_once(&rt, Start::new(&rt, rt.alloc(), &tally), true);
+}
+
+#[test]
+fn a_close_writes_nothing(rt: HostRuntime) {
+    let tally = Arc::new(rt.alloc(), Tally::new()).expect(&rt, "memory");
+    close_once(&rt, Start::new(&rt, rt.alloc(), &tally), false);
 }

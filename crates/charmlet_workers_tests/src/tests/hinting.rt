@@ -16,7 +16,7 @@ use charmlet_probe_objects::{Object, Tally, blanks};
 use charmlet_runtime::UnnamedRuntime;
 use charmlet_seats::Seat;
 use charmlet_sequencer::RuntimeName;
-use charmlet_workers::{OpenGate, Runtime, UnnamedBooks};
+use charmlet_workers::{OpenGate, Runtime, RuntimeRoom, UnnamedBooks};
 use std::alloc::AllocGlobal;
 use std::marker::Brand;
 use std::process::Abort;
@@ -40,7 +40,9 @@ fn array_of(rt: &(impl AllocGlobal + Abort), kind: Kind) -> Manifest
 }
 
 // A new runtime on two processors, with an array of elements of this kind.
-fn create(rt: &(impl AllocGlobal + Abort), kind: Kind) -> UnnamedRuntime<ProbeDisk, Object> {
+fn create(rt: &(impl AllocGlobal + Abort), kind: Kind) -> UnnamedRuntime<ProbeDisk, Object>
+    ensures { (core_of result).processors ≡ 2 }
+{
     let disk = ProbeDisk::new(rt.alloc()).expect(rt, "memory");
     match UnnamedRuntime::create(rt.alloc(), disk, array_of(rt, kind), 2) {
         Ok(begun) => begun,
@@ -137,16 +139,15 @@ fn run_named<B: RuntimeName, R: Wait + AllocGlobal + Abort>(
 )
     requires named { IsOf B.opening B.before B.processors (core_of begun) }
     requires generation { B.generation ≡ (core_of begun).generation }
+    requires two { B.processors ≡ 2 }
     requires parts { table_of books.parts ≡ B.table }
     requires seats { table_of books.seats ≡ B.seats }
     requires passes { table_of books.passes ≡ B.passes }
     requires checkpoints { table_of books.checkpoints ≡ B.checkpoints }
     requires honest { B.honest → ⊥ }
 {
-    let runtime = match begun.open::<B>(books) {
-        Ok(runtime) => runtime,
-        Err(_) => panic!(rt; "memory"),
-    };
+    let room = RuntimeRoom::new(rt.alloc(), 2).expect(rt, "memory");
+    let runtime = begun.open_in::<B>(books, room);
     match kind {
         Kind::Tree => grow(rt, runtime, tally),
         _ => pass_on(rt, runtime, tally),

@@ -5,8 +5,9 @@ ghost use Rattle.std.specs.Prelude.{◌≡◌};
 ghost use Rattle.charmlet_agreement.specs.Naming.{table_of};
 ghost use Rattle.charmlet_sequencer.specs.Sequencer.{IsOf};
 ghost use Rattle.charmlet_engine.specs.Engine.{core_of};
+ghost use Rattle.charmlet_engine.specs.Reopened.{core_to_be};
 
-use super::opening::{create_on, restart_on};
+use super::opening::{create_on, reopen_on};
 use charmlet_disk::CrashChoice;
 use charmlet_history::Request;
 use charmlet_hub::{Closed, PassesOf, SeatsOf};
@@ -14,11 +15,11 @@ use charmlet_model::{CONSTRUCT, Elem, Kind, MsgId, Origin, Refusal, Told};
 use charmlet_passes::ClientPass;
 use charmlet_probe_disk::{ProbeDisk, Switches};
 use charmlet_probe_objects::{Object, Tally, blanks};
-use charmlet_runtime::UnnamedRuntime;
+use charmlet_runtime::{Reopened, UnnamedRuntime, open_reopened};
 use charmlet_seats::Seat;
 use charmlet_sequencer::RuntimeName;
 use charmlet_store::Look;
-use charmlet_workers::{NotClosed, OpenGate, Runtime, UnnamedBooks};
+use charmlet_workers::{NotClosed, OpenGate, Runtime, RuntimeRoom, UnnamedBooks};
 use std::alloc::AllocGlobal;
 use std::marker::Brand;
 use std::process::Abort;
@@ -270,35 +271,65 @@ fn live<B: RuntimeName, R: Wait + AllocGlobal + Abort>(
     end(rt, runtime, seats, passes, processor)
 }
 
-// The same under the name `B`.
+// The first one under the name `B`.
 fn live_named<B: RuntimeName, R: Wait + AllocGlobal + Abort>(
     rt: &R,
     begun: UnnamedRuntime<ProbeDisk, Object>,
     books: UnnamedBooks,
-    first: Option<&Switches>,
+    switches: &Switches,
 ) -> ProbeDisk
     requires named { IsOf B.opening B.before B.processors (core_of begun) }
     requires generation { B.generation ≡ (core_of begun).generation }
+    requires two { B.processors ≡ 2 }
     requires parts { table_of books.parts ≡ B.table }
     requires seats { table_of books.seats ≡ B.seats }
     requires passes { table_of books.passes ≡ B.passes }
     requires checkpoints { table_of books.checkpoints ≡ B.checkpoints }
     requires honest { B.honest → ⊥ }
 {
-    match begun.open::<B>(books) {
-        Ok(runtime) => live(rt, runtime, first),
-        Err(_) => panic!(rt; "memory"),
-    }
+    let room = RuntimeRoom::new(rt.alloc(), 2).expect(rt, "memory");
+    live(rt, begun.open_in::<B>(books, room), Some(switches))
 }
 
 // The same, under a name of its own.
 fn live_once<R: Wait + AllocGlobal + Abort>(
     rt: &R,
     begun: UnnamedRuntime<ProbeDisk, Object>,
-    first: Option<&Switches>,
+    switches: &Switches,
+) -> ProbeDisk
+    requires { (core_of begun).processors ≡ 2 }
+{
+    let books = UnnamedBooks::new(rt.alloc()).expect(rt, "memory");
+    live_named::<Brand, R>(rt, begun, books, switches)
+}
+
+// The second one under the name `B`.
+fn live_again_named<B: RuntimeName, R: Wait + AllocGlobal + Abort>(
+    rt: &R,
+    reopened: Reopened<ProbeDisk, Object>,
+    books: UnnamedBooks,
+) -> ProbeDisk
+    requires named { IsOf B.opening B.before B.processors (core_to_be reopened) }
+    requires generation { B.generation ≡ (core_to_be reopened).generation }
+    requires parts { table_of books.parts ≡ B.table }
+    requires seats { table_of books.seats ≡ B.seats }
+    requires passes { table_of books.passes ≡ B.passes }
+    requires checkpoints { table_of books.checkpoints ≡ B.checkpoints }
+    requires honest { B.honest → ⊥ }
+{
+    match open_reopened::<ProbeDisk, Object, B>(rt.alloc(), reopened, books) {
+        Ok(runtime) => live(rt, runtime, None),
+        Err(_) => panic!(rt; "memory"),
+    }
+}
+
+// The same, under a name of its own.
+fn live_again<R: Wait + AllocGlobal + Abort>(
+    rt: &R,
+    reopened: Reopened<ProbeDisk, Object>,
 ) -> ProbeDisk {
     let books = UnnamedBooks::new(rt.alloc()).expect(rt, "memory");
-    live_named::<Brand, R>(rt, begun, books, first)
+    live_again_named::<Brand, R>(rt, reopened, books)
 }
 
 #[test]
@@ -307,7 +338,7 @@ fn a_counter_moves_and_comes_back(rt: HostRuntime) {
     let tally = Arc::new(alloc, Tally::new()).expect(&rt, "memory");
     let disk = ProbeDisk::new(alloc).expect(&rt, "memory");
     let switches = disk.switches().expect(&rt, "memory");
-    let disk = live_once(&rt, create_on(&rt, disk), Some(&switches));
+    let disk = live_once(&rt, create_on(&rt, disk), &switches);
     let disk = disk.crash(CrashChoice::New);
-    let _disk = live_once(&rt, restart_on(&rt, disk, &tally), None);
+    let _disk = live_again(&rt, reopen_on(&rt, disk, &tally));
 }

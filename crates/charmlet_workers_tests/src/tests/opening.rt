@@ -1,6 +1,8 @@
 //! Stores to open a runtime over: new ones, and one that comes back.
 
+ghost use Rattle.std.specs.Prelude.{◌≡◌};
 ghost use Rattle.charmlet_model.specs.Edition.{AreNewest};
+ghost use Rattle.charmlet_engine.specs.Engine.{core_of};
 ghost use Rattle.charmlet_workers.specs.Runtime.{IsReady};
 
 use charmlet_halves::Halves;
@@ -10,7 +12,7 @@ use charmlet_probe_disk::{ProbeDisk, Switches};
 use charmlet_probe_objects::{Object, Tally, blanks};
 use charmlet_probe_store::{Blanks, EngineMachine, ProbeStore, wanted_objects};
 use charmlet_recover::stock_of;
-use charmlet_runtime::UnnamedRuntime;
+use charmlet_runtime::{Reopened, UnnamedRuntime};
 use charmlet_store::{Store, empty_shelves};
 use charmlet_workers::UnnamedBooks;
 use std::alloc::{AllocGlobal, Global};
@@ -96,7 +98,9 @@ pub(super) fn has_counters(rt: &impl Abort, store: &Store<Object>, on_shelves: u
 pub(super) fn create_on(
     rt: &(impl AllocGlobal + Abort),
     disk: ProbeDisk,
-) -> UnnamedRuntime<ProbeDisk, Object> {
+) -> UnnamedRuntime<ProbeDisk, Object>
+    ensures { (core_of result).processors ≡ 2 }
+{
     let manifest = counters(rt, rt.alloc());
     match UnnamedRuntime::create(rt.alloc(), disk, manifest, 2) {
         Ok(begun) => begun,
@@ -104,19 +108,20 @@ pub(super) fn create_on(
     }
 }
 
-// The runtime that comes back on two processors, with the objects that it wants.
-pub(super) fn restart_on<R: Threads + Sync + AllocGlobal + Abort>(
+// The store that comes back on two processors, with the objects that it wants, and doesn't go on
+// yet.
+pub(super) fn reopen_on<R: Threads + Sync + AllocGlobal + Abort>(
     rt: &R,
     disk: ProbeDisk,
     tally: &Arc<Tally>,
-) -> UnnamedRuntime<ProbeDisk, Object> {
+) -> Reopened<ProbeDisk, Object> {
     let mut disk = disk;
     let objects = wanted_objects(rt.alloc(), tally, &mut disk).expect(rt, "memory");
     let Ok(blanks) = stock_of(rt.alloc(), objects) else {
         panic!(rt; "memory")
     };
-    match UnnamedRuntime::restart(rt, rt.alloc(), disk, blanks, 2) {
-        Ok(begun) => begun,
+    match Reopened::from_disk(rt, rt.alloc(), disk, blanks, 2) {
+        Ok(reopened) => reopened,
         Err(_) => panic!(rt; "a store is there"),
     }
 }

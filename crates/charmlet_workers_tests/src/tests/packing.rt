@@ -18,7 +18,7 @@ use charmlet_pup::PupFault;
 use charmlet_runtime::UnnamedRuntime;
 use charmlet_seats::Seat;
 use charmlet_sequencer::RuntimeName;
-use charmlet_workers::{Gate, OpenGate, Runtime, UnnamedBooks};
+use charmlet_workers::{Gate, OpenGate, Runtime, RuntimeRoom, UnnamedBooks};
 use std::alloc::{AllocError, AllocGlobal};
 use std::marker::Brand;
 use std::process::Abort;
@@ -229,16 +229,15 @@ fn meet_named<B: RuntimeName + Send + Sync, R: Threads + Wait + Sync + AllocGlob
 )
     requires named { IsOf B.opening B.before B.processors (core_of begun) }
     requires generation { B.generation ≡ (core_of begun).generation }
+    requires two { B.processors ≡ 2 }
     requires parts { table_of books.parts ≡ B.table }
     requires seats { table_of books.seats ≡ B.seats }
     requires passes { table_of books.passes ≡ B.passes }
     requires checkpoints { table_of books.checkpoints ≡ B.checkpoints }
     requires honest { B.honest → ⊥ }
 {
-    match begun.open::<B>(books) {
-        Ok(runtime) => meet(rt, runtime, meeting),
-        Err(_) => panic!(rt; "memory"),
-    }
+    let room = RuntimeRoom::new(rt.alloc(), 2).expect(rt, "memory");
+    meet(rt, begun.open_in::<B>(books, room), meeting)
 }
 
 // The same, under a name of its own.
@@ -246,7 +245,9 @@ fn meet_once<R: Threads + Wait + Sync + AllocGlobal + Abort>(
     rt: &R,
     begun: UnnamedRuntime<ProbeDisk, Slow<Counter>>,
     meeting: &Arc<Meeting>,
-) {
+)
+    requires { (core_of begun).processors ≡ 2 }
+{
     let books = UnnamedBooks::new(rt.alloc()).expect(rt, "memory");
     meet_named::<Brand, R>(rt, begun, books, meeting)
 }

@@ -18,7 +18,7 @@ use charmlet_probe_store::Machine;
 use charmlet_runtime::UnnamedRuntime;
 use charmlet_seats::Seat;
 use charmlet_sequencer::RuntimeName;
-use charmlet_workers::{OpenGate, Pause, Runtime, UnnamedBooks};
+use charmlet_workers::{OpenGate, Pause, Runtime, RuntimeRoom, UnnamedBooks};
 use std::alloc::AllocGlobal;
 use std::marker::Brand;
 use std::process::Abort;
@@ -207,16 +207,15 @@ fn pause_named<B: RuntimeName + Send + Sync, R: Wait + Sync + AllocGlobal + Abor
 ) -> ProbeDisk
     requires named { IsOf B.opening B.before B.processors (core_of begun) }
     requires generation { B.generation ≡ (core_of begun).generation }
+    requires two { B.processors ≡ 2 }
     requires parts { table_of books.parts ≡ B.table }
     requires seats { table_of books.seats ≡ B.seats }
     requires passes { table_of books.passes ≡ B.passes }
     requires checkpoints { table_of books.checkpoints ≡ B.checkpoints }
     requires honest { B.honest → ⊥ }
 {
-    match begun.open::<B>(books) {
-        Ok(runtime) => pause(rt, runtime, tally),
-        Err(_) => panic!(rt; "memory"),
-    }
+    let room = RuntimeRoom::new(rt.alloc(), 2).expect(rt, "memory");
+    pause(rt, begun.open_in::<B>(books, room), tally)
 }
 
 // The same, under a name of its own.
@@ -224,7 +223,9 @@ fn pause_once<R: Wait + Sync + AllocGlobal + Abort>(
     rt: &R,
     begun: UnnamedRuntime<ProbeDisk, Object>,
     tally: &Arc<Tally>,
-) -> ProbeDisk {
+) -> ProbeDisk
+    requires { (core_of begun).processors ≡ 2 }
+{
     let books = UnnamedBooks::new(rt.alloc()).expect(rt, "memory");
     pause_named::<Brand, R>(rt, begun, books, tally)
 }

@@ -5,8 +5,8 @@ use Rattle.charmlet_history.specs.Kept.{core_in}
 use Rattle.charmlet_workers.proofs.Looks.{absent_seen}
 use Rattle.charmlet_workers.proofs.looking.absent_look.Goals as goal
 
-pub returns : goal.returns
-returns c =
+pub returns-clause-look : goal.returns-clause-look
+returns-clause-look c =
     let x = c.args.elem in
     let none : place_of (core_in c.args.history.now) x ≡ None = search rules in
     absent_seen (core_in c.args.history.now) x c.element-counts.result.sent c.element-counts.result.received c.facts.ensures.sound none

@@ -34,13 +34,10 @@ returns-in-Ok-clause-stood g c _ =
     let store = store_in c.args.hub.now in
     let next = store_in c.relocate.new.self in
     let elem = c.args.elem in
-    let to = c.args.to.now.number in
-    let same : to ≡ c.args.processor = search rules in
     let moved : Stepped = record { answer = Done; core = next.core; blanks = next.blanks } in
-    let stands = stands_moved store.core store.blanks elem to (c.facts.ensures.sound.placed elem).there moved refl c.in-Ok.ensures.goes in
     let left = c.facts-in-Ok.ensures in
     record {
       core = c.relocate.new.self.core;
       moment = record { of = record { of = left.of; later = left.later }; sound = left.sound };
-      was = subst (λ p. place_of c.relocate.new.self.core elem ≡ Some p) same stands;
+      was = stands_moved store.core store.blanks elem c.args.to.now.number (c.facts.ensures.sound.placed elem).there moved refl c.in-Ok.ensures.goes;
     }

@@ -1,11 +1,16 @@
-use Rattle.std.proofs.Common.{◌∙◌, sym, subst, rules}
+use Rattle.std.proofs.Common.{◌≡◌, ◌∙◌, length, sym, subst, rules}
+use Rattle.std.specs.Prelude.{vec_len}
+use Rattle.charmlet_workers.proofs.Orders.{ordered_count}
 use Rattle.charmlet_workers.proofs.runtime.Runtime.close.Goals as goal
 
-pub returns-in-Ok-clause-lawful : goal.returns-in-Ok-clause-lawful
-returns-in-Ok-clause-lawful g c = λ honest. c.in-Ok.ensures.lawful (subst g.D.Disk.honest c.in-Ok.ensures.disk honest)
+pub close-requires-clause-count : goal.close-requires-clause-count
+close-requires-clause-count g c κs within =
+    let items = c.in-Ok.out.1.items in
+    let long : vec_len c.in-Ok.out.1 ≡ length items = search rules in
+    long ∙ ordered_count c.self.inside.shelves items c.in-Ok.ensures.values ∙ c.self.invariant
 
-pub returns-in-Ok-clause-honest : goal.returns-in-Ok-clause-honest
-returns-in-Ok-clause-honest g c = λ named. subst g.D.Disk.honest (sym c.in-Ok.ensures.disk) (c.facts.ensures.honest named)
+pub returns-in-Ok-close-clause-lawful : goal.returns-in-Ok-close-clause-lawful
+returns-in-Ok-close-clause-lawful g c = λ honest. c.in-Ok-close.ensures.lawful (subst g.D.Disk.honest c.in-Ok-close.ensures.disk honest)
 
-pub returns-in-Err-clause-back : goal.returns-in-Err-clause-back
-returns-in-Err-clause-back g c = let same = c.lock_all.ensures ∙ c.self.view_is in (same, search rules, search rules)
+pub returns-in-Ok-close-clause-honest : goal.returns-in-Ok-close-clause-honest
+returns-in-Ok-close-clause-honest g c = λ named. subst g.D.Disk.honest (sym c.in-Ok-close.ensures.disk) (c.facts.ensures.honest named)

@@ -1,0 +1,49 @@
+//! A watch over threads: a test that would wait for ever ends after two minutes, and says so.
+
+use std::process::Abort;
+use std::sync::atomic::{AtomicU64, Ordering};
+use std::thread;
+use std::time::{Clock, Duration};
+
+// How often it is looked, and how many milliseconds it is waited in between.
+const LOOKS: u32 = 12_000;
+
+const PAUSE: u64 = 10;
+
+// How many threads have done what they had to, or how far one has come.
+#[derive(Drop)]
+pub(super) struct Watch {
+    done: AtomicU64,
+}
+
+impl Watch {
+    pub(super) fn new() -> Watch {
+        Watch {
+            done: AtomicU64::new(0),
+        }
+    }
+
+    // One more.
+    pub(super) fn note(&self) {
+        self.done.fetch_add(1, Ordering::SeqCst);
+    }
+
+    // How many there are.
+    pub(super) fn count(&self) -> u64 {
+        self.done.load(Ordering::SeqCst)
+    }
+
+    // Waits until there are so many.
+    pub(super) fn wait_for(&self, rt: &(impl Abort + Clock), wanted: u64) {
+        for _ in 0..LOOKS {
+            if self.count() >= wanted {
+                return;
+            }
+            thread::sleep(rt, Duration::from_millis(PAUSE));
+        }
+        panic!(rt;
+            "{} of {wanted} came in two minutes: the others wait for one another",
+            self.count()
+        )
+    }
+}
