@@ -34,7 +34,7 @@ use Rattle.charmlet_passes.specs.Passes.{HaveAllAccepts, HeldPass, IsAnswered, I
 use Rattle.charmlet_passes.proofs.Lasting.{accepts_in-append, untied}
 use Rattle.charmlet_passes.proofs.Places.{all-last, at_end, at_set}
 use Rattle.charmlet_runtime.specs.Engine.{client_answer}
-use Rattle.charmlet_workers.specs.Refusals.{IsRecent, IsRequestCause, is_lending_refusal, is_request_refusal, is_status_refusal}
+use Rattle.charmlet_workers.specs.Refusals.{IsCauseAfter, IsRecent, IsRequestCause, is_lending_refusal, is_request_refusal, is_status_refusal}
 use Rattle.std.specs.Prelude.{◌||◌}
 use Rattle.charmlet_lines.specs.Named.{Names}
 use Rattle.charmlet_workers.specs.Runtime.{AreFlushed, RuntimeShown}
@@ -471,15 +471,15 @@ none_accepts client [] none = refl
 none_accepts client (held ∷ passes) none =
     ap (λ b. if b then held.accepts else accepts_by client passes) (differs held.pass.client client (λ same. none 0 (held, refl, same))) ∙ none_accepts client passes (λ place is. none (suc place) (is.0, is.1, is.2))
 
-unlent_asking : (opening : World) (accepts : List Event) (last number : ℕ) (to : Elem) (words : List ℕ) (refusal : Refusal) → is_lending_refusal refusal ≡ true → accepts ≡ [] → IsAskingCause opening accepts last number to words refusal
-unlent_asking opening accepts last number to words refusals.Memory lends none = tt
-unlent_asking opening accepts last number to words refusals.PassOut lends none = none
-unlent_asking opening accepts last number to words refusal lends none = let never : ⊥ = cc in absurd never
+unlent_asking : (opening : World) (accepts : List Event) (from number : ℕ) (to : Elem) (words : List ℕ) (refusal : Refusal) → is_lending_refusal refusal ≡ true → accepts ≡ [] → IsAskingCause opening accepts from number to words refusal
+unlent_asking opening accepts from number to words refusals.Memory lends none = tt
+unlent_asking opening accepts from number to words refusals.PassOut lends none = none
+unlent_asking opening accepts from number to words refusal lends none = let never : ⊥ = cc in absurd never
 
 -- none is lent to it
 pub unlent_cause : (opening : World) (first new : List HeldPass) (client number : ℕ) (to : Elem) (words : List ℕ) (refusal : Refusal) → is_lending_refusal refusal ≡ true → HaveNone client first → IsAskingCauseBy opening new (accepts_by client first) client number to words refusal
 unlent_cause opening first new client number to words refusal lends none =
-    inl (λ last. unlent_asking opening (accepts_by client first) (last_of last (accepts_by client first)) number to words refusal lends (none_accepts client first none))
+    inl (λ from. unlent_asking opening (accepts_by client first) from number to words refusal lends (none_accepts client first none))
 
 unlent_question : (accepts : List Event) (refusal : Refusal) → accepts ≡ [] → IsStatusCause accepts refusal
 unlent_question accepts refusals.PassOut none = none
@@ -496,18 +496,18 @@ pub lent_status : (accepts : List Event) (r : Result Told Refusal) → IfErr r (
 lent_status accepts (Ok told) is = tt
 lent_status accepts (Err refusal) is = lent_question accepts refusal is
 
--- what is known by a pass is so of its last number
-asking_cause : (opening : World) (accepts : List Event) (held : HeldPass) (request : Request) (refusal : Refusal) → IsRequestCause opening held request refusal → ((wanted : ℕ) → refusal ≡ refusals.OutOfTurn wanted → wanted ≡ capped held.pass.last 1) →
-    IsAskingCause opening accepts held.pass.last request.number request.to request.words.now refusal
-asking_cause opening accepts held request refusals.Memory cause wants = tt
-asking_cause opening accepts held request refusals.Halted cause wants = tt
-asking_cause opening accepts held request (refusals.OutOfTurn wanted) cause wants = (wants wanted refl, (cause.0, cause.1))
-asking_cause opening accepts held request refusals.Waiting cause wants = cause
-asking_cause opening accepts held request refusals.NoArray cause wants = cause
-asking_cause opening accepts held request refusals.TooLong cause wants = cause
-asking_cause opening accepts held request refusals.ClientsFull cause wants = cause
-asking_cause opening accepts held request refusals.HistoryFull cause wants = cause
-asking_cause opening accepts held request refusal cause wants = absurd cause
+-- what is known by a client's numbers is why it is refused
+asking_cause : (opening : World) (accepts : List Event) (from number : ℕ) (to : Elem) (words : List ℕ) (refusal : Refusal) → IsCauseAfter opening from (last_of from accepts) number to words refusal →
+    ((wanted : ℕ) → refusal ≡ refusals.OutOfTurn wanted → wanted ≡ capped (last_of from accepts) 1) → IsAskingCause opening accepts from number to words refusal
+asking_cause opening accepts from number to words refusals.Memory cause wants = tt
+asking_cause opening accepts from number to words refusals.Halted cause wants = tt
+asking_cause opening accepts from number to words (refusals.OutOfTurn wanted) cause wants = (wants wanted refl, cause)
+asking_cause opening accepts from number to words refusals.Waiting cause wants = cause
+asking_cause opening accepts from number to words refusals.NoArray cause wants = cause
+asking_cause opening accepts from number to words refusals.TooLong cause wants = cause
+asking_cause opening accepts from number to words refusals.ClientsFull cause wants = cause
+asking_cause opening accepts from number to words refusals.HistoryFull cause wants = cause
+asking_cause opening accepts from number to words refusal cause wants = absurd cause
 
 -- ---- a request by a pass
 
@@ -550,11 +550,14 @@ module _ (first passes : List HeldPass) (places : List (ℕ × ℕ)) (place : �
   asked_cause opening request (Ok told) cause answered = tt
   asked_cause opening request (Err refusal) cause answered =
       let mine = accepts_by client first in
-      let Is : ℕ → Type 0 = λ last. IsAskingCause opening mine last request.number request.to request.words.now refusal in
       let same : old.accepts ≡ mine = sym (accepts_at client passes place old is_first got) ∙ since client in
-      let last : old.pass.last ≡ last_of new.pass.lent_at mine = counted_old.last ∙ ap (last_of old.pass.lent_at) same ∙ ap (λ (h : HeldPass). last_of h.pass.lent_at mine) (sym answered.err) in
+      let last : old.pass.last ≡ last_of old.pass.lent_at mine = counted_old.last ∙ ap (last_of old.pass.lent_at) same in
       let its : new.pass.client ≡ client = ap (λ (h : HeldPass). h.pass.client) answered.err ∙ of in
-      inr (lent_there passes place old new client (λ from. Is (last_of from mine)) got its (subst Is last (asking_cause opening mine old request refusal cause answered.wanted)))
+      let Is : ℕ → Type 0 = λ from. IsAskingCause opening mine from request.number request.to request.words.now refusal in
+      let known = subst (λ (n : ℕ). IsCauseAfter opening old.pass.lent_at n request.number request.to request.words.now refusal) last cause in
+      let wants : (wanted : ℕ) → refusal ≡ refusals.OutOfTurn wanted → wanted ≡ capped (last_of old.pass.lent_at mine) 1 = λ wanted is. answered.wanted wanted is ∙ ap (λ n. capped n 1) last in
+      let why = asking_cause opening mine old.pass.lent_at request.number request.to request.words.now refusal known wants in
+      inr (lent_there passes place old new client Is got its (subst Is (sym (ap (λ (h : HeldPass). h.pass.lent_at) answered.err)) why))
 
   asked_tidy_is : (request : Request) → ((IsAlike old new × (request.number ≤ old.pass.last)) ⊎ IsMore request old new) → AreTidy (slice_set passes place new) places
   asked_tidy_is request cases =
@@ -602,5 +605,5 @@ lent_in core (held ∷ passes) client is all lent =
 pub cause_in : (first : ℕ) (core : Core) (passes : List HeldPass) (accepts : List Event) (step : Step) (refusal : Refusal) → AllByRecursion (λ (held : HeldPass). IsCurrent held core) passes → IsStepCauseBy (shown_since first core) passes accepts step refusal → IsStepCause (shown_since first core) accepts step refusal
 cause_in first core passes accepts (steps.Request client number to entry words) refusal all cause =
     let mine = accepts_in client accepts in
-    ⊎_elim (λ any. any (client_of core.opening client).last) (λ lent. lent_in core passes client (λ last. IsAskingCause core.opening mine (last_of last mine) number to words refusal) all lent) cause
+    ⊎_elim (λ any. any (client_of core.opening client).last) (λ lent. lent_in core passes client (λ first. IsAskingCause core.opening mine first number to words refusal) all lent) cause
 cause_in first core passes accepts step refusal all cause = cause

@@ -18,7 +18,7 @@ use Rattle.charmlet_lines.specs.Supplied.{AreEnough}
 use Rattle.charmlet_lines.specs.Ledgers.{kinds_of}
 use Rattle.charmlet_lines.specs.Named.{named_by}
 use Rattle.charmlet_cli_workers.specs.declared.ended.WorkersError.{WorkersError}
-use Rattle.charmlet_cli_workers.specs.declared.ended.WorkersError.TheVariants.{Delivers, TooFewBlanks, Memory, NotCreated, NotRestarted, NotOpened, NoSeats, Output, NotClosed}
+use Rattle.charmlet_cli_workers.specs.declared.ended.WorkersError.TheVariants.{Delivers, TooFewBlanks, Memory, NotCreated, NotRestarted, NoSeats, Output, NotClosed}
 use Rattle.charmlet_cli_workers.specs.Left.{EndsEarly, IsLeft, Prints, PrintsOver}
 use Rattle.charmlet_cli_workers.specs.Said.{HaveBrokenOff, HaveRun, unknown}
 use Rattle.charmlet_cli_workers.proofs.Leavings.{left_anyhow}
@@ -64,14 +64,12 @@ module _ {D : Type 0} (G : Ghosts D) where
     made_early contents before after (Err Memory) left prints early = absurd early
     made_early contents before after (Err (NotCreated refusal)) left prints early = absurd early
     made_early contents before after (Err (NotRestarted refusal)) left prints early = absurd early
-    made_early contents before after (Err NotOpened) left prints early = absurd early
 
   -- and so ends the run of a script that is fit
   pub made_ends : {C W X : Type 0} (state : C → State) (contents : W → Option Text) (first : D) (end : Option D) (objects : List C) (script : Contents) (before after : W) (r : Result X (WorkersError (Vec C))) →
       IsFit state objects script.lines → IfErr r (EndsMade G contents first end script before after) → IfErr r (EndsRun G state contents first end objects script before after)
   made_ends state contents first end objects script before after (Ok x) fit ends = tt
   made_ends state contents first end objects script before after (Err NoSeats) fit ends = ends
-  made_ends state contents first end objects script before after (Err NotOpened) fit ends = absurd ends
   made_ends state contents first end objects script before after (Err (Output e)) fit ends = ends
   made_ends state contents first end objects script before after (Err NotClosed) fit ends = ends
   made_ends state contents first end objects script before after (Err (NotCreated refusal)) fit ends = ends
@@ -86,7 +84,6 @@ module _ {D : Type 0} (G : Ghosts D) where
   lacks_ends state contents first objects script writer (Delivers o) lacks = (refl, lacks.0, refl, lacks.1)
   lacks_ends state contents first objects script writer (TooFewBlanks o) lacks = (refl, lacks.0, refl, lacks.1, lacks.2)
   lacks_ends state contents first objects script writer Memory lacks = (refl, refl, lacks.0, lacks.1)
-  lacks_ends state contents first objects script writer NotOpened lacks = absurd lacks
   lacks_ends state contents first objects script writer NoSeats lacks = absurd lacks
   lacks_ends state contents first objects script writer (Output e) lacks = absurd lacks
   lacks_ends state contents first objects script writer NotClosed lacks = absurd lacks

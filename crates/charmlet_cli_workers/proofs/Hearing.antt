@@ -25,7 +25,7 @@ use Rattle.charmlet_workers.specs.Refusals.{IsRecent}
 use Rattle.charmlet_workers.specs.Runtime.{RuntimeShown}
 use Rattle.charmlet_lines.specs.Named.{Names}
 use Rattle.charmlet_cli_workers.specs.Heard.{AreLater, IsRecorded, IsHeard, accepts_by, IsLater, IsLentAt, IsReached, IsStepCauseBy, IsSure, known_by}
-use Rattle.charmlet_cli_workers.specs.Said.{IsAskingCause, StaysTrue, last_of}
+use Rattle.charmlet_cli_workers.specs.Said.{IsAskingCause, StaysTrue}
 use Rattle.charmlet_cli_workers.proofs.Rows.{accepted_of, heard_least, last_known}
 use Rattle.charmlet_cli_workers.proofs.Sayings.{KnowsMore}
 
@@ -111,7 +111,7 @@ still_sure (h ∷ old) (k ∷ new) client number later sure =
 still_cause : (shown : RuntimeShown) (old new : List HeldPass) (accepts : List Event) (step : Step) (refusal : Refusal) → AreLater old new → IsStepCauseBy shown old accepts step refusal → IsStepCauseBy shown new accepts step refusal
 still_cause shown old new accepts (steps.Request client number to entry words) refusal later cause =
     let mine = accepts_in client accepts in
-    ⊎_elim (λ any. inl any) (λ lent. inr (still_lent old new client (λ last. IsAskingCause shown.opening mine (last_of last mine) number to words refusal) later lent)) cause
+    ⊎_elim (λ any. inl any) (λ lent. inr (still_lent old new client (λ first. IsAskingCause shown.opening mine first number to words refusal) later lent)) cause
 still_cause shown old new accepts step refusal later cause = cause
 
 still_flushed : (old new : List HeldPass) (count : ℕ) → AreLater old new → IsRecorded old count → IsRecorded new count

@@ -24,8 +24,8 @@ use Rattle.charmlet_cli_workers.proofs.Sayings.{KnowsMore, said_all_on, said_on}
 use Rattle.charmlet_disk.specs.declared.disk.Disk.{Ghosts}
 use Rattle.charmlet_sequencer.specs.Sequencer.{IsOf}
 use Rattle.charmlet_cli_workers.specs.declared.ended.WorkersError.{WorkersError}
-use Rattle.charmlet_cli_workers.specs.declared.ended.WorkersError.TheVariants.{Delivers, TooFewBlanks, Memory, NotCreated, NotRestarted, NotOpened, NoSeats, Output, NotClosed}
-use Rattle.charmlet_cli_workers.specs.Left.{EndsApart, EndsEarly, EndsUnopened, IsApart, IsEarly, IsLeft, KeepsDurable, Prints, PrintsOver}
+use Rattle.charmlet_cli_workers.specs.declared.ended.WorkersError.TheVariants.{Delivers, TooFewBlanks, Memory, NotCreated, NotRestarted, NoSeats, Output, NotClosed}
+use Rattle.charmlet_cli_workers.specs.Left.{EndsApart, EndsEarly, IsApart, IsEarly, IsLeft, KeepsDurable, Prints, PrintsOver}
 
 -- a disk that comes back as this one, with a store of this core
 pub left_by : {D : Type 0} (G : Ghosts D) (opening : World) (before processors : ℕ) (printed : Core → Type 0) (core : Core) (was disk : D) → disk ≡ was → IsOf opening before processors core → IsSound core → KeepsDurable G core was → printed core →
@@ -122,7 +122,6 @@ module _ (here there : Clients) (did was : Deeds → Type 0) (more : KnowsMore h
   prints_on (Ok x) restarted lines before after prints = printed_on restarted lines before after prints
   prints_on (Err (Output e)) restarted lines before after prints = broken_on restarted lines before after prints
   prints_on (Err NotClosed) restarted lines before after prints = printed_on restarted lines before after prints
-  prints_on (Err NotOpened) restarted lines before after prints = tt
   prints_on (Err NoSeats) restarted lines before after prints = tt
   prints_on (Err Memory) restarted lines before after prints = tt
   prints_on (Err (Delivers objects)) restarted lines before after prints = tt
@@ -175,7 +174,6 @@ prints_of_lines r restarted wanted lines all was now first same prints =
 
 early_ends : {D T W : Type 0} (end : Option D) (before after : W) (error : WorkersError T) → IsEarly before after error → EndsEarly end before after error
 early_ends end before after NotClosed early = absurd early
-early_ends end before after NotOpened early = early
 early_ends end before after NoSeats early = early
 early_ends end before after (Output e) early = early
 early_ends end before after (Delivers objects) early = early
@@ -196,22 +194,6 @@ apart_early (Err e) end before after error early apart =
 pub ends_early : {D T X Y W : Type 0} (ran : Result X (WorkersError T)) (r : Result Y (WorkersError T)) (end : Option D) (before after : W) → IfErr ran (IsEarly before after) → IfErr r (EndsApart ran end) → IfErr r (EndsEarly end before after)
 ends_early ran (Ok y) end before after early apart = tt
 ends_early ran (Err error) end before after early apart = apart_early ran end before after error early apart
-
--- a run that ended early ended so over a store that came back
-unopened_ends : {D T W : Type 0} (end : Option D) (before after : W) (error : WorkersError T) → EndsEarly end before after error → EndsUnopened end before after error
-unopened_ends end before after NotOpened early = absurd early
-unopened_ends end before after NoSeats early = early
-unopened_ends end before after NotClosed early = early
-unopened_ends end before after (Output e) early = early
-unopened_ends end before after (Delivers objects) early = early
-unopened_ends end before after (TooFewBlanks objects) early = early
-unopened_ends end before after Memory early = early
-unopened_ends end before after (NotCreated refusal) early = early
-unopened_ends end before after (NotRestarted refusal) early = early
-
-pub ends_unopened : {D T Y W : Type 0} (r : Result Y (WorkersError T)) (end : Option D) (before after : W) → IfErr r (EndsEarly end before after) → IfErr r (EndsUnopened end before after)
-ends_unopened (Ok y) end before after early = tt
-ends_unopened (Err error) end before after early = unopened_ends end before after error early
 
 pub on_ok : {T E P : Type 0} (r : Result T E) → P → OnOk r P
 on_ok (Ok x) holds = holds

@@ -2,7 +2,7 @@
 use Rattle.charmlet_lines.specs.declared.stop.Stop.{Stop}
 use Rattle.charmlet_lines.specs.declared.stop.Stop.TheVariants as stops
 use Rattle.charmlet_cli_workers.specs.declared.ended.WorkersError.{WorkersError}
-use Rattle.charmlet_cli_workers.specs.declared.ended.WorkersError.TheVariants.{Delivers, TooFewBlanks, Memory, NotCreated, NotRestarted, NotOpened, NoSeats, Output, NotClosed}
+use Rattle.charmlet_cli_workers.specs.declared.ended.WorkersError.TheVariants.{Delivers, TooFewBlanks, Memory, NotCreated, NotRestarted, NoSeats, Output, NotClosed}
 
 -- a store that isn't there is told as that, and all else as a program that can't go on
 abbrev pub stop_after : {T : Type 0} → WorkersError T → Stop
@@ -11,7 +11,6 @@ stop_after (NotRestarted refusal) = stops.NotRestarted refusal
 stop_after (Delivers objects) = stops.CannotGoOn
 stop_after (TooFewBlanks objects) = stops.CannotGoOn
 stop_after Memory = stops.CannotGoOn
-stop_after NotOpened = stops.CannotGoOn
 stop_after NoSeats = stops.CannotGoOn
 stop_after (Output error) = stops.CannotGoOn
 stop_after NotClosed = stops.CannotGoOn

@@ -57,10 +57,9 @@ IsSure (held ∷ passes) client number =
 abbrev pub IsAskingCauseBy : World → List HeldPass → List Event → ℕ → ℕ → Elem → List ℕ → Refusal →
     Type 0
 IsAskingCauseBy opening passes accepts client number to words refusal =
-    ((last : ℕ) →
-    IsAskingCause opening accepts (last_of last accepts) number to words refusal)
-    ⊎ IsLentAt passes client (λ last.
-    IsAskingCause opening accepts (last_of last accepts) number to words refusal)
+    ((first : ℕ) → IsAskingCause opening accepts first number to words refusal)
+    ⊎ IsLentAt passes client (λ first.
+    IsAskingCause opening accepts first number to words refusal)
 
 -- why a step is refused, a request as far as these passes tell
 abbrev pub IsStepCauseBy : RuntimeShown → List HeldPass → List Event → Step → Refusal → Type 0

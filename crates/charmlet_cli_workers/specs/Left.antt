@@ -16,7 +16,7 @@ use Rattle.charmlet_sequencer.specs.Sequencer.{IsOf, is_lawful}
 use Rattle.charmlet_lines.specs.declared.restarting.RestartedLine.{RestartedLine}
 use Rattle.charmlet_lines.specs.Named.{Names}
 use Rattle.charmlet_cli_workers.specs.declared.ended.WorkersError.{WorkersError}
-use Rattle.charmlet_cli_workers.specs.declared.ended.WorkersError.TheVariants.{NotOpened, NoSeats, Output, NotClosed}
+use Rattle.charmlet_cli_workers.specs.declared.ended.WorkersError.TheVariants.{NoSeats, Output, NotClosed}
 use Rattle.charmlet_cli_workers.specs.Said.{ArePrinted, Clients, Deeds, HaveDone, IsBrokenOff, opening_generation, known_in}
 
 module _ {D : Type 0} (G : Ghosts D) where
@@ -86,10 +86,3 @@ abbrev pub EndsEarly : {D T W : Type 0} → (end : Option D) → (before after :
     WorkersError T → Type 0
 EndsEarly end before after NotClosed = end ≡ None
 EndsEarly end before after error = IsEarly before after error
-
--- Over a store that came back, a run may end before that, for want of memory for the runtime. Then
--- nothing was written.
-abbrev pub EndsUnopened : {D T W : Type 0} → (end : Option D) → (before after : W) →
-    WorkersError T → Type 0
-EndsUnopened end before after NotOpened = after ≡ before
-EndsUnopened end before after error = EndsEarly end before after error

@@ -17,7 +17,7 @@ use Rattle.charmlet_lines.specs.Ledgers.{Ledger}
 use Rattle.charmlet_lines.specs.Back.{IsBack, WasNotRestarted, given_of, refusal_text}
 use Rattle.charmlet_lines.specs.Writing.{AppendsBeginning}
 use Rattle.charmlet_cli_workers.specs.declared.ended.WorkersError.{WorkersError}
-use Rattle.charmlet_cli_workers.specs.declared.ended.WorkersError.TheVariants.{Delivers, TooFewBlanks, Memory, NotCreated, NotRestarted, NotOpened, NoSeats, Output, NotClosed}
+use Rattle.charmlet_cli_workers.specs.declared.ended.WorkersError.TheVariants.{Delivers, TooFewBlanks, Memory, NotCreated, NotRestarted, NoSeats, Output, NotClosed}
 use Rattle.charmlet_cli_workers.specs.Left.{IsLeft}
 use Rattle.charmlet_cli_workers.specs.Lines.{has_delivery}
 use Rattle.charmlet_cli_workers.specs.Said.{ArePrinted, HaveBrokenOff, IsBrokenOff, unknown}
@@ -30,6 +30,15 @@ line_of back = record {
   events = back.before;
   processors = back.processors;
 }
+
+-- the line of a restart that is refused was written, or a beginning of it
+abbrev pub TellsRefusal : {T W : Type 0} → (W → Option Text) → Refusal → (before after : W) →
+    WorkersError T → Type 0
+TellsRefusal contents refusal before after (NotRestarted why) = (why ≡ refusal)
+    × Appends (contents before) (contents after) (refusal_text refusal)
+TellsRefusal contents refusal before after (Output error) =
+    AppendsBeginning (contents before) (contents after) (refusal_text refusal)
+TellsRefusal contents refusal before after _ = ⊥
 
 module _ {D : Type 0} (G : Ghosts D) where
   -- There are 1 to 64 processors, and a store came back from the first disk, as an engine's does.
@@ -51,18 +60,16 @@ module _ {D : Type 0} (G : Ghosts D) where
   IsNotBack processors given first end refusal = (last : D) × (end ≡ Some last)
       × WasNotRestarted G processors given first last refusal × IsAsHonest G first last
 
-  -- What each error means where a store was to come back. A refused restart writes its line. Where
-  -- the disk doesn't come back, what was printed is still of the lines' own forms; and if only the
-  -- runtime wasn't taken apart, all of it.
+  -- What each error means where a store was to come back. A refused restart writes its line, and
+  -- nothing to the disk unless the device failed. Where the disk doesn't come back, what was
+  -- printed is still of the lines' own forms; and if only the runtime wasn't taken apart, all of
+  -- it.
   abbrev pub EndsBack : {T W : Type 0} → (W → Option Text) → (processors : ℕ) → Blanks →
       (first : D) → (end : Option D) → List HandlerLine → List Line → (before after : W) →
       WorkersError T → Type 0
   EndsBack contents processors given first end handlers lines before after (NotRestarted refusal) =
       Appends (contents before) (contents after) (refusal_text refusal)
       × IsNotBack processors given first end refusal
-  EndsBack contents processors given first end handlers lines before after NotOpened =
-      IsBackByWorkers processors given first end (λ back last. Unit {0}) (λ back. Unit {0})
-      × (after ≡ before)
   EndsBack contents processors given first end handlers lines before after NoSeats =
       IsBackByWorkers processors given first end (λ back last. Unit {0}) (λ back. Unit {0})
       × (after ≡ before)

@@ -14,7 +14,7 @@ use Rattle.charmlet_lines.specs.Supplied.{AreEnough}
 use Rattle.charmlet_lines.specs.Ledgers.{kinds_of}
 use Rattle.charmlet_lines.specs.Created.{IsCreated, IsHandedBack, IsNotCreated, IsNotSaid}
 use Rattle.charmlet_cli_workers.specs.declared.ended.WorkersError.{WorkersError}
-use Rattle.charmlet_cli_workers.specs.declared.ended.WorkersError.TheVariants.{Delivers, TooFewBlanks, Memory, NotCreated, NotRestarted, NotOpened, NoSeats, Output, NotClosed}
+use Rattle.charmlet_cli_workers.specs.declared.ended.WorkersError.TheVariants.{Delivers, TooFewBlanks, Memory, NotCreated, NotRestarted, NoSeats, Output, NotClosed}
 use Rattle.charmlet_cli_workers.specs.Left.{IsLeft}
 use Rattle.charmlet_cli_workers.specs.Lines.{has_delivery}
 use Rattle.charmlet_cli_workers.specs.Said.{ArePrinted, HaveBrokenOff, IsBrokenOff, unknown}
@@ -65,7 +65,6 @@ module _ {D : Type 0} (G : Ghosts D) where
   EndsMade contents first end script before after (TooFewBlanks objects) = ⊥
   EndsMade contents first end script before after Memory = (end ≡ Some first) × (after ≡ before)
   EndsMade contents first end script before after (NotRestarted refusal) = ⊥
-  EndsMade contents first end script before after NotOpened = ⊥
 
   -- What each error of a run means. All objects come back if and only if a line is `deliver`, or no
   -- line is and there are too few of them. The disk and the output then stay as they were, as they

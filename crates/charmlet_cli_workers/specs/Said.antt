@@ -125,17 +125,18 @@ WereFlushedIn opened core accepts knows count =
 -- ---- why steps are refused
 
 -- Why a request is refused to a client that has had these accepts since the store opened, and whose
--- last number is this one. For want of a pass that is out it is refused only to a client that has
--- had none. One that is out of turn says which number is the next one, or the greatest. All else is
--- as it is known by a last number and the arrays.
-abbrev pub IsAskingCause : World → List Event → (last : ℕ) → ℕ → Elem → List ℕ → Refusal →
+-- last number was the first one then. For want of a pass that is out it is refused only to a client
+-- that has had none. One that is out of turn says which number is the next one, or the greatest.
+-- All else is as it is known by these numbers and the arrays.
+abbrev pub IsAskingCause : World → List Event → (first : ℕ) → ℕ → Elem → List ℕ → Refusal →
     Type 0
-IsAskingCause opening accepts last number to words refusals.PassOut = accepts ≡ []
-IsAskingCause opening accepts last number to words (refusals.OutOfTurn wanted) =
-    (wanted ≡ capped last 1)
-    × IsCauseAfter opening last number to words (refusals.OutOfTurn wanted)
-IsAskingCause opening accepts last number to words refusal =
-    IsCauseAfter opening last number to words refusal
+IsAskingCause opening accepts first number to words refusals.PassOut = accepts ≡ []
+IsAskingCause opening accepts first number to words (refusals.OutOfTurn wanted) =
+    (wanted ≡ capped (last_of first accepts) 1)
+    × IsCauseAfter opening first (last_of first accepts) number to words
+    (refusals.OutOfTurn wanted)
+IsAskingCause opening accepts first number to words refusal =
+    IsCauseAfter opening first (last_of first accepts) number to words refusal
 
 -- why a question is refused to a client that has had these accepts since the store opened
 abbrev pub IsStatusCause : List Event → Refusal → Type 0
@@ -146,9 +147,8 @@ IsStatusCause accepts _ = Unit {0}
 -- arrays say; of a flush and of a checkpoint they say nothing.
 abbrev pub IsStepCause : RuntimeShown → List Event → Step → Refusal → Type 0
 IsStepCause shown accepts (steps.Request client number to entry words) refusal =
-    IsAskingCause shown.opening (accepts_in client accepts)
-    (last_of (client_of shown.opening client).last (accepts_in client accepts)) number to words
-    refusal
+    IsAskingCause shown.opening (accepts_in client accepts) (client_of shown.opening client).last
+    number to words refusal
 IsStepCause shown accepts (steps.Status client number) refusal =
     IsStatusCause (accepts_in client accepts) refusal
 IsStepCause shown accepts (steps.Move elem processor) refusal =

@@ -20,9 +20,6 @@ pub enum WorkersError<T: Drop> {
     NotCreated(Refusal),
     /// No store came back, for this reason. Only its line was written, and no line was run.
     NotRestarted(Refusal),
-    /// A store came back, and there is no memory for the locks of its runtime. Nothing was printed,
-    /// and no line was run.
-    NotOpened,
     /// There is a store, and no memory for the seats of its workers. Nothing was printed, and no
     /// line was run.
     NoSeats,
@@ -56,7 +53,6 @@ impl<T: Drop> From<WorkersError<T>> for Stop {
             WorkersError::Delivers(_)
             | WorkersError::TooFewBlanks(_)
             | WorkersError::Memory
-            | WorkersError::NotOpened
             | WorkersError::NoSeats
             | WorkersError::Output(_)
             | WorkersError::NotClosed => Stop::CannotGoOn,

@@ -1,14 +1,17 @@
 //! Runtimes that are opened for a script, and taken apart after it.
 
-ghost use Rattle.std.specs.Prelude.{◌≡◌, ◌≤◌, [], None, false, IfErr, IfSome, IsErr, IsSome, OnOk, map};
+ghost use Rattle.std.specs.Prelude.{◌≡◌, ℕ, ◌≤◌, [], Err, None, false, IfErr, IfOk, IfSome, IsErr, IsSome, OnErr, OnOk, map};
 ghost use Rattle.charmlet_model.specs.declared.kind.Kind.{Kind};
 ghost use Rattle.charmlet_script.specs.Script.{blanks_of};
+ghost use Rattle.charmlet_stock.specs.declared.stock.Stock as stocks;
 ghost use Rattle.charmlet_stock.specs.Stock.{blanks_in};
 ghost use Rattle.charmlet_agreement.specs.Naming.{table_of};
 ghost use Rattle.charmlet_sequencer.specs.Sequencer.{IsOf};
-ghost use Rattle.charmlet_runtime.specs.Engine.{core_of};
+ghost use Rattle.charmlet_workers.specs.Runtime.{shown_of};
+ghost use Rattle.charmlet_runtime.specs.Reopened.{IsReopened, IsRestart, core_to_be};
+ghost use Rattle.charmlet_runtime.specs.Reopening.{IsOver};
 ghost use Rattle.charmlet_cli_workers.specs.Heard.{AreTidy, IsDoneBy, known_by, names_in};
-ghost use Rattle.charmlet_cli_workers.specs.Left.{EndsApart, EndsEarly, EndsUnopened, IsApart, IsEarly, IsLeft, KeepsDurable, Prints, PrintsOver};
+ghost use Rattle.charmlet_cli_workers.specs.Left.{EndsApart, EndsEarly, IsApart, IsEarly, IsLeft, Prints, PrintsOver};
 ghost use Rattle.charmlet_cli_workers.specs.Lines.{has_delivery};
 ghost use Rattle.charmlet_cli_workers.specs.Said.{opening_generation, opening_texts, unknown};
 ghost use Rattle.charmlet_lines.specs.Writing.{in_lines, Writes};
@@ -21,11 +24,11 @@ use charmlet_disk::Disk;
 use charmlet_hub::Closed;
 use charmlet_lines::{RestartedLine, write_line};
 use charmlet_requests::Handlers;
-use charmlet_runtime::UnnamedRuntime;
+use charmlet_runtime::{NotRestarted, Reopened, open_reopened};
 use charmlet_script::Line;
 use charmlet_sequencer::RuntimeName;
 use charmlet_stock::Stock;
-use charmlet_workers::{NotOpened, Runtime, UnnamedBooks};
+use charmlet_workers::{Runtime, UnnamedBooks};
 use std::alloc::Global;
 use std::io;
 use std::io::Write;
@@ -48,8 +51,9 @@ pub(crate) struct Given<C: Chare> {
     pub(crate) source: Stock<C>,
 }
 
-/// Runs lines over a store that has no name yet, under the name `B` of its own, and takes it apart.
-pub(crate) fn run_named<
+/// Opens the runtime of a store that came back, under the name `B`, runs lines over it, and takes
+/// it apart. The refusals are those of [`open_reopened`]; then the output is as it was.
+pub(crate) fn run_reopened<
     D: Disk,
     C: Chare,
     T: Drop,
@@ -59,44 +63,48 @@ pub(crate) fn run_named<
 >(
     rt: &R,
     alloc: Global,
-    begun: UnnamedRuntime<D, C>,
+    reopened: Reopened<D, C>,
     books: UnnamedBooks,
     given: Given<C>,
     lines: &Lines<'_>,
     writer: &mut W,
-) -> RanByWorkers<D, T>
-    requires named { IsOf B.opening B.before B.processors (core_of begun) }
-    requires generation { B.generation ≡ (core_of begun).generation }
-    requires restarted { (core_of begun).generation ≡ opening_generation lines.now.restarted }
+) -> Result<RanByWorkers<D, T>, NotRestarted<D, C>>
+    requires named { IsOf B.opening B.before B.processors (core_to_be reopened) }
+    requires generation { B.generation ≡ (core_to_be reopened).generation }
+    requires restarted { (core_to_be reopened).generation
+        ≡ opening_generation lines.now.restarted }
     requires parts { table_of books.parts ≡ B.table }
     requires seats { table_of books.seats ≡ B.seats }
     requires passes { table_of books.passes ≡ B.passes }
     requires checkpoints { table_of books.checkpoints ≡ B.checkpoints }
-    requires keeps { KeepsDurable D.Disk (core_of begun) begun.disk }
-    requires honest { B.honest → D.honest begun.disk }
-    requires only_honest { D.honest begun.disk → B.honest }
+    requires honest { B.honest → D.honest reopened.disk }
+    requires only_honest { D.honest reopened.disk → B.honest }
     requires no_delivery { has_delivery lines.now.lines.now ≡ false }
     requires enough { (kind : Kind) → blanks_of kind lines.now.lines.now
         ≤ blanks_in given.source kind }
-    ensures left { IfSome result.disk (IsLeft D.Disk (core_of begun).opening (core_of begun).before
-        (core_of begun).processors (λ last. PrintsOver result.result lines.now.restarted last
-        (names_in given.handlers) lines.now.lines.now (W.contents writer.old)
-        (W.contents writer.new))) }
-    ensures prints { Prints result.result lines.now.restarted unknown (λ deeds. Unit {0})
-        lines.now.lines.now (W.contents writer.old) (W.contents writer.new) }
-    ensures honest { IfSome result.disk (λ disk. D.honest begun.disk → D.honest disk) }
-    ensures back { OnOk result.result (IsSome result.disk) }
-    ensures err { IfErr result.result (EndsUnopened result.disk writer.old writer.new) }
+    ensures left { IfOk result (λ ran. IfSome ran.disk (IsLeft D.Disk (core_to_be reopened).opening
+        (core_to_be reopened).before (core_to_be reopened).processors
+        (λ last. PrintsOver ran.result lines.now.restarted last (names_in given.handlers)
+        lines.now.lines.now (W.contents writer.old) (W.contents writer.new)))) }
+    ensures prints { IfOk result (λ ran. Prints ran.result lines.now.restarted unknown
+        (λ deeds. Unit {0}) lines.now.lines.now (W.contents writer.old) (W.contents writer.new)) }
+    ensures honest { IfOk result (λ ran. IfSome ran.disk (λ disk.
+        D.honest reopened.disk → D.honest disk)) }
+    ensures back { IfOk result (λ ran. OnOk ran.result (IsSome ran.disk)) }
+    ensures err { IfOk result (λ ran. IfErr ran.result
+        (EndsEarly ran.disk writer.old writer.new)) }
+    ensures over { OnOk result ((processors : ℕ) (blanks : stocks.Stock C C.Chare) (first : D) →
+        IsReopened D.Disk processors blanks first reopened → IsOver D.Disk processors blanks first
+        (core_to_be reopened) (shown_of (core_to_be reopened))) }
+    ensures refused { IfErr result (λ refused. (processors : ℕ)
+        (blanks : stocks.Stock C C.Chare) (first : D) →
+        IsReopened D.Disk processors blanks first reopened →
+        IsRestart D.Disk processors blanks first (Err refused)) }
+    ensures silent { OnErr result (writer.new ≡ writer.old) }
 {
-    match begun.open::<B>(books) {
-        Ok(runtime) => run_opened(rt, alloc, runtime, given, lines, writer),
-        Err(NotOpened { store, halves }) => {
-            store.history.facts();
-            RanByWorkers {
-                disk: Some(halves.into_disk()),
-                result: Err(WorkersError::NotOpened),
-            }
-        }
+    match open_reopened::<D, C, B>(alloc, reopened, books) {
+        Ok(runtime) => Ok(run_opened(rt, alloc, runtime, given, lines, writer)),
+        Err(refused) => Err(refused),
     }
 }
 

@@ -1,6 +1,6 @@
 //! Scripts over runtimes that come back.
 
-ghost use Rattle.std.specs.Prelude.{◌≡◌, ℕ, ◌≤◌, List, Some, false, IfErr, IfOk, IsSome, OnOk};
+ghost use Rattle.std.specs.Prelude.{◌≡◌, ℕ, ◌≤◌, List, Some, false, IfErr, IfOk, IsErr, IsSome, OnOk};
 ghost use Rattle.charmlet_model.specs.declared.kind.Kind.{Kind};
 ghost use Rattle.charmlet_script.specs.Script.{blanks_of};
 ghost use Rattle.charmlet_requests.specs.Handlers.{handler_of};
@@ -10,19 +10,19 @@ ghost use Rattle.charmlet_replay.specs.Unused.{IsUnused};
 ghost use Rattle.charmlet_lines.specs.Back.{given_of};
 ghost use Rattle.charmlet_cli_workers.specs.Lines.{has_delivery};
 ghost use Rattle.charmlet_cli_workers.specs.Said.{HaveRun};
-ghost use Rattle.charmlet_cli_workers.specs.Restarts.{EndsBack, EndsRestart, IsBackByWorkers, line_of};
+ghost use Rattle.charmlet_cli_workers.specs.Restarts.{EndsBack, EndsRestart, IsBackByWorkers, TellsRefusal, line_of};
 ghost use Rattle.charmlet_cli_workers.specs.Runs.{IsFit};
 
 use crate::ended::{RanByWorkers, WorkersError};
 use crate::lines::has_delivery;
-use crate::opened::{Given, Lines, run_named};
+use crate::opened::{Given, Lines, run_reopened};
 use charmlet_chare::Chare;
 use charmlet_disk::Disk;
 use charmlet_lines::{
     RestartedLine, handlers_of, has_enough, source_of, supplied_at_restart, write_answer,
 };
 use charmlet_model::Answer;
-use charmlet_runtime::{NotRestarted, UnnamedRuntime, stock_of};
+use charmlet_runtime::{NotRestarted, Reopened, stock_of};
 use charmlet_script::RestartScript;
 use charmlet_stock::Stock;
 use charmlet_workers::UnnamedBooks;
@@ -37,6 +37,9 @@ use std::thread::Threads;
 /// writes the generation that the store goes on at, how many events came back, and the number of
 /// processors. `blanks` are the objects that the store's elements are made from, as many as
 /// `find_blanks` of `charmlet_cli` says; `supplies` are those that the script's lines supply.
+///
+/// All memory that the runtime takes to open is asked for before a store of older versions is
+/// brought forward. So at each refusal of the restart but `Device` the disk is as it was.
 pub fn restart_workers<D: Disk, C: Chare, W: Write, R: Threads + Wait + Sync>(
     rt: &R,
     alloc: Global,
@@ -116,7 +119,7 @@ fn prepare<C: Chare>(
     })
 }
 
-/// Brings the store back and runs lines over it, or writes why none came back.
+/// Brings the store back and runs lines over it, or writes why it doesn't go on.
 fn restart_with<D: Disk, C: Chare, W: Write, R: Threads + Wait + Sync>(
     rt: &R,
     alloc: Global,
@@ -146,11 +149,11 @@ fn restart_with<D: Disk, C: Chare, W: Write, R: Threads + Wait + Sync>(
         books,
         given,
     } = prepared;
-    match UnnamedRuntime::restart(rt, alloc, disk, blanks, processors) {
-        Ok(begun) => {
+    match Reopened::from_disk(rt, alloc, disk, blanks, processors) {
+        Ok(reopened) => {
             let line = RestartedLine {
-                generation: begun.generation(),
-                events: begun.event_count(),
+                generation: reopened.generation(),
+                events: reopened.event_count(),
                 processors,
             };
             let lines = Lines {
@@ -158,21 +161,37 @@ fn restart_with<D: Disk, C: Chare, W: Write, R: Threads + Wait + Sync>(
                 restarted: Some(line),
                 lines: script.lines(),
             };
-            run_named::<D, C, (Vec<C>, Vec<C>), Brand, W, R>(
-                rt, alloc, begun, books, given, &lines, writer,
-            )
-        }
-        Err(NotRestarted { refusal, disk, .. }) => {
-            match write_answer(alloc, writer, &Answer::Refused(refusal)) {
-                Ok(()) => RanByWorkers {
-                    disk: Some(disk),
-                    result: Err(WorkersError::NotRestarted(refusal)),
-                },
-                Err(error) => RanByWorkers {
-                    disk: Some(disk),
-                    result: Err(WorkersError::Output(error)),
-                },
+            match run_reopened::<D, C, (Vec<C>, Vec<C>), Brand, W, R>(
+                rt, alloc, reopened, books, given, &lines, writer,
+            ) {
+                Ok(ran) => ran,
+                Err(refused) => tell_refused(alloc, refused, writer),
             }
         }
+        Err(refused) => tell_refused(alloc, refused, writer),
+    }
+}
+
+/// Writes why no store came back. The disk comes back.
+fn tell_refused<D: Disk, C: Chare, T: Drop, W: Write>(
+    alloc: Global,
+    refused: NotRestarted<D, C>,
+    writer: &mut W,
+) -> RanByWorkers<D, T>
+    ensures disk { result.disk ≡ Some refused.disk }
+    ensures fails { IsErr result.result }
+    ensures err { IfErr result.result (TellsRefusal W.contents refused.refusal
+        writer.old writer.new) }
+{
+    let NotRestarted { refusal, disk, .. } = refused;
+    match write_answer(alloc, writer, &Answer::Refused(refusal)) {
+        Ok(()) => RanByWorkers {
+            disk: Some(disk),
+            result: Err(WorkersError::NotRestarted(refusal)),
+        },
+        Err(error) => RanByWorkers {
+            disk: Some(disk),
+            result: Err(WorkersError::Output(error)),
+        },
     }
 }

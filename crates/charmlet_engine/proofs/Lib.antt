@@ -9,3 +9,4 @@ pub mod Lives
 pub mod Asked
 pub mod Renewed
 pub mod Restarts
+pub mod Reopenings

@@ -1,5 +1,5 @@
 -- Engines that come back.
-use Rattle.std.proofs.Common.{◌≡◌, ◌≢◌, inl, inr, ℕ, ◌+◌, Bool, true, false, not, None, Result, Ok, Err, IfErr, IfOk, List, [], length, take, refl, sym, ap, subst, ◌∙◌, arith, if◌then◌else◌}
+use Rattle.std.proofs.Common.{◌≡◌, ◌≢◌, ◌⊎◌, inl, inr, ℕ, ◌+◌, Bool, true, false, not, None, Result, Ok, Err, IfErr, IfOk, List, [], length, take, refl, sym, ap, subst, ◌∙◌, arith, if◌then◌else◌}
 use Rattle.charmlet_model.specs.declared.event.Event.{Event}
 use Rattle.charmlet_model.specs.declared.half.Half.{Half}
 use Rattle.charmlet_model.specs.declared.refusal.Refusal.{Refusal}
@@ -35,7 +35,7 @@ use Rattle.charmlet_recover.proofs.Stocks.{unused_is_same}
 use Rattle.charmlet_engine.specs.Engine.{EngineShown, HasImage, core_of, supplied_of, view_of}
 use Rattle.charmlet_engine.specs.Lives.{ComesBack, Past, Remembers}
 use Rattle.charmlet_engine.specs.Outcomes.{Onward, is_lawful_now}
-use Rattle.charmlet_engine.specs.Restarted.{AnswersAfterCrash, CameBack, CameFromFiles, ComesFrom, IsOn, IsRefused, IsFound, IsFullOfSome, IsLackOrFull, IsLeftByRestart, CameBackOn, IsOpenedOn, IsReadFrom, IsSameOrNext, IsTaken, IsTakenFrom, core_or_refusal, disk_after, going_refusal, gone_on, is_engine_refusal}
+use Rattle.charmlet_engine.specs.Restarted.{AnswersAfterCrash, CameBack, CameFromFiles, ComesFrom, IsRefused, IsFound, IsFullOfSome, IsLackOrFull, IsLeftByRestart, CameBackOn, IsOpenedOn, IsReadFrom, IsSameOrNext, IsTaken, IsTakenFrom, core_or_refusal, disk_after, going_refusal, gone_on, is_engine_refusal}
 use Rattle.charmlet_engine.proofs.Lives.{comes_back}
 use Rattle.charmlet_engine.proofs.Onward.{old_or_image}
 use Rattle.charmlet_engine.proofs.Renewed.{IsGoingRefusal, going_is, going_refused, gone_opened, opened_is, opened_present}
@@ -129,8 +129,8 @@ module _ {D C : Type 0} {G : disks.Ghosts D} (given : Blanks) (outcome : CrashBy
   wanted_where old = wants_is ∙ ap not old
 
   -- where it stays, it is the engine's
-  stays_taken : (engine : EngineShown D) → IsOn back.halves engine → IsTaken outcome engine.half
-  stays_taken engine same = (its.0, its.1 ∙ ap (λ (half : Half). Takes half its.0) (sym same.half))
+  stays_taken : (engine : EngineShown D) → engine.half ≡ taken_half back.halves → IsTaken outcome engine.half
+  stays_taken engine same = (its.0, its.1 ∙ ap (λ (half : Half). Takes half its.0) (sym same))
 
 -- ---- a store that came back
 
@@ -285,7 +285,7 @@ module _ {D C : Type 0} {G : disks.Ghosts D} (processors : ℕ) (back : Recovere
   all_came_back given was supplied read same (Err refused) gone left is = tt
 
   pub all_from_files : {H : chares.Ghosts C} (given : Blanks) (outcome : CrashBytes) → recovers.IsTakenFrom given outcome back → recovered outcome ≡ Found was.opening was.before was.generation →
-      (r : Answer D C H) → HasGone r → HasLeft r → (back.is_current ≡ true → CameBackOn back.halves r) → (back.is_current ≡ false → IfOk r (HasImage G)) →
+      (r : Answer D C H) → HasGone r → HasLeft r → (back.is_current ≡ true → IfOk r (λ engine. engine.half ≡ taken_half back.halves)) → (back.is_current ≡ false → IfOk r (HasImage G)) →
       IfOk r (λ engine. (o : CrashBytes) → MayLeave (G.file engine.disk) o → is_lawful_now (core_of engine) o) → IfOk r (CameFromFiles G given outcome)
   all_from_files given outcome its found (Ok engine) gone left stays image now = record {
     found = came_found processors back opens engine gone given outcome its found;
@@ -335,13 +335,15 @@ module _ {D : Type 0} (G : disks.Ghosts D) (disk mid : D) (read : IsUnwritten G 
   unwritten_at last is = subst (λ (d : D). IsUnwritten G disk d) (sym is) read
 
   -- and else an image is, and nothing more
-  pub leaves_by : (is_current : Bool) (last : D) (core : Core) → (is_current ≡ true → last ≡ mid) → (is_current ≡ false → LeavesOnly G.moment G.since mid last (HasOldOrSealed core)) →
+  pub leaves_by : (last : D) (core : Core) → (last ≡ mid) ⊎ LeavesOnly G.moment G.since mid last (HasOldOrSealed core) →
       ((outcome : CrashBytes) → HasOldOrSealed core outcome → IsSameOrNext (bytes_on (G.file disk)) outcome) → LeavesOnly G.moment G.since disk last (IsLeftByRestart (G.file disk))
-  leaves_by true last core still stored same_world =
-      subst (λ (d : D). LeavesOnly G.moment G.since disk d (IsLeftByRestart (G.file disk))) (sym (still refl))
-      (weaker G.moment G.since disk mid (MayLeave (G.file disk)) (IsLeftByRestart (G.file disk)) read.any_moment (λ o left. inl left))
-  leaves_by false last core still stored same_world =
-      after_that G.moment G.since disk mid last (MayLeave (G.file disk)) (HasOldOrSealed core) (IsLeftByRestart (G.file disk)) read.any_moment (stored refl) (λ o left. inl left) (λ o has. inr (same_world o has))
+  leaves_by last core written same_world = elim written [
+    | inl still ↦
+        subst (λ (d : D). LeavesOnly G.moment G.since disk d (IsLeftByRestart (G.file disk))) (sym still)
+        (weaker G.moment G.since disk mid (MayLeave (G.file disk)) (IsLeftByRestart (G.file disk)) read.any_moment (λ o left. inl left))
+    | inr stored ↦
+        after_that G.moment G.since disk mid last (MayLeave (G.file disk)) (HasOldOrSealed core) (IsLeftByRestart (G.file disk)) read.any_moment stored (λ o left. inl left) (λ o has. inr (same_world o has))
+  ]
 
   -- nor is it at a refusal where it does
   pub all_unwritten : {C : Type 0} {H : chares.Ghosts C} (r : Result (EngineShown D) (NotRestarted D C H)) → IfErr r (λ refused. refused.refusal ≢ refusals.Device → refused.disk ≡ mid) →

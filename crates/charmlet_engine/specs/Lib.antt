@@ -7,6 +7,7 @@ pub mod Lives
 pub mod Taken
 pub mod Created
 pub mod Restarted
+pub mod Reopened
 pub use Rattle.charmlet_model.specs.Core
 pub use Rattle.charmlet_model.specs.Edition
 pub use Rattle.charmlet_model.specs.Fit

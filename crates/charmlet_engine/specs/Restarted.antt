@@ -161,8 +161,11 @@ module _ {D C : Type 0} {H : chares.Ghosts C} where
 
   -- ---- the promises of a restart
 
-  -- No refusal is one that isn't due: BadPes comes exactly where there aren't so many processors;
-  -- each other one has its cause in some half; and the objects come back as blanks.
+  -- What is so of a refusal on any disk. It is one of a restart's. BadPes comes only where there
+  -- aren't so many processors; BlanksWanted only where the bytes of some half want more blanks than
+  -- were given; and ImageFull only where those of some half want an image, and of what they mean
+  -- none can be written. Which bytes these are isn't said, since a disk that isn't honest may let
+  -- anything be read; nor is a cause of any other refusal. The objects come back as blanks.
   pub record IsRefused (processors : ℕ) (blanks : Stock C H) (refused : NotRestarted D C H)
       : Type 0 where
     pub bad : refused.refusal ≡ refusals.BadPes → is_processor_count processors ≡ false

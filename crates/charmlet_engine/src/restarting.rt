@@ -19,10 +19,10 @@ ghost use Rattle.charmlet_engine.specs.Outcomes.{Onward, is_lawful_since};
 ghost use Rattle.charmlet_engine.specs.Restarted.{AnswersAfterCrash, CameBack, CameFromFiles, IsHandedBack, IsRefused, LeavesTaken, core_or_refusal, disk_after};
 
 use crate::engine::Engine;
-use crate::going_on::go_on;
+use crate::reopened::Reopened;
 use charmlet_chare::Chare;
 use charmlet_disk::Disk;
-use charmlet_recover::{NotRestarted, Recovered, restart};
+use charmlet_recover::NotRestarted;
 use charmlet_stock::Stock;
 use std::alloc::Global;
 use std::thread::Threads;
@@ -41,6 +41,8 @@ impl<D: Disk, C: Chare> Engine<D, C> {
     /// a checkpoint does. Before its gate is opened a crash leaves the half that was read, and
     /// afterwards the image; the files recover to the same world either way, so that nothing is
     /// lost at any moment. It can't be undone but from a copy of the folder.
+    ///
+    /// It is [`Reopened::from_disk`] and then [`Reopened::go_on`].
     ///
     /// After a crash at any moment of an earlier engine on this disk, the store opens with the
     /// world after some of what had happened, with all that was durable among it. What clients were
@@ -80,14 +82,8 @@ impl<D: Disk, C: Chare> Engine<D, C> {
         ensures disk { AfterCall D.Disk disk (disk_after result)
             (is_no_failure (core_or_refusal result)) }
     {
-        match restart(rt, alloc, disk, blanks, processors) {
-            Ok(
-                Recovered {
-                    store,
-                    halves,
-                    is_current,
-                },
-            ) => go_on(store, halves, is_current),
+        match Reopened::from_disk(rt, alloc, disk, blanks, processors) {
+            Ok(reopened) => reopened.go_on(),
             Err(refused) => Err(refused),
         }
     }

@@ -1,5 +1,6 @@
 -- The definitions that contracts cite.
 pub mod Told
+pub mod Reopening
 pub use Rattle.charmlet_model.specs.Core
 pub use Rattle.charmlet_model.specs.Edition
 pub use Rattle.charmlet_model.specs.Sound
@@ -23,4 +24,6 @@ pub use Rattle.charmlet_engine.specs.Engine
 pub use Rattle.charmlet_engine.specs.Lives
 pub use Rattle.charmlet_engine.specs.Outcomes
 pub use Rattle.charmlet_engine.specs.Restarted
+pub use Rattle.charmlet_engine.specs.Reopened
 pub use Rattle.charmlet_engine.specs.Together
+pub use Rattle.charmlet_engine.specs.restarting

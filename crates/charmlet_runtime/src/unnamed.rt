@@ -1,21 +1,21 @@
 //! Runtimes that have no name yet.
 
-ghost use Rattle.std.specs.Prelude.{◌≡◌, IfErr, IfOk};
+ghost use Rattle.std.specs.Prelude.{◌≡◌};
 ghost use Rattle.charmlet_agreement.specs.Naming.{table_of};
 ghost use Rattle.charmlet_sequencer.specs.Sequencer.{IsOf};
 ghost use Rattle.charmlet_workers.specs.Runtime.{shown_of};
 ghost use Rattle.charmlet_engine.specs.Engine.{core_of};
-ghost use Rattle.charmlet_engine.specs.Together.{AreTied, shown_by};
 
 use charmlet_chare::Chare;
 use charmlet_disk::Disk;
 use charmlet_engine::Engine;
 use charmlet_sequencer::RuntimeName;
-use charmlet_workers::{NotOpened, Runtime, RuntimeRoom, UnnamedBooks};
+use charmlet_workers::{Runtime, RuntimeRoom, UnnamedBooks};
 use std::marker::Model;
 
-/// A runtime with threads before it has its name: an engine in which nothing has happened since it
-/// was made or came back. A contract sees the engine.
+/// A new runtime with threads before it has its name: an engine in which nothing has happened since
+/// it was made. A contract sees the engine. A store that comes back is opened by
+/// [`open_reopened`](crate::open_reopened).
 #[derive(Drop)]
 pub struct UnnamedRuntime<D: Disk, C: Chare> {
     pub(crate) engine: Engine<D, C>,
@@ -48,35 +48,14 @@ impl<D: Disk, C: Chare> UnnamedRuntime<D, C> {
         self.engine.event_count()
     }
 
-    /// The runtime under the name `B`, which its caller has picked for it and for these books. It
-    /// opens with the engine's world, after as many events and on as many processors, and makes no
-    /// call of the disk. It fails only when out of memory; then the engine's store and its halves
-    /// come back as they were.
+    /// The runtime under the name `B`, which its caller has picked for it and for these books, in a
+    /// room that was made before. It opens with the engine's world, after as many events and on as
+    /// many processors, and makes no call of the disk. It never fails, and takes no memory. So
+    /// where the room is made first, a creation and its opening are out of memory before anything
+    /// is written, or not at all.
     ///
-    /// As with [`Runtime::open`], nothing that bears the name can leave the function that is
+    /// As with [`Runtime::open_in`], nothing that bears the name can leave the function that is
     /// generic in it.
-    pub fn open<B: RuntimeName>(
-        self,
-        books: UnnamedBooks,
-    ) -> Result<Runtime<D, C, B>, NotOpened<D, C>>
-        requires named { IsOf B.opening B.before B.processors (core_of self) }
-        requires generation { B.generation ≡ (core_of self).generation }
-        requires parts { table_of books.parts ≡ B.table }
-        requires seats { table_of books.seats ≡ B.seats }
-        requires passes { table_of books.passes ≡ B.passes }
-        requires checkpoints { table_of books.checkpoints ≡ B.checkpoints }
-        requires honest { B.honest → D.honest self.disk }
-        ensures shown { IfOk result (λ runtime. runtime ≡ shown_of (core_of self)) }
-        ensures back { IfErr result (λ back. (shown_by back.store back.halves ≡ self)
-            × AreTied back.store back.halves) }
-    {
-        let (store, halves) = self.engine.into_parts();
-        Runtime::open(store, halves, books)
-    }
-
-    /// The runtime as [`UnnamedRuntime::open`] gives it, in a room that was made before. It never
-    /// fails, and takes no memory. So where the room is made first, a creation and its opening are
-    /// out of memory before anything is written, or not at all.
     pub fn open_in<B: RuntimeName>(
         self,
         books: UnnamedBooks,

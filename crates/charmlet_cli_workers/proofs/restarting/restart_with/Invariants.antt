@@ -1,20 +1,20 @@
 use Rattle.charmlet_agreement.specs.Naming.{table_of}
-use Rattle.charmlet_runtime.specs.Engine.{core_of}
+use Rattle.charmlet_runtime.specs.Reopened.{core_to_be}
 use Rattle.charmlet_cli_workers.proofs.restarting.restart_with.Given as goal
 
 -- the book of shelves that was just made
-abbrev pub ghosts-run_named-B-BookName : goal.ghosts-run_named-B-BookName
-ghosts-run_named-B-BookName g a = record { table = table_of a.books.parts }
+abbrev pub ghosts-run_reopened-B-BookName : goal.ghosts-run_reopened-B-BookName
+ghosts-run_reopened-B-BookName g a = record { table = table_of a.books.parts }
 
--- the other two books, the engine's store, and that its disk is honest
-abbrev pub ghosts-run_named-B-RuntimeName : goal.ghosts-run_named-B-RuntimeName
-ghosts-run_named-B-RuntimeName g a = record {
+-- the other books, what the store is once it goes on, and that its disk is honest
+abbrev pub ghosts-run_reopened-B-RuntimeName : goal.ghosts-run_reopened-B-RuntimeName
+ghosts-run_reopened-B-RuntimeName g a = record {
   seats = table_of a.books.seats;
   passes = table_of a.books.passes;
   checkpoints = table_of a.books.checkpoints;
-  opening = (core_of a.begun).opening;
-  before = (core_of a.begun).before;
-  processors = (core_of a.begun).processors;
-  generation = (core_of a.begun).generation;
-  honest = g.D.Disk.honest a.begun.disk;
+  opening = (core_to_be a.reopened).opening;
+  before = (core_to_be a.reopened).before;
+  processors = (core_to_be a.reopened).processors;
+  generation = (core_to_be a.reopened).generation;
+  honest = g.D.Disk.honest a.reopened.disk;
 }

@@ -17,4 +17,4 @@ returns g c =
     )
 
 pub count_each-counts-requires : goal.count_each-counts-requires
-count_each-counts-requires g c = λ kind. let all = (c.census.ensures.was kind).all in omega (arith, all)
+count_each-counts-requires g c = λ kind. let all = c.census.ensures.was kind in omega (arith, all)
