@@ -1,6 +1,7 @@
 pub mod Causes
 pub mod Counting
 pub mod Folded
+pub mod Halting
 pub mod Lines
 pub mod Maps
 pub mod Read

@@ -1,6 +1,7 @@
 -- Restarts that aren't bad.
 use Rattle.std.proofs.Common.{◌≡◌, inl, inr, ℕ, ◌+◌, ◌^◌, nat_le, arith, Bool, true, false, if◌then◌else◌, List, [], Option, Some, None, Result, Ok, Err, length, take, refl, sym, ap, subst, ◌∙◌}
-use Rattle.std.specs.Prelude.{IfOk, unwrap_or}
+use Rattle.std.specs.Prelude.{◌↔◌, IfOk, unwrap_or}
+use Rattle.std.specs.Result.{result_err}
 use Rattle.charmlet_model.specs.declared.event.Event.{Event}
 use Rattle.charmlet_model.specs.declared.half.Half.{Half}
 use Rattle.charmlet_model.specs.declared.half.Half.TheVariants.{Zero, One}
@@ -28,7 +29,7 @@ use Rattle.charmlet_engine.specs.restarting.NotRestarted.{NotRestarted}
 use Rattle.charmlet_engine.specs.Restart.{AnswersBy}
 use Rattle.charmlet_engine.specs.Engine.{EngineShown, core_of}
 use Rattle.charmlet_engine.specs.Restarted.{IsFound, IsHandedBack, IsOpenedOn, core_or_refusal}
-use Rattle.charmlet_lab.specs.Judged.{HasFirst, IsGood, IsNothingOrLawful, count_of}
+use Rattle.charmlet_lab.specs.Judged.{HasFirst, IsGood, IsGoodUnless, IsNothingOrLawful, count_of}
 
 -- a store in which nothing has happened since it opened, and which has the first events of a run,
 -- was recovered from lawful files
@@ -47,6 +48,35 @@ opened_is_lawful kinds events n processors core outcome opens found has =
       generation = found.generation;
       is = found.is ∙ ap (λ (w : World). Found w core.before found.generation) same ∙ ap (λ (k : ℕ). Found (world (new_world kinds) (take core.before events)) k found.generation) plus;
     }
+
+-- and one that was recovered from lawful files has the first events of the run
+lawful_has_first : (kinds : Kinds) (events : List Event) (n processors : ℕ) (core : Core) (outcome : CrashBytes) → IsOpenedOn processors core → IsFound outcome core → IsLawful (new_world kinds) 0 events n outcome →
+    HasFirst kinds events n core
+lawful_has_first kinds events n processors core outcome opens found lawful =
+    let none : core.history ≡ [] = ap (λ (k : Core). k.history) opens in
+    let count : count_of core ≡ core.before = omega (arith, ap (length {A = Event}) none) in
+    let same : Found (world (new_world kinds) (take lawful.kept events)) (0 + lawful.kept) lawful.generation ≡ Found core.opening core.before found.generation = sym lawful.is ∙ found.is in
+    let opening : core.opening ≡ world (new_world kinds) (take lawful.kept events) = cc in
+    let before : 0 + lawful.kept ≡ core.before = cc in
+    let kept : lawful.kept ≡ count_of core = omega (arith, before, count) in
+    record {
+      no_fewer = (let few = lawful.durable_kept in omega (arith, kept));
+      no_more = (let most = lawful.none_invented in omega (arith, kept));
+      is = ap (world core.opening) none ∙ opening ∙ ap (λ (k : ℕ). world (new_world kinds) (take k events)) kept;
+    }
+
+-- so whether what came back is good is known by the files alone
+pub good_by_files : (kinds : Kinds) (events : List Event) (durable : Option ℕ) (processors : ℕ) (outcome : CrashBytes) (why : Option Refusal) (back : Result Core Refusal) →
+    IfOk back (IsOpenedOn processors) → IfOk back (IsFound outcome) → result_err back ≡ why → IsGood kinds events durable back ↔ IsGoodUnless kinds events durable outcome why
+good_by_files kinds events durable processors outcome why (Ok core) opens found cause =
+    let n = unwrap_or durable 0 in (
+      λ has. subst (IsGoodUnless kinds events durable outcome) cause (opened_is_lawful kinds events n processors core outcome opens found has),
+      λ good. lawful_has_first kinds events n processors core outcome opens found (subst (IsGoodUnless kinds events durable outcome) (sym cause) good),
+    )
+good_by_files kinds events durable processors outcome why (Err refusal) opens found cause = (
+  λ good. subst (IsGoodUnless kinds events durable outcome) cause good,
+  λ good. subst (IsGoodUnless kinds events durable outcome) (sym cause) good,
+)
 
 -- ---- where nothing is here
 

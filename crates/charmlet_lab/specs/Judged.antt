@@ -1,14 +1,15 @@
 -- Whether what came back is a world of a run.
-use Rattle.std.specs.Prelude.{◌≡◌, ◌⊎◌, ◌+◌, ◌≤◌, ℕ, List, length, take, Option, None, Result, Ok, Err, unwrap_or}
+use Rattle.std.specs.Prelude.{◌≡◌, ◌⊎◌, ◌+◌, ◌≤◌, ℕ, List, length, take, Option, Some, None, Result, Ok, Err, unwrap_or}
 use Rattle.charmlet_model.specs.declared.event.Event.{Event}
 use Rattle.charmlet_model.specs.declared.refusal.Refusal.{Refusal}
-use Rattle.charmlet_model.specs.declared.refusal.Refusal.TheVariants.{NothingHere}
-use Rattle.charmlet_model.specs.Core.{Core, present}
+use Rattle.charmlet_model.specs.declared.refusal.Refusal.TheVariants.{Device, Memory, NothingHere}
+use Rattle.charmlet_model.specs.Core.{Blanks, Core, present}
 use Rattle.charmlet_model.specs.Sound.{new_world}
 use Rattle.charmlet_model.specs.World.{world}
 use Rattle.charmlet_record.specs.Reading.{Kinds}
 use Rattle.charmlet_recovery.specs.Outcomes.{IsLawful}
 use Rattle.charmlet_recovery.specs.Recovered.{Nothing, recovered}
+use Rattle.charmlet_recovery.specs.Restarts.{engine_refusal}
 use Rattle.charmlet_checkpoint.specs.Showing.{IsRefusal}
 use Rattle.charmlet_chare.specs.declared.chare.Chare as chares
 use Rattle.charmlet_disk.specs.File.{CrashBytes}
@@ -32,11 +33,12 @@ abbrev pub IsGood : Kinds → List Event → (durable : Option ℕ) → Result C
 IsGood kinds events durable (Ok core) = HasFirst kinds events (unwrap_or durable 0) core
 IsGood kinds events durable (Err refusal) = (refusal ≡ NothingHere) × (durable ≡ None)
 
--- why a restart isn't judged, if a store came back: out of memory, or an image of it would pass a
--- limit; a refused restart always is judged
+-- why a restart isn't judged: if a store came back, out of memory, or an image of it would pass a
+-- limit; and else it was itself out of memory, or the device failed in it, which is handed on
 abbrev pub IsNotJudged : Result Core Refusal → Refusal → Type 0
 IsNotJudged (Ok core) refusal = IsRefusal core refusal
-IsNotJudged (Err refused) refusal = ⊥
+IsNotJudged (Err refused) refusal = (refusal ≡ refused)
+    × ((refused ≡ Memory) ⊎ (refused ≡ Device))
 
 -- the same store with the same blanks, and the same disk
 pub record IsSameEngine {D : Type 0} (old new : EngineShown D) : Type 0 where
@@ -56,3 +58,19 @@ IsAsBefore (Err old) (Ok new) = ⊥
 abbrev pub IsNothingOrLawful : Kinds → List Event → CrashBytes → Type 0
 IsNothingOrLawful kinds events outcome = (recovered outcome ≡ Nothing)
     ⊎ IsLawful (new_world kinds) 0 events 0 outcome
+
+-- The files aren't bad: a restart isn't refused, and they recover to the world after some of the
+-- events, with all that were durable among them; or it is refused since they hold no store, and
+-- none was said to be made.
+abbrev pub IsGoodUnless : Kinds → List Event → (durable : Option ℕ) → CrashBytes → Option Refusal →
+    Type 0
+IsGoodUnless kinds events durable outcome None =
+    IsLawful (new_world kinds) 0 events (unwrap_or durable 0) outcome
+IsGoodUnless kinds events durable outcome (Some refusal) = (refusal ≡ NothingHere)
+    × (durable ≡ None)
+
+-- the same, of a restart with these blanks
+abbrev pub AreGood : Kinds → List Event → (durable : Option ℕ) → (given : Blanks) → CrashBytes →
+    Type 0
+AreGood kinds events durable given outcome =
+    IsGoodUnless kinds events durable outcome (engine_refusal given outcome)

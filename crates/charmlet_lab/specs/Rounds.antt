@@ -1,5 +1,5 @@
 -- What a run over a disk that may fail leaves.
-use Rattle.std.specs.Prelude.{◌≡◌, ◌⊎◌, ◌≤◌, ⊤, ℕ, false, List, [], length, Option, Some, None, IfSome, IsSome, unwrap_or}
+use Rattle.std.specs.Prelude.{◌≡◌, ◌⊎◌, ◌≤◌, ⊤, ℕ, false, not, List, [], length, Option, Some, None, IfSome, IsSome, unwrap_or}
 use Rattle.charmlet_model.specs.declared.event.Event.{Event}
 use Rattle.charmlet_model.specs.declared.half.Half.TheVariants.{Zero, One}
 use Rattle.charmlet_model.specs.declared.refusal.Refusal.{Refusal}
@@ -13,10 +13,12 @@ use Rattle.charmlet_image.specs.Spelled.{IsClosed}
 use Rattle.charmlet_recovery.specs.Outcomes.{IsLawful}
 use Rattle.charmlet_recovery.specs.RestartLaws.{IsLeastShort}
 use Rattle.charmlet_disk.specs.declared.disk.Disk as disks
+use Rattle.charmlet_disk.specs.Disk.{faults_after}
 use Rattle.charmlet_disk.specs.File.{MayLeave, CrashBytes}
 use Rattle.charmlet_halves.specs.Bytes.{IsOpen}
 use Rattle.charmlet_locate.specs.Locations.{is_processor_count}
 use Rattle.charmlet_script.specs.Script.{Contents, blanks_of, pairs_of, processors_of}
+use Rattle.charmlet_engine.specs.Engine.{EngineShown, core_of}
 use Rattle.charmlet_engine.specs.Outcomes.{IsNothingOrNew}
 use Rattle.charmlet_lab.specs.declared.round.Round.{Round}
 
@@ -35,13 +37,20 @@ IsExpected kinds events None outcome = IsNothingOrNew kinds outcome
 IsExpected kinds events (Some durable) outcome = IsLawful (new_world kinds) 0 events durable outcome
 
 module _ {D : Type 0} (G : disks.Ghosts D) where
+  -- from one engine to the other a store is halted if and only if its disk fails, which it does
+  -- once
+  abbrev pub HaltsByFailure : (old new : EngineShown D) → Type 0
+  HaltsByFailure old new = (core_of old).halted ≡ false →
+      G.faults new.disk ≡ faults_after (not (core_of new).halted) (G.faults old.disk)
+
   -- A run on a disk leaves this. Its events can happen one after another; those that are durable
-  -- are among them; a store was made if the disk didn't fail, and on an honest disk only if no
-  -- half was open; and if an honest disk had no store, each crash afterwards leaves what is
-  -- expected.
+  -- are among them; the disk failed, once, if and only if the run was stopped; a store was made if
+  -- it didn't fail, and on an honest disk only if no half was open; and if an honest disk had no
+  -- store, each crash afterwards leaves what is expected.
   pub record IsRound (kinds : Kinds) (first : D) (round : Round D) : Type 0 where
     pub legal : IsLegal (new_world kinds) 0 round.events.items
     pub within : IfSome round.durable (λ durable. durable ≤ length round.events.items)
+    pub counted : G.faults round.disk ≡ faults_after (not round.is_stopped) (G.faults first)
     pub made : round.is_stopped ≡ false → IsSome round.durable
     pub honest : (G.honest first → G.honest round.disk) × (G.honest round.disk → G.honest first)
     pub closed : G.honest first → IsSome round.durable →

@@ -9,6 +9,7 @@ ghost use Rattle.charmlet_checkpoint.specs.Showing.{IsRefusal};
 ghost use Rattle.charmlet_engine.specs.Engine.{core_of, world_of};
 ghost use Rattle.charmlet_engine.specs.Restarted.{core_or_refusal};
 ghost use Rattle.charmlet_lab.specs.Judged.{HasFirst, IsAsBefore, IsGood, IsNotJudged, IsSameEngine};
+ghost use Rattle.charmlet_lab.specs.Restarts.{IsKnown};
 ghost use Rattle.charmlet_lab.specs.Rounds.{arrays_of};
 
 use crate::same::is_same_world;
@@ -31,7 +32,8 @@ const OPEN: u8 = 1;
 /// of their kinds, as they do after a restart.
 ///
 /// `Memory` if out of memory; `ImageFull` if an image of the store, which its world is read from,
-/// would pass a limit.
+/// would pass a limit. A restart that was itself refused by `Memory` or `Device` isn't judged, since
+/// that says nothing of the files: its refusal is handed on.
 pub fn lab_bad<D: Disk, C: Chare>(
     alloc: Global,
     script: &Script,
@@ -43,6 +45,7 @@ pub fn lab_bad<D: Disk, C: Chare>(
     requires legal { IsLegal (new_world (arrays_of script.now)) 0 events.now }
     ensures ok { IfOk result (λ bad. (bad ≡ false)
         ↔ IsGood (arrays_of script.now) events.now durable (core_or_refusal answer.old)) }
+    ensures known { IfOk result (λ _. IsKnown (core_or_refusal answer.old)) }
     ensures err { IfErr result (IsNotJudged (core_or_refusal answer.old)) }
     ensures same { IsAsBefore answer.old answer.new }
 {
@@ -51,7 +54,11 @@ pub fn lab_bad<D: Disk, C: Chare>(
             let is_good = has_first(alloc, script, engine, events, durable.unwrap_or(0))?;
             Ok(!is_good)
         }
-        Err(refused) => Ok(durable.is_some() || refused.refusal != Refusal::NothingHere),
+        Err(refused) => match refused.refusal {
+            Refusal::Memory => Err(Refusal::Memory),
+            Refusal::Device => Err(Refusal::Device),
+            refusal => Ok(durable.is_some() || refusal != Refusal::NothingHere),
+        },
     }
 }
 

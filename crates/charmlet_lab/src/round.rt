@@ -13,7 +13,7 @@ ghost use Rattle.charmlet_engine.specs.Advances.{Advances};
 ghost use Rattle.charmlet_engine.specs.Engine.{view_of};
 ghost use Rattle.charmlet_requests.specs.Handlers.{handler_of};
 ghost use Rattle.charmlet_lab.specs.Lines.{AreRun, DeliversNext, DeliversNone, Drains, Follows, IsRunOf, IsSupplied};
-ghost use Rattle.charmlet_lab.specs.Rounds.{IsNotRun, IsRound, arrays_of, needed_by};
+ghost use Rattle.charmlet_lab.specs.Rounds.{HaltsByFailure, IsNotRun, IsRound, arrays_of, needed_by};
 
 use charmlet_chare::Chare;
 use charmlet_disk::Disk;
@@ -45,7 +45,8 @@ pub struct Round<D: Disk> {
 /// settled.
 ///
 /// The events are those of the script's lines up to that failure, one after another, and as many of
-/// them are durable as the store says. No line lacked memory.
+/// them are durable as the store says. No line lacked memory. The disk counts one failure if the
+/// run was stopped, and none if it wasn't.
 ///
 /// On an honest disk that had no store, each crash after the run leaves files that recover to the
 /// world after some of the events, with all that were durable among them; if the store wasn't
@@ -156,6 +157,7 @@ fn run_lines<D: Disk, C: Chare>(
     ensures ran { OnOk result (AreRun (handler_of handlers.now) (view_of engine.old) lines.now
         (view_of engine.new)) }
     ensures advances { Advances D.Disk engine.old engine.new }
+    ensures counted { HaltsByFailure D.Disk engine.old engine.new }
 {
     engine.facts();
     for line in lines {
@@ -182,6 +184,7 @@ fn run_line<D: Disk, C: Chare>(
     ensures left { (kind : kinds.Kind) → stocks.blanks_in source.old kind
         ≤ stocks.blanks_in source.new kind + blanks_in kind line.now }
     ensures advances { Advances D.Disk engine.old engine.new }
+    ensures counted { HaltsByFailure D.Disk engine.old engine.new }
 {
     engine.facts();
     match line {
@@ -232,6 +235,7 @@ fn supply<D: Disk, C: Chare>(
     ensures left { (other : kinds.Kind) → stocks.blanks_in source.old other
         ≤ stocks.blanks_in source.new other + part_of kind count other }
     ensures advances { Advances D.Disk engine.old engine.new }
+    ensures counted { HaltsByFailure D.Disk engine.old engine.new }
 {
     engine.draw(source, kind, count as usize)
 }
@@ -241,6 +245,7 @@ fn supply<D: Disk, C: Chare>(
 fn drain<D: Disk, C: Chare>(engine: &mut Engine<D, C>, most: u32) -> Result<(), AllocError>
     ensures drains { OnOk result (Drains most (view_of engine.old) (view_of engine.new)) }
     ensures advances { Advances D.Disk engine.old engine.new }
+    ensures counted { HaltsByFailure D.Disk engine.old engine.new }
 {
     engine.facts();
     for _ in 0..most {
@@ -257,6 +262,7 @@ fn deliver_next<D: Disk, C: Chare>(engine: &mut Engine<D, C>) -> Result<bool, Al
     ensures delivers { result ≡ Ok true → DeliversNext (view_of engine.old) (view_of engine.new) }
     ensures none { result ≡ Ok false → DeliversNone (view_of engine.old) (view_of engine.new) }
     ensures advances { Advances D.Disk engine.old engine.new }
+    ensures counted { HaltsByFailure D.Disk engine.old engine.new }
 {
     engine.facts();
     let Some((processor, id)) = engine.next() else {

@@ -31,9 +31,9 @@ pub trait Watch {
 /// reported as made.
 ///
 /// `BadPes` if the script's number of processors isn't 1 to 64; `BlanksWanted` if the supplier
-/// brings too few blanks; `AlreadyHere` if a new disk isn't empty; `Device` if a disk can't be read
-/// after its crash, and counts that failure; `ImageFull` if an image of a store that came back
-/// would pass a limit; `Memory`.
+/// brings too few blanks; `AlreadyHere` if a new disk isn't empty; `Device` if a disk fails after
+/// its crash, and counts that failure; `ImageFull` if an image of a store that came back would pass
+/// a limit; `Memory`. So what lacks memory is no run, and no bad restart.
 pub fn try_crashes<D: LabDisk, S: Supplier<D>, W: Watch>(
     alloc: Global,
     script: &Script,

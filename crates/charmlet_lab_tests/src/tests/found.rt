@@ -17,6 +17,11 @@ const SCRIPT: &str = "array 0 1\nsupply 1 1\nreq 7 1 0 0 65535 5\ndeliver 0 c7.1
 const DRAINED: &str = "array 0 1\nsupply 1 2\nreq 7 1 0 0 65535 5\nreq 8 1 0 1 65535 5\n\
     drain 9\nflush\n";
 
+// Each kind of line. It makes two events durable by an image, and three more by a flush.
+const EACH_LINE: &str = "array 0 1\npes 2\nhandler make 0 65535\nhandler bump 0 0\nsupply 1 2\n\
+    call 7 1 make 0 5\ndrain 9\nmove 0 0 1\ncheckpoint\ncall 7 2 bump 0 3\nstate 0 0\npending\n\
+    census\ndeliver 1 c7.2\nreq 8 1 0 0 0 2\nflush\nstatus 7 2\n";
+
 // What it was told, and how often.
 #[derive(Drop)]
 struct Told {
@@ -126,6 +131,20 @@ fn a_drain_of_the_laboratory_delivers_all(rt: HostRuntime) -> Result<(), Fail> {
     let blanks = blank_counters(alloc, 2)?;
     let round = lab_round(alloc, &script, blanks, AnyDisk::memory(alloc))?;
     assert_eq!(rt; round.durable, Some(4));
+    Ok(())
+}
+
+// No line is refused memory, since there is enough.
+#[test]
+fn each_line_of_the_laboratory_is_run(rt: HostRuntime) -> Result<(), Fail> {
+    let rt = &rt;
+    let alloc = rt.alloc();
+    let script = read_script(alloc, &mut EACH_LINE.as_bytes(), Runner::Engine)?;
+    let blanks = blank_counters(alloc, 2)?;
+    let round = lab_round(alloc, &script, blanks, AnyDisk::memory(alloc))?;
+    assert_eq!(rt; round.durable, Some(5));
+    assert_eq!(rt; round.events.len(), 5);
+    assert!(rt; !round.is_stopped);
     Ok(())
 }
 

@@ -1,20 +1,24 @@
-use Rattle.std.proofs.Common.{◌≡◌, ◌≤◌, List, true, Some, None, refl, sym, ap, subst, ◌∙◌, arith}
+use Rattle.std.proofs.Common.{◌≡◌, ◌≤◌, ℕ, Bool, List, true, Some, None, refl, sym, ap, subst, ◌∙◌, arith, rules}
+use Rattle.std.specs.Prelude.{not}
 use Rattle.charmlet_model.specs.declared.kind.Kind.{Kind}
+use Rattle.charmlet_model.specs.declared.refusal.Refusal.TheVariants as refusals
 use Rattle.charmlet_model.specs.Core.{Blanks, Core}
 use Rattle.charmlet_model.specs.Shelves.{count_of}
 use Rattle.charmlet_model.specs.Sound.{new_world}
 use Rattle.charmlet_model.specs.World.{IsLegal}
 use Rattle.charmlet_record.specs.Reading.{Kinds}
+use Rattle.charmlet_disk.specs.Disk.{faults_after}
 use Rattle.charmlet_disk.specs.File.{MayLeave}
 use Rattle.charmlet_history.specs.Kept.{core_in}
 use Rattle.charmlet_stock.specs.Stock.{blanks_in}
 use Rattle.charmlet_script.specs.declared.script.Line.{Line}
 use Rattle.charmlet_script.specs.Script.{blanks_of}
 use Rattle.charmlet_requests.specs.Handlers.{handler_of}
-use Rattle.charmlet_engine.specs.Engine.{view_of}
+use Rattle.charmlet_engine.specs.Engine.{EngineShown, view_of}
 use Rattle.charmlet_lines.specs.Named.{named_by}
 use Rattle.charmlet_lab.specs.Lines.{AreRun}
 use Rattle.charmlet_lab.specs.Rounds.{IsRound}
+use Rattle.charmlet_lab.proofs.Causes.{failure_counted}
 use Rattle.charmlet_lab.proofs.Lines.{opens, run_by}
 use Rattle.charmlet_lab.proofs.Rounds.{all_blanks, durable_within, lawful_events, legal_events, memory_lacks, same_arrays, told_enough, told_lack}
 use Rattle.charmlet_lab.proofs.round.lab_round.Goals as goal
@@ -37,6 +41,10 @@ returns-in-Ok-create-clause-ok g c =
     subst (λ (k : Kinds). IsRound g.D.Disk k c.args.disk (record { disk = c.into_disk.result; events = c.in_ok-events-in-Ok-create.events; durable = Some durable; is_stopped = c.is_halted-is_stopped.result })) (sym arrays) (record {
       legal = legal_events kinds c.processors.result first last opens on events are durable c.durable.ensures sound;
       within = durable_within kinds c.processors.result first last opens on events are durable c.durable.ensures sound;
+      counted =
+          ap g.D.Disk.faults end ∙ c.run_lines.ensures.counted (ap (λ (k : Core). k.halted) opens)
+          ∙ ap (λ (h : Bool). faults_after (not h) (g.D.Disk.faults c.note_events.new.self.disk)) (sym c.is_halted-is_stopped.ensures)
+          ∙ ap (λ (n : ℕ). faults_after (not c.is_halted-is_stopped.result) n) (ap g.D.Disk.faults disk ∙ c.in-Ok-create.ensures.disk.counted);
       made = λ _. refl;
       honest = (
         (λ h. subst g.D.Disk.honest (sym end) (forth h)),
@@ -57,6 +65,10 @@ returns-in-Err-Device-clause-ok g c =
     subst (λ (k : Kinds). IsRound g.D.Disk k c.args.disk (record { disk = end; events = c.new.result; durable = None; is_stopped = true })) (sym arrays) (record {
       legal = subst (IsLegal (new_world kinds) 0) (sym c.new.ensures.items) (record { events = tt; each_can = refl; in_limit = omega arith });
       within = tt;
+      counted =
+          (let refused = c.in-Err-Device.field-0.refusal in
+          let is : refused ≡ refusals.Device = search rules in
+          failure_counted g.D.Disk ℕ c.args.disk end refused is c.in-Err-Device.ensures.disk.counted);
       made = λ h. absurd (let no : ⊥ = cc in no);
       honest = c.in-Err-Device.ensures.disk.honest;
       closed = λ honest made. absurd (let no : ⊥ = cc in no);
