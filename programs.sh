@@ -157,6 +157,9 @@ is_tree_proved() {
   [ -f "$(tree_file)" ] && [ "$(sum_of_tree)" = "$(cat "$(tree_file)")" ]
 }
 
+# Whether the last line of a file is a sum, 'N passed, M failed', by which something passed, and nothing failed.
+went_well() { [[ $(tail -n 1 "$1" 2>/dev/null) =~ ^[1-9][0-9]*\ passed,\ 0\ failed$ ]]; }
+
 # A folder's path from the root on.
 from_root() {
   case $1 in
