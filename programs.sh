@@ -42,27 +42,59 @@ sources_of() {
 program_file() { echo "$top/crates/$1/out/$1"; }
 seal_file() { echo "$(program_file "$1").seal"; }
 
-# The seal that fits the sources and the program as they are now, with this line of the kit.
-seal_of() {
-  printf 'sources %s\nprogram %s\nkit %s\n' "$(sources_of "$1")" "$(sha256sum <"$(program_file "$1")" | cut -d' ' -f1)" "$2"
+# Where a program is kept that isn't proved, and serves until it is: the fast one, and the one that
+# is compiled first.
+kept_file() { echo "$top/out/kept/$1"; }
+first_file() { echo "$top/out/kept/$1.first"; }
+
+# The seal of a built program: this sum of its sources, its own, and this line of the kit.
+seal_with() {
+  printf 'sources %s\nprogram %s\nkit %s\n' "$1" "$(sha256sum <"$2" | cut -d' ' -f1)" "$3"
 }
 
-# Whether the proved program is there, of what its sources are now. Where nothing was touched since it was last held against
-# its seal that is known at once, and else by the sums, as in a copy of the tree. The time of the seal is a second before
-# the sums are taken, so that no later change is missed.
-is_proved() {
-  local program seal since newer
-  program=$(program_file "$1")
-  seal=$(seal_file "$1")
-  [ -x "$program" ] && [ -f "$seal" ] || return 1
+# The seal that fits the sources and the proved program as they are now, with this line of the kit.
+seal_of() { seal_with "$(sources_of "$1")" "$(program_file "$1")" "$2"; }
+
+# Whether this file of a program is there, with a seal beside it, and of what the program's sources
+# are now. Where nothing was touched since it was last held against its seal that is known at once,
+# and else by the sums, as in a copy of the tree. The time of the seal is a second before the sums
+# are taken, so that no later change is missed.
+is_sealed() {
+  local file=$2 seal=$2.seal since
+  [ -x "$file" ] && [ -f "$seal" ] || return 1
   since=$(date -d '1 second ago' +%s.%N)
-  newer=$(
-    cd "$top" && folders_of "$1" | xargs sh -c 'find crates.txt "$@" -cnewer "$0" -print -quit' "$seal"
-    find "$program" -cnewer "$seal"
-  )
-  [ -n "$newer" ] || return 0
-  [ "$(seal_of "$1" "$(sed -n 's/^kit //p' "$seal")")" = "$(cat "$seal")" ] || return 1
+  [ -n "$(newer_than "$seal" "$1"; find "$file" -cnewer "$seal")" ] || return 0
+  [ "$(seal_with "$(sources_of "$1")" "$file" "$(kit_of "$file")")" = "$(cat "$seal")" ] || return 1
   touch -d "@$since" "$seal" 2>/dev/null || true
+}
+
+# Something that a program is made from and that was touched after this file, if anything was.
+newer_than() {
+  (cd "$top" && folders_of "$2" | xargs sh -c 'find crates.txt "$@" -cnewer "$0" -print -quit' "$1")
+}
+
+# The kit by which this file was built.
+kit_of() { sed -n 's/^kit //p' "$1.seal"; }
+
+# Whether the proved program is there, of what its sources are now.
+is_proved() { is_sealed "$1" "$(program_file "$1")"; }
+
+# Ends as a program does that is called with these words, `run_program PROGRAM WORD..`: the proved
+# one, or else the one that is kept, which is compiled where it isn't there.
+run_program() {
+  local program=$1
+  shift
+  ! is_proved "$program" || exec "$(program_file "$program")" "$@"
+  is_sealed "$program" "$(kept_file "$program")" || exec "$top/tools/keep" "$program" "$@"
+  run_kept "$program" "$(kept_file "$program")" "$@"
+}
+
+# Ends as a kept file of a program does: `run_kept PROGRAM FILE WORD..`.
+run_kept() {
+  local also=
+  [ "$2" = "$(kept_file "$1")" ] || also=", and slow until a fast one is compiled"
+  [ ! -t 2 ] || echo "$1: this build isn't proved$also; ./build makes the proved one" >&2
+  exec "${@:2}"
 }
 
 # A sum of all that a proof of the whole tree rests on: the kit, and what all crates are made from.
@@ -159,57 +191,3 @@ is_tree_proved() {
 
 # Whether the last line of a file is a sum, 'N passed, M failed', by which something passed, and nothing failed.
 went_well() { [[ $(tail -n 1 "$1" 2>/dev/null) =~ ^[1-9][0-9]*\ passed,\ 0\ failed$ ]]; }
-
-# A folder's path from the root on.
-from_root() {
-  case $1 in
-    /* | "") echo "$1" ;;
-    *) echo "$PWD/$1" ;;
-  esac
-}
-
-# Says on standard error, where that is a terminal, how long a quick build has taken, until it is stopped.
-tell_compiling() {
-  local seconds=0
-  [ -t 2 ] || return 0
-  while sleep 1; do
-    seconds=$((seconds + 1))
-    printf '\r%s: compiling and running, %d s' "$1" "$seconds" >&2
-  done
-}
-
-# How long a quick build lets a program run, in seconds.
-quick_seconds=3600
-
-# Runs a program by the toolchain's quick build, which proves nothing: `run_quick PROGRAM [NAME=FILE..] -- WORD..`. The program
-# runs in a folder of its own, into which each FILE is copied as NAME. Its output comes when it has ended.
-run_quick() {
-  local program=$1 options=() said status telling
-  shift
-  while [ "$1" != -- ]; do
-    options+=(--data "$1")
-    shift
-  done
-  shift
-  said=$(mktemp)
-  echo "$program: this build isn't proved, and is compiled for this run, in a minute or two; ./build makes the proved one" >&2
-  tell_compiling "$program" &
-  telling=$!
-  (cd "$top/crates/$program" && rt try --steps 1 --seconds "$quick_seconds" ${options[@]+"${options[@]}"} -- "$@" </dev/null 2>"$said")
-  status=$?
-  kill "$telling" 2>/dev/null && wait "$telling" 2>/dev/null
-  [ ! -t 2 ] || printf '\r\033[K' >&2
-  if tail -n 1 "$said" | grep -q '^run=ended '; then
-    # What the toolchain says of the run isn't the program's.
-    sed -e '/^interpreter: no-answer: /d' -e '/^checked: ended status=/d' -e '/^run=ended .* proved=no$/d' "$said" >&2
-  elif grep -q '^checked: no-answer: the program did not end within the time limit' "$said"; then
-    grep '^the end of the program\|^| ' "$said" >&2
-    echo "$program: the quick build stopped this run after $quick_seconds seconds" >&2
-  elif grep -q '^checked: no-answer: the program wrote more than' "$said"; then
-    echo "$program: the quick build stopped this run, since it wrote more than 1048576 bytes" >&2
-  else
-    cat "$said" >&2
-  fi
-  rm -f "$said"
-  return "$status"
-}
