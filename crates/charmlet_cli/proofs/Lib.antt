@@ -4,5 +4,4 @@ pub mod Openings
 pub mod Restarts
 pub mod Showings
 pub mod Standings
-pub mod Drainings
 pub mod Naming

@@ -24,6 +24,7 @@ pub use Rattle.charmlet_replay.specs.Unused
 pub use Rattle.charmlet_engine.specs.Found
 pub use Rattle.charmlet_engine.specs.Wanted
 pub use Rattle.charmlet_engine.specs.Advances
+pub use Rattle.charmlet_engine.specs.Delivering
 pub use Rattle.charmlet_engine.specs.Engine
 pub use Rattle.charmlet_engine.specs.Taken
 pub use Rattle.charmlet_script.specs.Printed

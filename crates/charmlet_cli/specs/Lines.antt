@@ -25,7 +25,8 @@ use Rattle.charmlet_disk.specs.Disk.{LeavesOnly, faults_after}
 use Rattle.charmlet_journal.specs.NewStores.{new_core}
 use Rattle.charmlet_engine.specs.Outcomes.{IsFlushedAnyway, IsOldOrImage, Onward, is_lawful_since, is_no_fault, is_still}
 use Rattle.charmlet_stock.specs.Stock.{part_of}
-use Rattle.charmlet_cli.specs.Drain.{DrainsUpTo, drain_texts}
+use Rattle.charmlet_engine.specs.Delivering.{DrainsUpTo}
+use Rattle.charmlet_cli.specs.Drain.{drain_texts}
 use Rattle.charmlet_lines.specs.Shown.{IsWhole, all_kinds, counted_in, counted_texts, record_text}
 use Rattle.charmlet_lines.specs.Writing.{AppendsBeginning, Writes, in_lines, memory_text}
 use Rattle.charmlet_lines.specs.Ledgers.{Ledger, kinds_of}

@@ -1,18 +1,15 @@
 //! The running of `drain` lines.
 
-ghost use Rattle.std.specs.Prelude.{◌≡◌};
 ghost use Rattle.charmlet_script.specs.declared.script.Line.TheVariants as lines;
 ghost use Rattle.charmlet_engine.specs.Advances.{Advances};
-ghost use Rattle.charmlet_engine.specs.Engine.{supplied_of, view_of};
-ghost use Rattle.charmlet_cli.specs.Drain.{DeliversNext, DrainsUpTo};
 ghost use Rattle.charmlet_lines.specs.Ledgers.{ledger_in};
 ghost use Rattle.charmlet_cli.specs.Lines.{IsPrinted, no_names};
 
 use charmlet_chare::Chare;
 use charmlet_disk::Disk;
-use charmlet_engine::Engine;
+use charmlet_engine::{Deliveries, Engine};
 use charmlet_lines::{write_answer, write_line};
-use charmlet_model::{Answer, Refusal, Step};
+use charmlet_model::Answer;
 use charmlet_script::Drained;
 use std::alloc::Global;
 use std::io;
@@ -33,48 +30,15 @@ pub fn drain_line<D: Disk, C: Chare, W: Write>(
         (ledger_in engine.new) (W.contents writer.old) (W.contents writer.new) }
 {
     let _ = writer.flush();
-    let (delivered, refusal) = drain(engine, most);
+    let Deliveries { count, refusal } = engine.deliver_up_to(most);
     let left = engine.pending_count() as u64;
-    write_line(alloc, writer, &Drained { delivered, left })?;
+    let drained = Drained {
+        delivered: count,
+        left,
+    };
+    write_line(alloc, writer, &drained)?;
     let Some(refusal) = refusal else {
         return Ok(());
     };
     write_answer(alloc, writer, &Answer::Refused(refusal))
-}
-
-/// Delivers the oldest message that can be delivered, up to `most` times. Returns how many it
-/// delivered, and the refusal that ended it, if one did.
-fn drain<D: Disk, C: Chare>(engine: &mut Engine<D, C>, most: u32) -> (u32, Option<Refusal>)
-    ensures advances { Advances D.Disk engine.old engine.new }
-    ensures drains { DrainsUpTo (view_of engine.old) most result.0 result.1 (view_of engine.new) }
-    ensures supplied { supplied_of engine.new ≡ supplied_of engine.old }
-    ensures disk { engine.new.disk ≡ engine.old.disk }
-{
-    engine.facts();
-    for delivered in 0..most {
-        match deliver_next(engine) {
-            Ok(true) => {}
-            Ok(false) => return (delivered, None),
-            Err(refusal) => return (delivered, Some(refusal)),
-        }
-    }
-    (most, None)
-}
-
-/// Delivers the oldest message that can be delivered, if there is one, on the processor of its
-/// receiver.
-fn deliver_next<D: Disk, C: Chare>(engine: &mut Engine<D, C>) -> Result<bool, Refusal>
-    ensures advances { Advances D.Disk engine.old engine.new }
-    ensures delivers { DeliversNext (view_of engine.old) result (view_of engine.new) }
-    ensures supplied { supplied_of engine.new ≡ supplied_of engine.old }
-    ensures disk { engine.new.disk ≡ engine.old.disk }
-{
-    engine.facts();
-    let Some((processor, id)) = engine.next() else {
-        return Ok(false);
-    };
-    match engine.step(&Step::Deliver { processor, id }) {
-        Answer::Refused(refusal) => Err(refusal),
-        _ => Ok(true),
-    }
 }

@@ -42,14 +42,12 @@ fn live_twice<R: Threads + Sync, D: Disk>(rt: HostRuntime, threads: &R, disk: D)
     };
     let told = engine.request(&mut pass, &add)?;
     println!(rt; "request 2: {told}")?;
-    let mut steps = Vec::new(alloc);
-    for id in engine.pending()? {
-        steps.push(Step::Deliver { processor: 0, id })?;
+    let deliveries = engine.deliver_up_to(100);
+    println!(rt; "delivered {}", deliveries.count)?;
+    if let Some(refusal) = deliveries.refusal {
+        bail!("a delivery is refused: {refusal}");
     }
-    steps.push(Step::Flush)?;
-    for answer in engine.run(&steps)? {
-        println!(rt; "{answer}")?;
-    }
+    println!(rt; "{}", engine.step(&Step::Flush))?;
     println!(rt; "request 2: {}", engine.status(&mut pass, 2)?)?;
     let mut disk = engine.into_disk();
     let wanted = manifest(alloc, &mut disk)?.wanted.of(Kind::Counter);

@@ -5,6 +5,7 @@ pub mod Tied
 pub mod Quiets
 pub mod Fresh
 pub mod Advancing
+pub mod InTurn
 pub mod Lives
 pub mod Asked
 pub mod Renewed

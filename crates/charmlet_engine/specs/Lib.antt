@@ -3,11 +3,13 @@ pub mod Outcomes
 pub mod Engine
 pub mod Together
 pub mod Advances
+pub mod Delivering
 pub mod Lives
 pub mod Taken
 pub mod Created
 pub mod Restarted
 pub mod Reopened
+pub mod Wanting
 pub use Rattle.charmlet_model.specs.Core
 pub use Rattle.charmlet_model.specs.Edition
 pub use Rattle.charmlet_model.specs.Fit

@@ -4,6 +4,7 @@
 mod asking;
 mod closing;
 mod creating;
+mod delivering;
 mod engine;
 mod going_on;
 mod laws;
@@ -12,8 +13,10 @@ mod reopened;
 mod restarting;
 mod running;
 mod seen;
+mod wanting;
 
 pub use crate::closing::Closed;
+pub use crate::delivering::Deliveries;
 pub use crate::engine::Engine;
 pub use crate::laws::lives_are_remembered;
 pub use crate::reopened::Reopened;

@@ -4,3 +4,4 @@ mod long;
 mod meeting;
 mod random;
 mod refusals;
+mod wanting;

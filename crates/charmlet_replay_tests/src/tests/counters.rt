@@ -67,6 +67,18 @@ fn take(rt: &impl Abort, engine: &mut Engine<ProbeDisk, Counter>, step: &Step) {
     assert!(rt; !matches!(engine.step(step), Answer::Refused(_)));
 }
 
+// A client's first request, to the counter of an index, with the word 0.
+pub fn ask(
+    rt: &(impl AllocGlobal + Abort),
+    engine: &mut Engine<ProbeDisk, Counter>,
+    client: u32,
+    index: u64,
+    entry: u16,
+) {
+    let asked = request(rt.alloc(), client, 1, index, entry, 0).expect(rt, "memory");
+    take(rt, engine, &asked);
+}
+
 // Clients 1 and 2 each ask the counter of their processor for this entry, and then both messages
 // are delivered.
 fn ask_both(

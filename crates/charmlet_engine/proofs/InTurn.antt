@@ -7,7 +7,7 @@ use Rattle.charmlet_model.specs.Core as core
 use Rattle.charmlet_model.specs.Run.{Delivers, StoreView}
 use Rattle.charmlet_engine.specs.Outcomes.{is_still, not_device}
 use Rattle.charmlet_engine.proofs.Quiets.{goes_on}
-use Rattle.charmlet_cli.specs.Drain.{DeliversNext, Drains}
+use Rattle.charmlet_engine.specs.Delivering.{DeliversNext, Drains}
 
 -- one more
 pub drains_more : (store mid last : StoreView) (k : ℕ) (more : Bool) → more ≡ true → Drains store k mid → DeliversNext mid (Ok more) last → Drains store (k + 1) last
