@@ -43,9 +43,9 @@ program_file() { echo "$top/crates/$1/out/$1"; }
 seal_file() { echo "$(program_file "$1").seal"; }
 
 # Where a program is kept that isn't proved, and serves until it is: the fast one, and the one that
-# is compiled first.
+# is compiled first. It goes by the name of its file.
 kept_file() { echo "$top/out/kept/$1"; }
-first_file() { echo "$top/out/kept/$1.first"; }
+first_file() { echo "$top/out/kept/first/$1"; }
 
 # The seal of a built program: this sum of its sources, its own, and this line of the kit.
 seal_with() {
@@ -84,7 +84,7 @@ is_proved() { is_sealed "$1" "$(program_file "$1")"; }
 run_program() {
   local program=$1
   shift
-  ! is_proved "$program" || exec "$(program_file "$program")" "$@"
+  ! is_proved "$program" || end_as "$(program_file "$program")" "$@"
   is_sealed "$program" "$(kept_file "$program")" || exec "$top/tools/keep" "$program" "$@"
   run_kept "$program" "$(kept_file "$program")" "$@"
 }
@@ -94,7 +94,14 @@ run_kept() {
   local also=
   [ "$2" = "$(kept_file "$1")" ] || also=", and slow until a fast one is compiled"
   [ ! -t 2 ] || echo "$1: this build isn't proved$also; ./build makes the proved one" >&2
-  exec "${@:2}"
+  end_as "${@:2}"
+}
+
+# Ends as this file of a program does with these words. The program prints help on standard error;
+# by the command of that name it can be paged.
+end_as() {
+  [ "${1##*/} ${2-}" != 'charmlet help' ] || exec "$@" 2>&1
+  exec "$@"
 }
 
 # A sum of all that a proof of the whole tree rests on: the kit, and what all crates are made from.
