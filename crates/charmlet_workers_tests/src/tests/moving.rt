@@ -163,6 +163,26 @@ fn is_durable<B: RuntimeName, R: Wait + Abort>(
     assert!(rt; matches!(&told, Ok(Told::Replied(words)) if words.as_slice() == [9].as_slice()));
 }
 
+// Each of the three requests is in the client's window: repeated, it adds nothing, and is told as
+// replied.
+fn repeat<B: RuntimeName, R: Wait + AllocGlobal + Abort>(
+    rt: &R,
+    runtime: &Runtime<ProbeDisk, Object, B>,
+    pass: &mut ClientPass<PassesOf<B>>,
+) {
+    for number in 1..4u64 {
+        let request = Request {
+            number,
+            to: ELEM,
+            entry: 0,
+            words: &[1],
+        };
+        let told = runtime.request(rt, pass, &request);
+        assert!(rt; matches!(&told, Ok(Told::Replied(_))), "request {number}");
+    }
+    assert_eq!(rt; [runtime.pending_count(rt) as u64, runtime.event_count(rt)], [0, 6]);
+}
+
 // A checkpoint makes all durable. At the next one the device fails, and then all is refused.
 fn seal<B: RuntimeName, R: Wait + AllocGlobal + Abort>(
     rt: &R,
@@ -173,6 +193,7 @@ fn seal<B: RuntimeName, R: Wait + AllocGlobal + Abort>(
     assert_eq!(rt; runtime.durable(rt), 2);
     assert_eq!(rt; runtime.checkpoint(rt), Ok(2));
     is_durable(rt, runtime, pass);
+    repeat(rt, runtime, pass);
     switches.fuse.store(0, Ordering::SeqCst);
     assert_eq!(rt; runtime.checkpoint(rt), Err(Refusal::Device));
     assert_eq!(rt; runtime.checkpoint(rt), Err(Refusal::Halted));
