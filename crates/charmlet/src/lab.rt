@@ -1,5 +1,7 @@
 //! The laboratory of crashes, with objects of all kinds.
 
+use crate::cause::Cause;
+use crate::output::Output;
 use crate::scripts::script_in;
 use crate::trying::AllKinds;
 use charmlet_any_disk::AnyDisk;
@@ -7,6 +9,7 @@ use charmlet_cli::{Stop, write_line};
 use charmlet_lab::{LabLine, Watch, try_crashes};
 use charmlet_model::{Answer, Refusal};
 use charmlet_script::Runner;
+use std::alloc::Global;
 use std::io;
 use std::io::{BufWriter, IsTerminal, Write};
 use std::thread::Threads;
@@ -59,13 +62,15 @@ impl Watch for Progress {
     }
 }
 
-/// Writes what the laboratory found on standard output.
-fn tell_found(rt: HostRuntime, found: Result<LabLine, Refusal>) -> Result<(), Stop> {
-    let alloc = rt.alloc();
-    let mut writer = BufWriter::new(alloc, io::writer(&rt))?;
-    let end = match found {
+/// Writes what the laboratory found.
+fn tell_found<W: Write>(
+    alloc: Global,
+    found: Result<LabLine, Refusal>,
+    writer: &mut W,
+) -> Result<(), Stop> {
+    match found {
         Ok(line) => {
-            write_line(alloc, &mut writer, &line)?;
+            write_line(alloc, writer, &line)?;
             if line.bad > 0 {
                 Err(Stop::NotSurvived)
             } else {
@@ -73,19 +78,22 @@ fn tell_found(rt: HostRuntime, found: Result<LabLine, Refusal>) -> Result<(), St
             }
         }
         Err(Refusal::BadPes) => {
-            write_line(alloc, &mut writer, &Answer::Refused(Refusal::BadPes))?;
+            write_line(alloc, writer, &Answer::Refused(Refusal::BadPes))?;
             Err(Stop::NotCreated(Refusal::BadPes))
         }
         Err(_) => Err(Stop::CannotGoOn),
-    };
-    writer.flush()?;
-    end
+    }
 }
 
 /// Tries the crashes of a script, and writes what was found on standard output. Restarts replay in
 /// threads of `threads`.
-pub(crate) fn lab<R: Threads + Sync>(rt: HostRuntime, threads: &R, path: &str) -> Result<(), Stop> {
-    let script = script_in(rt, path, Runner::Engine)?;
+pub(crate) fn lab<'a, R: Threads + Sync>(
+    rt: HostRuntime,
+    threads: &R,
+    path: &'a str,
+    cause: &mut Option<Cause<'a>>,
+) -> Result<(), Stop> {
+    let script = script_in(rt, path, Runner::Engine, cause)?;
     let mut progress = Progress::new(rt);
     let kinds = AllKinds { threads };
     let found = try_crashes::<AnyDisk, AllKinds<'_, R>, Progress>(
@@ -95,5 +103,7 @@ pub(crate) fn lab<R: Threads + Sync>(rt: HostRuntime, threads: &R, path: &str) -
         &mut progress,
     );
     progress.clear();
-    tell_found(rt, found)
+    let mut output = Output::new(BufWriter::new(rt.alloc(), io::writer(&rt))?, false);
+    let told = tell_found(rt.alloc(), found, &mut output);
+    output.end(told, cause)
 }

@@ -5,18 +5,41 @@ ghost use Rattle.charmlet_any_disk.specs.AnyDisk.{files_of, is_honest};
 ghost use Rattle.charmlet_disk.specs.Disk.{IsSettled};
 
 use crate::blanks::{Object, Task, with_blanks};
-use crate::output::block;
+use crate::cause::{Cause, note_folder, warn_of_constructions, warn_of_spare};
+use crate::output::{Output, block};
 use crate::scripts::{restart_script_in, script_in};
 use charmlet_any_disk::AnyDisk;
 use charmlet_cli::{
-    Ran, RestartError, Restarted, RunError, Stop, Wanted, find_blanks, restart_script, run_script,
+    Ran, RestartError, Restarted, RunError, Stop, Wanted, find_blanks, look_at_spare,
+    restart_script, run_script, write_line,
 };
-use charmlet_model::Kind;
+use charmlet_model::{Answer, Kind, Refusal};
 use charmlet_script::{RestartScript, Runner, Script};
 use std::alloc::Global;
 use std::io;
 use std::io::{BufWriter, Write};
 use std::thread::Threads;
+
+/// How a script was run.
+#[derive(Drop)]
+pub(crate) struct Ended {
+    pub(crate) result: Result<(), Stop>,
+    /// Why its disk failed first, if it did.
+    pub(crate) failure: Option<io::Error>,
+    /// How many blanks of each kind the messages want that were pending when its store came back.
+    pub(crate) constructions: Option<Wanted>,
+}
+
+impl Ended {
+    /// A script that wasn't run, since no store comes back.
+    pub(crate) fn before_its_lines(stop: Stop, failure: Option<io::Error>) -> Ended {
+        Ended {
+            result: Err(stop),
+            failure,
+            constructions: None,
+        }
+    }
+}
 
 /// A run of a script over a new store on this disk, with its lines written.
 #[derive(Drop)]
@@ -28,7 +51,7 @@ struct ScriptRun<'a, W: Write> {
 }
 
 impl<W: Write> Task for ScriptRun<'_, W> {
-    type Answer = Result<(), Stop>;
+    type Answer = Ended;
 
     ghost may_begin = { λ run. is_honest run.disk → IsSettled (files_of run.disk) };
 
@@ -40,15 +63,19 @@ impl<W: Write> Task for ScriptRun<'_, W> {
         self.script.blanks(kind)
     }
 
-    fn begin(self, _blanks: Vec<Object>, supplies: Vec<Object>) -> Result<(), Stop> {
+    fn begin(self, _blanks: Vec<Object>, supplies: Vec<Object>) -> Ended {
         let ScriptRun {
             alloc,
             disk,
             script,
             writer,
         } = self;
-        let Ran { result, .. } = run_script(alloc, disk, script, supplies, writer);
-        Ok(result?)
+        let Ran { disk, result } = run_script(alloc, disk, script, supplies, writer);
+        Ended {
+            result: result.map_err(Stop::from),
+            failure: disk.cause(),
+            constructions: None,
+        }
     }
 }
 
@@ -58,7 +85,7 @@ fn run_in<W: Write>(
     script: &Script,
     dir: Option<&str>,
     writer: &mut W,
-) -> Result<(), Stop> {
+) -> Result<Ended, Stop> {
     let alloc = rt.alloc();
     let disk = match dir {
         Some(dir) => AnyDisk::folder(rt, dir)?,
@@ -70,17 +97,41 @@ fn run_in<W: Write>(
         script,
         writer,
     };
-    with_blanks(alloc, run)?
+    Ok(with_blanks(alloc, run)?)
 }
 
 /// Reads a script, and then runs it over a new store in the two files of a folder, or in memory
-/// without one.
-pub(crate) fn run(rt: HostRuntime, path: &str, dir: Option<&str>) -> Result<(), Stop> {
-    let script = script_in(rt, path, Runner::Engine)?;
-    let mut writer = BufWriter::with_capacity(rt.alloc(), block(rt), io::writer(&rt))?;
-    let ran = run_in(rt, &script, dir, &mut writer);
-    writer.flush()?;
-    ran
+/// without one; where it is strict, up to the first refused line.
+pub(crate) fn run<'a>(
+    rt: HostRuntime,
+    path: &'a str,
+    dir: Option<&'a str>,
+    is_strict: bool,
+    cause: &mut Option<Cause<'a>>,
+) -> Result<(), Stop> {
+    let script = script_in(rt, path, Runner::Engine, cause)?;
+    let writer = BufWriter::with_capacity(rt.alloc(), block(rt), io::writer(&rt))?;
+    let mut output = Output::new(writer, is_strict);
+    let ran = run_in(rt, &script, dir, &mut output);
+    let ran = ended_in(ran, dir, cause);
+    output.end(ran, cause)
+}
+
+/// How a script was run. Why the disk in its folder failed is noted.
+pub(crate) fn ended_in<'a>(
+    ran: Result<Ended, Stop>,
+    dir: Option<&'a str>,
+    cause: &mut Option<Cause<'a>>,
+) -> Result<(), Stop> {
+    let Ended {
+        result,
+        failure,
+        ..
+    } = ran?;
+    if let Some(dir) = dir {
+        note_folder(cause, dir, failure);
+    }
+    result
 }
 
 /// A run of a script over the store on this disk, which comes back on this number of processors,
@@ -97,7 +148,7 @@ struct ScriptRestart<'a, R: Threads + Sync, W: Write> {
 }
 
 impl<R: Threads + Sync, W: Write> Task for ScriptRestart<'_, R, W> {
-    type Answer = Result<(), Stop>;
+    type Answer = Ended;
 
     ghost may_begin = { λ _. IsSync R.row };
 
@@ -109,7 +160,7 @@ impl<R: Threads + Sync, W: Write> Task for ScriptRestart<'_, R, W> {
         self.script.blanks(kind)
     }
 
-    fn begin(self, blanks: Vec<Object>, supplies: Vec<Object>) -> Result<(), Stop> {
+    fn begin(self, blanks: Vec<Object>, supplies: Vec<Object>) -> Ended {
         let ScriptRestart {
             threads,
             alloc,
@@ -119,10 +170,18 @@ impl<R: Threads + Sync, W: Write> Task for ScriptRestart<'_, R, W> {
             writer,
             ..
         } = self;
-        let Restarted { result, .. } = restart_script(
+        let Restarted {
+            disk,
+            result,
+            constructions,
+        } = restart_script(
             threads, alloc, disk, processors, script, blanks, supplies, writer,
         );
-        Ok(result?)
+        Ended {
+            result: result.map_err(Stop::from),
+            failure: disk.cause(),
+            constructions,
+        }
     }
 }
 
@@ -135,10 +194,22 @@ fn restart_in<R: Threads + Sync, W: Write>(
     script: &RestartScript,
     processors: u16,
     writer: &mut W,
-) -> Result<(), Stop> {
+) -> Result<Ended, Stop> {
     let alloc = rt.alloc();
     let mut disk = AnyDisk::folder(rt, dir)?;
-    let wanted = find_blanks(alloc, &mut disk, processors, writer)?;
+    let wanted = match find_blanks(alloc, &mut disk, processors, writer) {
+        Ok(wanted) => wanted,
+        Err(error) => {
+            return Ok(Ended::before_its_lines(Stop::from(error), disk.cause()));
+        }
+    };
+    match look_at_spare(&mut disk) {
+        Ok(spare) => warn_of_spare(rt, dir, spare),
+        Err(_) => {
+            let stop = refuse_restart(alloc, writer);
+            return Ok(Ended::before_its_lines(stop, disk.cause()));
+        }
+    }
     let restart = ScriptRestart {
         threads,
         alloc,
@@ -148,21 +219,44 @@ fn restart_in<R: Threads + Sync, W: Write>(
         wanted,
         writer,
     };
-    with_blanks(alloc, restart)?
+    Ok(with_blanks(alloc, restart)?)
 }
 
 /// Reads a script, and then runs it over the store in the two files of a folder, which comes back
-/// on `processors` processors, by as many workers in threads of `threads`.
-pub(crate) fn restart<R: Threads + Sync>(
+/// on `processors` processors, by as many workers in threads of `threads`; where it is strict, up
+/// to the first refused line.
+pub(crate) fn restart<'a, R: Threads + Sync>(
     rt: HostRuntime,
     threads: &R,
-    dir: &str,
-    path: &str,
+    dir: &'a str,
+    path: &'a str,
     processors: u16,
+    is_strict: bool,
+    cause: &mut Option<Cause<'a>>,
 ) -> Result<(), Stop> {
-    let script = restart_script_in(rt, path, Runner::Engine)?;
-    let mut writer = BufWriter::with_capacity(rt.alloc(), block(rt), io::writer(&rt))?;
-    let ran = restart_in(rt, threads, dir, &script, processors, &mut writer);
-    writer.flush()?;
-    ran
+    let script = restart_script_in(rt, path, Runner::Engine, cause)?;
+    let writer = BufWriter::with_capacity(rt.alloc(), block(rt), io::writer(&rt))?;
+    let mut output = Output::new(writer, is_strict);
+    let ran = restart_in(rt, threads, dir, &script, processors, &mut output);
+    let constructions = constructions_in(&ran);
+    let ran = ended_in(ran, Some(dir), cause);
+    let end = output.end(ran, cause);
+    warn_of_constructions(rt, constructions, &script);
+    end
+}
+
+/// Writes that no store comes back, since the disk failed.
+pub(crate) fn refuse_restart<W: Write>(alloc: Global, writer: &mut W) -> Stop {
+    match write_line(alloc, writer, &Answer::Refused(Refusal::Device)) {
+        Ok(()) => Stop::NotRestarted(Refusal::Device),
+        Err(error) => Stop::from(error),
+    }
+}
+
+/// How many blanks of each kind the messages want that were pending when a store came back.
+pub(crate) fn constructions_in(ran: &Result<Ended, Stop>) -> Option<Wanted> {
+    match ran {
+        Ok(ended) => ended.constructions,
+        Err(_) => None,
+    }
 }

@@ -5,10 +5,12 @@ ghost use Rattle.charmlet_any_disk.specs.AnyDisk.{files_of, is_honest};
 ghost use Rattle.charmlet_disk.specs.Disk.{IsSettled};
 
 use crate::blanks::{Object, Task, with_blanks};
-use crate::output::block;
+use crate::cause::{Cause, warn_of_constructions, warn_of_spare};
+use crate::output::{Output, block};
+use crate::runs::{Ended, constructions_in, ended_in, refuse_restart};
 use crate::scripts::{restart_script_in, script_in};
 use charmlet_any_disk::AnyDisk;
-use charmlet_cli::{Stop, Wanted, find_blanks};
+use charmlet_cli::{Stop, Wanted, find_blanks, look_at_spare};
 use charmlet_cli_workers::{RanByWorkers, restart_workers, run_workers};
 use charmlet_model::Kind;
 use charmlet_script::{RestartScript, Runner, Script};
@@ -17,6 +19,24 @@ use std::io;
 use std::io::{BufWriter, Write};
 use std::sync::Wait;
 use std::thread::Threads;
+
+/// How workers ran a script, and why its disk failed first, if it came back and did.
+fn ended_by_workers<T: Drop>(ran: RanByWorkers<AnyDisk, T>) -> Ended {
+    let RanByWorkers {
+        disk,
+        result,
+        constructions,
+    } = ran;
+    let failure = match &disk {
+        Some(disk) => disk.cause(),
+        None => None,
+    };
+    Ended {
+        result: result.map_err(Stop::from),
+        failure,
+        constructions,
+    }
+}
 
 /// A run of a script by workers over a new store on this disk, with its lines written.
 #[derive(Drop)]
@@ -29,7 +49,7 @@ struct WorkersRun<'a, R: Threads + Wait + Sync, W: Write> {
 }
 
 impl<R: Threads + Wait + Sync, W: Write> Task for WorkersRun<'_, R, W> {
-    type Answer = Result<(), Stop>;
+    type Answer = Ended;
 
     ghost may_begin = { λ run. IsSync R.row
         × (is_honest run.disk → IsSettled (files_of run.disk)) };
@@ -42,7 +62,7 @@ impl<R: Threads + Wait + Sync, W: Write> Task for WorkersRun<'_, R, W> {
         self.script.blanks(kind)
     }
 
-    fn begin(self, _blanks: Vec<Object>, supplies: Vec<Object>) -> Result<(), Stop> {
+    fn begin(self, _blanks: Vec<Object>, supplies: Vec<Object>) -> Ended {
         let WorkersRun {
             threads,
             alloc,
@@ -50,10 +70,8 @@ impl<R: Threads + Wait + Sync, W: Write> Task for WorkersRun<'_, R, W> {
             script,
             writer,
         } = self;
-        let RanByWorkers { result, .. } = run_workers(
-            threads, alloc, disk, script, supplies, writer,
-        );
-        Ok(result?)
+        let ran = run_workers(threads, alloc, disk, script, supplies, writer);
+        ended_by_workers(ran)
     }
 }
 
@@ -65,7 +83,7 @@ fn run_in<R: Threads + Wait + Sync, W: Write>(
     script: &Script,
     dir: Option<&str>,
     writer: &mut W,
-) -> Result<(), Stop> {
+) -> Result<Ended, Stop> {
     let alloc = rt.alloc();
     let disk = match dir {
         Some(dir) => AnyDisk::folder(rt, dir)?,
@@ -78,22 +96,25 @@ fn run_in<R: Threads + Wait + Sync, W: Write>(
         script,
         writer,
     };
-    with_blanks(alloc, run)?
+    Ok(with_blanks(alloc, run)?)
 }
 
 /// Reads a script, and then runs it by workers over a new store in the two files of a folder, or in
-/// memory without one.
-pub(crate) fn run_by_workers<R: Threads + Wait + Sync>(
+/// memory without one; where it is strict, up to the first refused line.
+pub(crate) fn run_by_workers<'a, R: Threads + Wait + Sync>(
     rt: HostRuntime,
     threads: &R,
-    path: &str,
-    dir: Option<&str>,
+    path: &'a str,
+    dir: Option<&'a str>,
+    is_strict: bool,
+    cause: &mut Option<Cause<'a>>,
 ) -> Result<(), Stop> {
-    let script = script_in(rt, path, Runner::Workers)?;
-    let mut writer = BufWriter::with_capacity(rt.alloc(), block(rt), io::writer(&rt))?;
-    let ran = run_in(rt, threads, &script, dir, &mut writer);
-    writer.flush()?;
-    ran
+    let script = script_in(rt, path, Runner::Workers, cause)?;
+    let writer = BufWriter::with_capacity(rt.alloc(), block(rt), io::writer(&rt))?;
+    let mut output = Output::new(writer, is_strict);
+    let ran = run_in(rt, threads, &script, dir, &mut output);
+    let ran = ended_in(ran, dir, cause);
+    output.end(ran, cause)
 }
 
 /// A run of a script by workers over the store on this disk, which comes back on this number of
@@ -110,7 +131,7 @@ struct WorkersRestart<'a, R: Threads + Wait + Sync, W: Write> {
 }
 
 impl<R: Threads + Wait + Sync, W: Write> Task for WorkersRestart<'_, R, W> {
-    type Answer = Result<(), Stop>;
+    type Answer = Ended;
 
     ghost may_begin = { λ _. IsSync R.row };
 
@@ -122,7 +143,7 @@ impl<R: Threads + Wait + Sync, W: Write> Task for WorkersRestart<'_, R, W> {
         self.script.blanks(kind)
     }
 
-    fn begin(self, blanks: Vec<Object>, supplies: Vec<Object>) -> Result<(), Stop> {
+    fn begin(self, blanks: Vec<Object>, supplies: Vec<Object>) -> Ended {
         let WorkersRestart {
             threads,
             alloc,
@@ -132,10 +153,10 @@ impl<R: Threads + Wait + Sync, W: Write> Task for WorkersRestart<'_, R, W> {
             writer,
             ..
         } = self;
-        let RanByWorkers { result, .. } = restart_workers(
+        let ran = restart_workers(
             threads, alloc, disk, processors, script, blanks, supplies, writer,
         );
-        Ok(result?)
+        ended_by_workers(ran)
     }
 }
 
@@ -148,10 +169,22 @@ fn restart_in<R: Threads + Wait + Sync, W: Write>(
     script: &RestartScript,
     processors: u16,
     writer: &mut W,
-) -> Result<(), Stop> {
+) -> Result<Ended, Stop> {
     let alloc = rt.alloc();
     let mut disk = AnyDisk::folder(rt, dir)?;
-    let wanted = find_blanks(alloc, &mut disk, processors, writer)?;
+    let wanted = match find_blanks(alloc, &mut disk, processors, writer) {
+        Ok(wanted) => wanted,
+        Err(error) => {
+            return Ok(Ended::before_its_lines(Stop::from(error), disk.cause()));
+        }
+    };
+    match look_at_spare(&mut disk) {
+        Ok(spare) => warn_of_spare(rt, dir, spare),
+        Err(_) => {
+            let stop = refuse_restart(alloc, writer);
+            return Ok(Ended::before_its_lines(stop, disk.cause()));
+        }
+    }
     let restart = WorkersRestart {
         threads,
         alloc,
@@ -161,21 +194,27 @@ fn restart_in<R: Threads + Wait + Sync, W: Write>(
         wanted,
         writer,
     };
-    with_blanks(alloc, restart)?
+    Ok(with_blanks(alloc, restart)?)
 }
 
 /// Reads a script, and then runs it by workers over the store in the two files of a folder, which
-/// comes back on `processors` processors.
-pub(crate) fn restart_by_workers<R: Threads + Wait + Sync>(
+/// comes back on `processors` processors; where it is strict, up to the first refused line.
+pub(crate) fn restart_by_workers<'a, R: Threads + Wait + Sync>(
     rt: HostRuntime,
     threads: &R,
-    dir: &str,
-    path: &str,
+    dir: &'a str,
+    path: &'a str,
     processors: u16,
+    is_strict: bool,
+    cause: &mut Option<Cause<'a>>,
 ) -> Result<(), Stop> {
-    let script = restart_script_in(rt, path, Runner::Workers)?;
-    let mut writer = BufWriter::with_capacity(rt.alloc(), block(rt), io::writer(&rt))?;
-    let ran = restart_in(rt, threads, dir, &script, processors, &mut writer);
-    writer.flush()?;
-    ran
+    let script = restart_script_in(rt, path, Runner::Workers, cause)?;
+    let writer = BufWriter::with_capacity(rt.alloc(), block(rt), io::writer(&rt))?;
+    let mut output = Output::new(writer, is_strict);
+    let ran = restart_in(rt, threads, dir, &script, processors, &mut output);
+    let constructions = constructions_in(&ran);
+    let ran = ended_in(ran, Some(dir), cause);
+    let end = output.end(ran, cause);
+    warn_of_constructions(rt, constructions, &script);
+    end
 }

@@ -1,5 +1,6 @@
 -- What any disk of the program shows.
 use Rattle.std.specs.Prelude.{◌≡◌, ⊤, ℕ, Bool, [], length, Option, None, Some}
+use Rattle.std.specs.declared.io.Error.{Error}
 use Rattle.charmlet_model.specs.declared.half.Half.{Half}
 use Rattle.charmlet_disk.specs.File.{File, CrashBytes, clean}
 use Rattle.charmlet_disk.specs.FileDisk as folders
@@ -45,6 +46,12 @@ faults_of (Folder disk) = folders.faults_of disk
 faults_of (Memory disk) = memories.faults_of disk
 faults_of (Failing fuse) =
     fuses.faults_of_both (memories.faults_of (fuses.inside fuse)) (fuses.refusals fuse)
+
+-- why the first one was, of a folder's files
+abbrev pub cause_of : AnyDisk → Option Error
+cause_of (Folder disk) = folders.cause_of disk
+cause_of (Memory disk) = None
+cause_of (Failing fuse) = None
 
 -- how many of them it didn't fail by itself
 abbrev pub faults_beneath : AnyDisk → ℕ

@@ -3,6 +3,7 @@
 use charmlet_disk::{CrashChoice, DeviceFault, Disk, FileDisk, FuseDisk, MemDisk};
 use charmlet_model::Half;
 use std::alloc::{AllocError, Global};
+use std::io;
 
 /// Any of the disks that the program uses, so that code generic over disks is made for one type.
 ///
@@ -19,7 +20,7 @@ pub enum AnyDisk {
 
 impl AnyDisk {
     ghost use Rattle.std.specs.Prelude.{◌≡◌, IfOk, None, Some, []};
-    ghost use Rattle.charmlet_any_disk.specs.AnyDisk.{calls_left, faults_beneath, faults_of, files_of, is_honest, IsFolder};
+    ghost use Rattle.charmlet_any_disk.specs.AnyDisk.{calls_left, cause_of, faults_beneath, faults_of, files_of, is_honest, IsFolder};
     ghost use Rattle.charmlet_disk.specs.Crash.{left_by};
     ghost use Rattle.charmlet_disk.specs.Disk.{IsSettled};
     ghost use Rattle.charmlet_disk.specs.File.{MayLeave, clean};
@@ -52,6 +53,17 @@ impl AnyDisk {
         ensures faults { faults_of result ≡ 0 }
     {
         AnyDisk::Failing(FuseDisk::new(MemDisk::new(alloc), calls))
+    }
+
+    /// Why the first fault of a folder's disk was one, as [`FileDisk::cause`] says it; `None` of a
+    /// disk in memory.
+    pub fn cause(&self) -> Option<io::Error>
+        ensures { result ≡ cause_of self.now }
+    {
+        match self {
+            AnyDisk::Folder(disk) => disk.cause(),
+            AnyDisk::Memory(_) | AnyDisk::Failing(_) => None,
+        }
     }
 
     /// What a crash leaves of a disk in memory, by its choice: a disk in memory that doesn't fail

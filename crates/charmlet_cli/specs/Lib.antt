@@ -7,6 +7,7 @@ pub mod Restarted
 pub mod Run
 pub mod RunError
 pub mod ShowStore
+pub mod Spare
 pub use Rattle.charmlet_model.specs.Core
 pub use Rattle.charmlet_model.specs.Edition
 pub use Rattle.charmlet_model.specs.Manifest

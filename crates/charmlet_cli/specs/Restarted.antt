@@ -1,5 +1,5 @@
 -- What a restart for a script is, and what it leaves on the disk.
-use Rattle.std.specs.Prelude.{◌≡◌, ◌⊎◌, ℕ, List, IsTrue, Option, Result, Ok, Err}
+use Rattle.std.specs.Prelude.{◌≡◌, ◌⊎◌, ℕ, Bool, true, false, List, IsTrue, Option, Result, Ok, Err}
 use Rattle.std.specs.Io.KnownBytes.{Appends}
 use Rattle.charmlet_model.specs.declared.refusal.Refusal.{Refusal}
 use Rattle.charmlet_model.specs.declared.state.State.{State}
@@ -124,6 +124,13 @@ module _ {D : Type 0} (G : disks.Ghosts D) where
       AreEnough state supplies script.lines
       × EndsRestartWrite processors (given_of state blanks) first end script (contents before)
       (contents after)
+
+-- no store came back
+abbrev pub is_without_store : {C : Type 0} → RestartError C → Bool
+is_without_store (TooFewBlanks blanks supplies) = true
+is_without_store (NotRestarted refusal) = true
+is_without_store Memory = true
+is_without_store (Output error) = false
 
 -- ---- how the program ends
 

@@ -1,6 +1,6 @@
 //! Scripts over a store that comes back.
 
-ghost use Rattle.std.specs.Prelude.{◌≡◌, ◌≤◌, ℕ, List, Err, IfErr, IfOk, OnErr, OnOk, Result, false, true};
+ghost use Rattle.std.specs.Prelude.{◌≡◌, ◌≤◌, ℕ, List, Err, None, IfErr, IfOk, IfSome, IsSome, OnErr, OnOk, Result, false, true};
 ghost use Rattle.charmlet_model.specs.declared.half.Half.TheVariants as halves;
 ghost use Rattle.charmlet_model.specs.declared.kind.Kind.{Kind};
 ghost use Rattle.charmlet_model.specs.declared.refusal.Refusal.{Refusal};
@@ -20,8 +20,8 @@ ghost use Rattle.charmlet_lines.specs.Supplied.{AreEnough, blanks_left};
 ghost use Rattle.charmlet_lines.specs.Ledgers.{ledger_in};
 ghost use Rattle.charmlet_lines.specs.Named.{named_by};
 ghost use Rattle.charmlet_cli.specs.Lines.{named_at};
-ghost use Rattle.charmlet_lines.specs.Back.{given_of};
-ghost use Rattle.charmlet_cli.specs.Restarted.{BreaksOffRestart, EndsRestart, IsRestarted, PrintsRestart, RestartLeaves, TellsWanted};
+ghost use Rattle.charmlet_lines.specs.Back.{CameBackWith, given_of};
+ghost use Rattle.charmlet_cli.specs.Restarted.{BreaksOffRestart, EndsRestart, IsRestarted, PrintsRestart, RestartLeaves, TellsWanted, is_without_store};
 
 use crate::desk::Desk;
 use crate::running::run_lines;
@@ -94,12 +94,17 @@ impl<C: Chare> From<RestartError<C>> for Stop {
     }
 }
 
-/// How a script was run over a store that was to come back: the disk, which comes back in any case,
-/// and whether each line was run.
+/// How a script was run over a store that was to come back.
 #[derive(Drop)]
 pub struct Restarted<D: Disk, C: Chare> {
+    /// The disk, which comes back in any case.
     pub disk: D,
+    /// Whether each line was run.
     pub result: Result<(), RestartError<C>>,
+    /// How many blanks of each kind the messages want that were pending when the store came back,
+    /// before any line was run: those that construct an element which wasn't there. `None` if no
+    /// store came back.
+    pub constructions: Option<Wanted>,
 }
 
 /// How many blank objects of each kind a restart of the store on this disk needs, on this number of
@@ -165,7 +170,8 @@ pub fn find_blanks<D: Disk, W: Write>(
 /// that were durable then.
 ///
 /// The disk's count of failures grows by one for each `Device` answer, and for nothing else. The
-/// disk is as honest as before. `RestartError` says what each error means.
+/// disk is as honest as before. `RestartError` says what each error means. How many blanks the
+/// pending messages wanted is counted without memory.
 pub fn restart_script<R: Threads + Sync, D: Disk, C: Chare, W: Write>(
     rt: &R,
     alloc: Global,
@@ -182,19 +188,28 @@ pub fn restart_script<R: Threads + Sync, D: Disk, C: Chare, W: Write>(
         (W.contents writer.old) (W.contents writer.new)) }
     ensures err { IfErr result.result (RestartLeaves D.Disk C.state W.contents processors
         disk result.disk blanks.items supplies.items script.now writer.old writer.new) }
+    ensures constructions { IfSome result.constructions
+        (CameBackWith D.Disk processors (given_of C.state blanks.items) disk) }
+    ensures counted { OnOk result.result (IsSome result.constructions) }
+    ensures uncounted { IfErr result.result (λ error. is_without_store error ≡ true →
+        result.constructions ≡ None) }
     ensures honest { (D.honest disk → D.honest result.disk)
         × (D.honest result.disk → D.honest disk) }
 {
     if !has_enough(&supplied_at_restart(script), supplies.as_slice()) {
-        let result = Err(RestartError::TooFewBlanks(blanks, supplies));
-        return Restarted { disk, result };
+        return Restarted {
+            disk,
+            result: Err(RestartError::TooFewBlanks(blanks, supplies)),
+            constructions: None,
+        };
     }
     match prepare(alloc, script, blanks, supplies) {
         Ok(prepared) => restart_with(rt, alloc, disk, processors, script, prepared, writer),
-        Err(AllocError) => {
-            let result = Err(RestartError::Memory);
-            Restarted { disk, result }
-        }
+        Err(AllocError) => Restarted {
+            disk,
+            result: Err(RestartError::Memory),
+            constructions: None,
+        },
     }
 }
 
@@ -255,6 +270,11 @@ fn restart_with<R: Threads + Sync, D: Disk, C: Chare, W: Write>(
     ensures err { IfErr result.result (EndsRestart D.Disk processors
         (supplied_to prepared.given) disk result.disk script.now
         (W.contents writer.old) (W.contents writer.new)) }
+    ensures constructions { IfSome result.constructions
+        (CameBackWith D.Disk processors (supplied_to prepared.given) disk) }
+    ensures counted { OnOk result.result (IsSome result.constructions) }
+    ensures uncounted { IfErr result.result (λ error. is_without_store error ≡ true →
+        result.constructions ≡ None) }
     ensures honest { (D.honest disk → D.honest result.disk)
         × (D.honest result.disk → D.honest disk) }
 {
@@ -265,6 +285,7 @@ fn restart_with<R: Threads + Sync, D: Disk, C: Chare, W: Write>(
     } = prepared;
     match Engine::restart(rt, alloc, disk, given, processors) {
         Ok(mut engine) => {
+            let constructions = Some(engine.constructions());
             let ran = run_restarted(
                 alloc,
                 &mut engine,
@@ -279,10 +300,12 @@ fn restart_with<R: Threads + Sync, D: Disk, C: Chare, W: Write>(
                 Ok(()) => Restarted {
                     disk: engine.into_disk(),
                     result: Ok(()),
+                    constructions,
                 },
                 Err(error) => Restarted {
                     disk: engine.into_disk(),
                     result: Err(RestartError::Output(error)),
+                    constructions,
                 },
             }
         }
@@ -291,10 +314,12 @@ fn restart_with<R: Threads + Sync, D: Disk, C: Chare, W: Write>(
                 Ok(()) => Restarted {
                     disk,
                     result: Err(RestartError::NotRestarted(refusal)),
+                    constructions: None,
                 },
                 Err(error) => Restarted {
                     disk,
                     result: Err(RestartError::Output(error)),
+                    constructions: None,
                 },
             }
         }

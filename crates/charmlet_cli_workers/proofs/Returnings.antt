@@ -1,5 +1,5 @@
 -- How runs by workers over stores that come back begin and end.
-use Rattle.std.proofs.Common.{◌≡◌, ℕ, true, inl, inr, List, refl, sym, ap, subst, ◌∙◌, Option, Some, Result, Ok, Err, OnOk}
+use Rattle.std.proofs.Common.{◌≡◌, ℕ, true, inl, inr, List, refl, sym, ap, subst, ◌∙◌, Option, Some, None, Result, Ok, Err, OnOk}
 use Rattle.std.specs.Prelude.{IfErr, IfSome}
 use Rattle.std.specs.Global.{Vec}
 use Rattle.std.specs.Io.KnownBytes.{Appends}
@@ -21,11 +21,13 @@ use Rattle.charmlet_lines.specs.Named.{Names, named_by}
 use Rattle.charmlet_workers.specs.Runtime.{shown_of}
 use Rattle.charmlet_runtime.specs.restarting.NotRestarted.{NotRestarted as NoStore}
 use Rattle.charmlet_runtime.specs.Engine.{EngineShown, core_of, view_of}
+use Rattle.charmlet_runtime.specs.Constructions.{AreConstructions}
+use Rattle.charmlet_runtime.specs.wanted.Wanted.{Wanted}
 use Rattle.charmlet_runtime.specs.Reopened.{IsReopened, IsRestart, ReopenedShown, core_to_be}
 use Rattle.charmlet_runtime.specs.Reopening.{IsOver}
 use Rattle.charmlet_runtime.specs.Restart.{AnswersBy, bytes_on}
 use Rattle.charmlet_runtime.specs.Restarted.{IsOpenedOn, IsTakenFrom}
-use Rattle.charmlet_lines.specs.Back.{given_of, refusal_text}
+use Rattle.charmlet_lines.specs.Back.{CameBackWith, given_of, refusal_text}
 use Rattle.charmlet_lines.specs.Ledgers.{ledger_in}
 use Rattle.charmlet_lines.proofs.Backs.{all_given, counted_processors, is_back, was_not_restarted}
 use Rattle.charmlet_cli_workers.specs.declared.ended.WorkersError.{WorkersError}
@@ -33,7 +35,7 @@ use Rattle.charmlet_cli_workers.specs.declared.ended.WorkersError.TheVariants.{D
 use Rattle.charmlet_cli_workers.specs.Left.{EndsEarly, IsLeft, Prints, PrintsOver}
 use Rattle.charmlet_cli_workers.specs.Said.{ArePrinted, HaveBrokenOff, HaveRun, IsBrokenOff, unknown}
 use Rattle.charmlet_cli_workers.proofs.Leavings.{left_anyhow, left_of_lines, prints_of_lines, some_on}
-use Rattle.charmlet_cli_workers.specs.Restarts.{EndsBack, EndsRestart, IsBackByWorkers, IsNotBack, TellsRefusal, line_of}
+use Rattle.charmlet_cli_workers.specs.Restarts.{EndsBack, EndsRestart, IsBackByWorkers, IsCountedAt, IsNotBack, TellsRefusal, line_of}
 
 module _ {D : Type 0} (G : Ghosts D) where
   -- the store came back on so many processors
@@ -57,6 +59,12 @@ module _ {D : Type 0} (G : Ghosts D) where
           says = says;
           honest = honest;
         }
+
+    -- so many blanks are those that its pending messages take
+    pub back_with : (core : Core) → IsUnused blanks → IsOver {C = C} {H = H} G processors blanks first core (shown_of core) → (wanted : Wanted) → AreConstructions core wanted → CameBackWith G processors (supplied_to blanks) first wanted
+    back_with core unused over wanted are =
+        let back = back_by over.engine unused over.restarted None (λ back last. Unit {0}) (λ back. AreConstructions back wanted) tt tt (subst (λ (k : Core). AreConstructions k wanted) (sym over.core_is) are) in
+        (back.back, back.is_back, back.says)
 
     -- none came back
     pub not_back : (refused : NoStore D C H) → IsUnused blanks → IsRestart G processors blanks first (Err refused) → (end : Option D) → end ≡ Some refused.disk → IsNotBack G processors (supplied_to blanks) first end refused.refusal
@@ -145,6 +153,18 @@ module _ {D : Type 0} (G : Ghosts D) where
         back_early processors (supplied_to blanks) first end handlers all core make contents before after r (left_in r (contents before) (contents after) left)
         (prints_of_lines r (Some line) (Some (line_of core)) lines all (contents before) (contents after) (ap Some line_is) same prints) early
 
+  -- what is pending is counted where a run over a store that came back ends early
+  pub counted_early : {T W X Y : Type 0} (end : Option D) (before after : W) (r : Result X (WorkersError T)) (count : Y) → IfErr r (EndsEarly end before after) → IfErr r (λ error. IsCountedAt error (Some count))
+  counted_early end before after (Ok x) count early = tt
+  counted_early end before after (Err NoSeats) count early = refl
+  counted_early end before after (Err (Output e)) count early = tt
+  counted_early end before after (Err NotClosed) count early = refl
+  counted_early end before after (Err (Delivers o)) count early = absurd early
+  counted_early end before after (Err (TooFewBlanks o)) count early = absurd early
+  counted_early end before after (Err Memory) count early = absurd early
+  counted_early end before after (Err (NotCreated refusal)) count early = absurd early
+  counted_early end before after (Err (NotRestarted refusal)) count early = absurd early
+
   -- a restart is refused, and told so
   pub refused_ends : {T X W : Type 0} (contents : W → Option Text) (processors : ℕ) (given : Blanks) (first : D) (end : Option D) (handlers : List HandlerLine) (lines : List Line) (refusal : Refusal) (before after : W) (r : Result X (WorkersError T)) →
       IfErr r (TellsRefusal contents refusal before after) → IsNotBack G processors given first end refusal → IfErr r (EndsBack G contents processors given first end handlers lines before after)
@@ -158,6 +178,19 @@ module _ {D : Type 0} (G : Ghosts D) where
   refused_ends contents processors given first end handlers lines refusal before after (Err (TooFewBlanks o)) told not_back = absurd told
   refused_ends contents processors given first end handlers lines refusal before after (Err Memory) told not_back = absurd told
   refused_ends contents processors given first end handlers lines refusal before after (Err (NotCreated why)) told not_back = absurd told
+
+  -- nothing is counted then
+  pub uncounted_refused : {T X W Y : Type 0} (contents : W → Option Text) (refusal : Refusal) (before after : W) (r : Result X (WorkersError T)) (counted : Option Y) → counted ≡ None → IfErr r (TellsRefusal contents refusal before after) →
+      IfErr r (λ error. IsCountedAt error counted)
+  uncounted_refused contents refusal before after (Ok x) counted none told = tt
+  uncounted_refused contents refusal before after (Err (NotRestarted why)) counted none told = none
+  uncounted_refused contents refusal before after (Err (Output e)) counted none told = tt
+  uncounted_refused contents refusal before after (Err NoSeats) counted none told = absurd told
+  uncounted_refused contents refusal before after (Err NotClosed) counted none told = absurd told
+  uncounted_refused contents refusal before after (Err (Delivers o)) counted none told = none
+  uncounted_refused contents refusal before after (Err (TooFewBlanks o)) counted none told = none
+  uncounted_refused contents refusal before after (Err Memory) counted none told = none
+  uncounted_refused contents refusal before after (Err (NotCreated why)) counted none told = none
 
   -- and so ends the run
   pub back_ends : {C W X : Type 0} (state : C → State) (contents : W → Option Text) (processors : ℕ) (given : Blanks) (first : D) (end : Option D) (blanks supplies : List C) (handlers : List HandlerLine) (lines : List Line) (before after : W) (r : Result X (WorkersError (Vec C × Vec C))) →

@@ -1,6 +1,6 @@
 -- What a run of a script by workers over a store that comes back is, and what each of its errors
 -- means.
-use Rattle.std.specs.Prelude.{◌≡◌, ◌⊎◌, ℕ, false, List, IsTrue, Option, Some, None, IfSome}
+use Rattle.std.specs.Prelude.{◌≡◌, ◌⊎◌, ℕ, false, List, IsTrue, Option, Some, None, IfSome, IsSome}
 use Rattle.std.specs.Global.{Vec}
 use Rattle.std.specs.Io.KnownBytes.{Appends}
 use Rattle.charmlet_model.specs.declared.refusal.Refusal.{Refusal}
@@ -30,6 +30,18 @@ line_of back = record {
   events = back.before;
   processors = back.processors;
 }
+
+-- whether it was counted what the pending messages want, where a run ends so: not if no store came
+-- back, but if one did
+abbrev pub IsCountedAt : {T X : Type 0} → WorkersError T → Option X → Type 0
+IsCountedAt (Delivers objects) counted = counted ≡ None
+IsCountedAt (TooFewBlanks objects) counted = counted ≡ None
+IsCountedAt Memory counted = counted ≡ None
+IsCountedAt (NotCreated refusal) counted = counted ≡ None
+IsCountedAt (NotRestarted refusal) counted = counted ≡ None
+IsCountedAt NoSeats counted = IsSome counted
+IsCountedAt (Output error) counted = Unit {0}
+IsCountedAt NotClosed counted = IsSome counted
 
 -- the line of a restart that is refused was written, or a beginning of it
 abbrev pub TellsRefusal : {T W : Type 0} → (W → Option Text) → Refusal → (before after : W) →

@@ -3,6 +3,7 @@
 use charmlet_disk::Disk;
 use charmlet_lines::Stop;
 use charmlet_model::Refusal;
+use charmlet_runtime::Wanted;
 use std::io;
 
 /// Why a script wasn't run to its last line by workers. `T` is what was handed in as objects.
@@ -32,12 +33,17 @@ pub enum WorkersError<T: Drop> {
     NotClosed,
 }
 
-/// How a script was run by workers: the disk, and whether each line was run. The disk comes back
-/// unless the runtime wasn't taken apart.
+/// How a script was run by workers.
 #[derive(Drop)]
 pub struct RanByWorkers<D: Disk, T: Drop> {
+    /// The disk, which comes back unless the runtime wasn't taken apart.
     pub disk: Option<D>,
+    /// Whether each line was run.
     pub result: Result<(), WorkersError<T>>,
+    /// How many blanks of each kind the messages want that were pending when the store came back,
+    /// before any line was run: those that construct an element which wasn't there. `None` if no
+    /// store came back, as where one was made.
+    pub constructions: Option<Wanted>,
 }
 
 impl<T: Drop> From<WorkersError<T>> for Stop {

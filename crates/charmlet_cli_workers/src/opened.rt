@@ -237,6 +237,7 @@ fn take_apart<D: Disk, C: Chare, T: Drop, B: RuntimeName>(
             RanByWorkers {
                 disk: Some(halves.into_disk()),
                 result: ran,
+                constructions: None,
             }
         }
         Err(_) => not_closed(ran),
@@ -253,10 +254,12 @@ fn not_closed<D: Disk, T: Drop>(ran: Result<(), WorkersError<T>>) -> RanByWorker
         Ok(()) => RanByWorkers {
             disk: None,
             result: Err(WorkersError::NotClosed),
+            constructions: None,
         },
         Err(error) => RanByWorkers {
             disk: None,
             result: Err(error),
+            constructions: None,
         },
     }
 }

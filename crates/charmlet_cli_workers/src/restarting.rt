@@ -1,16 +1,16 @@
 //! Scripts over runtimes that come back.
 
-ghost use Rattle.std.specs.Prelude.{◌≡◌, ℕ, ◌≤◌, List, Some, false, IfErr, IfOk, IsErr, IsSome, OnOk};
+ghost use Rattle.std.specs.Prelude.{◌≡◌, ℕ, ◌≤◌, List, None, Some, false, IfErr, IfOk, IfSome, IsErr, IsSome, OnOk};
 ghost use Rattle.charmlet_model.specs.declared.kind.Kind.{Kind};
 ghost use Rattle.charmlet_script.specs.Script.{blanks_of};
 ghost use Rattle.charmlet_requests.specs.Handlers.{handler_of};
 ghost use Rattle.charmlet_lines.specs.Named.{named_by};
 ghost use Rattle.charmlet_stock.specs.Stock.{blanks_in, supplied_to};
 ghost use Rattle.charmlet_replay.specs.Unused.{IsUnused};
-ghost use Rattle.charmlet_lines.specs.Back.{given_of};
+ghost use Rattle.charmlet_lines.specs.Back.{CameBackWith, given_of};
 ghost use Rattle.charmlet_cli_workers.specs.Lines.{has_delivery};
 ghost use Rattle.charmlet_cli_workers.specs.Said.{HaveRun};
-ghost use Rattle.charmlet_cli_workers.specs.Restarts.{EndsBack, EndsRestart, IsBackByWorkers, TellsRefusal, line_of};
+ghost use Rattle.charmlet_cli_workers.specs.Restarts.{EndsBack, EndsRestart, IsBackByWorkers, IsCountedAt, TellsRefusal, line_of};
 ghost use Rattle.charmlet_cli_workers.specs.Runs.{IsFit};
 
 use crate::ended::{RanByWorkers, WorkersError};
@@ -39,7 +39,8 @@ use std::thread::Threads;
 /// `find_blanks` of `charmlet_cli` says; `supplies` are those that the script's lines supply.
 ///
 /// All memory that the runtime takes to open is asked for before a store of older versions is
-/// brought forward. So at each refusal of the restart but `Device` the disk is as it was.
+/// brought forward. So at each refusal of the restart but `Device` the disk is as it was. How many
+/// blanks the pending messages wanted is counted without memory.
 pub fn restart_workers<D: Disk, C: Chare, W: Write, R: Threads + Wait + Sync>(
     rt: &R,
     alloc: Global,
@@ -59,17 +60,23 @@ pub fn restart_workers<D: Disk, C: Chare, W: Write, R: Threads + Wait + Sync>(
     ensures err { IfErr result.result (EndsRestart D.Disk C.state W.contents processors
         disk result.disk blanks.items supplies.items script.now.handlers script.now.lines
         writer.old writer.new) }
+    ensures constructions { IfSome result.constructions
+        (CameBackWith D.Disk processors (given_of C.state blanks.items) disk) }
+    ensures counted { OnOk result.result (IsSome result.constructions) }
+    ensures uncounted { IfErr result.result (λ error. IsCountedAt error result.constructions) }
 {
     if has_delivery(script.lines()) {
         return RanByWorkers {
             disk: Some(disk),
             result: Err(WorkersError::Delivers((blanks, supplies))),
+            constructions: None,
         };
     }
     if !has_enough(&supplied_at_restart(script), supplies.as_slice()) {
         return RanByWorkers {
             disk: Some(disk),
             result: Err(WorkersError::TooFewBlanks((blanks, supplies))),
+            constructions: None,
         };
     }
     match prepare(alloc, script, blanks, supplies) {
@@ -77,6 +84,7 @@ pub fn restart_workers<D: Disk, C: Chare, W: Write, R: Threads + Wait + Sync>(
         Err(AllocError) => RanByWorkers {
             disk: Some(disk),
             result: Err(WorkersError::Memory),
+            constructions: None,
         },
     }
 }
@@ -143,6 +151,10 @@ fn restart_with<D: Disk, C: Chare, W: Write, R: Threads + Wait + Sync>(
     ensures err { IfErr result.result (EndsBack D.Disk W.contents processors
         (supplied_to prepared.blanks) disk result.disk script.now.handlers script.now.lines
         writer.old writer.new) }
+    ensures constructions { IfSome result.constructions
+        (CameBackWith D.Disk processors (supplied_to prepared.blanks) disk) }
+    ensures counted { OnOk result.result (IsSome result.constructions) }
+    ensures uncounted { IfErr result.result (λ error. IsCountedAt error result.constructions) }
 {
     let Prepared {
         blanks,
@@ -161,10 +173,18 @@ fn restart_with<D: Disk, C: Chare, W: Write, R: Threads + Wait + Sync>(
                 restarted: Some(line),
                 lines: script.lines(),
             };
+            let constructions = Some(reopened.constructions());
             match run_reopened::<D, C, (Vec<C>, Vec<C>), Brand, W, R>(
                 rt, alloc, reopened, books, given, &lines, writer,
             ) {
-                Ok(ran) => ran,
+                Ok(ran) => {
+                    let RanByWorkers { disk, result, .. } = ran;
+                    RanByWorkers {
+                        disk,
+                        result,
+                        constructions,
+                    }
+                }
                 Err(refused) => tell_refused(alloc, refused, writer),
             }
         }
@@ -179,6 +199,7 @@ fn tell_refused<D: Disk, C: Chare, T: Drop, W: Write>(
     writer: &mut W,
 ) -> RanByWorkers<D, T>
     ensures disk { result.disk ≡ Some refused.disk }
+    ensures uncounted { result.constructions ≡ None }
     ensures fails { IsErr result.result }
     ensures err { IfErr result.result (TellsRefusal W.contents refused.refusal
         writer.old writer.new) }
@@ -188,10 +209,12 @@ fn tell_refused<D: Disk, C: Chare, T: Drop, W: Write>(
         Ok(()) => RanByWorkers {
             disk: Some(disk),
             result: Err(WorkersError::NotRestarted(refusal)),
+            constructions: None,
         },
         Err(error) => RanByWorkers {
             disk: Some(disk),
             result: Err(WorkersError::Output(error)),
+            constructions: None,
         },
     }
 }

@@ -74,6 +74,7 @@ pub fn run_workers<D: Disk, C: Chare, W: Write, R: Threads + Wait + Sync>(
         Err(error) => RanByWorkers {
             disk: Some(disk),
             result: Err(error),
+            constructions: None,
         },
     }
 }
@@ -193,6 +194,7 @@ fn run_in_new_store<
         return RanByWorkers {
             disk: Some(disk),
             result: Err(WorkersError::Memory),
+            constructions: None,
         };
     };
     match UnnamedRuntime::create(alloc, disk, manifest, processors) {
@@ -210,10 +212,12 @@ fn run_in_new_store<
                 Ok(()) => RanByWorkers {
                     disk: Some(disk),
                     result: Err(WorkersError::NotCreated(refusal)),
+                    constructions: None,
                 },
                 Err(error) => RanByWorkers {
                     disk: Some(disk),
                     result: Err(WorkersError::Output(error)),
+                    constructions: None,
                 },
             }
         }

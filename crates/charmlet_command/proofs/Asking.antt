@@ -61,11 +61,12 @@ pub flag_of_value : {E : Type 0} (gives : Text → Result Bool E → Type 0) →
     → unwrap_or flag false ≡ is_on id (rows_of found)
 flag_of_value gives parses found id flag none value = flag_is gives parses (one_text found id) flag none value ∙ ap (λ word. option_map_or (λ word. bytes_eq word (codes "true")) word false) (one_text-rows found id)
 
--- the script, the folder and the flag, as the getters have them, make the run
-pub run_of_values : (found : Found) (script dir : Option Text) (workers : Bool)
+-- the script, the folder and the flags, as the getters have them, make the run
+pub run_of_values : (found : Found) (script dir : Option Text) (workers strict : Bool)
     → script ≡ first_value found (codes "script") → dir ≡ first_value found (codes "dir") → workers ≡ is_on (codes "workers") (rows_of found)
-    → option_map (λ script. Runs script dir workers) script ≡ run_of (rows_of found)
-run_of_values found script dir workers s d w = rw (s ∙ first_value-rows found (codes "script"), d ∙ first_value-rows found (codes "dir"), w) refl
+    → strict ≡ is_on (codes "strict") (rows_of found)
+    → option_map (λ script. Runs script dir workers strict) script ≡ run_of (rows_of found)
+run_of_values found script dir workers strict s d w t = rw (s ∙ first_value-rows found (codes "script"), d ∙ first_value-rows found (codes "dir"), w, t) refl
 
 -- and where there is no script, there is no run
 pub no_run_of : (found : Found) → None ≡ first_value found (codes "script") → None ≡ run_of (rows_of found)

@@ -40,20 +40,21 @@ number_of_value gives parses (Some word) None none value =
     let refused = value word refl in
     no_number word (parses word (Err refused.0) refused.1)
 
--- the restart that a folder, a script, a word for the number and a flag make
-abbrev named : Option Text → Option Text → Option Text → Bool → Option Asked
-named dir script word workers =
-    option_and_then (λ dir. option_and_then (λ script. option_and_then (λ word. option_and_then (λ processors. Some (Restarts dir script processors workers))
+-- the restart that a folder, a script, a word for the number and the flags make
+abbrev named : Option Text → Option Text → Option Text → (workers strict : Bool) → Option Asked
+named dir script word workers strict =
+    option_and_then (λ dir. option_and_then (λ script. option_and_then (λ word. option_and_then (λ processors. Some (Restarts dir script processors workers strict))
     (u16_in word)) word) script) dir
 
 values-named : (found : Found) → restart_of (rows_of found)
     ≡ named (first_value found (codes "folder")) (first_value found (codes "script")) (one_text found (codes "pes")) (is_on (codes "workers") (rows_of found))
+    (is_on (codes "strict") (rows_of found))
 values-named found = rw (first_value-rows found (codes "folder"), first_value-rows found (codes "script"), one_text-rows found (codes "pes")) refl
 
-named_is : (dir script : Text) (word : Option Text) (number : Option ℕ) (workers : Bool) → number ≡ option_and_then u16_in word
-    → option_and_then (λ processors. Some (Restarts dir script processors workers)) number ≡ named (Some dir) (Some script) word workers
-named_is dir script None number workers n = rw n refl
-named_is dir script (Some word) number workers n = rw n refl
+named_is : (dir script : Text) (word : Option Text) (number : Option ℕ) (workers strict : Bool) → number ≡ option_and_then u16_in word
+    → option_and_then (λ processors. Some (Restarts dir script processors workers strict)) number ≡ named (Some dir) (Some script) word workers strict
+named_is dir script None number workers strict n = rw n refl
+named_is dir script (Some word) number workers strict n = rw n refl
 
 -- where there is no folder, there is no restart
 pub no_folder : (found : Found) → None ≡ first_value found (codes "folder") → None ≡ restart_of (rows_of found)
@@ -65,8 +66,8 @@ pub no_script : (found : Found) (dir : Text) → Some dir ≡ first_value found 
 no_script found dir d s = rw (values-named found, ← d, ← s) refl
 
 -- and else the number decides
-pub restart_of_values : (found : Found) (dir script : Text) (number : Option ℕ) (workers : Bool) → Some dir ≡ first_value found (codes "folder")
+pub restart_of_values : (found : Found) (dir script : Text) (number : Option ℕ) (workers strict : Bool) → Some dir ≡ first_value found (codes "folder")
     → Some script ≡ first_value found (codes "script") → number ≡ option_and_then u16_in (one_text found (codes "pes"))
-    → workers ≡ is_on (codes "workers") (rows_of found)
-    → option_and_then (λ processors. Some (Restarts dir script processors workers)) number ≡ restart_of (rows_of found)
-restart_of_values found dir script number workers d s n w = rw (values-named found, ← d, ← s, ← w) (named_is dir script (one_text found (codes "pes")) number workers n)
+    → workers ≡ is_on (codes "workers") (rows_of found) → strict ≡ is_on (codes "strict") (rows_of found)
+    → option_and_then (λ processors. Some (Restarts dir script processors workers strict)) number ≡ restart_of (rows_of found)
+restart_of_values found dir script number workers strict d s n w t = rw (values-named found, ← d, ← s, ← w, ← t) (named_is dir script (one_text found (codes "pes")) number workers strict n)

@@ -66,20 +66,28 @@ abbrev pub workers_flag : Rule
 workers_flag = record (new_rule (codes "workers"))
     { long = Some (codes "workers"); action = Some SetTrue }
 
--- `run SCRIPT [--dir DIR] [--workers]`
+-- `--strict`
+abbrev pub strict_flag : Rule
+strict_flag = record (new_rule (codes "strict"))
+    { long = Some (codes "strict"); action = Some SetTrue }
+
+-- `run SCRIPT [--dir DIR] [--workers] [--strict]`
 abbrev pub run_line : App
-run_line = with_rule (with_rule (with_rule (new_app (codes "run")) script_word) dir_option)
-    workers_flag
+run_line =
+    with_rule (with_rule
+    (with_rule (with_rule (new_app (codes "run")) script_word) dir_option) workers_flag)
+    strict_flag
 
 -- `show DIR`
 abbrev pub show_line : App
 show_line = with_rule (new_app (codes "show")) folder_word
 
--- `restart DIR SCRIPT [--pes N] [--workers]`
+-- `restart DIR SCRIPT [--pes N] [--workers] [--strict]`
 abbrev pub restart_line : App
 restart_line =
     with_rule (with_rule
-    (with_rule (with_rule (new_app (codes "restart")) pes_option) workers_flag) folder_word)
+    (with_rule (with_rule
+    (with_rule (new_app (codes "restart")) pes_option) workers_flag) strict_flag) folder_word)
     script_word
 
 -- `lab SCRIPT`
@@ -96,11 +104,12 @@ charmlet_line =
 
 -- what is asked for: a run of a script, maybe with a folder for its store; a showing of the store
 -- in a folder; a restart of the store in a folder, on a number of processors, with a script; or a
--- trial of a script's crashes. A run and a restart may be by workers
+-- trial of a script's crashes. A run and a restart may be by workers, and strict: then they end
+-- at the first refused line
 pub data Asked : Type 0 where
-  Runs : (script : Text) (dir : Option Text) (workers : Bool) → Asked
+  Runs : (script : Text) (dir : Option Text) (workers strict : Bool) → Asked
   Shows : (dir : Text) → Asked
-  Restarts : (dir script : Text) (processors : ℕ) (workers : Bool) → Asked
+  Restarts : (dir script : Text) (processors : ℕ) (workers strict : Bool) → Asked
   Tries : (script : Text) → Asked
 
 -- a flag is on: its word is `true`
@@ -111,7 +120,8 @@ is_on flag rows = option_map_or (λ word. bytes_eq word (codes "true")) (one_of 
 abbrev pub run_of : List Row → Option Asked
 run_of rows =
     option_map
-    (λ script. Runs script (first_of (codes "dir") rows) (is_on (codes "workers") rows))
+    (λ script. Runs script (first_of (codes "dir") rows) (is_on (codes "workers") rows)
+    (is_on (codes "strict") rows))
     (first_of (codes "script") rows)
 
 -- the showing that a subcommand's values name
@@ -130,7 +140,8 @@ restart_of rows = do
   script ← first_of (codes "script") rows
   word ← one_of (codes "pes") rows
   processors ← u16_in word
-  Some (Restarts dir script processors (is_on (codes "workers") rows))
+  Some (Restarts dir script processors (is_on (codes "workers") rows)
+      (is_on (codes "strict") rows))
 
 -- the laboratory's script that a subcommand's values name
 abbrev pub lab_of : List Row → Option Asked
@@ -156,10 +167,11 @@ asked words = unless_faulty (fault_of charmlet_line words)
 
 -- what a command asks for
 abbrev pub asked_in : Command → Asked
-asked_in (Run script dir workers) = Runs script.now (option_map (λ dir. dir.now) dir) workers
+asked_in (Run script dir workers strict) =
+    Runs script.now (option_map (λ dir. dir.now) dir) workers strict
 asked_in (Show dir) = Shows dir.now
-asked_in (Restart dir script processors workers) =
-    Restarts dir.now script.now processors workers
+asked_in (Restart dir script processors workers strict) =
+    Restarts dir.now script.now processors workers strict
 asked_in (Lab script) = Tries script.now
 
 -- the words ask for the command

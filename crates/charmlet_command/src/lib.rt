@@ -5,7 +5,7 @@ ghost use Rattle.std.specs.Prelude.{◌≡◌, map, IfOk, IfErr, option_map, opt
 ghost use Rattle.clap.specs.Matches.{found_of};
 ghost use Rattle.clap.specs.Simple.{app_of, subcommand_rows_of};
 ghost use Rattle.clap.specs.Walk.{rows_of, rule_of};
-ghost use Rattle.charmlet_command.specs.CommandLine.{Asks, AsksNothing, asked_by, asked_in, charmlet_line, dir_option, folder_word, has_globals, is_on, lab_line, lab_of, needed_word, pes_option, restart_line, restart_of, run_line, run_of, script_word, show_line, show_of, workers_flag};
+ghost use Rattle.charmlet_command.specs.CommandLine.{Asks, AsksNothing, asked_by, asked_in, charmlet_line, dir_option, folder_word, has_globals, is_on, lab_line, lab_of, needed_word, pes_option, restart_line, restart_of, run_line, run_of, script_word, show_line, show_of, strict_flag, workers_flag};
 
 use clap::error::ErrorKind;
 use clap::{Arg, ArgAction, ArgMatches, value_parser};
@@ -17,24 +17,27 @@ use thiserror::Error;
 #[derive(Clone, Copy, Debug, PartialEq, Eq)]
 pub enum Command<'a> {
     /// Run the script in the file `script`, over a store in the folder `dir`, or in memory without
-    /// one; with `workers`, by worker threads.
+    /// one; with `workers`, by worker threads; with `strict`, up to the first refused line.
     Run {
         script: &'a str,
         dir: Option<&'a str>,
         workers: bool,
+        strict: bool,
     },
     /// Show what stands in the store in the folder `dir`.
     Show {
         dir: &'a str,
     },
     /// Restart the store in the folder `dir` on `processors` processors, and run the script in the
-    /// file `script` on it; with `workers`, by worker threads. The number is any 16-bit number: the
-    /// command line doesn't check that a store can have that many.
+    /// file `script` on it; with `workers`, by worker threads; with `strict`, up to the first
+    /// refused line. The number is any 16-bit number: the command line doesn't check that a store
+    /// can have that many.
     Restart {
         dir: &'a str,
         script: &'a str,
         processors: u16,
         workers: bool,
+        strict: bool,
     },
     /// Try the crashes of the script in the file `script`.
     Lab {
@@ -90,8 +93,8 @@ const STATUSES: &str = "\
 Exit status:
   0  the script ran to its end, or the store was shown; a refused line of a script is an
      answer like any other
-  1  no store could be created or shown or came back, a crash was not survived, or memory
-     or the output failed
+  1  no store could be created or shown or came back, a crash was not survived, a line was
+     refused with --strict, or memory or the output failed
   2  a bad command line, a call for help, or a script that is malformed or can't be read";
 
 const RUN_ABOUT: &str = "Run a script, and print what each line answers before the next one runs";
@@ -136,7 +139,8 @@ the first one, as 'script line L', and no line is run.";
 const RUN_STATUSES: &str = "\
 Exit status:
   0  the script ran to its end; a refused line is an answer like any other
-  1  no store could be created, or memory or the output failed
+  1  no store could be created, a line was refused with --strict, or memory or the output
+     failed
   2  a bad command line, a call for help, or a script that is malformed or can't be read";
 
 const DIR_HELP: &str = "Keep the store in the files half0 and half1 of this folder";
@@ -196,7 +200,7 @@ the disk fails, 'refused 12 ImageFull' where such an image would be past a limit
 const RESTART_STATUSES: &str = "\
 Exit status:
   0  the script ran to its end; a refused line is an answer like any other
-  1  no store came back, or memory or the output failed
+  1  no store came back, a line was refused with --strict, or memory or the output failed
   2  a bad command line, a call for help, or a script that is malformed or can't be read";
 
 const LAB_ABOUT: &str = "Try the crashes of a script, and count those that are not survived";
@@ -229,6 +233,8 @@ const WORKERS_HELP: &str = "Deliver messages by worker threads, one for each pro
 const WORKERS_LONG_HELP: &str = "\
 Deliver messages by worker threads, one for each processor; a 'deliver' line of the
 script is malformed then";
+
+const STRICT_HELP: &str = "End with status 1 at the first line that is refused";
 
 /// A word that has to be there.
 fn needed<'a>(word: Arg<'a>) -> Arg<'a>
@@ -301,7 +307,18 @@ fn workers_arg<'a>(alloc: Global) -> Arg<'a>
         .action(ArgAction::SetTrue)
 }
 
-/// `run SCRIPT [--dir DIR] [--workers]`.
+/// `--strict`.
+fn strict_arg<'a>(alloc: Global) -> Arg<'a>
+    ensures reads { rule_of result ≡ strict_flag }
+    ensures local { result.global ≡ false }
+{
+    Arg::new(alloc, "strict")
+        .long("strict")
+        .help(STRICT_HELP)
+        .action(ArgAction::SetTrue)
+}
+
+/// `run SCRIPT [--dir DIR] [--workers] [--strict]`.
 fn run_parser<'a>(alloc: Global) -> Result<clap::Command<'a>, AllocError>
     ensures reads { IfOk result (λ parser. app_of parser ≡ run_line) }
     ensures local { IfOk result (λ parser. has_globals parser ≡ false) }
@@ -312,7 +329,8 @@ fn run_parser<'a>(alloc: Global) -> Result<clap::Command<'a>, AllocError>
         .after_help(RUN_STATUSES)
         .arg(script_arg(alloc))?
         .arg(dir_arg(alloc))?
-        .arg(workers_arg(alloc))
+        .arg(workers_arg(alloc))?
+        .arg(strict_arg(alloc))
 }
 
 /// `show DIR`.
@@ -327,7 +345,7 @@ fn show_parser<'a>(alloc: Global) -> Result<clap::Command<'a>, AllocError>
         .arg(folder_arg(alloc))
 }
 
-/// `restart DIR SCRIPT [--pes N] [--workers]`.
+/// `restart DIR SCRIPT [--pes N] [--workers] [--strict]`.
 fn restart_parser<'a>(alloc: Global) -> Result<clap::Command<'a>, AllocError>
     ensures reads { IfOk result (λ parser. app_of parser ≡ restart_line) }
     ensures local { IfOk result (λ parser. has_globals parser ≡ false) }
@@ -338,6 +356,7 @@ fn restart_parser<'a>(alloc: Global) -> Result<clap::Command<'a>, AllocError>
         .after_help(RESTART_STATUSES)
         .arg(pes_arg(alloc))?
         .arg(workers_arg(alloc))?
+        .arg(strict_arg(alloc))?
         .arg(folder_arg(alloc))?
         .arg(script_arg(alloc))
 }
@@ -384,10 +403,12 @@ fn run_in<'a>(values: &ArgMatches<'a>) -> Option<Command<'a>>
     let script = values.get_str("script")?;
     let dir = values.get_str("dir");
     let workers = is_on(values, "workers");
+    let strict = is_on(values, "strict");
     Some(Command::Run {
         script,
         dir,
         workers,
+        strict,
     })
 }
 
@@ -407,11 +428,13 @@ fn restart_in<'a>(values: &ArgMatches<'a>) -> Option<Command<'a>>
     let script = values.get_str("script")?;
     let processors = values.get_one::<u16>("pes")?;
     let workers = is_on(values, "workers");
+    let strict = is_on(values, "strict");
     Some(Command::Restart {
         dir,
         script,
         processors,
         workers,
+        strict,
     })
 }
 
@@ -443,8 +466,8 @@ fn command_in<'a>(matches: &ArgMatches<'a>) -> Option<Command<'a>>
 }
 
 /// What the words ask for; the first is the program's name. Only `run SCRIPT`, with or without
-/// `--dir DIR` and `--workers`, `show DIR`, `restart DIR SCRIPT`, with or without `--pes N` and
-/// `--workers`, and `lab SCRIPT` are commands. N is a 16-bit number, and 1 if it isn't given. Every
+/// `--dir DIR`, `--workers` and `--strict`, `show DIR`, `restart DIR SCRIPT`, with or without `--pes
+/// N`, `--workers` and `--strict`, and `lab SCRIPT` are commands. N is a 16-bit number, and 1 if it isn't given. Every
 /// other line, including a call for help, is answered by `CommandError::Line`, with clap's text and
 /// a kind of error that clap finds in the words, and lack of memory by `CommandError::Memory`.
 pub fn command_of<'a, S: AsStr>(alloc: Global, words: &'a [S]) -> Result<Command<'a>, CommandError>

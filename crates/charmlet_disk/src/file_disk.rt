@@ -1,12 +1,12 @@
 //! A disk over two files of a folder.
-ghost use Rattle.std.specs.Prelude.{◌≡◌, is_ok, IfOk};
-ghost use Rattle.charmlet_disk.specs.Disk.{faults_after};
 
+mod faults;
 mod folder;
 mod half_file;
 
 use crate::{DeviceFault, Disk};
 use charmlet_model::Half;
+use faults::Faults;
 use folder::Folder;
 use std::alloc::AllocError;
 use std::io;
@@ -45,6 +45,8 @@ use std::io;
 /// - The system refuses a call. There is no right to it, say, the device is full or broken, or the
 ///   file has the greatest length that it may have.
 /// - The sync of an open file failed before, or that of a file that was just found.
+///
+/// [`FileDisk::cause`] tells why the first one was.
 ///
 /// A read that fails may have changed the buffer. A write that fails may have made the file, and
 /// written some of its bytes.
@@ -91,12 +93,12 @@ use std::io;
 #[derive(Drop)]
 pub struct FileDisk {
     folder: Folder,
-    faults: u64,
+    faults: Faults,
 }
 
 impl FileDisk {
-    ghost use Rattle.std.specs.Prelude.{◌≡◌, IfOk};
-    ghost use Rattle.charmlet_disk.specs.FileDisk.{faults_of};
+    ghost use Rattle.std.specs.Prelude.{◌≡◌, ◌↔◌, IfOk, None};
+    ghost use Rattle.charmlet_disk.specs.FileDisk.{cause_of, faults_of};
 
     /// A disk over the folder at this path, with no failure counted. It asks nothing of the system:
     /// the first call looks for the folder, and each one after it does. A path that isn't absolute
@@ -106,23 +108,17 @@ impl FileDisk {
     {
         Ok(FileDisk {
             folder: Folder::new(rt, folder)?,
-            faults: 0,
+            faults: Faults::none(),
         })
     }
-}
 
-// The answer of the system, whose error is a fault, and counts.
-fn counted<T: Drop>(done: io::Result<T>, faults: &mut u64) -> Result<T, DeviceFault>
-    ensures answered { is_ok result ≡ is_ok done }
-    ensures value { IfOk result (λ value. done ≡ Ok value) }
-    ensures counted { faults.new ≡ faults_after (is_ok result) faults.old }
-{
-    match done {
-        Ok(value) => Ok(value),
-        Err(_) => {
-            *faults = faults.saturating_add(1);
-            Err(DeviceFault)
-        }
+    /// Why the first fault was one, as the system says it, or in words that say what to do about
+    /// the folder; `None` as long as there was none. Later faults don't change it.
+    pub fn cause(&self) -> Option<io::Error>
+        ensures cause { result ≡ cause_of self.now }
+        ensures told { (result ≡ None) ↔ (faults_of self.now ≡ 0) }
+    {
+        self.faults.first()
     }
 }
 
@@ -148,22 +144,23 @@ impl Disk for FileDisk {
     ghost only_now = { λ disk c honest left. absurd honest };
 
     fn len(&mut self, half: Half) -> Result<u64, DeviceFault> {
-        counted(self.folder.len(half), &mut self.faults)
+        self.faults.counted(self.folder.len(half))
     }
 
     fn read_at(&mut self, half: Half, offset: u64, into: &mut [u8]) -> Result<(), DeviceFault> {
-        counted(self.folder.read_at(half, offset, into), &mut self.faults)
+        self.faults.counted(self.folder.read_at(half, offset, into))
     }
 
     fn write_at(&mut self, half: Half, offset: u64, bytes: &[u8]) -> Result<(), DeviceFault> {
-        counted(self.folder.write_at(half, offset, bytes), &mut self.faults)
+        self.faults
+            .counted(self.folder.write_at(half, offset, bytes))
     }
 
     fn sync(&mut self, half: Half) -> Result<(), DeviceFault> {
-        counted(self.folder.sync(half), &mut self.faults)
+        self.faults.counted(self.folder.sync(half))
     }
 
     fn failures(&self) -> u64 {
-        self.faults
+        self.faults.count()
     }
 }

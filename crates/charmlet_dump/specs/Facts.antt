@@ -1,8 +1,9 @@
 -- What a dump says of a world, fact by fact.
-use Rattle.std.specs.Prelude.{ℕ, ◌+◌, List, [], ◌∷◌, ◌++◌, option_copied}
+use Rattle.std.specs.Prelude.{ℕ, ◌+◌, ◌==◌, if◌then◌else◌, List, [], ◌∷◌, ◌++◌, option_copied}
 use Rattle.std.specs.List.{flat_map}
 use Rattle.charmlet_model.specs.declared.client.ClientRow.{ClientRow}
 use Rattle.charmlet_model.specs.declared.edition.Edition.{Edition}
+use Rattle.charmlet_model.specs.declared.kind.Kind.{Kind}
 use Rattle.charmlet_model.specs.declared.message.Message.{Message}
 use Rattle.charmlet_model.specs.declared.names.Elem.{Elem}
 use Rattle.charmlet_model.specs.declared.refusal.Refusal.{Refusal}
@@ -11,15 +12,18 @@ use Rattle.charmlet_model.specs.Core.{home}
 use Rattle.charmlet_model.specs.Row.{Item, below}
 use Rattle.charmlet_model.specs.World.{World}
 use Rattle.charmlet_dump.specs.declared.lines.Fact as lines
+use Rattle.charmlet_dump.specs.Constructing.{all_kinds, constructions_in}
 
 -- a generation and how many events there were; an array, and the kind and version of its elements;
--- an element, its home and what is kept of it; a pending message; a client and the number of its
--- last request; a request of its window and the reply, if there is one; why nothing is dumped
+-- an element, its home and what is kept of it; a pending message; a kind, and how many pending
+-- messages construct an element of it; a client and the number of its last request; a request of
+-- its window and the reply, if there is one; why nothing is dumped
 pub data Fact : Type 0 where
   Store : (generation events : ℕ) → Fact
   Array : ℕ → Edition → Fact
   Element : Elem → (home : ℕ) → Record → Fact
   Pending : Message → Fact
+  Constructions : Kind → (count : ℕ) → Fact
   Client : (client last : ℕ) → Fact
   Request : (client number : ℕ) → Item → Fact
   Refused : Refusal → Fact
@@ -30,6 +34,7 @@ fact_in (lines.TheVariants.Store generation events) = Store generation events
 fact_in (lines.TheVariants.Array array edition) = Array array edition
 fact_in (lines.TheVariants.Element elem home kept) = Element elem home kept.now
 fact_in (lines.TheVariants.Pending message) = Pending message.now
+fact_in (lines.TheVariants.Constructions kind count) = Constructions kind count
 fact_in (lines.TheVariants.Client client last) = Client client last
 fact_in (lines.TheVariants.Request client number reply) =
     Request client number (option_copied reply)
@@ -53,6 +58,13 @@ element_facts processors e = Element e.0 (home e.0 processors) e.1 ∷ []
 abbrev pub pending_facts : Message → List Fact
 pending_facts m = Pending m ∷ []
 
+-- a kind, and how many pending messages construct an element of it, if any do
+abbrev pub count_facts : Kind → (count : ℕ) → List Fact
+count_facts kind count = if count == 0 then [] else Constructions kind count ∷ []
+
+abbrev pub construction_facts : World → Kind → List Fact
+construction_facts w kind = count_facts kind (constructions_in w kind)
+
 -- a client, and the requests of its window
 abbrev pub client_facts : ℕ × ClientRow → List Fact
 client_facts e = Client e.0 e.1.last ∷ window_facts e.0 (below e.1) e.1.window
@@ -63,4 +75,5 @@ world_facts processors generation events w =
     Store generation events ∷ []
     ++ (flat_map array_facts w.manifest
     ++ (flat_map (element_facts processors) w.records
-    ++ (flat_map pending_facts w.pending ++ flat_map client_facts w.clients)))
+    ++ (flat_map pending_facts w.pending
+    ++ (flat_map (construction_facts w) all_kinds ++ flat_map client_facts w.clients))))

@@ -14,7 +14,7 @@ use Rattle.charmlet_model.specs.Edition.{edition_kind, edition_version}
 use Rattle.charmlet_model.specs.Refusal.{refusal_number}
 use Rattle.charmlet_model.specs.Row.{Item}
 use Rattle.charmlet_model.specs.Texts.{Text, half_text, kind_text, refusal_text}
-use Rattle.charmlet_dump.specs.Facts.{Fact, Store, Array, Element, Pending, Client, Request, Refused}
+use Rattle.charmlet_dump.specs.Facts.{Fact, Store, Array, Element, Pending, Constructions, Client, Request, Refused}
 use Rattle.charmlet_dump.specs.Plain.{kind_name}
 
 -- an element, by its array and its index
@@ -111,6 +111,9 @@ json_text (Element elem home kept) =
     codes "{\"element\":" ++ json_elem elem ++ codes ","
     ++ json_record home kept.state kept.sent kept.received ++ codes "}"
 json_text (Pending m) = codes "{" ++ json_message m ++ codes "}"
+json_text (Constructions kind count) =
+    codes "{\"constructions\":" ++ decimal count ++ codes ",\"kind\":\"" ++ kind_name kind
+    ++ codes "\",\"kind_number\":" ++ kind_text kind ++ codes "}"
 json_text (Client client last) =
     codes "{\"client\":" ++ decimal client ++ codes ",\"last\":" ++ decimal last ++ codes "}"
 json_text (Request client number item) =

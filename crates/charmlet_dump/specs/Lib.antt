@@ -1,4 +1,5 @@
 -- The definitions that contracts cite.
+pub mod Constructing
 pub mod Facts
 pub mod Plain
 pub mod Json

@@ -10,7 +10,7 @@ use Rattle.charmlet_model.specs.declared.step.Answer.TheVariants as answers
 use Rattle.charmlet_model.specs.Edition.{edition_kind, edition_version}
 use Rattle.charmlet_model.specs.Row.{Item}
 use Rattle.charmlet_model.specs.Texts.{Text, answer_text, elem_text, id_text, kind_text, words_text}
-use Rattle.charmlet_dump.specs.Facts.{Fact, Store, Array, Element, Pending, Client, Request, Refused}
+use Rattle.charmlet_dump.specs.Facts.{Fact, Store, Array, Element, Pending, Constructions, Client, Request, Refused}
 
 -- a kind's name
 abbrev pub kind_name : Kind → Text
@@ -64,6 +64,9 @@ plain_text (Element elem home kept) = plain_element elem home kept.state kept.se
 plain_text (Pending m) =
     codes "pending " ++ id_text m.id ++ codes " to " ++ elem_text m.to
     ++ codes " entry " ++ decimal m.entry ++ codes " words" ++ words_text m.words
+plain_text (Constructions kind count) =
+    codes "constructions " ++ decimal count ++ codes " kind " ++ kind_text kind ++ codes " "
+    ++ kind_name kind
 plain_text (Client client last) =
     codes "client " ++ decimal client ++ codes " last " ++ decimal last
 plain_text (Request client number item) =

@@ -4,24 +4,27 @@ ghost use Rattle.std.specs.Prelude.{◌≡◌, true};
 ghost use Rattle.std.specs.List.{flat_map};
 ghost use Rattle.charmlet_locate.specs.Locations.{is_processor_count};
 ghost use Rattle.charmlet_model.specs.Row.{below};
-ghost use Rattle.charmlet_dump.specs.Facts.{array_facts, client_facts, element_facts, pending_facts, window_facts, world_facts};
+ghost use Rattle.charmlet_dump.specs.Constructing.{all_kinds};
+ghost use Rattle.charmlet_dump.specs.Facts.{array_facts, client_facts, construction_facts, count_facts, element_facts, pending_facts, window_facts, world_facts};
 ghost use Rattle.charmlet_dump.specs.Lines.{lines_of};
 ghost use Rattle.charmlet_dump.specs.Writing.{Writes};
 
+use crate::constructing::constructions;
 use crate::finding::Found;
 use crate::lines::Fact;
 use crate::writing::{Form, write_fact};
 use charmlet_locate::home;
-use charmlet_model::{ClientRow, Edition, Elem, Message, Record};
+use charmlet_model::{ClientRow, Edition, Elem, Kind, Message, Record};
+use charmlet_plain::PlainWorld;
 use std::alloc::Global;
 use std::collections::BTreeMap;
 use std::io;
 use std::io::Write;
 
 /// Writes all that is found: the generation and the count of events, then the arrays, the elements,
-/// the pending messages and the clients with their windows. Each element that is there is shown at
-/// its home on `processors` processors. Fails as `write_fact` does, and the lines before stay
-/// written.
+/// the pending messages, how many of them construct elements, and the clients with their windows.
+/// Each element that is there is shown at its home on `processors` processors. Fails as
+/// `write_fact` does, and the lines before stay written.
 pub fn write_world<W: Write>(
     alloc: Global,
     writer: &mut W,
@@ -42,6 +45,7 @@ pub fn write_world<W: Write>(
     write_arrays(alloc, writer, form, found.arrays.as_slice())?;
     write_elements(alloc, writer, form, processors, found.world.records())?;
     write_pending(alloc, writer, form, found.world.pending())?;
+    write_constructions(alloc, writer, form, &found.world)?;
     write_clients(alloc, writer, form, found.world.clients())
 }
 
@@ -116,6 +120,39 @@ fn write_pending<W: Write>(
         write_fact(alloc, writer, form, Fact::Pending { message })?;
     }
     Ok(())
+}
+
+/// Writes for each kind how many pending messages construct an element of it, if any do.
+fn write_constructions<W: Write>(
+    alloc: Global,
+    writer: &mut W,
+    form: Form,
+    world: &PlainWorld,
+) -> io::Result<()>
+    ensures { Writes result (W.contents writer.old) (W.contents writer.new)
+        (lines_of form (flat_map (construction_facts world.now) all_kinds)) }
+{
+    for kind in &Kind::ALL {
+        write_count(alloc, writer, form, *kind, constructions(world, *kind))?;
+    }
+    Ok(())
+}
+
+/// Writes how many pending messages construct an element of this kind, if any do.
+fn write_count<W: Write>(
+    alloc: Global,
+    writer: &mut W,
+    form: Form,
+    kind: Kind,
+    count: usize,
+) -> io::Result<()>
+    ensures { Writes result (W.contents writer.old) (W.contents writer.new)
+        (lines_of form (count_facts kind count)) }
+{
+    if count == 0 {
+        return Ok(());
+    }
+    write_fact(alloc, writer, form, Fact::Constructions { kind, count })
 }
 
 /// Writes each client with its window.

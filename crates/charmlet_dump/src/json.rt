@@ -280,6 +280,13 @@ impl<'a> fmt::Display for JsonLine<'a> {
                 let message = JsonMessage(message);
                 write!(f, "{{{message}}}")
             }
+            Fact::Constructions { kind, count } => {
+                let name = KindName(kind);
+                write!(
+                    f,
+                    "{{\"constructions\":{count},\"kind\":\"{name}\",\"kind_number\":{kind}}}"
+                )
+            }
             Fact::Client { client, last } => {
                 write!(f, "{{\"client\":{client},\"last\":{last}}}")
             }

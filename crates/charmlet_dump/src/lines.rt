@@ -26,6 +26,11 @@ pub enum Fact<'a> {
     Pending {
         message: &'a Message,
     },
+    /// A kind, and how many pending messages construct an element of it.
+    Constructions {
+        kind: Kind,
+        count: usize,
+    },
     /// A client, and the number of its last request.
     Client {
         client: u32,
@@ -138,6 +143,10 @@ impl<'a> fmt::Display for PlainLine<'a> {
                 let entry = message.entry;
                 let words = &message.words;
                 write!(f, "pending {id} to {to} entry {entry} words{words}")
+            }
+            Fact::Constructions { kind, count } => {
+                let name = KindName(kind);
+                write!(f, "constructions {count} kind {kind} {name}")
             }
             Fact::Client { client, last } => write!(f, "client {client} last {last}"),
             Fact::Request {

@@ -2,6 +2,7 @@
 #![tactic(auto)]
 
 mod arguments;
+mod constructing;
 mod dump;
 mod dumping;
 mod ending;

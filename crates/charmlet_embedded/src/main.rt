@@ -1,15 +1,15 @@
 //! Embeds the engine: a store of objects of our own ends, and comes back from its disk.
 #![tactic(auto)]
 
-ghost use Rattle.charmlet_disk.specs.Disk.{IsSettled};
+ghost use Rattle.charmlet_engine.specs.Disk.{IsSettled};
 
 mod noisy;
 
 use anyhow::{Context, Result, bail};
-use charmlet_disk::{Disk, FileDisk, MemDisk};
-use charmlet_engine::{Engine, manifest, stock_of};
-use charmlet_model::{CONSTRUCT, Elem, Kind, Manifest, Step};
-use charmlet_requests::{Passes, Request};
+use charmlet_engine::{
+    CONSTRUCT, Disk, Elem, Engine, FileDisk, Kind, Manifest, MemDisk, Passes, Request, Step,
+    manifest, stock_of,
+};
 use noisy::{ADD, blanks};
 use std::thread::Threads;
 
@@ -20,10 +20,7 @@ fn live_twice<R: Threads + Sync, D: Disk>(rt: HostRuntime, threads: &R, disk: D)
 {
     let alloc = rt.alloc();
     let arrays = Manifest::of(alloc, &[(0, Kind::Counter.number())])?.context("no such arrays")?;
-    let mut engine = match Engine::create(alloc, disk, arrays, 1) {
-        Ok(engine) => engine,
-        Err(refused) => bail!("no new store: {}", refused.refusal),
-    };
+    let mut engine = Engine::create(alloc, disk, arrays, 1)?;
     engine.supply(blanks(rt, 1)?).ok().context("no memory")?;
     let mut pass = engine.lend(&mut Passes::new(alloc), 7)?;
     let counter = Elem { array: 0, index: 0 };
@@ -54,10 +51,8 @@ fn live_twice<R: Threads + Sync, D: Disk>(rt: HostRuntime, threads: &R, disk: D)
     let Ok(stock) = stock_of(alloc, blanks(rt, wanted)?) else {
         bail!("no memory");
     };
-    match Engine::restart(threads, alloc, disk, stock, 1) {
-        Ok(mut engine) => println!(rt; "request 2, restarted: {}", engine.tell(7, 2)?)?,
-        Err(refused) => bail!("no store comes back: {}", refused.refusal),
-    }
+    let mut engine = Engine::restart(threads, alloc, disk, stock, 1)?;
+    println!(rt; "request 2, restarted: {}", engine.tell(7, 2)?)?;
     Ok(())
 }
 

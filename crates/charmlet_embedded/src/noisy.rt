@@ -1,9 +1,6 @@
 //! Objects of our own.
 
-use charmlet_chare::{Chare, Outbox};
-use charmlet_kinds::Counter;
-use charmlet_model::Elem;
-use charmlet_pup::PupFault;
+use charmlet_engine::{Chare, Counter, Elem, Outbox, PupFault};
 use std::alloc::AllocError;
 
 /// The entry of a counter that adds its first word, and replies the count.

@@ -9,7 +9,7 @@ pub mod Taken
 pub mod Created
 pub mod Restarted
 pub mod Reopened
-pub mod Wanting
+pub mod Constructions
 pub use Rattle.charmlet_model.specs.Core
 pub use Rattle.charmlet_model.specs.Edition
 pub use Rattle.charmlet_model.specs.Fit
@@ -33,6 +33,7 @@ pub use Rattle.charmlet_stock.specs.Pile
 pub use Rattle.charmlet_stock.specs.Stock
 pub use Rattle.charmlet_locate.specs.Locations
 pub use Rattle.charmlet_history.specs.Kept
+pub use Rattle.charmlet_history.specs.Wanting
 pub use Rattle.charmlet_requests.specs.Handlers
 pub use Rattle.charmlet_requests.specs.Pass
 pub use Rattle.charmlet_journal.specs.NewStores

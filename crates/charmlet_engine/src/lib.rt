@@ -21,3 +21,14 @@ pub use crate::engine::Engine;
 pub use crate::laws::lives_are_remembered;
 pub use crate::reopened::Reopened;
 pub use charmlet_recover::{Found, NotRestarted, Wanted, lacking, manifest, stock_of};
+// What a program names that owns an engine, so that it lists this crate alone.
+pub use charmlet_chare::{Chare, Outbox};
+pub use charmlet_disk::{DeviceFault, Disk, FileDisk, MemDisk};
+pub use charmlet_halves::Refused;
+pub use charmlet_kinds::{Account, Counter, Ring, Sum, Tape, Tree};
+pub use charmlet_model::{
+    Answer, CONSTRUCT, Elem, Kind, Manifest, MsgId, PupFault, Refusal, Step, Told, Words,
+};
+pub use charmlet_requests::{ClientPass, Handler, Handlers, Passes, Request};
+pub use charmlet_stock::Stock;
+pub use charmlet_store::{Look, Standing};

@@ -7,16 +7,18 @@ ghost use Rattle.charmlet_halves.specs.Answers.{is_no_failure};
 ghost use Rattle.charmlet_stock.specs.declared.stock.Stock as stocks;
 ghost use Rattle.charmlet_replay.specs.Unused.{IsUnused};
 ghost use Rattle.charmlet_recover.specs.Restart.{is_restart_refusal};
+ghost use Rattle.charmlet_engine.specs.Constructions.{AreConstructions};
 ghost use Rattle.charmlet_engine.specs.Engine.{core_of};
 ghost use Rattle.charmlet_engine.specs.Restarted.{IsOpenedOn, core_or_refusal, disk_after};
 ghost use Rattle.charmlet_engine.specs.Reopened.{IsReopened, IsRestart, core_to_be, is_going_refusal};
 
 use crate::engine::Engine;
 use crate::going_on::go_on;
+use crate::wanting::constructions_in;
 use charmlet_chare::Chare;
 use charmlet_disk::Disk;
 use charmlet_model::Refusal;
-use charmlet_recover::{NotRestarted, Recovered, restart};
+use charmlet_recover::{NotRestarted, Recovered, Wanted, restart};
 use charmlet_replay::take_back;
 use charmlet_stock::Stock;
 use std::alloc::Global;
@@ -91,6 +93,14 @@ impl<D: Disk, C: Chare> Reopened<D, C> {
         ensures { result ≡ (core_to_be self.now).before }
     {
         self.back.store.history.event_count()
+    }
+
+    /// How many blanks of each kind the pending messages want: those that construct an element
+    /// which isn't there. It takes no memory.
+    pub fn constructions(&self) -> Wanted
+        ensures { AreConstructions (core_to_be self.now) result }
+    {
+        constructions_in(&self.back.store.history)
     }
 
     /// How many processors there are, 1 to 64.

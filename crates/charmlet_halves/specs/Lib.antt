@@ -11,6 +11,7 @@ pub mod Made
 pub use Rattle.charmlet_model.specs.Fit
 pub use Rattle.charmlet_model.specs.Half
 pub use Rattle.charmlet_model.specs.Sound
+pub use Rattle.charmlet_model.specs.Texts
 pub use Rattle.charmlet_image.specs.Halves as ImageHalves
 pub use Rattle.charmlet_image.specs.Images
 pub use Rattle.charmlet_image.specs.NewStores

@@ -9,6 +9,7 @@ pub mod Delivered
 pub mod Opened
 pub mod Parts
 pub mod Whole
+pub mod Wanting
 pub use Rattle.charmlet_model.specs.Core
 pub use Rattle.charmlet_model.specs.Fit
 pub use Rattle.charmlet_model.specs.Reaction

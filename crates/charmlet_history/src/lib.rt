@@ -11,6 +11,7 @@ mod moving;
 mod next;
 mod opening;
 mod request;
+mod wanting;
 mod world;
 
 pub use crate::delivery::RefusedCommit;

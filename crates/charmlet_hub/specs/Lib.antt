@@ -15,6 +15,7 @@ pub use Rattle.charmlet_disk.specs.File
 pub use Rattle.charmlet_halves.specs.Answers
 pub use Rattle.charmlet_halves.specs.Halves
 pub use Rattle.charmlet_history.specs.Kept
+pub use Rattle.charmlet_history.specs.Wanting
 pub use Rattle.charmlet_journal.specs.Rest
 pub use Rattle.charmlet_requests.specs.Pass
 pub use Rattle.charmlet_passes.specs.Passes

@@ -135,6 +135,15 @@ impl<D: Disk, C: Chare, B: RuntimeName> Hub<D, C, B> {
         })
     }
 
+    /// The disk alone, also when halted, and whatever is out or under way. The rest is dropped, and
+    /// what isn't durable with it. It makes no call of the disk, and takes no memory.
+    pub fn into_disk(self) -> D
+        ensures { result ≡ self.disk }
+    {
+        let HubParts { sequencer, .. } = self.into_parts();
+        sequencer.into_disk()
+    }
+
     /// Whether so many seats and passes are all that are out.
     fn has_all(&self, seats: usize, passes: usize) -> bool
         ensures { result ≡ are_all_in self.now seats passes }

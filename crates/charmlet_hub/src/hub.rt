@@ -10,6 +10,7 @@ ghost use Rattle.charmlet_model.specs.Sound.{IsSound};
 ghost use Rattle.charmlet_model.specs.World.{client_of};
 ghost use Rattle.charmlet_disk.specs.File.{CrashBytes, MayLeave};
 ghost use Rattle.charmlet_history.specs.Kept.{core_in, oldest_on_in};
+ghost use Rattle.charmlet_history.specs.Wanting.{wanted_in};
 ghost use Rattle.charmlet_requests.specs.Pass.{is_out as is_pass_out, lending_refusal as pass_refusal};
 ghost use Rattle.charmlet_passes.specs.Passes.{lent_since};
 ghost use Rattle.charmlet_seats.specs.Seats.{is_out as is_seat_out};
@@ -28,7 +29,7 @@ use charmlet_births::Ticks;
 use charmlet_chare::Chare;
 use charmlet_disk::Disk;
 use charmlet_history::History;
-use charmlet_model::{MsgId, Refusal};
+use charmlet_model::{Kind, MsgId, Refusal};
 use charmlet_passes::{ClientPass, PassBook, SeenPass};
 use charmlet_running::Running;
 use charmlet_seats::{Seat, SeatBook, SeenIds};
@@ -220,6 +221,14 @@ impl<D: Disk, C: Chare, B: RuntimeName> Hub<D, C, B> {
         ensures { result ≡ self.now.census }
     {
         self.sequencer.census()
+    }
+
+    /// How many pending messages want a blank of this kind: those that construct an element which
+    /// isn't there. It takes no memory.
+    pub fn wanted_blanks(&self, kind: Kind) -> usize
+        ensures { result ≡ wanted_in self.now.core kind }
+    {
+        self.sequencer.history().wanted_blanks(kind)
     }
 
     /// The oldest pending message on the processor that can be delivered, if there is one: a

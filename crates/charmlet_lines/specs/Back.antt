@@ -19,10 +19,12 @@ use Rattle.charmlet_disk.specs.declared.disk.Disk as disks
 use Rattle.charmlet_disk.specs.Calls.{IsUnwritten}
 use Rattle.charmlet_disk.specs.Disk.{IsSettled, LeavesOnly, faults_after}
 use Rattle.charmlet_disk.specs.File.{MayLeave, CrashBytes}
+use Rattle.charmlet_engine.specs.Constructions.{AreConstructions}
 use Rattle.charmlet_engine.specs.Restart.{AnswersBy, bytes_on, is_after_sync}
 use Rattle.charmlet_engine.specs.Lives.{ComesBack, Past, Remembers}
 use Rattle.charmlet_engine.specs.Outcomes.{Onward, is_lawful_now, is_lawful_since, not_device}
 use Rattle.charmlet_engine.specs.Restarted.{IsFound, IsLackOrFull, IsLeftByRestart, IsOpenedOn, IsTakenFrom, is_engine_refusal}
+use Rattle.charmlet_engine.specs.wanted.Wanted.{Wanted}
 use Rattle.charmlet_lines.specs.declared.restarting.RestartedLine.{RestartedLine}
 use Rattle.charmlet_lines.specs.Ledgers.{Ledger}
 use Rattle.charmlet_lines.specs.Writing.{in_lines}
@@ -76,6 +78,12 @@ module _ {D : Type 0} (G : disks.Ghosts D) where
         IsUnwritten G first back.disk
     pub any_moment : G.honest first →
         LeavesOnly G.moment G.since first back.disk (IsLeftByRestart (G.file first))
+
+  -- a store came back from the first disk, and so many blanks of each kind are those that its
+  -- pending messages take
+  abbrev pub CameBackWith : (processors : ℕ) → Blanks → (first : D) → Wanted → Type 0
+  CameBackWith processors given first wanted = (back : Ledger D)
+      × IsBack processors given first back × AreConstructions back.store.core wanted
 
   -- No store came back from the first disk, for a cause that is found in its files or its blanks,
   -- the number of processors, lack of memory, or a failure of the device. After a crash of an

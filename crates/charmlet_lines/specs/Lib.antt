@@ -12,5 +12,6 @@ pub use Rattle.charmlet_model.specs.Texts
 pub use Rattle.charmlet_requests.specs.Handlers
 pub use Rattle.charmlet_engine.specs.Engine
 pub use Rattle.charmlet_engine.specs.Wanted
+pub use Rattle.charmlet_engine.specs.Constructions
 pub use Rattle.charmlet_script.specs.Printed
 pub use Rattle.charmlet_script.specs.Script

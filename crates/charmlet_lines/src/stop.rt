@@ -22,6 +22,8 @@ pub enum Stop {
     NotShown(Refusal),
     /// The laboratory found bad outcomes. The output says how many.
     NotSurvived,
+    /// A line was refused where none may be, and no later one was run. The output says why.
+    AtRefusal,
     /// The script isn't there, is a folder, or a read of it failed.
     UnreadableScript,
     /// The script's first malformed line. Lines count from 1.
@@ -32,8 +34,8 @@ impl Stop {
     ghost use Rattle.std.specs.Prelude.{◌≡◌};
     ghost use Rattle.charmlet_lines.specs.Stop.{status_of};
 
-    /// The program's exit status: 1 if it can't go on, has no store, shows none, or found bad
-    /// outcomes, and 2 for a script that can't be run.
+    /// The program's exit status: 1 if it can't go on, has no store, shows none, found bad
+    /// outcomes, or stopped at a refusal, and 2 for a script that can't be run.
     pub fn exit_status(&self) -> u8
         ensures { result ≡ status_of self.now }
     {
@@ -42,7 +44,8 @@ impl Stop {
             | Stop::NotCreated(_)
             | Stop::NotRestarted(_)
             | Stop::NotShown(_)
-            | Stop::NotSurvived => 1,
+            | Stop::NotSurvived
+            | Stop::AtRefusal => 1,
             Stop::UnreadableScript | Stop::MalformedLine(_) => 2,
         }
     }
@@ -58,9 +61,7 @@ fn advice(refusal: &Refusal) -> &'static str
         Refusal::NothingHere => {
             ": the folder has none; 'charmlet run SCRIPT --dir DIR' makes one"
         }
-        Refusal::Device => {
-            ": is the folder there, may you read and write it, and does no other program use it?"
-        }
+        Refusal::BadPes => ": a store has 1 to 64 processors",
         Refusal::Damaged { .. } => ": see 'Damaged' in docs/OPERATING.md",
         _ => "",
     }
@@ -90,6 +91,7 @@ impl fmt::Display for Stop {
                 write!(f, "cannot show store{advice}")
             }
             Stop::NotSurvived => write!(f, "cannot survive each crash"),
+            Stop::AtRefusal => write!(f, "stopped at a refusal"),
             Stop::UnreadableScript => write!(f, "cannot read script"),
             Stop::MalformedLine(line) => write!(f, "script line {line}"),
         }

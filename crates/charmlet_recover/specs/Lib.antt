@@ -7,6 +7,7 @@ pub mod Restart
 pub use Rattle.charmlet_model.specs.Kind
 pub use Rattle.charmlet_model.specs.Names
 pub use Rattle.charmlet_model.specs.Shelves
+pub use Rattle.charmlet_model.specs.Texts
 pub use Rattle.charmlet_model.specs.World
 pub use Rattle.charmlet_record.specs.Reading
 pub use Rattle.charmlet_image.specs.Halves as ImageHalves

@@ -26,4 +26,6 @@ pub use Rattle.charmlet_engine.specs.Outcomes
 pub use Rattle.charmlet_engine.specs.Restarted
 pub use Rattle.charmlet_engine.specs.Reopened
 pub use Rattle.charmlet_engine.specs.Together
+pub use Rattle.charmlet_engine.specs.Constructions
+pub use Rattle.charmlet_engine.specs.wanted
 pub use Rattle.charmlet_engine.specs.restarting

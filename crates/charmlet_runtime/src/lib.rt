@@ -13,4 +13,4 @@ mod unnamed;
 pub use crate::laws::passes_are_runs;
 pub use crate::reopening::open_reopened;
 pub use crate::unnamed::UnnamedRuntime;
-pub use charmlet_engine::{NotRestarted, Reopened, stock_of};
+pub use charmlet_engine::{NotRestarted, Reopened, Wanted, stock_of};

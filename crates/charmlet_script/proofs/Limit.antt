@@ -1,5 +1,5 @@
 -- A text is read up to one byte past the limit.
-use Rattle.std.proofs.Common.{map, sym, ◌≡◌, ◌==◌, ◌+◌, ◌≤◌, ◌∷◌, ◌++◌, [], ℕ, List, take, length, get_or, ◌∙◌, ap, subst, refl, arith, inl, inr, Option, Some, None, Result, IfSome}
+use Rattle.std.proofs.Common.{map, sym, ◌≡◌, ◌==◌, ◌+◌, ◌≤◌, ◌∷◌, ◌++◌, [], ℕ, List, take, length, get_or, ◌∙◌, ap, subst, refl, arith, inl, inr, Option, Some, None, Result, Err, IfSome}
 use Rattle.std.specs.Option.{option_map}
 use Rattle.std.proofs.lemmas.Bool.{cases_lt}
 use Rattle.std.proofs.lemmas.Bool.Decides.{nat_tests}
@@ -8,8 +8,9 @@ use Rattle.std.proofs.lemmas.List.Splits.{length-slice_split}
 use Rattle.std.proofs.lemmas.List.Sums.{count_by-le-length}
 use Rattle.charmlet_script.specs.Script.{most_lines}
 use Rattle.charmlet_script.specs.Line.{parts_of}
-use Rattle.charmlet_script.specs.Reading.{Answers, lines_of, max_length, within}
+use Rattle.charmlet_script.specs.Reading.{Answers, IsUnread, lines_of, max_length, within}
 use Rattle.charmlet_script.specs.declared.error.ReadError.{ReadError}
+use Rattle.charmlet_script.specs.declared.error.ReadError.TheVariants as errors
 
 -- the bytes past the first one beyond the limit make no difference
 pub within-take : (most : ℕ) (bytes : List ℕ) → within most (take (most + 1) bytes) ≡ within most bytes
@@ -49,6 +50,14 @@ pub spelled_is : {A : Type 0} (spell : List (List ℕ) → Result A ℕ) (known 
     → Answers r (spell lines) → IfSome known (λ bytes. Answers r (spell (lines_of (within max_length bytes))))
 spelled_is spell None text lines r h l a = tt
 spelled_is spell (Some bytes) text lines r h l a = subst (λ ls. Answers r (spell ls)) (l ∙ ap (parts_of 10) h) a
+
+-- where nothing was read, it is ignored what the bytes spell
+pub unread_is : {A : Type 0} (known : Option (List ℕ)) (error : ReadError) (spell : List ℕ → Result A ℕ) → IsUnread error
+    → IfSome known (λ bytes. Answers (Err error) (spell bytes))
+unread_is None error spell unread = tt
+unread_is (Some bytes) (errors.Malformed number) spell unread = absurd unread
+unread_is (Some bytes) errors.Memory spell unread = tt
+unread_is (Some bytes) (errors.Failed error) spell unread = tt
 
 -- a text has at most one part more than it has bytes
 pub length-parts_of : (separator : ℕ) (text : List ℕ) → length (parts_of separator text) ≤ length text + 1

@@ -167,6 +167,12 @@ TellsFailure (errors.Failed error) = (error_kind error ≢ OutOfMemory)
     × (error_kind error ≢ Interrupted)
 TellsFailure _ = Unit {0}
 
+-- nothing was read, and no line is named
+abbrev pub IsUnread : ReadError → Type 0
+IsUnread (errors.Malformed number) = ⊥
+IsUnread errors.Memory = Unit {0}
+IsUnread (errors.Failed error) = TellsFailure (errors.Failed error)
+
 -- what a failed read is answered by
 pub record IsErrorOf (error : Error) (answer : ReadError) : Type 0 where
   pub memory : error_kind error ≡ OutOfMemory → answer ≡ errors.Memory

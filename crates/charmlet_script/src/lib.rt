@@ -28,7 +28,7 @@ pub use error::ReadError;
 pub use name::Name;
 pub use number::{MAX_BLANKS, MAX_DELIVERIES};
 pub use printed::{Counted, Drained, PendingIds, Shown, Standing, Supplied};
-pub use reading::{MAX_LENGTH, read_restart_script, read_script};
+pub use reading::{MAX_LENGTH, ScriptText, read_restart_script, read_script};
 pub use restart::RestartScript;
 pub use runner::Runner;
 pub use script::{ArrayLine, HandlerLine, Line, Script};

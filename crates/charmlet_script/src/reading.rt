@@ -5,6 +5,7 @@ ghost use Rattle.std.specs.IoError.{error_kind};
 ghost use Rattle.std.specs.List.{list_any};
 ghost use Rattle.std.specs.declared.io.ErrorKind.TheVariants.{Interrupted};
 ghost use Rattle.charmlet_script.specs.Script.{most_lines, no_lines};
+ghost use Rattle.charmlet_script.specs.declared.reading.TheConstants.{MAX_LENGTH};
 ghost use Rattle.charmlet_script.specs.Reading.{Answers, AreFor, TellsFailure, LeavesLines, has_array, is_array_line, lines_spell, may_add, may_declare, may_follow, restart_lines_spell, restart_script_of, script_of, with_array, with_handler, with_item, with_line, with_lines, with_processors, within};
 
 use crate::draft::{Draft, Purpose};
@@ -251,6 +252,58 @@ fn read_text<R: Read>(alloc: Global, reader: &mut R) -> Result<Vec<u8>, io::Erro
     Ok(text)
 }
 
+/// The text of a script, as its readers take it: of what was read, the first 1,048,576 bytes; and if
+/// there are more, one byte that no line may hold.
+#[derive(Drop)]
+pub struct ScriptText {
+    bytes: Vec<u8>,
+    ghost length: { length bytes.items ≤ MAX_LENGTH + 1 },
+}
+
+impl ScriptText {
+    ghost use Rattle.std.specs.Prelude.{◌≡◌, ◌≤◌, ◌+◌, IfErr, IfOk, IfSome, length};
+    ghost use Rattle.charmlet_script.specs.Reading.{Answers, AreFor, IsUnread, TellsFailure, lines_of, lines_spell, restart_lines_spell, within};
+
+    /// Reads it, and at most one byte past its greatest length. If a read fails, it answers
+    /// `ReadError::Failed`, and when out of memory, `ReadError::Memory`. An interrupted read is
+    /// tried again. After an error the reader has given any part of its bytes.
+    pub fn read<R: Read>(alloc: Global, reader: &mut R) -> Result<ScriptText, ReadError>
+        ensures reads { IfSome (R.remaining reader.old)
+            (λ bytes. IfOk result (λ text. text.bytes.items ≡ within MAX_LENGTH bytes)) }
+        ensures failure { IfErr result IsUnread }
+    {
+        let bytes = read_text(alloc, reader)?;
+        Ok(ScriptText { bytes })
+    }
+
+    /// Its bytes.
+    pub fn as_bytes(&self) -> &[u8]
+        ensures { result.now ≡ self.now.bytes.items }
+    {
+        self.bytes.as_slice()
+    }
+
+    /// The script of a run that it spells, as [`read_script`] answers it.
+    pub fn script(&self, alloc: Global, runner: Runner) -> Result<Script, ReadError>
+        ensures reads { Answers result (lines_spell runner (lines_of self.now.bytes.items)) }
+        ensures lines { IfOk result (λ script. AreFor runner script.lines) }
+        ensures failure { IfErr result TellsFailure }
+    {
+        let lines = parts(alloc, &self.bytes, b'\n')?;
+        read_lines(alloc, runner, &lines)
+    }
+
+    /// The script of a restart that it spells, as [`read_restart_script`] answers it.
+    pub fn restart_script(&self, alloc: Global, runner: Runner) -> Result<RestartScript, ReadError>
+        ensures reads { Answers result (restart_lines_spell runner (lines_of self.now.bytes.items)) }
+        ensures lines { IfOk result (λ script. AreFor runner script.lines) }
+        ensures failure { IfErr result TellsFailure }
+    {
+        let lines = parts(alloc, &self.bytes, b'\n')?;
+        read_restart_lines(alloc, runner, &lines)
+    }
+}
+
 /// Reads the script of a run, of at most 1,048,576 bytes, and at most one byte after these.
 ///
 /// If a line is malformed, it answers `ReadError::Malformed` with the number of the first one, or
@@ -258,6 +311,7 @@ fn read_text<R: Read>(alloc: Global, reader: &mut R) -> Result<Vec<u8>, io::Erro
 /// it stands. If a read fails, it answers `ReadError::Failed`, and when out of memory,
 /// `ReadError::Memory`. An interrupted read is tried again. After an error the reader has given any
 /// part of its bytes.
+#[tactic(auto, using(crate::proofs::Limit::unread_is))]
 pub fn read_script<R: Read>(
     alloc: Global,
     reader: &mut R,
@@ -268,9 +322,7 @@ pub fn read_script<R: Read>(
     ensures lines { IfOk result (λ script. AreFor runner script.lines) }
     ensures failure { IfErr result TellsFailure }
 {
-    let text = read_text(alloc, reader)?;
-    let lines = parts(alloc, &text, b'\n')?;
-    read_lines(alloc, runner, &lines)
+    ScriptText::read(alloc, reader)?.script(alloc, runner)
 }
 
 /// Reads the script of a restart, of at most 1,048,576 bytes, and at most one byte after these. The
@@ -281,6 +333,7 @@ pub fn read_script<R: Read>(
 /// `deliver` line is too. If a read fails, it answers `ReadError::Failed`, and when out of memory,
 /// `ReadError::Memory`. An interrupted read is tried again. After an error the reader has given any
 /// part of its bytes.
+#[tactic(auto, using(crate::proofs::Limit::unread_is))]
 pub fn read_restart_script<R: Read>(
     alloc: Global,
     reader: &mut R,
@@ -291,7 +344,5 @@ pub fn read_restart_script<R: Read>(
     ensures lines { IfOk result (λ script. AreFor runner script.lines) }
     ensures failure { IfErr result TellsFailure }
 {
-    let text = read_text(alloc, reader)?;
-    let lines = parts(alloc, &text, b'\n')?;
-    read_restart_lines(alloc, runner, &lines)
+    ScriptText::read(alloc, reader)?.restart_script(alloc, runner)
 }

@@ -74,6 +74,15 @@ impl<D: Disk, C: Chare, B: RuntimeName> Sequencer<D, C, B> {
         };
         TakenApart { store, halves }
     }
+
+    /// The disk alone, also when halted. The rest is dropped, and what isn't durable with it. It
+    /// makes no call of the disk, and takes no memory.
+    pub fn into_disk(self) -> D
+        ensures { result ≡ self.disk }
+    {
+        let SequencerParts { halves, .. } = self.into_parts();
+        halves.into_disk()
+    }
 }
 
 /// Takes back the share of a shelf, and puts the shelf into the place of its processor.

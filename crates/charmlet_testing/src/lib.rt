@@ -4,6 +4,7 @@
 
 mod bench;
 mod clients;
+mod files;
 mod hubs;
 mod lives;
 mod running;
@@ -14,7 +15,8 @@ mod store_of;
 
 pub use crate::bench::Bench;
 pub use crate::clients::{give, lend, pass};
+pub use crate::files::open_script;
 pub use crate::hubs::{checkpoint, held, lend_seat, turn};
 pub use crate::saying::say;
 pub use crate::shows::{image, look, next};
-pub use charmlet_cli::{Failure, Stop, end_program, open_script};
+pub use charmlet_cli::{Failure, Stop, end_program};

@@ -13,6 +13,7 @@ ghost use Rattle.charmlet_seats.specs.Seats.{HeldSeat};
 ghost use Rattle.charmlet_seats.specs.Woven.{IsWoven};
 ghost use Rattle.charmlet_sequencer.specs.Sequencer.{IsOf, is_lawful};
 ghost use Rattle.charmlet_hub.specs.Hub.{deliveries_in};
+ghost use Rattle.charmlet_workers.specs.Runtime.{WasTrue};
 
 use crate::opening::lock_all;
 use crate::runtime::{Runtime, Spare};
@@ -108,5 +109,22 @@ impl<D: Disk, C: Chare, B: RuntimeName> Runtime<D, C, B> {
                 passes: back.passes,
             }),
         }
+    }
+
+    /// The disk alone, also of a halted runtime, and whatever seats and passes are out. The objects
+    /// are dropped, and what isn't durable with them; so is a delivery that is under way. It makes
+    /// no call of the disk, takes no memory, and is never refused.
+    ///
+    /// The disk is honest if the first one was; and then a crash leaves the world after some of the
+    /// history, with all durable events among it.
+    pub fn into_disk(self) -> D
+        ensures left { WasTrue self (λ core. D.honest result → (outcome : CrashBytes) →
+            MayLeave (D.file result) outcome → is_lawful core outcome) }
+        ensures honest { B.honest → D.honest result }
+    {
+        let Runtime { hub, .. } = self;
+        let hub = hub.into_inner();
+        hub.facts();
+        hub.into_disk()
     }
 }

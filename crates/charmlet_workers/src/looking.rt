@@ -5,6 +5,7 @@ ghost use Rattle.charmlet_model.specs.declared.refusal.Refusal.TheVariants as re
 ghost use Rattle.charmlet_model.specs.Core.{place_of, present};
 ghost use Rattle.charmlet_model.specs.World.{record_of};
 ghost use Rattle.charmlet_history.specs.Kept.{core_in, is_quiet};
+ghost use Rattle.charmlet_history.specs.Wanting.{wanted_in};
 ghost use Rattle.charmlet_store.specs.Look.{IsLook};
 ghost use Rattle.charmlet_delivery.specs.Workplace.{ShowsOn};
 ghost use Rattle.charmlet_workers.specs.Runtime.{ArePending, ArePendingIds, WasSeen, WasTrue};
@@ -13,7 +14,7 @@ use crate::runtime::Runtime;
 use charmlet_chare::Chare;
 use charmlet_disk::Disk;
 use charmlet_history::History;
-use charmlet_model::{Elem, MsgId, Refusal};
+use charmlet_model::{Elem, Kind, MsgId, Refusal};
 use charmlet_sequencer::{LockedShelf, RuntimeName};
 use charmlet_shelf::Image;
 use charmlet_store::{Look, Standing};
@@ -82,6 +83,18 @@ impl<D: Disk, C: Chare, B: RuntimeName> Runtime<D, C, B> {
         let hub = self.hub.lock(rt);
         hub.facts();
         pending_in(alloc, hub.history())
+    }
+
+    /// How many pending messages want a blank of this kind: those that construct an element which
+    /// isn't there. Each takes one from the stock when it is delivered, and is refused `NoBlank`
+    /// where the stock has none. A stock isn't kept on the disk, so after a restart nothing is in
+    /// it but what was handed in and what the restart left of that. It takes no memory.
+    pub fn wanted_blanks<R: Wait>(&self, rt: &R, kind: Kind) -> usize
+        ensures { WasTrue self.now (λ core. result ≡ wanted_in core kind) }
+    {
+        let hub = self.hub.lock(rt);
+        hub.facts();
+        hub.wanted_blanks(kind)
     }
 
     /// What is seen of an element: its counts, and, if it is there, where it stands and its packed

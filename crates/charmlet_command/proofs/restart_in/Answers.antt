@@ -15,9 +15,9 @@ returns-in_err-script c =
 pub returns-in_err-processors : goal.returns-in_err-processors
 returns-in_err-processors c =
     let number = number_of_value (λ bs r. ParsesUnsigned 16 10 bs r × ExplainsUnsignedError 10 bs r × HasUnsignedDigitsIfOk bs r) (λ word read gives. gives.0) _ _ c.in_err-processors.ensures.none c.in_err-processors.ensures.value in
-    ap (option_map asked_in) c.from_residual-in_err-processors.ensures ∙ restart_of_values (found_of c.args.values.now) _ _ _ _ c.in_ok-dir.ensures c.in_ok-script.ensures number refl
+    ap (option_map asked_in) c.from_residual-in_err-processors.ensures ∙ restart_of_values (found_of c.args.values.now) _ _ _ _ _ c.in_ok-dir.ensures c.in_ok-script.ensures number refl refl
 
 pub returns : goal.returns
 returns c =
     let number = number_of_value (λ bs r. ParsesUnsigned 16 10 bs r × ExplainsUnsignedError 10 bs r × HasUnsignedDigitsIfOk bs r) (λ word read gives. gives.0) _ _ c.in_ok-processors.ensures.none c.in_ok-processors.ensures.value in
-    restart_of_values (found_of c.args.values.now) _ _ _ _ c.in_ok-dir.ensures c.in_ok-script.ensures number c.is_on-workers.ensures
+    restart_of_values (found_of c.args.values.now) _ _ _ _ _ c.in_ok-dir.ensures c.in_ok-script.ensures number c.is_on-workers.ensures c.is_on-strict.ensures

@@ -9,4 +9,4 @@ returns-in_err-script c =
     ap (option_map asked_in) c.from_residual.ensures ∙ no_run_of (found_of c.args.values.now) c.in_err-script.ensures
 
 pub returns : goal.returns
-returns c = run_of_values (found_of c.args.values.now) _ _ _ c.in_ok-script.ensures c.get_str-dir.ensures c.is_on-workers.ensures
+returns c = run_of_values (found_of c.args.values.now) _ _ _ _ c.in_ok-script.ensures c.get_str-dir.ensures c.is_on-workers.ensures c.is_on-strict.ensures

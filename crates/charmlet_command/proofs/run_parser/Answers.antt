@@ -1,7 +1,7 @@
 use Rattle.std.proofs.Common.{◌≡◌, ◌∙◌, ap₂, codes, false, rules}
 use Rattle.std.proofs.lemmas.Result.{IfOk-weaker}
 use Rattle.clap.specs.Simple.{app_of, new_app, with_rule}
-use Rattle.charmlet_command.specs.CommandLine.{dir_option, has_globals, script_word}
+use Rattle.charmlet_command.specs.CommandLine.{dir_option, has_globals, script_word, workers_flag}
 use Rattle.charmlet_command.proofs.run_parser.Goals as goal
 
 pub returns-clause-reads : goal.returns-clause-reads
@@ -11,11 +11,14 @@ returns-clause-reads c =
     c.in_ok-arg.ensures.shape c.script_arg.ensures.local ∙ ap₂ with_rule start c.script_arg.ensures.reads in
     let second : app_of c.in_ok-arg-2.field-0 ≡ with_rule (with_rule (new_app (codes "run")) script_word) dir_option =
     c.in_ok-arg-2.ensures.shape c.dir_arg.ensures.local ∙ ap₂ with_rule first c.dir_arg.ensures.reads in
-    IfOk-weaker c.arg-3.result _ _ (λ parser adds. adds.shape c.workers_arg.ensures.local ∙ ap₂ with_rule second c.workers_arg.ensures.reads) c.arg-3.ensures
+    let third : app_of c.in_ok-arg-3.field-0 ≡ with_rule (with_rule (with_rule (new_app (codes "run")) script_word) dir_option) workers_flag =
+    c.in_ok-arg-3.ensures.shape c.workers_arg.ensures.local ∙ ap₂ with_rule second c.workers_arg.ensures.reads in
+    IfOk-weaker c.arg-4.result _ _ (λ parser adds. adds.shape c.strict_arg.ensures.local ∙ ap₂ with_rule third c.strict_arg.ensures.reads) c.arg-4.ensures
 
 pub returns-clause-local : goal.returns-clause-local
 returns-clause-local c =
     let start : has_globals c.after_help.result ≡ false = search rules in
     let first : has_globals c.in_ok-arg.field-0 ≡ false = c.in_ok-arg.ensures.globals ∙ search rules in
     let second : has_globals c.in_ok-arg-2.field-0 ≡ false = c.in_ok-arg-2.ensures.globals ∙ search rules in
-    IfOk-weaker c.arg-3.result _ _ (λ parser adds. adds.globals ∙ search rules) c.arg-3.ensures
+    let third : has_globals c.in_ok-arg-3.field-0 ≡ false = c.in_ok-arg-3.ensures.globals ∙ search rules in
+    IfOk-weaker c.arg-4.result _ _ (λ parser adds. adds.globals ∙ search rules) c.arg-4.ensures

@@ -4,7 +4,7 @@ ghost use Rattle.std.specs.Prelude.{◌≡◌, IsErr, IsTrue};
 use super::half_file::HalfFile;
 use charmlet_model::Half;
 use std::alloc::AllocError;
-use std::fs::{self, File, Metadata};
+use std::fs::{self, File, Metadata, TryLockError};
 use std::io::{self, ErrorKind};
 use std::os::unix::fs::MetadataExt;
 
@@ -122,7 +122,7 @@ impl Folder {
     fn hold(&mut self) -> io::Result<()>
         ensures { self.new.is_lost ≡ self.old.is_lost }
     {
-        let named = fs::metadata(&self.rt, self.path.as_str())?;
+        let named = fs::metadata(&self.rt, self.path.as_str()).map_err(said_of_folder)?;
         if let Some(locked) = &self.locked {
             return locked.check(&named);
         }
@@ -138,10 +138,19 @@ impl Locked {
     fn new(rt: &HostRuntime, path: &str, named: &Metadata) -> io::Result<Locked> {
         // A pipe is not opened, since that waits.
         if !named.is_dir() {
-            return Err(ErrorKind::NotADirectory.into());
+            return Err(said_of_folder(ErrorKind::NotADirectory.into()));
         }
         let handle = File::open(rt, path)?;
-        handle.try_lock()?;
+        match handle.try_lock() {
+            Ok(()) => {}
+            Err(TryLockError::WouldBlock) => {
+                return Err(io::Error::new(
+                    ErrorKind::WouldBlock,
+                    "another program uses the folder",
+                ));
+            }
+            Err(TryLockError::Error(error)) => return Err(error),
+        }
         let held = handle.metadata()?;
         Ok(Locked {
             handle,
@@ -153,8 +162,20 @@ impl Locked {
     // The path still names the folder that is locked.
     fn check(&self, named: &Metadata) -> io::Result<()> {
         if named.dev() != self.device || named.ino() != self.inode {
-            return Err(ErrorKind::NotFound.into());
+            return Err(io::Error::new(
+                ErrorKind::NotFound,
+                "the folder was moved, and another one has its name",
+            ));
         }
         Ok(())
+    }
+}
+
+// What is said of a folder that isn't found, or isn't one.
+fn said_of_folder(error: io::Error) -> io::Error {
+    match error.kind() {
+        ErrorKind::NotFound => io::Error::new(ErrorKind::NotFound, "there is no such folder"),
+        ErrorKind::NotADirectory => io::Error::new(ErrorKind::NotADirectory, "it isn't a folder"),
+        _ => error,
     }
 }

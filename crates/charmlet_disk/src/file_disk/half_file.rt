@@ -49,7 +49,7 @@ impl HalfFile {
     pub fn read_at(&self, offset: u64, into: &mut [u8]) -> io::Result<()> {
         let len = self.len()?;
         if !is_inside(offset, into.len(), len) {
-            return Err(ErrorKind::UnexpectedEof.into());
+            return Err(io::Error::new(ErrorKind::UnexpectedEof, "a read past the end of a half"));
         }
         match &self.file {
             Some(file) => file.read_exact_at(into, offset),
@@ -62,7 +62,10 @@ impl HalfFile {
     pub fn write_at(&mut self, rt: &HostRuntime, offset: u64, bytes: &[u8]) -> io::Result<()> {
         let len = self.len()?;
         if !is_inside(offset, 0, len) {
-            return Err(ErrorKind::InvalidInput.into());
+            return Err(io::Error::new(
+                ErrorKind::InvalidInput,
+                "a write that begins past the end of a half",
+            ));
         }
         if let Some(file) = &self.file {
             return file.write_all_at(bytes, offset);
@@ -103,7 +106,12 @@ fn open(rt: &HostRuntime, path: &str, is_lost: &mut bool) -> io::Result<Option<F
 {
     match fs::symlink_metadata(rt, path) {
         Ok(found) if found.is_file() && found.nlink() == 1 => {}
-        Ok(_) => return Err(ErrorKind::Unsupported.into()),
+        Ok(_) => {
+            return Err(io::Error::new(
+                ErrorKind::Unsupported,
+                "a half isn't a regular file, or has a second name",
+            ));
+        }
         Err(error) if error.kind() == ErrorKind::NotFound => return Ok(None),
         Err(error) => return Err(error),
     }
@@ -152,7 +160,7 @@ fn above_streams(file: File) -> io::Result<File> {
 fn len_of(file: &File) -> io::Result<u64> {
     let found = file.metadata()?;
     if found.nlink() == 0 {
-        return Err(ErrorKind::NotFound.into());
+        return Err(io::Error::new(ErrorKind::NotFound, "a half was removed"));
     }
     Ok(found.len())
 }

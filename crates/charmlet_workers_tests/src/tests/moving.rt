@@ -75,6 +75,10 @@ fn ask<B: RuntimeName, R: Wait + AllocGlobal + Abort>(
     };
     assert_eq!(rt; ids.as_slice(), [id].as_slice());
     assert_eq!(rt; runtime.pending_count(rt), 1);
+    // Only a construction wants a blank, since the counter is there from then on.
+    let wanted = usize::from(entry == CONSTRUCT);
+    assert_eq!(rt; runtime.wanted_blanks(rt, Kind::Counter), wanted);
+    assert_eq!(rt; runtime.wanted_blanks(rt, Kind::Ring), 0);
 }
 
 // Only the worker of this processor has something to deliver.
@@ -180,7 +184,10 @@ fn repeat<B: RuntimeName, R: Wait + AllocGlobal + Abort>(
         let told = runtime.request(rt, pass, &request);
         assert!(rt; matches!(&told, Ok(Told::Replied(_))), "request {number}");
     }
-    assert_eq!(rt; [runtime.pending_count(rt) as u64, runtime.event_count(rt)], [0, 6]);
+    assert_eq!(rt;
+        [runtime.pending_count(rt) as u64, runtime.event_count(rt)],
+        [0, 6]
+    );
 }
 
 // A checkpoint makes all durable. At the next one the device fails, and then all is refused.

@@ -1,8 +1,9 @@
 use Rattle.std.proofs.Common.{◌≡◌, ◌≤◌, true, false, rules, refl, sym, subst}
+use Rattle.std.specs.Prelude.{IfSome}
 use Rattle.charmlet_model.specs.Core.{Blanks}
 use Rattle.charmlet_script.specs.Script.{blanks_of}
 use Rattle.charmlet_stock.specs.Stock.{supplied_to}
-use Rattle.charmlet_lines.specs.Back.{given_of}
+use Rattle.charmlet_lines.specs.Back.{CameBackWith, given_of}
 use Rattle.charmlet_cli.specs.Restarted.{IsRestarted}
 use Rattle.charmlet_lines.proofs.Results.{on_ok, ok_map}
 use Rattle.charmlet_cli.proofs.Restarts.{restart_ends}
@@ -52,6 +53,12 @@ returns-in-Ok-clause-err g c =
     let ended = c.restart_with.result in
     restart_ends g.D.Disk g.C.Chare.state g.W.Write.contents c.args.processors (supplied_to prepared.given) c.args.disk ended.disk c.args.blanks.items c.args.supplies.items c.args.script.now c.args.writer.now c.restart_with.new.writer ended.result enough same
     c.restart_with.ensures.err
+
+pub returns-in-Ok-clause-constructions : goal.returns-in-Ok-clause-constructions
+returns-in-Ok-clause-constructions g c =
+    let prepared = c.in-Ok.prepared in
+    let same : supplied_to prepared.given ≡ given_of g.C.Chare.state c.args.blanks.items = λ i kind. c.in-Ok.ensures.given kind i in
+    subst (λ (given : Blanks). IfSome c.restart_with.result.constructions (CameBackWith g.D.Disk c.args.processors given c.args.disk)) same c.restart_with.ensures.constructions
 
 pub returns-in-Err-clause-err : goal.returns-in-Err-clause-err
 returns-in-Err-clause-err g c =

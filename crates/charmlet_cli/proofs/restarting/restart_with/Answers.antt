@@ -27,6 +27,18 @@ returns-in-Ok-ran-clause-ran g c =
       stands_back g.D.Disk c.args.disk c.into_disk.result first end c.facts.ensures.lawful c.run_restarted-ran.ensures.advances made.disk.honest.0 (λ honest. (made.files honest).found) (λ honest. (made.leaves honest).any_moment) c.into_disk.ensures,
     )
 
+pub returns-in-Ok-ran-clause-constructions : goal.returns-in-Ok-ran-clause-constructions
+returns-in-Ok-ran-clause-constructions g c =
+    let first = c.in-Ok.engine in
+    let made = c.in-Ok.ensures in
+    let same = all_given c.args.prepared.given c.requires.unused in
+    let taken = subst (λ (given : Blanks). g.D.Disk.honest c.args.disk → IsTakenFrom given (bytes_on (g.D.Disk.file c.args.disk)) (view_of first)) same (λ honest. (made.files honest).taken_from) in (
+      ledger_in first,
+      is_back g.D.Disk c.args.processors (supplied_to c.args.prepared.given) c.args.disk first made.ok.opens (λ honest. (made.files honest).found) taken made.ok.supplied_are made.remembers made.disk.counted made.disk.honest
+          (λ honest. (made.leaves honest).settled refl) (λ honest. (made.files honest).now) (λ honest. (made.leaves honest).still) (λ honest. (made.leaves honest).any_moment),
+      c.constructions.ensures,
+    )
+
 pub returns-in-Ok-clause-err : goal.returns-in-Ok-clause-err
 returns-in-Ok-clause-err g c =
     let first = c.in-Ok.engine in
@@ -43,6 +55,18 @@ returns-in-Ok-clause-err g c =
       c.in-Err-ran.ensures.breaks_off,
       stands_back g.D.Disk c.args.disk c.into_disk-in-Err-ran.result first end c.facts.ensures.lawful c.run_restarted-ran.ensures.advances made.disk.honest.0 (λ honest. (made.files honest).found) (λ honest. (made.leaves honest).any_moment)
           c.into_disk-in-Err-ran.ensures,
+    )
+
+pub returns-in-Ok-clause-constructions : goal.returns-in-Ok-clause-constructions
+returns-in-Ok-clause-constructions g c =
+    let first = c.in-Ok.engine in
+    let made = c.in-Ok.ensures in
+    let same = all_given c.args.prepared.given c.requires.unused in
+    let taken = subst (λ (given : Blanks). g.D.Disk.honest c.args.disk → IsTakenFrom given (bytes_on (g.D.Disk.file c.args.disk)) (view_of first)) same (λ honest. (made.files honest).taken_from) in (
+      ledger_in first,
+      is_back g.D.Disk c.args.processors (supplied_to c.args.prepared.given) c.args.disk first made.ok.opens (λ honest. (made.files honest).found) taken made.ok.supplied_are made.remembers made.disk.counted made.disk.honest
+          (λ honest. (made.leaves honest).settled refl) (λ honest. (made.files honest).now) (λ honest. (made.leaves honest).still) (λ honest. (made.leaves honest).any_moment),
+      c.constructions.ensures,
     )
 
 pub returns-in-Ok-write_answer-clause-err : goal.returns-in-Ok-write_answer-clause-err

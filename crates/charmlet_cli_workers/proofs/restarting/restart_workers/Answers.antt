@@ -1,7 +1,8 @@
 use Rattle.std.proofs.Common.{rules, ◌≡◌, Some, true, false, refl, sym, ap, subst, ◌∙◌}
+use Rattle.std.specs.Prelude.{IfSome}
 use Rattle.charmlet_model.specs.Core.{Blanks, Core}
 use Rattle.charmlet_stock.specs.Stock.{blanks_in, supplied_to}
-use Rattle.charmlet_lines.specs.Back.{given_of}
+use Rattle.charmlet_lines.specs.Back.{CameBackWith, given_of}
 use Rattle.charmlet_lines.proofs.Results.{ok_map}
 use Rattle.charmlet_lines.proofs.Enough.{is_enough, is_too_few}
 use Rattle.charmlet_cli_workers.specs.Lines.{has_delivery}
@@ -52,6 +53,11 @@ returns-in-Ok-clause-err g c =
     let ended = c.restart_with.result in
     back_ends g.D.Disk g.C.Chare.state g.W.Write.contents c.args.processors (supplied_to c.in-Ok.prepared.blanks) c.args.disk ended.disk c.args.blanks.items c.args.supplies.items c.args.script.now.handlers c.args.script.now.lines c.args.writer.now c.restart_with.new.writer ended.result same
     c.restart_with.ensures.err
+
+pub returns-in-Ok-clause-constructions : goal.returns-in-Ok-clause-constructions
+returns-in-Ok-clause-constructions g c =
+    let same : supplied_to c.in-Ok.prepared.blanks ≡ given_of g.C.Chare.state c.args.blanks.items = λ i kind. c.in-Ok.ensures.given kind i in
+    subst (λ (given : Blanks). IfSome c.restart_with.result.constructions (CameBackWith g.D.Disk c.args.processors given c.args.disk)) same c.restart_with.ensures.constructions
 
 pub returns-in-Err-clause-err : goal.returns-in-Err-clause-err
 returns-in-Err-clause-err g c =

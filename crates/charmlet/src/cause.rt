@@ -1,0 +1,103 @@
+//! What standard error says beside the line that says why the program stops.
+
+use charmlet_cli::{Spare, Wanted};
+use charmlet_model::Kind;
+use charmlet_reasons::{Setting, explain};
+use charmlet_script::{RestartScript, ScriptText};
+use std::io;
+use std::io::ErrorKind;
+
+/// What is known of a failure beyond the line that tells of it.
+#[derive(Drop)]
+pub(crate) enum Cause<'a> {
+    /// The disk in this folder failed.
+    Folder(&'a str, io::Error),
+    /// The script of this name can't be read.
+    Script(&'a str, io::Error),
+    /// This line of this script is malformed.
+    Malformed {
+        text: ScriptText,
+        line: u64,
+        setting: Setting,
+    },
+    /// Standard output failed.
+    Output(io::Error),
+}
+
+/// Notes why the disk in a folder failed first, if it did.
+pub(crate) fn note_folder<'a>(
+    cause: &mut Option<Cause<'a>>,
+    folder: &'a str,
+    failure: Option<io::Error>,
+) {
+    if let Some(error) = failure {
+        *cause = Some(Cause::Folder(folder, error));
+    }
+}
+
+/// Writes on standard error which constructions that were pending when a store came back find no
+/// blank, since its script supplies fewer.
+pub(crate) fn warn_of_constructions(
+    rt: HostRuntime,
+    constructions: Option<Wanted>,
+    script: &RestartScript,
+) {
+    let Some(constructions) = constructions else {
+        return;
+    };
+    for kind in &Kind::ALL {
+        let pending = constructions.of(*kind);
+        let supplied = script.blanks(*kind);
+        if pending > supplied {
+            let _warned = eprintln!(rt;
+                "warning: pending constructions of kind {} lack blanks: without 'supply {} {}' \
+                neither they nor what waits behind them is delivered",
+                kind.number(),
+                kind.number(),
+                pending - supplied
+            );
+        }
+    }
+}
+
+/// Writes on standard error what an operator should know of the half in a folder that isn't taken.
+pub(crate) fn warn_of_spare(rt: HostRuntime, folder: &str, spare: Spare) {
+    let _warned = match spare {
+        Spare::Sound => Ok(()),
+        Spare::Later { half, generation } => eprintln!(rt;
+            "warning: {folder}/half{half} is closed, but of the later generation {generation}; \
+            see 'Damaged' in docs/OPERATING.md"
+        ),
+        Spare::Damaged { half, offset } => eprintln!(rt;
+            "warning: {folder}/half{half}, which isn't taken, is damaged at byte {offset}; \
+            see 'Damaged' in docs/OPERATING.md"
+        ),
+    };
+}
+
+impl Cause<'_> {
+    /// Writes it on standard error. Where that fails, or there is no memory for the reason of a
+    /// malformed line, nothing more is said.
+    pub(crate) fn tell(&self, rt: HostRuntime) {
+        let _told = match self {
+            Cause::Folder(name, error) | Cause::Script(name, error) => {
+                eprintln!(rt; "{name}: {error}")
+            }
+            Cause::Malformed {
+                text,
+                line,
+                setting,
+            } => match explain(rt.alloc(), text.as_bytes(), *line, *setting) {
+                Ok(explanation) => eprintln!(rt; "{explanation}"),
+                Err(_) => Ok(()),
+            },
+            Cause::Output(error) => eprintln!(rt; "cannot write output: {error}"),
+        };
+    }
+
+    /// Whether it is that nobody reads standard output any more. Then nothing is said, as by
+    /// programs that a signal ends then.
+    pub(crate) fn is_closed_pipe(&self) -> bool {
+        matches!(self, Cause::Output(error) if error.kind() == ErrorKind::BrokenPipe)
+    }
+}

@@ -1,0 +1,54 @@
+//! The text of a script, as it is read.
+
+use crate::ending::Failure;
+use charmlet_script::MAX_LENGTH;
+use std::alloc::Global;
+use std::fs::{File, OpenFile};
+use std::io;
+use std::io::{ErrorKind, Read};
+use std::rt::Files;
+
+/// How much is read of a file past a script's greatest length, to be shown. Of anything else, which
+/// need not end, it is a byte.
+const MORE: u64 = 200;
+
+/// The text of a script, up to its greatest length, and a part of what is past it.
+#[derive(Debug, Drop)]
+pub(crate) struct Text {
+    pub bytes: Vec<u8>,
+    /// How many bytes the script has, if it is a file.
+    pub length: Option<u64>,
+}
+
+/// Why a script isn't read.
+fn failure_of(error: io::Error) -> Failure {
+    match error.kind() {
+        ErrorKind::OutOfMemory => Failure::CannotGoOn,
+        _ => Failure::Unread,
+    }
+}
+
+/// The file of a script by its name on the command line.
+fn path_of<'a>(script: &'a str) -> &'a str {
+    if script == "-" { "/dev/stdin" } else { script }
+}
+
+/// Reads a script. An interrupted read is tried again.
+fn read_script<R: Files + AllocGlobal>(rt: &R, path: &str) -> io::Result<Text> {
+    let mut file = File::open(rt, path)?;
+    let metadata = file.metadata()?;
+    let length = if metadata.is_file() {
+        Some(metadata.len())
+    } else {
+        None
+    };
+    let more = if length.is_some() { MORE } else { 1 };
+    let mut bytes = Vec::new(rt.alloc());
+    Read::take(&mut file, MAX_LENGTH as u64 + more).read_to_end(&mut bytes)?;
+    Ok(Text { bytes, length })
+}
+
+/// Reads the script of this name.
+pub(crate) fn read_text<R: Files + AllocGlobal>(rt: &R, script: &str) -> Result<Text, Failure> {
+    read_script(rt, path_of(script)).map_err(failure_of)
+}

@@ -1,0 +1,1 @@
+-- The definitions that contracts cite.
