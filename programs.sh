@@ -126,6 +126,17 @@ copy_of_tree() { echo "$top/out/tree"; }
 # has to prove.
 crates_of_tests() { sed -n 's/^\(charmlet_[a-z]*_tests\):.*/\1/p' "$top/crates.txt" | grep -vx charmlet_pup_tests; }
 
+# The crates of which nothing is promised, and which aren't proved: those of tests, what these share,
+# and the program of probes.
+crates_unproved() {
+  crates_of_tests
+  echo charmlet_testing
+  echo charmlet_probe
+}
+
+# All crates but these.
+crates_without() { sed -n 's/^\(charmlet[a-z_]*\):.*/\1/p' "$top/crates.txt" | grep -vxF "$1"; }
+
 # What the toolchain's quick build is told of the libraries that a crate in this copy of the tree stands on: the words by which
 # it is given each one's name, those that it uses, and its source. `rt try` tells it the same.
 words_of_sources() {
@@ -149,12 +160,12 @@ words_of_sources() {
   done
 }
 
-# Copies these crates, or else all but those of tests that are run, into an empty folder, without their edits, so that it is the
-# top of a repository for rt: `copy_crates FOLDER [CRATE..]`.
+# Copies these crates, or else all that are proved, into an empty folder, without their edits, so
+# that it is the top of a repository for rt: `copy_crates FOLDER [CRATE..]`.
 copy_crates() {
   local tree=$1 crate
   shift
-  [ $# -gt 0 ] || set -- $(sed -n 's/^\(charmlet[a-z_]*\):.*/\1/p' "$top/crates.txt" | grep -vxF "$(crates_of_tests)")
+  [ $# -gt 0 ] || set -- $(crates_without "$(crates_unproved)")
   mkdir -p "$tree/.git"
   tar -C "$top" -cf - --exclude=out --exclude='must-fail*' HANDLES "${@/#/crates/}" | tar -C "$tree" -xf - || return
   for crate in "$@"; do

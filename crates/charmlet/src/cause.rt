@@ -2,8 +2,7 @@
 
 use charmlet_cli::{Spare, Wanted};
 use charmlet_model::Kind;
-use charmlet_reasons::{Setting, explain};
-use charmlet_script::{RestartScript, ScriptText};
+use charmlet_script::{RestartScript, ScriptText, Setting, explain, nearest};
 use std::io;
 use std::io::ErrorKind;
 
@@ -22,6 +21,28 @@ pub(crate) enum Cause<'a> {
     },
     /// Standard output failed.
     Output(io::Error),
+    /// The command line's first word is no command, and near to this one.
+    Mistyped(&'static str),
+}
+
+/// The commands of the program.
+const COMMANDS: [&str; 5] = ["run", "show", "restart", "lab", "help"];
+
+/// Notes which command is meant, if the first word of a bad command line is near to one.
+pub(crate) fn note_command(cause: &mut Option<Cause<'_>>, words: &[String]) {
+    let [_, word, ..] = words else {
+        return;
+    };
+    let word = word.as_bytes();
+    if word.starts_with(b"-") {
+        return;
+    }
+    let near = nearest(word, &COMMANDS.map(|command: &str| command.as_bytes()));
+    for command in COMMANDS {
+        if near == Some(command.as_bytes()) && word != command.as_bytes() {
+            *cause = Some(Cause::Mistyped(command));
+        }
+    }
 }
 
 /// Notes why the disk in a folder failed first, if it did.
@@ -92,6 +113,7 @@ impl Cause<'_> {
                 Err(_) => Ok(()),
             },
             Cause::Output(error) => eprintln!(rt; "cannot write output: {error}"),
+            Cause::Mistyped(command) => eprintln!(rt; "did you mean '{command}'?"),
         };
     }
 

@@ -11,14 +11,15 @@ mod scripts;
 mod trying;
 mod workers;
 
-use crate::cause::{Cause, note_folder, warn_of_spare};
+use crate::cause::{Cause, note_command, note_folder, warn_of_spare};
 use crate::lab::lab;
 use crate::output::Output;
 use crate::runs::{restart, run};
 use crate::workers::{restart_by_workers, run_by_workers};
-use charmlet_any_disk::AnyDisk;
-use charmlet_cli::{Failure, Stop, end_program, look_at_spare, show_store, write_line};
-use charmlet_command::{Command, command_of};
+use charmlet_cli::{
+    Command, Failure, Stop, command_of, end_program, look_at_spare, show_store, write_line,
+};
+use charmlet_disk::AnyDisk;
 use charmlet_model::{Answer, Refusal};
 use std::io::{BufWriter, Write};
 use std::process::ExitCode;
@@ -76,7 +77,11 @@ fn charmlet<'a, R: Threads + Wait + Sync>(
     words: &'a [String],
     cause: &mut Option<Cause<'a>>,
 ) -> Result<(), Failure> {
-    match command_of(rt.alloc(), words)? {
+    let command = command_of(rt.alloc(), words);
+    if command.is_err() {
+        note_command(cause, words);
+    }
+    match command? {
         Command::Run {
             script,
             dir,

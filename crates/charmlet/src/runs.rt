@@ -1,18 +1,18 @@
 //! Runs of scripts over a store, a new one or one that comes back.
 
 ghost use Rattle.std.specs.Thread.{IsSync};
-ghost use Rattle.charmlet_any_disk.specs.AnyDisk.{files_of, is_honest};
+ghost use Rattle.charmlet_disk.specs.AnyDisk.AnyDisk.{files_of, is_honest};
 ghost use Rattle.charmlet_disk.specs.Disk.{IsSettled};
 
 use crate::blanks::{Object, Task, with_blanks};
 use crate::cause::{Cause, note_folder, warn_of_constructions, warn_of_spare};
 use crate::output::{Output, block};
 use crate::scripts::{restart_script_in, script_in};
-use charmlet_any_disk::AnyDisk;
 use charmlet_cli::{
     Ran, RestartError, Restarted, RunError, Stop, Wanted, find_blanks, look_at_spare,
     restart_script, run_script, write_line,
 };
+use charmlet_disk::AnyDisk;
 use charmlet_model::{Answer, Kind, Refusal};
 use charmlet_script::{RestartScript, Runner, Script};
 use std::alloc::Global;

@@ -2,8 +2,7 @@
 
 use crate::cause::Cause;
 use charmlet_cli::Stop;
-use charmlet_reasons::{Purpose, Setting};
-use charmlet_script::{ReadError, RestartScript, Runner, Script, ScriptText};
+use charmlet_script::{Purpose, ReadError, RestartScript, Runner, Script, ScriptText, Setting};
 use std::fs::{File, OpenFile};
 use std::io;
 

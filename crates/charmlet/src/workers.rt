@@ -1,7 +1,7 @@
 //! Runs of scripts by workers.
 
 ghost use Rattle.std.specs.Thread.{IsSync};
-ghost use Rattle.charmlet_any_disk.specs.AnyDisk.{files_of, is_honest};
+ghost use Rattle.charmlet_disk.specs.AnyDisk.AnyDisk.{files_of, is_honest};
 ghost use Rattle.charmlet_disk.specs.Disk.{IsSettled};
 
 use crate::blanks::{Object, Task, with_blanks};
@@ -9,9 +9,9 @@ use crate::cause::{Cause, warn_of_constructions, warn_of_spare};
 use crate::output::{Output, block};
 use crate::runs::{Ended, constructions_in, ended_in, refuse_restart};
 use crate::scripts::{restart_script_in, script_in};
-use charmlet_any_disk::AnyDisk;
 use charmlet_cli::{Stop, Wanted, find_blanks, look_at_spare};
 use charmlet_cli_workers::{RanByWorkers, restart_workers, run_workers};
+use charmlet_disk::AnyDisk;
 use charmlet_model::Kind;
 use charmlet_script::{RestartScript, Runner, Script};
 use std::alloc::Global;

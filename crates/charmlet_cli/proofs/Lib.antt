@@ -5,3 +5,4 @@ pub mod Restarts
 pub mod Showings
 pub mod Standings
 pub mod Naming
+pub mod CommandLemmas

@@ -4,7 +4,7 @@ use Rattle.std.specs.Prelude.{unwrap_or}
 use Rattle.charmlet_model.specs.declared.edition.Edition.{Edition}
 use Rattle.charmlet_model.specs.declared.kind.Kind.{Kind}
 use Rattle.charmlet_model.specs.Manifest.{manifest_of}
-use Rattle.charmlet_journal.specs.NewStores.{new_core}
+use Rattle.charmlet_persist.specs.Journal.NewStores.{new_core}
 use Rattle.charmlet_script.specs.Script.{Contents, pairs_of, processors_of}
 use Rattle.charmlet_lines.specs.Ledgers.{Ledger}
 use Rattle.charmlet_cli.specs.Lines.{opening_of}

@@ -8,7 +8,7 @@ use Rattle.charmlet_disk.specs.declared.disk.Disk as disks
 use Rattle.charmlet_disk.specs.Disk.{LeavesOnly}
 use Rattle.charmlet_disk.specs.File.{MayLeave, CrashBytes}
 use Rattle.charmlet_disk.proofs.Moments.{after_that}
-use Rattle.charmlet_journal.specs.NewStores.{new_core}
+use Rattle.charmlet_persist.specs.Journal.NewStores.{new_core}
 use Rattle.charmlet_recovery.specs.Recovered.{Found}
 use Rattle.charmlet_engine.specs.Advances.{Advances}
 use Rattle.charmlet_engine.specs.Engine.{EngineShown, core_of}

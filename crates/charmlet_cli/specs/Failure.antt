@@ -2,8 +2,8 @@
 use Rattle.std.specs.Prelude.{ℕ, [], ◌∷◌, Option, Result, Ok, Err}
 use Rattle.std.specs.Io.KnownBytes.{Appends}
 use Rattle.charmlet_model.specs.Texts.{Text}
-use Rattle.charmlet_command.specs.declared.CommandError.{CommandError}
-use Rattle.charmlet_command.specs.declared.CommandError.TheVariants as commands
+use Rattle.charmlet_cli.specs.declared.command.CommandError.{CommandError}
+use Rattle.charmlet_cli.specs.declared.command.CommandError.TheVariants as commands
 use Rattle.charmlet_cli.specs.declared.ending.Failure.{Failure}
 use Rattle.charmlet_cli.specs.declared.ending.Failure.TheVariants.{Command, Stopped}
 use Rattle.charmlet_lines.specs.declared.stop.Stop.TheVariants as stops

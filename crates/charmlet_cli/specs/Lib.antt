@@ -8,6 +8,7 @@ pub mod Run
 pub mod RunError
 pub mod ShowStore
 pub mod Spare
+pub mod Command
 pub use Rattle.charmlet_model.specs.Core
 pub use Rattle.charmlet_model.specs.Edition
 pub use Rattle.charmlet_model.specs.Manifest

@@ -22,7 +22,7 @@ use Rattle.charmlet_model.specs.Core.{present, place_or_home}
 use Rattle.charmlet_model.specs.World.{record_of}
 use Rattle.charmlet_disk.specs.declared.disk.Disk as disks
 use Rattle.charmlet_disk.specs.Disk.{LeavesOnly, faults_after}
-use Rattle.charmlet_journal.specs.NewStores.{new_core}
+use Rattle.charmlet_persist.specs.Journal.NewStores.{new_core}
 use Rattle.charmlet_engine.specs.Outcomes.{IsFlushedAnyway, IsOldOrImage, Onward, is_lawful_since, is_no_fault, is_still}
 use Rattle.charmlet_stock.specs.Stock.{part_of}
 use Rattle.charmlet_engine.specs.Delivering.{DrainsUpTo}

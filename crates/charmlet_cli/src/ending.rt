@@ -3,7 +3,7 @@
 ghost use Rattle.std.specs.Prelude.{◌≡◌, IfErr, IsOk, OnOk};
 ghost use Rattle.charmlet_cli.specs.Failure.{Says, exit_status};
 
-use charmlet_command::CommandError;
+use crate::command::CommandError;
 use charmlet_lines::Stop;
 use std::io;
 use std::io::Write;

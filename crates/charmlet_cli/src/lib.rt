@@ -2,6 +2,7 @@
 //! how the program ends.
 #![tactic(auto)]
 
+mod command;
 mod desk;
 mod draining;
 mod ending;
@@ -12,6 +13,7 @@ mod show;
 mod showing;
 mod spare;
 
+pub use crate::command::{Command, CommandError, command_of};
 pub use crate::ending::{Failure, end_program};
 pub use crate::restarting::{FindError, RestartError, Restarted, find_blanks, restart_script};
 pub use crate::running::{Ran, RunError, run_script};

@@ -30,9 +30,9 @@ use Rattle.charmlet_model.proofs.Maps.{lookup-insert_entry}
 use Rattle.charmlet_history.specs.declared.request.Request.{Request}
 use Rattle.charmlet_requests.specs.Knowing.{IsNoLess, heard as hears, is_unknown}
 use Rattle.charmlet_requests.specs.Pass.{Pass, known, with_accept, with_told}
-use Rattle.charmlet_passes.specs.Passes.{HaveAllAccepts, HeldPass, IsAnswered, IsCurrent, accept_of, accepts_after, accepts_in, lent_since, with_answer, with_flush}
-use Rattle.charmlet_passes.proofs.Lasting.{accepts_in-append, untied}
-use Rattle.charmlet_passes.proofs.Places.{all-last, at_end, at_set}
+use Rattle.charmlet_leases.specs.Passes.Passes.{HaveAllAccepts, HeldPass, IsAnswered, IsCurrent, accept_of, accepts_after, accepts_in, lent_since, with_answer, with_flush}
+use Rattle.charmlet_leases.proofs.PassesLemmas.Lasting.{accepts_in-append, untied}
+use Rattle.charmlet_leases.proofs.PassesLemmas.Places.{all-last, at_end, at_set}
 use Rattle.charmlet_runtime.specs.Engine.{client_answer}
 use Rattle.charmlet_workers.specs.Refusals.{IsCauseAfter, IsRecent, IsRequestCause, is_lending_refusal, is_request_refusal, is_status_refusal}
 use Rattle.std.specs.Prelude.{◌||◌}

@@ -11,7 +11,7 @@ use Rattle.charmlet_model.specs.Shelves.{count_of}
 use Rattle.charmlet_model.specs.Sound.{new_world}
 use Rattle.charmlet_model.specs.Texts.{Text}
 use Rattle.charmlet_disk.specs.declared.disk.Disk.{Ghosts}
-use Rattle.charmlet_journal.specs.NewStores.{new_core}
+use Rattle.charmlet_persist.specs.Journal.NewStores.{new_core}
 use Rattle.charmlet_script.specs.declared.script.Line.{Line}
 use Rattle.charmlet_script.specs.Script.{Contents, blanks_of, pairs_of, processors_of}
 use Rattle.charmlet_lines.specs.Supplied.{AreEnough}

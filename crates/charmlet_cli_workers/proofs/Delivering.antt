@@ -7,7 +7,7 @@ use Rattle.charmlet_model.specs.declared.names.MsgId.{MsgId}
 use Rattle.charmlet_model.specs.declared.refusal.Refusal.{Refusal}
 use Rattle.charmlet_script.specs.declared.printed.Drained.{Drained}
 use Rattle.charmlet_script.specs.Printed.{drained_text}
-use Rattle.charmlet_seats.specs.Seats.{HeldSeat}
+use Rattle.charmlet_leases.specs.Seats.Seats.{HeldSeat}
 use Rattle.charmlet_workers.specs.declared.working.Worked.{Worked}
 use Rattle.charmlet_workers.specs.Refusals.{is_work_refusal}
 use Rattle.charmlet_workers.specs.Working.{HasServed}

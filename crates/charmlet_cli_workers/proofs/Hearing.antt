@@ -20,7 +20,7 @@ use Rattle.charmlet_model.proofs.Lasts.{holds_later}
 use Rattle.charmlet_recovery.proofs.Sealed.{can-take}
 use Rattle.charmlet_requests.specs.Knowing.{heard as hears, is_unknown}
 use Rattle.charmlet_requests.specs.Pass.{Pass, known, with_accept, with_told}
-use Rattle.charmlet_passes.specs.Passes.{AreTrue, HeldPass, IsAnswered, IsCurrent, accepts_in, with_answer, with_flush}
+use Rattle.charmlet_leases.specs.Passes.Passes.{AreTrue, HeldPass, IsAnswered, IsCurrent, accepts_in, with_answer, with_flush}
 use Rattle.charmlet_workers.specs.Refusals.{IsRecent}
 use Rattle.charmlet_workers.specs.Runtime.{RuntimeShown}
 use Rattle.charmlet_lines.specs.Named.{Names}

@@ -12,7 +12,7 @@ use Rattle.charmlet_model.specs.Row.{no_client}
 use Rattle.charmlet_model.specs.Told.{told_of}
 use Rattle.charmlet_requests.specs.Knowing.{IsNoLess, heard, is_unknown}
 use Rattle.charmlet_requests.specs.Pass.{Pass, known, with_accept, with_told}
-use Rattle.charmlet_passes.specs.Passes.{HeldPass, IsAnswered, with_answer, with_flush}
+use Rattle.charmlet_leases.specs.Passes.Passes.{HeldPass, IsAnswered, with_answer, with_flush}
 use Rattle.charmlet_cli_workers.specs.Heard.{AreTidy, IsCounted, IsDoneBy, IsToldBy, KnowTheSame, accepts_by, row_by}
 use Rattle.charmlet_cli_workers.specs.Said.{Deeds, flushed_row, having_flushed, last_of}
 use Rattle.charmlet_cli_workers.proofs.Rows.{test_false, test_true}

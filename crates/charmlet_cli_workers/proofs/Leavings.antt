@@ -8,8 +8,8 @@ use Rattle.charmlet_model.specs.Sound.{IsSound}
 use Rattle.charmlet_model.specs.Texts.{Text}
 use Rattle.charmlet_model.specs.World.{World}
 use Rattle.charmlet_hub.specs.Hub.{deliveries_in}
-use Rattle.charmlet_passes.specs.Passes.{HaveAllAccepts, HeldPass, IsCurrent}
-use Rattle.charmlet_seats.specs.Woven.{IsWoven}
+use Rattle.charmlet_leases.specs.Passes.Passes.{HaveAllAccepts, HeldPass, IsCurrent}
+use Rattle.charmlet_leases.specs.Seats.Woven.{IsWoven}
 use Rattle.charmlet_script.specs.declared.script.Line.{Line}
 use Rattle.charmlet_lines.specs.declared.restarting.RestartedLine.{RestartedLine}
 use Rattle.charmlet_requests.specs.Handlers.{IsTarget}

@@ -17,7 +17,7 @@ use Rattle.charmlet_model.specs.Row.{no_client}
 use Rattle.charmlet_model.specs.Told.{told_of}
 use Rattle.charmlet_model.specs.World.{World}
 use Rattle.charmlet_history.specs.declared.request.Request.{Request}
-use Rattle.charmlet_passes.specs.Passes.{HeldPass, accept_of, accepts_in}
+use Rattle.charmlet_leases.specs.Passes.Passes.{HeldPass, accept_of, accepts_in}
 use Rattle.charmlet_requests.specs.declared.handlers.Handlers.{Handlers}
 use Rattle.charmlet_requests.specs.Handlers.{IsTarget, handler_of}
 use Rattle.charmlet_requests.specs.Knowing.{IsNoLess, heard}

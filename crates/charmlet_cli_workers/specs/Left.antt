@@ -8,8 +8,8 @@ use Rattle.charmlet_model.specs.Texts.{Text}
 use Rattle.charmlet_disk.specs.declared.disk.Disk.{Ghosts}
 use Rattle.charmlet_disk.specs.File.{CrashBytes, MayLeave}
 use Rattle.charmlet_hub.specs.Hub.{deliveries_in}
-use Rattle.charmlet_passes.specs.Passes.{HaveAllAccepts, HeldPass, IsCurrent}
-use Rattle.charmlet_seats.specs.Woven.{IsWoven}
+use Rattle.charmlet_leases.specs.Passes.Passes.{HaveAllAccepts, HeldPass, IsCurrent}
+use Rattle.charmlet_leases.specs.Seats.Woven.{IsWoven}
 use Rattle.std.specs.List.{AllByRecursion}
 use Rattle.charmlet_script.specs.declared.script.Line.{Line}
 use Rattle.charmlet_sequencer.specs.Sequencer.{IsOf, is_lawful}

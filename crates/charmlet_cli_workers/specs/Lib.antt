@@ -10,7 +10,7 @@ pub use Rattle.charmlet_model.specs.Core
 pub use Rattle.charmlet_model.specs.World
 pub use Rattle.charmlet_disk.specs.Disk
 pub use Rattle.charmlet_disk.specs.File
-pub use Rattle.charmlet_agreement.specs.Naming
+pub use Rattle.charmlet_locks.specs.GhostAuth.Naming
 pub use Rattle.charmlet_sequencer.specs.Sequencer
 pub use Rattle.charmlet_runtime.specs.Engine
 pub use Rattle.charmlet_stock.specs.Stock
@@ -24,7 +24,7 @@ pub use Rattle.charmlet_replay.specs.Unused
 pub use Rattle.charmlet_model.specs.Sound
 pub use Rattle.charmlet_model.specs.Told
 pub use Rattle.charmlet_model.specs.Texts
-pub use Rattle.charmlet_passes.specs.Passes
+pub use Rattle.charmlet_leases.specs.Passes.Passes
 pub use Rattle.charmlet_script.specs.Printed
 pub use Rattle.charmlet_workers.specs.Sealing
 pub use Rattle.charmlet_lines.specs.Shown

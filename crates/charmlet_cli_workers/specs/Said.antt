@@ -23,10 +23,10 @@ use Rattle.charmlet_model.specs.Texts.{Text, answer_text}
 use Rattle.charmlet_model.specs.Row.{no_client}
 use Rattle.charmlet_model.specs.Told.{Holds, told_of}
 use Rattle.charmlet_hub.specs.Hub.{deliveries_in}
-use Rattle.charmlet_passes.specs.Passes.{accepts_in}
+use Rattle.charmlet_leases.specs.Passes.Passes.{accepts_in}
 use Rattle.charmlet_requests.specs.Handlers.{IsTarget}
 use Rattle.charmlet_requests.specs.Knowing.{IsNoLess, heard, is_unknown}
-use Rattle.charmlet_seats.specs.Woven.{IsWoven}
+use Rattle.charmlet_leases.specs.Seats.Woven.{IsWoven}
 use Rattle.charmlet_script.specs.declared.printed.Counted.{Counted}
 use Rattle.charmlet_script.specs.declared.printed.Drained.{Drained}
 use Rattle.charmlet_script.specs.declared.script.HandlerLine.{HandlerLine}

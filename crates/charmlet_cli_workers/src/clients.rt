@@ -4,8 +4,8 @@ use charmlet_chare::Chare;
 use charmlet_disk::Disk;
 use charmlet_history::Request;
 use charmlet_hub::PassesOf;
+use charmlet_leases::ClientPass;
 use charmlet_model::{Refusal, Told};
-use charmlet_passes::ClientPass;
 use charmlet_sequencer::RuntimeName;
 use charmlet_workers::Runtime;
 use std::alloc::Global;
@@ -23,7 +23,7 @@ pub(crate) struct Clients<B: RuntimeName> {
 impl<B: RuntimeName> Clients<B> {
     ghost use Rattle.std.specs.Prelude.{◌≡◌, ◌≤◌, ◌||◌, [], None, true, map, IfErr, IfOk, IfSome, OnErr, OnOk};
     ghost use Rattle.std.specs.List.{AllByRecursion};
-    ghost use Rattle.charmlet_passes.specs.Passes.{HeldPass, with_flush};
+    ghost use Rattle.charmlet_leases.specs.Passes.Passes.{HeldPass, with_flush};
     ghost use Rattle.charmlet_workers.specs.Runtime.{AreFlushed};
     ghost use Rattle.charmlet_workers.specs.Refusals.{is_flush_refusal, is_lending_refusal, is_request_refusal, is_status_refusal};
     ghost use Rattle.charmlet_cli_workers.specs.Heard.{AreAccepted, AreLater, AreTidy, HaveNone, IsAsked, IsAskingCauseBy, IsHeard, IsPassOf, IsReached, IsToldBy, KnowTheSame, accepts_by};

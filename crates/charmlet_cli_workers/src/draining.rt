@@ -2,7 +2,7 @@
 
 ghost use Rattle.std.specs.Prelude.{◌≡◌, ℕ, ◌-◌, ◌^◌, ◌<◌, min, sum_by, true, List, IfSome, length, map, slice_index_or};
 ghost use Rattle.charmlet_workers.specs.Refusals.{is_work_refusal};
-ghost use Rattle.charmlet_passes.specs.Passes.{HeldPass};
+ghost use Rattle.charmlet_leases.specs.Passes.Passes.{HeldPass};
 ghost use Rattle.charmlet_lines.specs.Named.{Names};
 ghost use Rattle.charmlet_cli_workers.specs.Heard.{known_by};
 ghost use Rattle.charmlet_cli_workers.specs.Said.{Deeds, IsDrained, IsWritten};

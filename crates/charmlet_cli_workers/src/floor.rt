@@ -2,16 +2,15 @@
 
 ghost use Rattle.std.specs.Prelude.{◌≡◌, ◌++◌, [], OnOk, map};
 ghost use Rattle.std.specs.List.{AllByRecursion};
-ghost use Rattle.charmlet_seats.specs.Seats.{HeldSeat};
+ghost use Rattle.charmlet_leases.specs.Seats.Seats.{HeldSeat};
 
 use crate::clients::Clients;
 use charmlet_chare::Chare;
 use charmlet_disk::Disk;
 use charmlet_hub::{PassesOf, SeatsOf};
+use charmlet_leases::{ClientPass, Seat};
 use charmlet_model::Refusal;
-use charmlet_passes::ClientPass;
 use charmlet_requests::Handlers;
-use charmlet_seats::Seat;
 use charmlet_sequencer::RuntimeName;
 use charmlet_stock::Stock;
 use charmlet_workers::{Runtime, Station, Worked};

@@ -5,7 +5,7 @@ ghost use Rattle.charmlet_model.specs.declared.kind.Kind.{Kind};
 ghost use Rattle.charmlet_script.specs.Script.{blanks_of};
 ghost use Rattle.charmlet_stock.specs.declared.stock.Stock as stocks;
 ghost use Rattle.charmlet_stock.specs.Stock.{blanks_in};
-ghost use Rattle.charmlet_agreement.specs.Naming.{table_of};
+ghost use Rattle.charmlet_locks.specs.GhostAuth.Naming.{table_of};
 ghost use Rattle.charmlet_sequencer.specs.Sequencer.{IsOf};
 ghost use Rattle.charmlet_workers.specs.Runtime.{shown_of};
 ghost use Rattle.charmlet_runtime.specs.Reopened.{IsReopened, IsRestart, core_to_be};

@@ -15,4 +15,5 @@ pub mod Places
 pub mod Ends
 pub mod MemDiskLaws
 pub mod Laws
+pub mod AnyDisk
 pub use Rattle.charmlet_model.specs.Half

@@ -2,6 +2,7 @@
 //! them.
 #![tactic(auto)]
 
+mod any_disk;
 mod crash;
 mod disk;
 mod file_disk;
@@ -11,6 +12,7 @@ mod mem_disk;
 mod once_disk;
 mod through;
 
+pub use crate::any_disk::AnyDisk;
 pub use crate::crash::CrashChoice;
 pub use crate::disk::{DeviceFault, Disk};
 pub use crate::file_disk::FileDisk;

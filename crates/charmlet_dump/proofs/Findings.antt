@@ -10,8 +10,8 @@ use Rattle.charmlet_image.specs.Halves.{Top, Shut, Begun, Broken, Taken, Takes, 
 use Rattle.charmlet_halves.specs.Answers.{is_finding_refusal}
 use Rattle.charmlet_halves.specs.Found.{Finds}
 use Rattle.charmlet_locate.specs.Locations.{is_processor_count}
-use Rattle.charmlet_plain_recovery.specs.Views.{files}
-use Rattle.charmlet_plain_recovery.specs.Written.{as_written_from, recovered_as_written}
+use Rattle.charmlet_reference.specs.Recovery.Views.{files}
+use Rattle.charmlet_reference.specs.Recovery.Written.{as_written_from, recovered_as_written}
 use Rattle.charmlet_dump.specs.declared.finding.Found.{Found}
 use Rattle.charmlet_dump.specs.Answers.{Comes, IsAnswer}
 

@@ -27,6 +27,7 @@ Lines, in this order, each sort rising and messages by birth:
                                   it isn't there, but has sent and received so many
   pending ID to A.I entry E words W..
                                   message ID waits for entry E of element I of array A
+  constructions N kind K NAME     N of these construct elements of kind K that aren't there
   client C last N                 client C's last request is number N
   request C N accepted            its request N has no reply yet
   request C N replied W..         the reply to its request N has these words

@@ -4,7 +4,7 @@ ghost use Rattle.std.specs.Prelude.{◌≡◌};
 ghost use Rattle.charmlet_dump.specs.Constructing.{blank_in, constructions_in, is_of_kind};
 
 use charmlet_model::{CONSTRUCT, Kind, Message};
-use charmlet_plain::PlainWorld;
+use charmlet_reference::PlainWorld;
 
 /// How many pending messages construct an element of this kind that isn't there. Each takes a blank
 /// when it is delivered.

@@ -15,7 +15,7 @@ use crate::lines::Fact;
 use crate::writing::{Form, write_fact};
 use charmlet_locate::home;
 use charmlet_model::{ClientRow, Edition, Elem, Kind, Message, Record};
-use charmlet_plain::PlainWorld;
+use charmlet_reference::PlainWorld;
 use std::alloc::Global;
 use std::collections::BTreeMap;
 use std::io;

@@ -10,7 +10,7 @@ use Rattle.charmlet_history.specs.Kept.{core_in, told_or_refused}
 use Rattle.charmlet_shelf.specs.Shelf.{View}
 use Rattle.charmlet_stock.specs.declared.stock.Stock.{Stock}
 use Rattle.charmlet_migrate.specs.Moving.{records_on}
-use Rattle.charmlet_checkpoint.specs.Showing.{IsShown}
+use Rattle.charmlet_persist.specs.Snapshot.Showing.{IsShown}
 use Rattle.charmlet_migrate.specs.StoreParts.{FitTogether}
 use Rattle.charmlet_store.proofs.Showing.{ShowsCore, flush_shows, request_shows}
 

@@ -18,7 +18,7 @@ use Rattle.charmlet_recovery.proofs.Writing.{creations_are_stored}
 use Rattle.charmlet_halves.specs.Made.{AreClosed, LeavesNew}
 use Rattle.charmlet_halves.proofs.NewHalves.{if_err}
 use Rattle.charmlet_halves.proofs.Standing.{is_left}
-use Rattle.charmlet_journal.specs.NewStores.{NothingOrNewWorld}
+use Rattle.charmlet_persist.specs.Journal.NewStores.{NothingOrNewWorld}
 use Rattle.charmlet_engine.specs.Outcomes.{IsNothingOrNew}
 
 recovers : (kinds : Kinds) (o : CrashBytes) → NothingOrNewWorld kinds o → IsNothingOrNew kinds o

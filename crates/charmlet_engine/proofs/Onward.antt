@@ -8,13 +8,13 @@ use Rattle.charmlet_model.specs.declared.step.Step.{Step}
 use Rattle.charmlet_model.specs.declared.step.Answer.{Answer}
 use Rattle.charmlet_model.specs.Core.{Core, Flush, Checkpoint, Blanks, Stepped, Steps, durable_world, halted_core, next_core, present}
 use Rattle.charmlet_model.specs.World.{World}
-use Rattle.charmlet_journal.specs.Quiet.{Quiet}
+use Rattle.charmlet_persist.specs.Journal.Quiet.{Quiet}
 use Rattle.charmlet_recovery.specs.Outcomes.{IsLawful}
 use Rattle.charmlet_recovery.proofs.Outcomes.{kept_is_lawful, lawful_grows}
 use Rattle.charmlet_disk.specs.Disk.{faults_after}
 use Rattle.charmlet_disk.specs.File.{CrashBytes}
 use Rattle.charmlet_recovery.proofs.Stored.{stored_is_recovered}
-use Rattle.charmlet_journal.specs.Rest.{HasOldOrSealed, keeps_durable}
+use Rattle.charmlet_persist.specs.Journal.Rest.{HasOldOrSealed, keeps_durable}
 use Rattle.charmlet_delivery.proofs.Places.{stepped_core}
 use Rattle.charmlet_engine.specs.Outcomes.{AreFlushedAnyway, IsOldOrImage, Onward, ends_with_image, faults_through, is_image, is_lawful_since, is_no_fault, not_device}
 

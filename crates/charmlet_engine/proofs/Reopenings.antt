@@ -13,7 +13,7 @@ use Rattle.charmlet_halves.specs.Answers.{is_no_failure}
 use Rattle.charmlet_halves.specs.declared.halves.Halves.{Halves}
 use Rattle.charmlet_halves.specs.Halves.{disk_of, taken_half}
 use Rattle.charmlet_history.specs.Kept.{core_in}
-use Rattle.charmlet_journal.specs.Rest.{HasOldOrSealed}
+use Rattle.charmlet_persist.specs.Journal.Rest.{HasOldOrSealed}
 use Rattle.charmlet_locate.specs.Locations.{is_processor_count}
 use Rattle.charmlet_recovery.specs.Restarts.{image_end}
 use Rattle.charmlet_stock.specs.declared.stock.Stock.{Stock}

@@ -23,7 +23,7 @@ use Rattle.charmlet_stock.specs.declared.stock.Stock.{Stock}
 use Rattle.charmlet_stock.specs.Stock.{blanks_in, supplied_to}
 use Rattle.charmlet_halves.specs.declared.halves.Halves.{Halves}
 use Rattle.charmlet_halves.specs.Halves.{disk_of, taken_half}
-use Rattle.charmlet_journal.specs.Rest.{HasOldOrSealed}
+use Rattle.charmlet_persist.specs.Journal.Rest.{HasOldOrSealed}
 use Rattle.charmlet_store.specs.Store.{blanks_of}
 use Rattle.charmlet_replay.specs.Unused.{IsUnused}
 use Rattle.charmlet_recover.specs.declared.restarting.NotRestarted.{NotRestarted}

@@ -36,11 +36,11 @@ pub use Rattle.charmlet_history.specs.Kept
 pub use Rattle.charmlet_history.specs.Wanting
 pub use Rattle.charmlet_requests.specs.Handlers
 pub use Rattle.charmlet_requests.specs.Pass
-pub use Rattle.charmlet_journal.specs.NewStores
-pub use Rattle.charmlet_journal.specs.Quiet
-pub use Rattle.charmlet_journal.specs.Rest
+pub use Rattle.charmlet_persist.specs.Journal.NewStores
+pub use Rattle.charmlet_persist.specs.Journal.Quiet
+pub use Rattle.charmlet_persist.specs.Journal.Rest
 pub use Rattle.charmlet_migrate.specs.Moving
-pub use Rattle.charmlet_checkpoint.specs.Showing
+pub use Rattle.charmlet_persist.specs.Snapshot.Showing
 pub use Rattle.charmlet_store.specs.Census
 pub use Rattle.charmlet_store.specs.Dismantled
 pub use Rattle.charmlet_store.specs.Look

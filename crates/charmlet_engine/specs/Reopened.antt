@@ -13,7 +13,7 @@ use Rattle.charmlet_disk.specs.Calls.{AfterCall}
 use Rattle.charmlet_halves.specs.Answers.{is_no_failure}
 use Rattle.charmlet_halves.specs.Halves.{disk_of, taken_half}
 use Rattle.charmlet_history.specs.Kept.{core_in}
-use Rattle.charmlet_journal.specs.Rest.{GoesOn, IsCurrent, IsKept}
+use Rattle.charmlet_persist.specs.Journal.Rest.{GoesOn, IsCurrent, IsKept}
 use Rattle.charmlet_locate.specs.Locations.{is_processor_count}
 use Rattle.charmlet_recovery.specs.Outcomes.{IsLawful}
 use Rattle.charmlet_recovery.specs.Restarts.{engine_refusal, restart_refusal}

@@ -8,7 +8,7 @@ ghost use Rattle.charmlet_disk.specs.File.{MayLeave, CrashBytes};
 ghost use Rattle.charmlet_halves.specs.Answers.{is_no_failure};
 ghost use Rattle.charmlet_halves.specs.Halves.{disk_of};
 ghost use Rattle.charmlet_history.specs.Kept.{core_in};
-ghost use Rattle.charmlet_journal.specs.Rest.{GoesOn, HasOldOrSealed, IsCurrent, IsKept};
+ghost use Rattle.charmlet_persist.specs.Journal.Rest.{GoesOn, HasOldOrSealed, IsCurrent, IsKept};
 ghost use Rattle.charmlet_stock.specs.ByKind.{for_all};
 ghost use Rattle.charmlet_stock.specs.Stock.{supplied_to};
 ghost use Rattle.charmlet_store.specs.Store.{blanks_of, supplied_in};
@@ -20,9 +20,9 @@ ghost use Rattle.charmlet_engine.specs.Restarted.{CameBackOn, IsOpenedOn, core_o
 
 use crate::engine::Engine;
 use charmlet_chare::Chare;
-use charmlet_checkpoint::checkpoint;
 use charmlet_disk::Disk;
 use charmlet_halves::Halves;
+use charmlet_persist::checkpoint;
 use charmlet_recover::NotRestarted;
 use charmlet_replay::take_back;
 use charmlet_store::Store;

@@ -16,10 +16,9 @@ ghost use Rattle.charmlet_engine.specs.Outcomes.{AreFlushedAnyway, IsFlushedAnyw
 use crate::engine::Engine;
 use crate::memory::answer_in_memory;
 use charmlet_chare::Chare;
-use charmlet_checkpoint::checkpoint;
 use charmlet_disk::Disk;
-use charmlet_journal::flush;
 use charmlet_model::{Answer, Step};
+use charmlet_persist::{checkpoint, flush};
 use std::alloc::AllocError;
 
 impl<D: Disk, C: Chare> Engine<D, C> {

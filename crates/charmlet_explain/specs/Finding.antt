@@ -3,8 +3,8 @@ use Rattle.std.specs.Prelude.{ℕ, Option, Some, None, Result, Ok, Err}
 use Rattle.charmlet_model.specs.Texts.{Text}
 use Rattle.charmlet_script.specs.Reading.{script_of, restart_script_of}
 use Rattle.charmlet_script.specs.declared.runner.Runner.{Runner}
-use Rattle.charmlet_reasons.specs.declared.setting.Purpose.{Purpose}
-use Rattle.charmlet_reasons.specs.declared.setting.Purpose.TheVariants.{Run, Restart}
+use Rattle.charmlet_script.specs.declared.reasons.setting.Purpose.{Purpose}
+use Rattle.charmlet_script.specs.declared.reasons.setting.Purpose.TheVariants.{Run, Restart}
 
 -- the malformed line that is named in the place of what a script holds
 abbrev pub named_in : {T : Type 0} → Result T ℕ → Option ℕ

@@ -1,8 +1,7 @@
 //! The command line: what its words ask for.
 
 use crate::ending::Failure;
-use charmlet_reasons::Purpose;
-use charmlet_script::Runner;
+use charmlet_script::{Purpose, Runner};
 use std::convert::AsStr;
 
 /// How much is told of a malformed line.

@@ -4,8 +4,7 @@ ghost use Rattle.std.specs.Prelude.{◌≡◌, IfOk};
 ghost use Rattle.charmlet_explain.specs.Finding.{malformed_line};
 
 use crate::ending::Failure;
-use charmlet_reasons::Purpose;
-use charmlet_script::{ReadError, Runner, read_restart_script, read_script};
+use charmlet_script::{Purpose, ReadError, Runner, read_restart_script, read_script};
 use std::alloc::Global;
 
 /// The number of the first malformed line of a script with these bytes, if there is one.

@@ -2,7 +2,7 @@
 
 use crate::arguments::{Request, Told};
 use crate::text::Text;
-use charmlet_reasons::{Setting, explain, well_formed};
+use charmlet_script::{Setting, explain, well_formed};
 use std::alloc::{AllocError, Global};
 
 /// What is told of a script, of which this is the first malformed line, if it has one.

@@ -48,7 +48,27 @@ fn read_script<R: Files + AllocGlobal>(rt: &R, path: &str) -> io::Result<Text> {
     Ok(Text { bytes, length })
 }
 
-/// Reads the script of this name.
-pub(crate) fn read_text<R: Files + AllocGlobal>(rt: &R, script: &str) -> Result<Text, Failure> {
-    read_script(rt, path_of(script)).map_err(failure_of)
+/// A script that can't be read: its name on the command line, and why.
+#[derive(Clone, Copy)]
+pub(crate) struct Unread<'a> {
+    pub name: &'a str,
+    pub error: io::Error,
+}
+
+/// Reads the script of this name. Why it can't be read is noted.
+pub(crate) fn read_text<'a, R: Files + AllocGlobal>(
+    rt: &R,
+    script: &'a str,
+    unread: &mut Option<Unread<'a>>,
+) -> Result<Text, Failure> {
+    match read_script(rt, path_of(script)) {
+        Ok(text) => Ok(text),
+        Err(error) => {
+            *unread = Some(Unread {
+                name: script,
+                error,
+            });
+            Err(failure_of(error))
+        }
+    }
 }

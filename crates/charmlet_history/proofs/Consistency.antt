@@ -13,7 +13,7 @@ use Rattle.charmlet_model.specs.Row.{no_client}
 use Rattle.charmlet_model.specs.World.{World, world, after, client_of}
 use Rattle.charmlet_model.specs.Core.{present}
 use Rattle.charmlet_model.proofs.Histories.{manifest-after}
-use Rattle.charmlet_client.specs.Client.{Rows}
+use Rattle.charmlet_world.specs.Client.Client.{Rows}
 use Rattle.charmlet_history.specs.Kept.{Kept, IsConsistent, core_in}
 use Rattle.charmlet_world.specs.Seen.{client_at, new_client}
 

@@ -21,7 +21,7 @@ use Rattle.charmlet_world.proofs.Made.{all_made, keys_of-made}
 use Rattle.charmlet_model.proofs.OpenedLemmas.{opened_sound}
 use Rattle.charmlet_model.proofs.SoundLemmas.{sound_fit}
 use Rattle.charmlet_world.specs.declared.element.Element.{Element}
-use Rattle.charmlet_client.specs.Client.{Rows, same_rows}
+use Rattle.charmlet_world.specs.Client.Client.{Rows, same_rows}
 use Rattle.charmlet_record.specs.Backlog.{Batched, IsBacklog}
 use Rattle.charmlet_history.specs.Kept.{Kept, IsConsistent, core_in}
 use Rattle.charmlet_world.specs.Seen.{IsCountedBy, client_at, element_at, new_client, no_element, present_rows}

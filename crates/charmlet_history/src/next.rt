@@ -5,8 +5,8 @@ ghost use Rattle.charmlet_model.specs.Core.{present};
 ghost use Rattle.charmlet_history.specs.Kept.{core_in, is_quiet, next_in, oldest_on_in, processor_for};
 
 use crate::history::History;
-use charmlet_births::Ticks;
 use charmlet_model::MsgId;
+use charmlet_ready_queue::Ticks;
 use charmlet_world::Messages;
 use std::sync::ledger::Ledger;
 

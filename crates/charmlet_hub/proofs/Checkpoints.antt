@@ -20,12 +20,12 @@ use Rattle.charmlet_model.specs.Sound.{IsSound}
 use Rattle.charmlet_model.specs.World.{World, reaction_of}
 use Rattle.charmlet_delivery.proofs.Places.{stepped_core}
 use Rattle.charmlet_history.specs.Kept.{assigned_message}
-use Rattle.charmlet_running.specs.Laws.{AreSettledOn}
-use Rattle.charmlet_running.specs.Running.{AreAllSettled, IsRunning, IsShownBy, Run, with_delivery, with_images, with_message, with_reaction}
-use Rattle.charmlet_running.specs.Sealing.{PassesLimit}
-use Rattle.charmlet_running.proofs.Others.{assignments_keep, flushes_keep, halts_keep, images_keep, processors_are_all, releases_keep, requests_keep}
-use Rattle.charmlet_running.proofs.Shelves.{shelves_are_taken}
-use Rattle.charmlet_running.proofs.Steps.{still_running}
+use Rattle.charmlet_persist.specs.FuzzyCheckpoint.Laws.{AreSettledOn}
+use Rattle.charmlet_persist.specs.FuzzyCheckpoint.Running.{AreAllSettled, IsRunning, IsShownBy, Run, with_delivery, with_images, with_message, with_reaction}
+use Rattle.charmlet_persist.specs.FuzzyCheckpoint.Sealing.{PassesLimit}
+use Rattle.charmlet_persist.proofs.FuzzyCheckpointLemmas.Others.{assignments_keep, flushes_keep, halts_keep, images_keep, processors_are_all, releases_keep, requests_keep}
+use Rattle.charmlet_persist.proofs.FuzzyCheckpointLemmas.Shelves.{shelves_are_taken}
+use Rattle.charmlet_persist.proofs.FuzzyCheckpointLemmas.Steps.{still_running}
 use Rattle.charmlet_shelf.specs.declared.image.Image.{Image}
 use Rattle.charmlet_shelf.specs.Image.{AreImages}
 use Rattle.charmlet_delivery.specs.Workplace.{ShowsOn}

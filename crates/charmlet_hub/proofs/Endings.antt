@@ -8,8 +8,8 @@ use Rattle.charmlet_sequencer.specs.Moving.{IsIdle}
 use Rattle.charmlet_shelf.specs.Shelf.{View}
 use Rattle.charmlet_shelf.specs.declared.phase.Phase.{Phase}
 use Rattle.charmlet_shelf.specs.declared.phase.Phase.TheVariants as phases
-use Rattle.charmlet_passes.proofs.Places.{found, next-changed}
-use Rattle.charmlet_seats.specs.Seats.{Seats}
+use Rattle.charmlet_leases.proofs.PassesLemmas.Places.{found, next-changed}
+use Rattle.charmlet_leases.specs.Seats.Seats.{Seats}
 use Rattle.charmlet_hub.specs.Hub.{HubShown}
 use Rattle.charmlet_hub.specs.Settling.{SettleAll, Settles, SettlesIn, ended}
 

@@ -9,12 +9,12 @@ use Rattle.charmlet_model.specs.declared.refusal.Refusal.{Refusal}
 use Rattle.charmlet_model.specs.Core.{Assign, Blanks, Core, CoreAnswer, CoreStep, Done, Stepped, Steps, halted_core}
 use Rattle.charmlet_model.specs.Sound.{IsSound, IsStep}
 use Rattle.charmlet_model.proofs.SoundLemmas.{step_sound}
-use Rattle.charmlet_passes.specs.Passes.{AreCurrent, HeldPass, IsKept, LentPasses}
-use Rattle.charmlet_passes.specs.Steps.{IsNoRequest}
-use Rattle.charmlet_passes.proofs.Lasting.{are_current-later}
-use Rattle.charmlet_passes.proofs.OtherSteps.{steps_keep}
-use Rattle.charmlet_passes.proofs.Places.{set-same}
-use Rattle.charmlet_seats.specs.Seats.{HaveAll, Seats}
+use Rattle.charmlet_leases.specs.Passes.Passes.{AreCurrent, HeldPass, IsKept, LentPasses}
+use Rattle.charmlet_leases.specs.Passes.Steps.{IsNoRequest}
+use Rattle.charmlet_leases.proofs.PassesLemmas.Lasting.{are_current-later}
+use Rattle.charmlet_leases.proofs.PassesLemmas.OtherSteps.{steps_keep}
+use Rattle.charmlet_leases.proofs.PassesLemmas.Places.{set-same}
+use Rattle.charmlet_leases.specs.Seats.Seats.{HaveAll, Seats}
 use Rattle.charmlet_sequencer.specs.Checkpointing.{IsSealedCore}
 use Rattle.charmlet_sequencer.specs.Sequencer.{SequencerShown}
 use Rattle.charmlet_sequencer.proofs.Seals.{sealed_core}

@@ -3,9 +3,9 @@ use Rattle.std.specs.Prelude.{◌≡◌, ℕ, ◌+◌, ◌<◌, ◌≤◌, Bool,
 use Rattle.charmlet_model.specs.declared.refusal.Refusal.{Refusal}
 use Rattle.charmlet_model.specs.declared.refusal.Refusal.TheVariants as refusals
 use Rattle.charmlet_model.specs.Core.{Commit, Core, next_core}
-use Rattle.charmlet_running.specs.Laws.{AreSettledOn}
-use Rattle.charmlet_running.specs.Running.{AreAllSettled, IsRunning, Run, with_delivery, with_images}
-use Rattle.charmlet_running.specs.Sealing.{PassesLimit}
+use Rattle.charmlet_persist.specs.FuzzyCheckpoint.Laws.{AreSettledOn}
+use Rattle.charmlet_persist.specs.FuzzyCheckpoint.Running.{AreAllSettled, IsRunning, Run, with_delivery, with_images}
+use Rattle.charmlet_persist.specs.FuzzyCheckpoint.Sealing.{PassesLimit}
 use Rattle.charmlet_sequencer.specs.Checkpointing.{IsSealedCore}
 use Rattle.charmlet_shelf.specs.declared.image.Image.{Image}
 use Rattle.charmlet_hub.specs.Hub.{HubShown}

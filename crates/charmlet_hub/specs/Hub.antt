@@ -9,8 +9,8 @@ use Rattle.charmlet_model.specs.Core.{Core, is_processor}
 use Rattle.charmlet_model.specs.Run.{StoreView}
 use Rattle.charmlet_stock.specs.declared.by_kind.ByKind.{ByKind}
 use Rattle.charmlet_stock.specs.declared.pile.Tally.{Tally}
-use Rattle.charmlet_passes.specs.Passes.{AreCurrent, LentPasses}
-use Rattle.charmlet_seats.specs.Seats.{HaveAll, Seats, lending_refusal}
+use Rattle.charmlet_leases.specs.Passes.Passes.{AreCurrent, LentPasses}
+use Rattle.charmlet_leases.specs.Seats.Seats.{HaveAll, Seats, lending_refusal}
 use Rattle.charmlet_sequencer.specs.Sequencer.{SequencerShown, store_of}
 
 -- the ids of the messages that these events deliver, in order

@@ -2,7 +2,7 @@
 pub mod Hub
 pub mod Settling
 pub mod Checkpoint
-pub use Rattle.charmlet_agreement.specs.Naming
+pub use Rattle.charmlet_locks.specs.GhostAuth.Naming
 pub use Rattle.charmlet_model.specs.Core
 pub use Rattle.charmlet_model.specs.Run
 pub use Rattle.charmlet_model.specs.Shelves
@@ -16,11 +16,11 @@ pub use Rattle.charmlet_halves.specs.Answers
 pub use Rattle.charmlet_halves.specs.Halves
 pub use Rattle.charmlet_history.specs.Kept
 pub use Rattle.charmlet_history.specs.Wanting
-pub use Rattle.charmlet_journal.specs.Rest
+pub use Rattle.charmlet_persist.specs.Journal.Rest
 pub use Rattle.charmlet_requests.specs.Pass
-pub use Rattle.charmlet_passes.specs.Passes
-pub use Rattle.charmlet_seats.specs.Seats
-pub use Rattle.charmlet_seats.specs.Woven
+pub use Rattle.charmlet_leases.specs.Passes.Passes
+pub use Rattle.charmlet_leases.specs.Seats.Seats
+pub use Rattle.charmlet_leases.specs.Seats.Woven
 pub use Rattle.charmlet_shelf.specs.Shelf as OneShelf
 pub use Rattle.charmlet_delivery.specs.Workplace
 pub use Rattle.charmlet_sequencer.specs.Sequencer
@@ -32,7 +32,7 @@ pub use Rattle.charmlet_sequencer.specs.Book
 pub use Rattle.charmlet_sequencer.specs.Part
 pub use Rattle.charmlet_sequencer.specs.Relocating
 pub use Rattle.charmlet_shelf.specs.Image
-pub use Rattle.charmlet_running.specs.Laws
-pub use Rattle.charmlet_running.specs.Running
-pub use Rattle.charmlet_running.specs.Sealing as EndOfRunning
+pub use Rattle.charmlet_persist.specs.FuzzyCheckpoint.Laws
+pub use Rattle.charmlet_persist.specs.FuzzyCheckpoint.Running
+pub use Rattle.charmlet_persist.specs.FuzzyCheckpoint.Sealing as EndOfRunning
 pub use Rattle.charmlet_sequencer.specs.Checkpointing

@@ -11,7 +11,7 @@ ghost use Rattle.charmlet_disk.specs.Disk.{LeavesOnly};
 ghost use Rattle.charmlet_halves.specs.Answers.{is_no_failure};
 ghost use Rattle.charmlet_history.specs.Kept.{counts_or_refused, told_or_refused};
 ghost use Rattle.charmlet_requests.specs.Pass.{with_accept, with_told};
-ghost use Rattle.charmlet_passes.specs.Passes.{HeldPass, IsAnswered, IsKept, TellAll, accepts_after, with_flush};
+ghost use Rattle.charmlet_leases.specs.Passes.Passes.{HeldPass, IsAnswered, IsKept, TellAll, accepts_after, with_flush};
 ghost use Rattle.charmlet_sequencer.specs.Sequencer.{is_lawful};
 ghost use Rattle.charmlet_hub.specs.Hub.{store_in};
 
@@ -20,8 +20,8 @@ use crate::names::PassesOf;
 use charmlet_chare::Chare;
 use charmlet_disk::Disk;
 use charmlet_history::Request;
+use charmlet_leases::ClientPass;
 use charmlet_model::{MsgId, Origin, Refusal, Told};
-use charmlet_passes::ClientPass;
 use charmlet_sequencer::RuntimeName;
 
 impl<D: Disk, C: Chare, B: RuntimeName> Hub<D, C, B> {

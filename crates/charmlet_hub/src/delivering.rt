@@ -20,9 +20,9 @@ use crate::hub::Hub;
 use crate::names::SeatsOf;
 use charmlet_chare::Chare;
 use charmlet_disk::Disk;
+use charmlet_leases::Seat;
 use charmlet_model::{MsgId, Refusal};
-use charmlet_running::Running;
-use charmlet_seats::Seat;
+use charmlet_persist::Running;
 use charmlet_sequencer::{LockedShelf, RuntimeName, Sequencer};
 use std::alloc::AllocError;
 

@@ -1,7 +1,7 @@
 //! Names of the books of one runtime.
 
-use charmlet_agreement::BookName;
-use charmlet_seats::SeatBookName;
+use charmlet_leases::SeatBookName;
+use charmlet_locks::BookName;
 use charmlet_sequencer::RuntimeName;
 use std::marker::PhantomData;
 

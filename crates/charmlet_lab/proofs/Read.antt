@@ -14,10 +14,10 @@ use Rattle.charmlet_recovery.specs.Recovered.{Found, recovered}
 use Rattle.charmlet_recovery.specs.Stores.{saved_of}
 use Rattle.charmlet_recovery.proofs.Saving.{files_of_histories_recover}
 use Rattle.charmlet_recovery.proofs.Writing.{images_have_size}
-use Rattle.charmlet_checkpoint.specs.Showing.{IsImageOf, IsWithinLimits, event_count}
-use Rattle.charmlet_plain_recovery.specs.declared.recovering.Recovered.{Recovered}
-use Rattle.charmlet_plain_recovery.specs.declared.recovering.Recovered.TheVariants as plain
-use Rattle.charmlet_plain_recovery.specs.Views.{files, seen}
+use Rattle.charmlet_persist.specs.Snapshot.Showing.{IsImageOf, IsWithinLimits, event_count}
+use Rattle.charmlet_reference.specs.declared.recovery.recovering.Recovered.{Recovered}
+use Rattle.charmlet_reference.specs.declared.recovery.recovering.Recovered.TheVariants as plain
+use Rattle.charmlet_reference.specs.Recovery.Views.{files, seen}
 
 -- a text before a closed gate is spelled
 spells_closed : (bytes text : List ℕ) → bytes ≡ text ++ 0 ∷ [] → Spells bytes text

@@ -10,7 +10,7 @@ use Rattle.charmlet_record.specs.Reading.{Kinds}
 use Rattle.charmlet_recovery.specs.Outcomes.{IsLawful}
 use Rattle.charmlet_recovery.specs.Recovered.{Nothing, recovered}
 use Rattle.charmlet_recovery.specs.Restarts.{engine_refusal}
-use Rattle.charmlet_checkpoint.specs.Showing.{IsRefusal}
+use Rattle.charmlet_persist.specs.Snapshot.Showing.{IsRefusal}
 use Rattle.charmlet_chare.specs.declared.chare.Chare as chares
 use Rattle.charmlet_disk.specs.File.{CrashBytes}
 use Rattle.charmlet_engine.specs.Engine.{EngineShown, supplied_of, view_of}

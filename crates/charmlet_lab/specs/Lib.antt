@@ -18,11 +18,11 @@ pub use Rattle.charmlet_recovery.specs.RestartLaws
 pub use Rattle.charmlet_disk.specs.Crash
 pub use Rattle.charmlet_disk.specs.Disk
 pub use Rattle.charmlet_disk.specs.File
-pub use Rattle.charmlet_any_disk.specs.AnyDisk
+pub use Rattle.charmlet_disk.specs.AnyDisk.AnyDisk
 pub use Rattle.charmlet_stock.specs.Stock
 pub use Rattle.charmlet_locate.specs.Locations
 pub use Rattle.charmlet_requests.specs.Handlers
-pub use Rattle.charmlet_checkpoint.specs.Showing
+pub use Rattle.charmlet_persist.specs.Snapshot.Showing
 pub use Rattle.charmlet_engine.specs.Restart
 pub use Rattle.charmlet_engine.specs.Wanted
 pub use Rattle.charmlet_engine.specs.Advances

@@ -12,7 +12,7 @@ use Rattle.charmlet_model.specs.declared.step.Step.TheVariants as steps
 use Rattle.charmlet_model.specs.Core.{present}
 use Rattle.charmlet_model.specs.Run.{Does, IsDelivered, IsNotDelivered, StoreView}
 use Rattle.charmlet_history.specs.Kept.{next_in}
-use Rattle.charmlet_journal.specs.NewStores.{new_core}
+use Rattle.charmlet_persist.specs.Journal.NewStores.{new_core}
 use Rattle.charmlet_requests.specs.Handlers.{IsTarget}
 use Rattle.charmlet_script.specs.declared.script.Line.{Line}
 use Rattle.charmlet_script.specs.declared.script.Line.TheVariants.{Supply, Drain, State, Pending, Census}

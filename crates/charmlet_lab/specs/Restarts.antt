@@ -8,7 +8,7 @@ use Rattle.charmlet_model.specs.declared.kind.Kind.{Kind}
 use Rattle.charmlet_model.specs.declared.refusal.Refusal.{Refusal}
 use Rattle.charmlet_model.specs.declared.refusal.Refusal.TheVariants.{BadPes, BlanksWanted, Device, ImageFull, Memory}
 use Rattle.charmlet_model.specs.Core.{Blanks, Core}
-use Rattle.charmlet_checkpoint.specs.Showing.{PassesLimit}
+use Rattle.charmlet_persist.specs.Snapshot.Showing.{PassesLimit}
 use Rattle.charmlet_disk.specs.declared.crash.CrashChoice.{CrashChoice}
 use Rattle.charmlet_disk.specs.declared.disk.Disk as disks
 use Rattle.charmlet_disk.specs.Crash.{left_by}

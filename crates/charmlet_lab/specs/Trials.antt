@@ -5,7 +5,7 @@ use Rattle.charmlet_model.specs.declared.half.Half.{Half}
 use Rattle.charmlet_model.specs.declared.refusal.Refusal.{Refusal}
 use Rattle.charmlet_model.specs.declared.refusal.Refusal.TheVariants.{AlreadyHere, BadPes, BlanksWanted, Device, ImageFull, Memory}
 use Rattle.charmlet_model.specs.Core.{Blanks, Core}
-use Rattle.charmlet_checkpoint.specs.Showing.{PassesLimit}
+use Rattle.charmlet_persist.specs.Snapshot.Showing.{PassesLimit}
 use Rattle.charmlet_disk.specs.declared.crash.CrashChoice.{CrashChoice}
 use Rattle.charmlet_disk.specs.declared.crash.CrashChoice.TheVariants.{Old, New, Zeros, Ones, Sevens, FirstHalves}
 use Rattle.charmlet_disk.specs.declared.disk.Disk as disks

@@ -5,8 +5,7 @@ ghost use Rattle.charmlet_model.specs.declared.half.Half.{Half};
 ghost use Rattle.charmlet_disk.specs.Crash.{left_by};
 ghost use Rattle.charmlet_disk.specs.File.{MayLeave, clean};
 
-use charmlet_any_disk::AnyDisk;
-use charmlet_disk::{CrashChoice, Disk};
+use charmlet_disk::{AnyDisk, CrashChoice, Disk};
 use std::alloc::Global;
 
 /// A disk that the laboratory runs scripts on. What its contracts say about files holds if it is
@@ -32,7 +31,7 @@ pub trait LabDisk: Disk {
 }
 
 impl LabDisk for AnyDisk {
-    ghost use Rattle.charmlet_any_disk.specs.AnyDisk.{calls_left};
+    ghost use Rattle.charmlet_disk.specs.AnyDisk.AnyDisk.{calls_left};
 
     ghost calls_left = { calls_left };
 

@@ -5,7 +5,7 @@ ghost use Rattle.charmlet_model.specs.Edition.{AreNewest};
 ghost use Rattle.charmlet_model.specs.Fit.{IsFit};
 ghost use Rattle.charmlet_model.specs.Sound.{new_world};
 ghost use Rattle.charmlet_model.specs.World.{IsLegal, world};
-ghost use Rattle.charmlet_checkpoint.specs.Showing.{IsRefusal};
+ghost use Rattle.charmlet_persist.specs.Snapshot.Showing.{IsRefusal};
 ghost use Rattle.charmlet_engine.specs.Engine.{core_of, world_of};
 ghost use Rattle.charmlet_engine.specs.Restarted.{core_or_refusal};
 ghost use Rattle.charmlet_lab.specs.Judged.{HasFirst, IsAsBefore, IsGood, IsNotJudged, IsSameEngine};
@@ -17,8 +17,7 @@ use charmlet_chare::Chare;
 use charmlet_disk::Disk;
 use charmlet_engine::{Engine, NotRestarted};
 use charmlet_model::{Event, Refusal};
-use charmlet_plain::PlainWorld;
-use charmlet_plain_recovery::{Recovered, recover};
+use charmlet_reference::{PlainWorld, Recovered, recover};
 use charmlet_script::Script;
 use std::alloc::{AllocError, Global};
 

@@ -9,7 +9,7 @@ ghost use Rattle.charmlet_model.specs.Names.{elem_cmp};
 ghost use Rattle.charmlet_lab.specs.Same.{HasEntries};
 
 use charmlet_model::{ClientRow, Edition, Manifest, Message, Record, State, Window, Words};
-use charmlet_plain::PlainWorld;
+use charmlet_reference::PlainWorld;
 use std::alloc::{AllocError, Global};
 
 /// Whether two worlds are the same. It fails only when out of memory.

@@ -5,11 +5,13 @@
 //! place never has to look whether the right value lies there.
 #![tactic(auto)]
 
+mod ghost_auth;
 mod grip;
 mod locks;
 mod room;
 mod rule;
 
+pub use crate::ghost_auth::{Book, BookName, GhostValue, Share, Unnamed};
 pub use crate::grip::{Grip, Held};
 pub use crate::locks::Locks;
 pub use crate::room::LockRoom;

@@ -1,14 +1,12 @@
 //! Lines of probes over a hub.
 
 ghost use Rattle.std.specs.Prelude.{◌≡◌};
-ghost use Rattle.charmlet_agreement.specs.Naming.{table_of};
+ghost use Rattle.charmlet_locks.specs.GhostAuth.Naming.{table_of};
 ghost use Rattle.charmlet_sequencer.specs.Sequencer.{IsOf};
 
 use crate::Probe;
-use charmlet_probe_hub::{Books, HubMachine};
-use charmlet_probe_store::ProbeStore;
 use charmlet_sequencer::RuntimeName;
-use charmlet_testing::Stop;
+use charmlet_testing::{Books, HubMachine, ProbeStore, Stop};
 use std::io::Write;
 use std::marker::Brand;
 use std::sync::Wait;

@@ -2,9 +2,9 @@
 
 use crate::words::{bytes, choice, half, kind, number};
 use charmlet_model::Answer;
-use charmlet_probe_store::{Failed, Machine, Running, Turn, Without};
 use charmlet_testing::{
-    Bench, checkpoint, give, held, image, lend, lend_seat, look, next, pass, say, turn,
+    Bench, Failed, Machine, Running, Turn, Without, checkpoint, give, held, image, lend, lend_seat,
+    look, next, pass, say, turn,
 };
 use std::alloc::Global;
 use std::io::Write;

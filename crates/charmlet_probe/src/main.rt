@@ -10,8 +10,9 @@ mod words;
 use crate::hubs::live_on_hub;
 use crate::lines::run_line;
 use crate::script::Script;
-use charmlet_probe_store::{EngineMachine, Failed, Machine};
-use charmlet_testing::{Bench, Failure, Stop, end_program, open_script};
+use charmlet_testing::{
+    Bench, EngineMachine, Failed, Failure, Machine, Stop, end_program, open_script,
+};
 use std::alloc::{AllocError, Global};
 use std::io::Write;
 use std::process::ExitCode;

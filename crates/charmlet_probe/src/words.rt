@@ -2,7 +2,7 @@
 
 use charmlet_disk::CrashChoice;
 use charmlet_model::{Half, Kind};
-use charmlet_probe_store::Failed;
+use charmlet_testing::Failed;
 use std::alloc::Global;
 use std::str::FromStr;
 

@@ -1,8 +1,2 @@
-mod dropping;
-mod ending;
-mod flushing;
-mod full;
-mod lacking;
-mod noting;
-mod outputs;
-mod runs;
+mod lab;
+mod program;

@@ -25,8 +25,8 @@ use Rattle.charmlet_halves.specs.Found.{Finds, Says}
 use Rattle.charmlet_halves.proofs.Begun.{bytes_by}
 use Rattle.charmlet_halves.specs.Opened.{OpensAs}
 use Rattle.charmlet_halves.specs.Halves.{disk_of, is_halted, taken_half, text_of}
-use Rattle.charmlet_journal.specs.Rest.{GoesOn, IsKept, Rests}
-use Rattle.charmlet_journal.proofs.Resting.{rest_stores}
+use Rattle.charmlet_persist.specs.Journal.Rest.{GoesOn, IsKept, Rests}
+use Rattle.charmlet_persist.proofs.JournalLemmas.Resting.{rest_stores}
 use Rattle.charmlet_recover.specs.Restart.{bytes_on}
 
 -- ---- the other half is superseded

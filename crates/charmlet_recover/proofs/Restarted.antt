@@ -25,7 +25,7 @@ use Rattle.charmlet_halves.specs.Answers.{is_finding_refusal}
 use Rattle.charmlet_halves.specs.Found.{Finds, Says}
 use Rattle.charmlet_halves.specs.Opened.{OpensAs}
 use Rattle.charmlet_halves.specs.Halves.{disk_of, taken_half, text_of}
-use Rattle.charmlet_journal.specs.Rest.{GoesOn, IsCurrent, IsKept}
+use Rattle.charmlet_persist.specs.Journal.Rest.{GoesOn, IsCurrent, IsKept}
 use Rattle.charmlet_recover.specs.declared.restarting.NotRestarted.{NotRestarted}
 use Rattle.charmlet_recover.specs.declared.restarting.Recovered.{Recovered}
 use Rattle.charmlet_replay.specs.Replayed.{IsReplayed}

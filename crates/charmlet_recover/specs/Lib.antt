@@ -30,7 +30,7 @@ pub use Rattle.charmlet_halves.specs.Opened
 pub use Rattle.charmlet_stock.specs.ByKind
 pub use Rattle.charmlet_stock.specs.Stock
 pub use Rattle.charmlet_locate.specs.Locations
-pub use Rattle.charmlet_journal.specs.Rest
+pub use Rattle.charmlet_persist.specs.Journal.Rest
 pub use Rattle.charmlet_store.specs.Store
 pub use Rattle.charmlet_replay.specs.Replayed
 pub use Rattle.charmlet_replay.specs.Unused

@@ -23,7 +23,7 @@ use Rattle.charmlet_recovery.specs.Restarts.{wanted_of}
 use Rattle.charmlet_halves.specs.Halves.{disk_of, taken_half}
 use Rattle.charmlet_history.specs.Kept.{core_in}
 use Rattle.charmlet_locate.specs.Locations.{is_processor_count}
-use Rattle.charmlet_journal.specs.Rest.{GoesOn, IsCurrent, IsKept}
+use Rattle.charmlet_persist.specs.Journal.Rest.{GoesOn, IsCurrent, IsKept}
 use Rattle.charmlet_stock.specs.ByKind.{for_all}
 use Rattle.charmlet_stock.specs.declared.stock.Stock.{Stock}
 use Rattle.charmlet_stock.specs.Stock.{blanks_in, census_of, keeping_of}

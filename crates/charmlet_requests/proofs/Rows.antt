@@ -7,7 +7,7 @@ use Rattle.std.specs.Map.{lookup}
 use Rattle.std.proofs.lemmas.Map.Made.{lookup-map_values}
 use Rattle.charmlet_model.specs.Row.{no_client}
 use Rattle.charmlet_model.specs.World.{row_of}
-use Rattle.charmlet_client.specs.Client.{Rows}
+use Rattle.charmlet_world.specs.Client.Client.{Rows}
 use Rattle.charmlet_world.specs.Seen.{present_rows}
 
 -- the present row of what is kept of a client

@@ -8,7 +8,7 @@ use Rattle.charmlet_model.specs.declared.step.Answer.TheVariants.{Told as TheTol
 use Rattle.charmlet_model.specs.Core.{Core}
 use Rattle.charmlet_model.specs.RunLaws.{AllTold}
 use Rattle.charmlet_model.proofs.RunTruths.{all_told_join}
-use Rattle.charmlet_passes.specs.Passes.{AreTrue, HeldPass, passes_out}
+use Rattle.charmlet_leases.specs.Passes.Passes.{AreTrue, HeldPass, passes_out}
 use Rattle.charmlet_runtime.specs.Told.{PassesAreRuns, asked_by, told_to}
 
 -- answers to one client

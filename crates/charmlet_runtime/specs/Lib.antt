@@ -13,10 +13,10 @@ pub use Rattle.charmlet_halves.specs.Answers
 pub use Rattle.charmlet_halves.specs.Made
 pub use Rattle.charmlet_stock.specs.Stock
 pub use Rattle.charmlet_locate.specs.Locations
-pub use Rattle.charmlet_journal.specs.NewStores
+pub use Rattle.charmlet_persist.specs.Journal.NewStores
 pub use Rattle.charmlet_replay.specs.Unused
 pub use Rattle.charmlet_engine.specs.Restart
-pub use Rattle.charmlet_agreement.specs.Naming
+pub use Rattle.charmlet_locks.specs.GhostAuth.Naming
 pub use Rattle.charmlet_sequencer.specs.Sequencer
 pub use Rattle.charmlet_workers.specs.Runtime
 pub use Rattle.charmlet_engine.specs.Created

@@ -8,7 +8,7 @@ use Rattle.charmlet_model.specs.declared.step.Answer.TheVariants.{Told as TheTol
 use Rattle.charmlet_model.specs.declared.told.Told.{Told}
 use Rattle.charmlet_model.specs.Core.{Core}
 use Rattle.charmlet_model.specs.Sound.{IsSound}
-use Rattle.charmlet_passes.specs.Passes.{AreCurrent, HeldPass, LentPasses, passes_out}
+use Rattle.charmlet_leases.specs.Passes.Passes.{AreCurrent, HeldPass, LentPasses, passes_out}
 use Rattle.charmlet_engine.specs.Lives.{HasRun}
 use Rattle.charmlet_engine.specs.Outcomes.{Onward}
 

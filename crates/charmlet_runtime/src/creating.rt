@@ -8,7 +8,7 @@ ghost use Rattle.charmlet_disk.specs.Disk.{IsSettled};
 ghost use Rattle.charmlet_halves.specs.Answers.{is_no_failure};
 ghost use Rattle.charmlet_halves.specs.Made.{AreClosed, IsCause, LeavesNew};
 ghost use Rattle.charmlet_locate.specs.Locations.{is_processor_count};
-ghost use Rattle.charmlet_journal.specs.NewStores.{IsCreationRefusal};
+ghost use Rattle.charmlet_persist.specs.Journal.NewStores.{IsCreationRefusal};
 ghost use Rattle.charmlet_engine.specs.Created.{IsNewOn, IsOnNewFiles};
 ghost use Rattle.charmlet_engine.specs.Engine.{disk_after, engine_or_refusal};
 ghost use Rattle.charmlet_engine.specs.Outcomes.{IsNothingOrNew};

@@ -2,7 +2,7 @@
 
 ghost use Rattle.std.specs.Prelude.{◌≡◌, ◌≢◌, ℕ, true, IfErr, IfOk};
 ghost use Rattle.charmlet_model.specs.declared.refusal.Refusal.TheVariants as refusals;
-ghost use Rattle.charmlet_agreement.specs.Naming.{table_of};
+ghost use Rattle.charmlet_locks.specs.GhostAuth.Naming.{table_of};
 ghost use Rattle.charmlet_sequencer.specs.Sequencer.{IsOf};
 ghost use Rattle.charmlet_stock.specs.declared.stock.Stock as stocks;
 ghost use Rattle.charmlet_workers.specs.Runtime.{shown_of};

@@ -1,7 +1,7 @@
 //! Runtimes that have no name yet.
 
 ghost use Rattle.std.specs.Prelude.{◌≡◌};
-ghost use Rattle.charmlet_agreement.specs.Naming.{table_of};
+ghost use Rattle.charmlet_locks.specs.GhostAuth.Naming.{table_of};
 ghost use Rattle.charmlet_sequencer.specs.Sequencer.{IsOf};
 ghost use Rattle.charmlet_workers.specs.Runtime.{shown_of};
 ghost use Rattle.charmlet_engine.specs.Engine.{core_of};

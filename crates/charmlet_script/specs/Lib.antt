@@ -1,3 +1,4 @@
+-- The definitions that contracts cite.
 pub mod Name
 pub mod Script
 pub mod Printed

@@ -19,11 +19,13 @@ mod name;
 mod number;
 mod printed;
 mod reading;
+mod reasons;
 mod restart;
 mod runner;
 mod script;
 mod split;
 
+pub use crate::reasons::{Purpose, Setting, explain, nearest, well_formed};
 pub use error::ReadError;
 pub use name::Name;
 pub use number::{MAX_BLANKS, MAX_DELIVERIES};

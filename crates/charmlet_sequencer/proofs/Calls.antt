@@ -25,8 +25,8 @@ use Rattle.charmlet_halves.specs.declared.halves.Halves.{Halves}
 use Rattle.charmlet_halves.specs.Halves.{disk_of}
 use Rattle.charmlet_history.specs.declared.history.History.{History}
 use Rattle.charmlet_history.specs.Kept.{core_in, counts_or_refused, plenty, told_or_refused}
-use Rattle.charmlet_journal.specs.Quiet.{Quiet}
-use Rattle.charmlet_journal.proofs.Quietness.{quiet_step, still_agrees, still_kept}
+use Rattle.charmlet_persist.specs.Journal.Quiet.{Quiet}
+use Rattle.charmlet_persist.proofs.JournalLemmas.Quietness.{quiet_step, still_agrees, still_kept}
 use Rattle.charmlet_shelf.specs.Count.{objects_on}
 use Rattle.charmlet_shelf.specs.Shelf.{View}
 use Rattle.charmlet_stock.specs.declared.by_kind.ByKind.{ByKind}

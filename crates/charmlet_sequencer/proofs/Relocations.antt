@@ -24,8 +24,8 @@ use Rattle.charmlet_halves.specs.declared.halves.Halves.{Halves}
 use Rattle.charmlet_halves.specs.Halves.{disk_of}
 use Rattle.charmlet_history.specs.declared.history.History.{History}
 use Rattle.charmlet_history.specs.Kept.{blank_of_move, core_in, plenty}
-use Rattle.charmlet_journal.specs.Quiet.{Quiet}
-use Rattle.charmlet_journal.proofs.Quietness.{quiet_step}
+use Rattle.charmlet_persist.specs.Journal.Quiet.{Quiet}
+use Rattle.charmlet_persist.proofs.JournalLemmas.Quietness.{quiet_step}
 use Rattle.charmlet_shelf.specs.Shelf.{View}
 use Rattle.charmlet_shelf.specs.declared.phase.Phase.TheVariants.{Idle}
 use Rattle.charmlet_stock.specs.declared.stock.Stock.{Stock}

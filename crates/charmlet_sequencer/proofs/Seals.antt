@@ -13,7 +13,7 @@ use Rattle.charmlet_halves.specs.declared.halves.Halves.{Halves}
 use Rattle.charmlet_halves.specs.Halves.{disk_of, is_halted}
 use Rattle.charmlet_history.specs.declared.history.History.{History}
 use Rattle.charmlet_history.specs.Kept.{IsAssignedOutput, IsConsistent, core_in, sealed_at}
-use Rattle.charmlet_journal.specs.Rest.{Agrees, IsCurrent}
+use Rattle.charmlet_persist.specs.Journal.Rest.{Agrees, IsCurrent}
 use Rattle.charmlet_shelf.specs.declared.phase.Phase.{Phase}
 use Rattle.charmlet_shelf.specs.declared.phase.Phase.TheVariants as phases
 use Rattle.charmlet_stock.specs.declared.stock.Stock.{Stock}
@@ -21,9 +21,9 @@ use Rattle.charmlet_delivery.specs.Leaves.{Leaves}
 use Rattle.charmlet_delivery.specs.UnderWay.{HasMade, due_in}
 use Rattle.charmlet_delivery.proofs.Delivering.{assigned_output}
 use Rattle.charmlet_delivery.proofs.Leaving.{same_leaves}
-use Rattle.charmlet_running.specs.Laws.{AreSettledOn}
-use Rattle.charmlet_running.specs.Running.{IsRunning, Run, with_delivery}
-use Rattle.charmlet_running.proofs.Others.{deliveries_keep, deliveries_keep_running}
+use Rattle.charmlet_persist.specs.FuzzyCheckpoint.Laws.{AreSettledOn}
+use Rattle.charmlet_persist.specs.FuzzyCheckpoint.Running.{IsRunning, Run, with_delivery}
+use Rattle.charmlet_persist.proofs.FuzzyCheckpointLemmas.Others.{deliveries_keep, deliveries_keep_running}
 use Rattle.charmlet_sequencer.specs.Book.{IsDueOn}
 use Rattle.charmlet_sequencer.specs.Checkpointing.{IsSealedCore}
 use Rattle.charmlet_sequencer.specs.Sequencer.{HasOpened}

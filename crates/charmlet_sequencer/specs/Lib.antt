@@ -7,7 +7,7 @@ pub mod Relocating
 pub mod Together
 pub mod Opened
 pub mod Checkpointing
-pub use Rattle.charmlet_agreement.specs.Naming
+pub use Rattle.charmlet_locks.specs.GhostAuth.Naming
 pub use Rattle.charmlet_model.specs.Core
 pub use Rattle.charmlet_model.specs.Run
 pub use Rattle.charmlet_model.specs.Shelves
@@ -27,9 +27,9 @@ pub use Rattle.charmlet_shelf.specs.Shelf as OneShelf
 pub use Rattle.charmlet_stock.specs.ByKind
 pub use Rattle.charmlet_stock.specs.Stock
 pub use Rattle.charmlet_history.specs.Kept
-pub use Rattle.charmlet_journal.specs.NewStores
-pub use Rattle.charmlet_journal.specs.Rest
-pub use Rattle.charmlet_running.specs.Imaging
+pub use Rattle.charmlet_persist.specs.Journal.NewStores
+pub use Rattle.charmlet_persist.specs.Journal.Rest
+pub use Rattle.charmlet_persist.specs.Snapshot.Imaging
 pub use Rattle.charmlet_migrate.specs.Copying
 pub use Rattle.charmlet_migrate.specs.Moving
 pub use Rattle.charmlet_migrate.specs.StoreParts
@@ -37,7 +37,7 @@ pub use Rattle.charmlet_store.specs.Store
 pub use Rattle.charmlet_delivery.specs.UnderWay
 pub use Rattle.charmlet_delivery.specs.Workplace
 pub use Rattle.charmlet_requests.specs.Pass
-pub use Rattle.charmlet_passes.specs.Passes
-pub use Rattle.charmlet_running.specs.Laws
-pub use Rattle.charmlet_running.specs.Running
-pub use Rattle.charmlet_running.specs.Sealing as EndOfRunning
+pub use Rattle.charmlet_leases.specs.Passes.Passes
+pub use Rattle.charmlet_persist.specs.FuzzyCheckpoint.Laws
+pub use Rattle.charmlet_persist.specs.FuzzyCheckpoint.Running
+pub use Rattle.charmlet_persist.specs.FuzzyCheckpoint.Sealing as EndOfRunning

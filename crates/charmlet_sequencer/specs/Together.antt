@@ -9,7 +9,7 @@ use Rattle.charmlet_history.specs.Kept.{core_in}
 use Rattle.charmlet_stock.specs.declared.stock.Stock.{Stock}
 use Rattle.charmlet_stock.specs.ByKind.{for_all}
 use Rattle.charmlet_stock.specs.Stock.{census_of, keeping_of}
-use Rattle.charmlet_journal.specs.Rest.{Agrees, IsCurrent, IsKept}
+use Rattle.charmlet_persist.specs.Journal.Rest.{Agrees, IsCurrent, IsKept}
 use Rattle.charmlet_sequencer.specs.Book.{IsBookOf}
 use Rattle.charmlet_sequencer.specs.Sequencer.{SequencerShown}
 use Rattle.charmlet_sequencer.specs.Part.{Part}

@@ -7,7 +7,7 @@ ghost use Rattle.charmlet_model.specs.Run.{Goes};
 ghost use Rattle.charmlet_model.specs.Told.{Holds};
 ghost use Rattle.charmlet_history.specs.Kept.{told_or_refused};
 ghost use Rattle.charmlet_requests.specs.Pass.{with_accept, with_told};
-ghost use Rattle.charmlet_passes.specs.Passes.{AreCurrent, IsAnswered, IsKept, accepts_after};
+ghost use Rattle.charmlet_leases.specs.Passes.Passes.{AreCurrent, IsAnswered, IsKept, accepts_after};
 ghost use Rattle.charmlet_delivery.specs.UnderWay.{due_in};
 ghost use Rattle.charmlet_delivery.specs.Workplace.{ShowsOn};
 ghost use Rattle.charmlet_sequencer.specs.Book.{IsDueOn};
@@ -16,12 +16,12 @@ ghost use Rattle.charmlet_sequencer.specs.Sequencer.{store_of};
 use crate::names::RuntimeName;
 use crate::sequencer::Sequencer;
 use crate::shelf::LockedShelf;
-use charmlet_agreement::BookName;
 use charmlet_chare::Chare;
 use charmlet_disk::Disk;
 use charmlet_history::Request;
+use charmlet_leases::{ClientPass, PassBook};
+use charmlet_locks::BookName;
 use charmlet_model::{Refusal, Told};
-use charmlet_passes::{ClientPass, PassBook};
 
 impl<D: Disk, C: Chare, B: RuntimeName> Sequencer<D, C, B> {
     /// Accepts a request of the pass's client, unless it repeats one in the client's window, and

@@ -1,6 +1,6 @@
 //! What types under different locks have to agree on.
 
-use charmlet_agreement::BookName;
+use charmlet_locks::BookName;
 use std::marker::Brand;
 
 /// Names one runtime: its books, of shelves, of seats, of passes and of checkpoints, and the store
@@ -38,7 +38,7 @@ pub trait RuntimeName: BookName {
 
 impl RuntimeName for Brand {
     ghost use Rattle.std.specs.Prelude.{[]};
-    ghost use Rattle.charmlet_agreement.specs.Agreement.{no_table};
+    ghost use Rattle.charmlet_locks.specs.GhostAuth.Agreement.{no_table};
     ghost use Rattle.charmlet_model.specs.Sound.{new_world};
 
     ghost seats = { no_table };

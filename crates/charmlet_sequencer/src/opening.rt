@@ -4,7 +4,7 @@ ghost use Rattle.std.specs.Prelude.{◌≡◌, ◌+◌, ◌<◌, ◌≤◌, ◌�
 ghost use Rattle.std.specs.Vec.{vec_capacity};
 ghost use Rattle.charmlet_halves.specs.Halves.{disk_of};
 ghost use Rattle.charmlet_history.specs.Kept.{core_in};
-ghost use Rattle.charmlet_journal.specs.Rest.{Agrees, IsCurrent, IsKept};
+ghost use Rattle.charmlet_persist.specs.Journal.Rest.{Agrees, IsCurrent, IsKept};
 ghost use Rattle.charmlet_migrate.specs.Moving.{IsIdle};
 ghost use Rattle.charmlet_stock.specs.ByKind.{for_all};
 ghost use Rattle.charmlet_sequencer.specs.Opened.{AreShelvesOf};
@@ -15,10 +15,10 @@ use crate::names::RuntimeName;
 use crate::part::{SeenPart, write};
 use crate::sequencer::Sequencer;
 use crate::shelf::LockedShelf;
-use charmlet_agreement::{Book, BookName};
 use charmlet_chare::Chare;
 use charmlet_disk::Disk;
 use charmlet_halves::Halves;
+use charmlet_locks::{Book, BookName};
 use charmlet_shelf::Shelf;
 use charmlet_store::{Store, StoreParts};
 

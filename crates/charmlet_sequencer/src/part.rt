@@ -3,8 +3,8 @@
 ghost use Rattle.std.specs.Prelude.{◌≡◌, Some, slice_get, slice_set};
 ghost use Rattle.charmlet_sequencer.specs.Part.{part_on};
 
-use charmlet_agreement::{Book, BookName, GhostValue, Share};
 use charmlet_chare::Chare;
+use charmlet_locks::{Book, BookName, GhostValue, Share};
 use charmlet_shelf::Shelf;
 use std::marker::{Brand, Model};
 

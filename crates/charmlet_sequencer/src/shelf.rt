@@ -1,8 +1,8 @@
 //! A shelf under its lock.
 
 use crate::part::SeenPart;
-use charmlet_agreement::{BookName, Share};
 use charmlet_chare::{Chare, Output};
+use charmlet_locks::{BookName, Share};
 use charmlet_model::{Elem, MsgId, Refusal};
 use charmlet_shelf::{Image, ImageRoom, Shelf};
 use std::alloc::AllocError;
@@ -62,7 +62,7 @@ impl<C: Chare, B: BookName> LockedShelf<C, B> {
     ghost use Rattle.charmlet_model.specs.declared.refusal.Refusal.TheVariants as refusals;
     ghost use Rattle.charmlet_shelf.specs.Image.{AreImages};
     ghost use Rattle.charmlet_shelf.specs.Shelf.{is_assigned, is_idle};
-    ghost use Rattle.charmlet_running.specs.Imaging.{AnswersImage};
+    ghost use Rattle.charmlet_persist.specs.Snapshot.Imaging.{AnswersImage};
     ghost use Rattle.charmlet_sequencer.specs.Part.{part_on};
     ghost use Rattle.charmlet_sequencer.specs.Shelf.{delivery_in, entered, is_done, sent_in};
 

@@ -10,7 +10,7 @@ use Rattle.charmlet_halves.specs.declared.opening.Refused.{Refused}
 use Rattle.charmlet_halves.specs.Answers.{is_no_failure}
 use Rattle.charmlet_halves.specs.Made.{AreClosed, IsCause, LeavesNew}
 use Rattle.charmlet_locate.specs.Locations.{is_processor_count}
-use Rattle.charmlet_journal.specs.NewStores.{IsCreationRefusal}
+use Rattle.charmlet_persist.specs.Journal.NewStores.{IsCreationRefusal}
 use Rattle.charmlet_sequencer.specs.Sequencer.{is_lawful}
 use Rattle.charmlet_stock.specs.declared.stock.Stock.{Stock}
 use Rattle.charmlet_workers.specs.Runtime.{RuntimeShown, WasTrue, shown_of}

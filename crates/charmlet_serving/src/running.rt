@@ -3,9 +3,9 @@
 ghost use Rattle.std.specs.Prelude.{◌≡◌, ℕ, true};
 ghost use Rattle.charmlet_model.specs.Edition.{AreNewest};
 ghost use Rattle.charmlet_disk.specs.Disk.{IsSettled};
-ghost use Rattle.charmlet_agreement.specs.Naming.{table_of};
+ghost use Rattle.charmlet_locks.specs.GhostAuth.Naming.{table_of};
 ghost use Rattle.charmlet_locate.specs.Locations.{is_processor_count};
-ghost use Rattle.charmlet_journal.specs.NewStores.{new_core};
+ghost use Rattle.charmlet_persist.specs.Journal.NewStores.{new_core};
 ghost use Rattle.charmlet_sequencer.specs.Sequencer.{IsOf};
 ghost use Rattle.charmlet_stock.specs.declared.stock.Stock as stocks;
 ghost use Rattle.charmlet_replay.specs.Unused.{IsUnused};

@@ -4,6 +4,7 @@ pub mod Pile
 pub mod Retired
 pub mod Sorted
 pub mod Stock
+pub mod Pouring
 pub use Rattle.charmlet_model.specs.Edition
 pub use Rattle.charmlet_model.specs.Kind
 pub use Rattle.charmlet_model.specs.Reaction

@@ -4,8 +4,10 @@
 
 mod by_kind;
 mod pile;
+mod pouring;
 mod stock;
 
 pub use crate::by_kind::ByKind;
 pub use crate::pile::Tally;
+pub use crate::pouring::pour;
 pub use crate::stock::{Stock, count_of};

@@ -21,11 +21,11 @@ ghost use Rattle.charmlet_store.specs.Store.{AreEmpty, IsNew, store_in, supplied
 ghost use Rattle.charmlet_migrate.specs.UnderWay.{Ends};
 
 use crate::dismantling::{Dismantled, lift_all};
-use charmlet_births::Ticks;
 use charmlet_chare::Chare;
 use charmlet_history::{History, Request};
 use charmlet_migrate::{deliver_on, move_among};
 use charmlet_model::{Elem, Kind, MsgId, Refusal, Told};
+use charmlet_ready_queue::Ticks;
 use charmlet_shelf::Shelf;
 use charmlet_stock::Stock;
 use std::alloc::{AllocError, Global};

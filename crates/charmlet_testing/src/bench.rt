@@ -1,10 +1,10 @@
 //! What the lines of a probe work on: a disk, and what stores begin with.
 
+use crate::disk::{ProbeDisk, Switches};
+use crate::objects::{Object, Tally};
+use crate::store::{Blanks, Failed, Machine, ProbeStore};
 use charmlet_disk::CrashChoice;
 use charmlet_model::Kind;
-use charmlet_probe_disk::{ProbeDisk, Switches};
-use charmlet_probe_objects::{Object, Tally};
-use charmlet_probe_store::{Blanks, Failed, Machine, ProbeStore};
 use charmlet_requests::Handlers;
 use std::alloc::{AllocError, Global};
 use std::marker::Model;

@@ -2,9 +2,9 @@
 
 use crate::bench::Bench;
 use crate::saying::say;
+use crate::store::{Failed, Machine};
 use crate::store_of::store_of;
 use charmlet_model::Answer;
-use charmlet_probe_store::{Failed, Machine};
 use std::io::Write;
 
 /// A client gets its pass, and goes by it from then on.

@@ -2,9 +2,9 @@
 
 use crate::bench::Bench;
 use crate::saying::say;
+use crate::store::{Failed, Machine, Running, Turn};
 use crate::store_of::store_of;
 use charmlet_model::{Answer, Step};
-use charmlet_probe_store::{Failed, Machine, Running, Turn};
 use charmlet_script::{Line, Runner, read_restart_script};
 use std::alloc::Global;
 use std::io::Write;

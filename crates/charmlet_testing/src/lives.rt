@@ -1,14 +1,14 @@
 //! Stores that begin, come back and come apart.
 
 use crate::bench::Bench;
+use crate::objects::{Object, blanks};
 use crate::saying::say;
+use crate::store::{
+    Blanks, Ended, Failed, Machine, NotBack, Parts, ProbeStore, Without, wanted_objects,
+};
 use charmlet_cli::{RestartedLine, handlers_of};
 use charmlet_halves::Refused;
 use charmlet_model::{Kind, Refusal};
-use charmlet_probe_objects::{Object, blanks};
-use charmlet_probe_store::{
-    Blanks, Ended, Failed, Machine, NotBack, Parts, ProbeStore, Without, wanted_objects,
-};
 use charmlet_script::{Runner, Script, read_script};
 use std::io::Write;
 use std::thread::Threads;

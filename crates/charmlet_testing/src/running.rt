@@ -1,12 +1,12 @@
 //! Lines of scripts.
 
 use crate::bench::Bench;
+use crate::objects::blanks;
 use crate::saying::say;
 use crate::showing::{say_census, say_pending, say_state};
+use crate::store::{Call, Failed, Machine};
 use crate::store_of::store_of;
 use charmlet_model::{Answer, Kind, Step};
-use charmlet_probe_objects::blanks;
-use charmlet_probe_store::{Call, Failed, Machine};
 use charmlet_script::{Drained, Line, Runner, Supplied, read_restart_script};
 use std::sync::Wait;
 

@@ -1,7 +1,7 @@
 //! What lines print.
 
+use crate::store::Failed;
 use charmlet_cli::write_line;
-use charmlet_probe_store::Failed;
 use std::alloc::Global;
 use std::fmt;
 use std::io::Write;

@@ -1,8 +1,8 @@
 //! What lines of scripts show of a store.
 
 use crate::saying::say;
+use crate::store::{Failed, Machine};
 use charmlet_model::{Elem, Kind};
-use charmlet_probe_store::{Failed, Machine};
 use charmlet_script::{Counted, PendingIds, Shown, Standing};
 use charmlet_store::Look;
 use std::alloc::{AllocError, Global};

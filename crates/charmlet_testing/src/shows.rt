@@ -2,13 +2,13 @@
 
 use crate::bench::Bench;
 use crate::saying::say_bytes;
+use crate::store::{Failed, Machine};
 use crate::store_of::store_of;
 use charmlet_cli::{ShowError, show_store};
 use charmlet_disk::Call;
 use charmlet_halves::{Surveyed, survey};
 use charmlet_model::Half;
-use charmlet_plain_recovery::{Recovered, recover};
-use charmlet_probe_store::{Failed, Machine};
+use charmlet_reference::{Recovered, recover};
 use std::io::Write;
 
 /// What the store counts.

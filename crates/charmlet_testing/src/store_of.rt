@@ -1,6 +1,6 @@
 //! The store that a line needs.
 
-use charmlet_probe_store::{Failed, Machine};
+use crate::store::{Failed, Machine};
 
 /// The store, if there is one.
 pub(crate) fn store_of<M: Machine>(store: &mut Option<M>) -> Result<&mut M, Failed> {

@@ -30,7 +30,7 @@ use Rattle.charmlet_model.proofs.SoundLemmas.{sound_fit}
 use Rattle.charmlet_model.proofs.Windows.{inside-true}
 use Rattle.charmlet_history.specs.declared.request.Request.{Request}
 use Rattle.charmlet_history.specs.Kept.{told_or_refused}
-use Rattle.charmlet_passes.specs.Passes.{HeldPass, IsCurrent}
+use Rattle.charmlet_leases.specs.Passes.Passes.{HeldPass, IsCurrent}
 use Rattle.charmlet_sequencer.specs.Relocating.{IsAway}
 use Rattle.charmlet_hub.specs.Hub.{HubShown, store_in}
 use Rattle.charmlet_workers.specs.Refusals.{IsMoveCause, IsRecent, IsRequestCause, is_move_refusal}

@@ -10,7 +10,7 @@ use Rattle.charmlet_model.specs.Run.{Goes, StoreView}
 use Rattle.charmlet_history.specs.Kept.{counts_or_refused}
 use Rattle.charmlet_requests.specs.Knowing.{is_unknown}
 use Rattle.charmlet_requests.specs.Pass.{known, with_told}
-use Rattle.charmlet_passes.specs.Passes.{HeldPass, IsCurrent, LentPasses, TellAll, with_answer, with_flush}
+use Rattle.charmlet_leases.specs.Passes.Passes.{HeldPass, IsCurrent, LentPasses, TellAll, with_answer, with_flush}
 use Rattle.charmlet_hub.specs.Hub.{HubShown, store_in}
 use Rattle.charmlet_workers.specs.Runtime.{AreFlushed, IsMoment, RuntimeShown}
 use Rattle.charmlet_workers.proofs.Rows.{reached_least, row_seen}

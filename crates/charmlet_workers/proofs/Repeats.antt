@@ -15,7 +15,7 @@ use Rattle.charmlet_model.proofs.Windows.{inside-parts}
 use Rattle.charmlet_history.specs.declared.request.Request.{Request}
 use Rattle.charmlet_history.specs.Kept.{told_or_refused}
 use Rattle.charmlet_requests.proofs.Turns.{follows}
-use Rattle.charmlet_passes.specs.Passes.{HeldPass, IsCurrent}
+use Rattle.charmlet_leases.specs.Passes.Passes.{HeldPass, IsCurrent}
 use Rattle.charmlet_hub.specs.Hub.{HubShown, store_in}
 use Rattle.charmlet_workers.specs.Refusals.{IsRecent}
 

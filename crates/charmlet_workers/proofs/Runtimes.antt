@@ -15,7 +15,7 @@ use Rattle.charmlet_model.proofs.Histories.{manifest-after}
 use Rattle.charmlet_requests.specs.declared.handlers.Handler.{Handler}
 use Rattle.charmlet_requests.specs.Handlers.{IsTarget}
 use Rattle.charmlet_model.specs.declared.refusal.Refusal.{Refusal}
-use Rattle.charmlet_passes.specs.Passes.{HeldPass, lent_since}
+use Rattle.charmlet_leases.specs.Passes.Passes.{HeldPass, lent_since}
 use Rattle.charmlet_workers.specs.Runtime.{ArePendingIds, IsLent, IsMoment, RuntimeShown, WasTrue}
 
 -- a pass that is lent after no fewer events

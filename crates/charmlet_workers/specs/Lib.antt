@@ -3,7 +3,7 @@ pub mod Runtime
 pub mod Refusals
 pub mod Working
 pub mod Sealing
-pub use Rattle.charmlet_agreement.specs.Naming
+pub use Rattle.charmlet_locks.specs.GhostAuth.Naming
 pub use Rattle.charmlet_model.specs.Core
 pub use Rattle.charmlet_model.specs.Sound
 pub use Rattle.charmlet_model.specs.World
@@ -11,13 +11,13 @@ pub use Rattle.charmlet_disk.specs.File
 pub use Rattle.charmlet_halves.specs.Halves
 pub use Rattle.charmlet_history.specs.Kept
 pub use Rattle.charmlet_history.specs.Wanting
-pub use Rattle.charmlet_journal.specs.Rest
+pub use Rattle.charmlet_persist.specs.Journal.Rest
 pub use Rattle.charmlet_stock.specs.ByKind
 pub use Rattle.charmlet_requests.specs.Handlers
 pub use Rattle.charmlet_requests.specs.Pass
-pub use Rattle.charmlet_passes.specs.Passes
-pub use Rattle.charmlet_seats.specs.Seats
-pub use Rattle.charmlet_seats.specs.Woven
+pub use Rattle.charmlet_leases.specs.Passes.Passes
+pub use Rattle.charmlet_leases.specs.Seats.Seats
+pub use Rattle.charmlet_leases.specs.Seats.Woven
 pub use Rattle.charmlet_shelf.specs.Shelf as OneShelf
 pub use Rattle.charmlet_sequencer.specs.Sequencer
 pub use Rattle.charmlet_hub.specs.Hub

@@ -8,7 +8,7 @@ use Rattle.charmlet_model.specs.Edition.{edition_kind}
 use Rattle.charmlet_model.specs.Reaction.{greatest}
 use Rattle.charmlet_model.specs.World.{World, edition_of_array}
 use Rattle.charmlet_history.specs.declared.request.Request.{Request}
-use Rattle.charmlet_passes.specs.Passes.{HeldPass}
+use Rattle.charmlet_leases.specs.Passes.Passes.{HeldPass}
 use Rattle.charmlet_workers.specs.Runtime.{RuntimeShown}
 
 -- that of a pass or of a seat that is lent

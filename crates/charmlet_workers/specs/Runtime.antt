@@ -15,8 +15,8 @@ use Rattle.charmlet_disk.specs.declared.disk.Disk.{Ghosts}
 use Rattle.charmlet_halves.specs.declared.halves.Halves.{Halves}
 use Rattle.charmlet_halves.specs.Halves.{disk_of}
 use Rattle.charmlet_history.specs.Kept.{assigned_message, core_in}
-use Rattle.charmlet_journal.specs.Rest.{Agrees, IsCurrent, IsKept}
-use Rattle.charmlet_passes.specs.Passes.{HeldPass, IsCurrent as IsCurrentPass, lent_since}
+use Rattle.charmlet_persist.specs.Journal.Rest.{Agrees, IsCurrent, IsKept}
+use Rattle.charmlet_leases.specs.Passes.Passes.{HeldPass, IsCurrent as IsCurrentPass, lent_since}
 use Rattle.charmlet_sequencer.specs.Sequencer.{HasOpened}
 use Rattle.charmlet_stock.specs.declared.by_kind.ByKind.{ByKind}
 use Rattle.charmlet_stock.specs.declared.pile.Tally.{Tally}

@@ -1,7 +1,7 @@
 -- What workers commit with their seats.
 use Rattle.std.specs.Prelude.{◌≡◌, ℕ, ◌+◌, ◌≤◌, true, List, [], ◌∷◌, ◌++◌, length, if◌then◌else◌, Option, Some, None, is_some, IfSome}
 use Rattle.charmlet_model.specs.declared.names.MsgId.{MsgId}
-use Rattle.charmlet_seats.specs.Seats.{HeldSeat}
+use Rattle.charmlet_leases.specs.Seats.Seats.{HeldSeat}
 use Rattle.charmlet_workers.specs.declared.working.Worked.{Worked}
 use Rattle.charmlet_workers.specs.Refusals.{is_work_refusal}
 

@@ -4,7 +4,7 @@ ghost use Rattle.std.specs.Prelude.{◌≡◌, ◌≤◌, ℕ, true, IfErr, IfOk
 ghost use Rattle.std.specs.List.{AllByRecursion};
 ghost use Rattle.charmlet_requests.specs.Handlers.{IsTarget, handler_of};
 ghost use Rattle.charmlet_requests.specs.Pass.{with_accept, with_told};
-ghost use Rattle.charmlet_passes.specs.Passes.{HeldPass, IsAnswered, accepts_after, with_flush};
+ghost use Rattle.charmlet_leases.specs.Passes.Passes.{HeldPass, IsAnswered, accepts_after, with_flush};
 ghost use Rattle.charmlet_workers.specs.Refusals.{IsRecent, IsRequestCause, is_flush_refusal, is_request_refusal, is_status_refusal};
 ghost use Rattle.charmlet_workers.specs.Runtime.{AreFlushed};
 
@@ -13,8 +13,8 @@ use charmlet_chare::Chare;
 use charmlet_disk::Disk;
 use charmlet_history::Request;
 use charmlet_hub::PassesOf;
+use charmlet_leases::ClientPass;
 use charmlet_model::{Refusal, Told};
-use charmlet_passes::ClientPass;
 use charmlet_requests::{Handler, Handlers, target};
 use charmlet_sequencer::RuntimeName;
 use std::sync::Wait;

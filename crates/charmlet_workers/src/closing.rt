@@ -6,11 +6,11 @@ ghost use Rattle.charmlet_model.specs.declared.refusal.Refusal.TheVariants as re
 ghost use Rattle.charmlet_disk.specs.File.{CrashBytes, MayLeave};
 ghost use Rattle.charmlet_halves.specs.Halves.{disk_of};
 ghost use Rattle.charmlet_history.specs.Kept.{core_in};
-ghost use Rattle.charmlet_journal.specs.Rest.{Agrees};
+ghost use Rattle.charmlet_persist.specs.Journal.Rest.{Agrees};
 ghost use Rattle.charmlet_stock.specs.ByKind.{for_all};
-ghost use Rattle.charmlet_passes.specs.Passes.{HaveAllAccepts, HeldPass, IsCurrent};
-ghost use Rattle.charmlet_seats.specs.Seats.{HeldSeat};
-ghost use Rattle.charmlet_seats.specs.Woven.{IsWoven};
+ghost use Rattle.charmlet_leases.specs.Passes.Passes.{HaveAllAccepts, HeldPass, IsCurrent};
+ghost use Rattle.charmlet_leases.specs.Seats.Seats.{HeldSeat};
+ghost use Rattle.charmlet_leases.specs.Seats.Woven.{IsWoven};
 ghost use Rattle.charmlet_sequencer.specs.Sequencer.{IsOf, is_lawful};
 ghost use Rattle.charmlet_hub.specs.Hub.{deliveries_in};
 ghost use Rattle.charmlet_workers.specs.Runtime.{WasTrue};
@@ -20,9 +20,8 @@ use crate::runtime::{Runtime, Spare};
 use charmlet_chare::Chare;
 use charmlet_disk::Disk;
 use charmlet_hub::{Closed, PassesOf, SeatsOf};
+use charmlet_leases::{ClientPass, Seat};
 use charmlet_model::Refusal;
-use charmlet_passes::ClientPass;
-use charmlet_seats::Seat;
 use charmlet_sequencer::RuntimeName;
 use std::sync::Mutex;
 

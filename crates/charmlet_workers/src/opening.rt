@@ -2,7 +2,7 @@
 
 ghost use Rattle.std.specs.Prelude.{◌≡◌, ◌≤◌, IfErr, IfOk, vec_len};
 ghost use Rattle.std.specs.Vec.{vec_capacity};
-ghost use Rattle.charmlet_agreement.specs.Naming.{table_of};
+ghost use Rattle.charmlet_locks.specs.GhostAuth.Naming.{table_of};
 ghost use Rattle.charmlet_halves.specs.Halves.{disk_of};
 ghost use Rattle.charmlet_locks.specs.Locks.{AreInOrder, shown};
 ghost use Rattle.charmlet_history.specs.Kept.{core_in};
@@ -12,14 +12,12 @@ ghost use Rattle.charmlet_store.specs.Store.{AreEmpty};
 ghost use Rattle.charmlet_workers.specs.Runtime.{IsReady, named, shown_of};
 
 use crate::runtime::{ByProcessor, Runtime, Spare};
-use charmlet_agreement::Unnamed;
 use charmlet_chare::Chare;
 use charmlet_disk::Disk;
 use charmlet_halves::Halves;
 use charmlet_hub::{Hub, SeenToken};
-use charmlet_locks::LockRoom;
-use charmlet_passes::SeenPass;
-use charmlet_seats::SeenIds;
+use charmlet_leases::{SeenIds, SeenPass};
+use charmlet_locks::{LockRoom, Unnamed};
 use charmlet_sequencer::{LockedShelf, Opened, RuntimeName, SeenPart, open_store};
 use charmlet_shelf::Shelf;
 use charmlet_store::{Store, empty_shelves};

@@ -12,14 +12,13 @@ ghost use Rattle.charmlet_workers.specs.Refusals.{is_work_refusal};
 
 use crate::gate::{Gate, wait_at};
 use crate::runtime::Runtime;
-use charmlet_births::Ticks;
 use charmlet_chare::Chare;
 use charmlet_disk::Disk;
 use charmlet_hub::{Hub, SeatsOf};
+use charmlet_leases::{CAPACITY, Seat};
 use charmlet_model::{MsgId, Refusal};
-use charmlet_seats::Seat;
+use charmlet_ready_queue::Ticks;
 use charmlet_sequencer::{LockedShelf, RuntimeName};
-use charmlet_tickets::CAPACITY;
 use std::marker::Brand;
 use std::sync::ledger::{Blank, Ledger};
 use std::sync::{MutexGuard, Wait};

@@ -3,10 +3,10 @@ use Rattle.std.proofs.Common.{◌≡◌, ℕ, ◌+◌, ◌<◌, ◌≤◌, suc, 
 use Rattle.std.specs.Prelude.{Some, ◌==◌}
 use Rattle.std.specs.Map.{values_of}
 use Rattle.charmlet_model.specs.declared.names.MsgId.{MsgId}
-use Rattle.charmlet_births.specs.Births.{AllAfter, AllBefore, Climbs}
-use Rattle.charmlet_births.proofs.Rising.{all_weaker, from_one}
-use Rattle.charmlet_index.specs.Index.{holds}
-use Rattle.charmlet_index.proofs.Numbers.{none_after}
+use Rattle.charmlet_ready_queue.specs.Births.Births.{AllAfter, AllBefore, Climbs}
+use Rattle.charmlet_ready_queue.proofs.BirthsLemmas.Rising.{all_weaker, from_one}
+use Rattle.charmlet_ready_queue.specs.Index.Index.{holds}
+use Rattle.charmlet_ready_queue.proofs.IndexLemmas.Numbers.{none_after}
 use Rattle.charmlet_world.specs.declared.envelope.Envelope.{Envelope}
 use Rattle.charmlet_world.specs.Waiting.{borns}
 

@@ -10,11 +10,11 @@ use Rattle.charmlet_model.specs.declared.message.Message.{Message}
 use Rattle.charmlet_model.specs.declared.TheConstants.{CONSTRUCT}
 use Rattle.charmlet_model.specs.Fit.{AreDistinct}
 use Rattle.charmlet_model.specs.Names.{same_elem, same_id}
-use Rattle.charmlet_births.specs.Births.{AllAfter, AllBefore, Climbs, without_number}
-use Rattle.charmlet_births.proofs.Rising.{all_append, all_at, all_left}
-use Rattle.charmlet_index.specs.declared.chain.Call.{Call}
-use Rattle.charmlet_index.specs.Index.{holds}
-use Rattle.charmlet_index.proofs.Numbers.{none_after}
+use Rattle.charmlet_ready_queue.specs.Births.Births.{AllAfter, AllBefore, Climbs, without_number}
+use Rattle.charmlet_ready_queue.proofs.BirthsLemmas.Rising.{all_append, all_at, all_left}
+use Rattle.charmlet_ready_queue.specs.declared.index.chain.Call.{Call}
+use Rattle.charmlet_ready_queue.specs.Index.Index.{holds}
+use Rattle.charmlet_ready_queue.proofs.IndexLemmas.Numbers.{none_after}
 use Rattle.charmlet_world.specs.declared.letter.Letter.{Letter}
 use Rattle.charmlet_world.specs.declared.pending.Taking.{Taking}
 use Rattle.charmlet_world.specs.declared.envelope.Envelope.{Envelope}

@@ -10,9 +10,9 @@ use Rattle.charmlet_model.specs.declared.TheConstants.{CONSTRUCT}
 use Rattle.charmlet_model.specs.Names.{same_elem}
 use Rattle.charmlet_model.specs.World.{message_among, without}
 use Rattle.charmlet_model.proofs.Maps.{same_from_test}
-use Rattle.charmlet_births.specs.Births.{AllBefore, Climbs}
-use Rattle.charmlet_births.proofs.Rising.{all_append, all_weaker, climbs_last}
-use Rattle.charmlet_index.specs.declared.chain.Call.{Call}
+use Rattle.charmlet_ready_queue.specs.Births.Births.{AllBefore, Climbs}
+use Rattle.charmlet_ready_queue.proofs.BirthsLemmas.Rising.{all_append, all_weaker, climbs_last}
+use Rattle.charmlet_ready_queue.specs.declared.index.chain.Call.{Call}
 use Rattle.charmlet_world.specs.declared.letter.Letter.{Letter}
 use Rattle.charmlet_world.specs.declared.pending.Taking.{Taking}
 use Rattle.charmlet_world.specs.declared.receivers.Receiver.{Receiver}

@@ -17,3 +17,4 @@ pub mod EnvelopesKept
 pub mod Climbing
 pub mod Ties
 pub mod Tying
+pub mod ClientLemmas

@@ -25,7 +25,7 @@ use Rattle.charmlet_model.proofs.Maps.{elem_exact}
 use Rattle.charmlet_model.proofs.Histories.{record_at-insert}
 use Rattle.charmlet_chare.specs.declared.output.Output.{Output}
 use Rattle.charmlet_world.specs.declared.element.Element.{Element}
-use Rattle.charmlet_client.specs.Client.{Rows, with_present}
+use Rattle.charmlet_world.specs.Client.Client.{Rows, with_present}
 use Rattle.charmlet_world.specs.Seen.{Held, Seen, Shows, IsCountedBy, IsSlot, client_at, element_at, new_client, no_element, place_or_home_in, present_rows}
 use Rattle.charmlet_world.specs.Changed.{IsOutputOf, accepted, advanced_by, counted, delivered_in, place_after, relocated, with_answer, with_entry}
 use Rattle.charmlet_world.specs.Standing.{element_in, risen}

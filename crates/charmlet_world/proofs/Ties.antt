@@ -18,14 +18,14 @@ use Rattle.charmlet_world.specs.Seen.{Seen, element_at, is_deliverable, next_due
 use Rattle.charmlet_world.specs.Standing.{risen}
 use Rattle.charmlet_world.proofs.Indices.{same_id-itself}
 use Rattle.charmlet_world.proofs.Places.{element_at-insert}
-use Rattle.charmlet_births.specs.Births.{AllAfter, AllBefore, Climbs, without_number}
-use Rattle.charmlet_births.proofs.Rising.{all_append, all_left}
-use Rattle.charmlet_index.specs.declared.chain.Call.{Call}
-use Rattle.charmlet_index.specs.declared.place.Place.{Place}
-use Rattle.charmlet_index.specs.declared.place.Stand.{Stand}
-use Rattle.charmlet_index.specs.Index.{AreApart, ArePlaced, IsPlaced, first_of, holds, is_ready_on, moved, place_by, stood}
-use Rattle.charmlet_index.proofs.Firsts.{first_after}
-use Rattle.charmlet_index.proofs.Standing.{stood_other}
+use Rattle.charmlet_ready_queue.specs.Births.Births.{AllAfter, AllBefore, Climbs, without_number}
+use Rattle.charmlet_ready_queue.proofs.BirthsLemmas.Rising.{all_append, all_left}
+use Rattle.charmlet_ready_queue.specs.declared.index.chain.Call.{Call}
+use Rattle.charmlet_ready_queue.specs.declared.index.place.Place.{Place}
+use Rattle.charmlet_ready_queue.specs.declared.index.place.Stand.{Stand}
+use Rattle.charmlet_ready_queue.specs.Index.Index.{AreApart, ArePlaced, IsPlaced, first_of, holds, is_ready_on, moved, place_by, stood}
+use Rattle.charmlet_ready_queue.proofs.IndexLemmas.Firsts.{first_after}
+use Rattle.charmlet_ready_queue.proofs.IndexLemmas.Standing.{stood_other}
 use Rattle.charmlet_world.specs.Tied.{ArePlacedBy, DiffersAt, born_as, calls_down, stand_by, stand_of}
 
 abbrev stand_in : Seen → Elem → Stand

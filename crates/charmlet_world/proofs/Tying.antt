@@ -14,14 +14,14 @@ use Rattle.charmlet_model.specs.Names.{elem_cmp, same_elem}
 use Rattle.charmlet_model.proofs.Maps.{same_from_test}
 use Rattle.charmlet_model.specs.World.{message_among, without}
 use Rattle.charmlet_locate.specs.Locations.{is_processor_count}
-use Rattle.charmlet_births.specs.Births.{AllBefore, Climbs, without_number}
-use Rattle.charmlet_births.proofs.Rising.{all_append, all_filter, all_weaker, climbs_filter, climbs_last}
-use Rattle.charmlet_index.specs.declared.place.Place.{Place}
-use Rattle.charmlet_index.specs.declared.place.Stand.{Stand}
-use Rattle.charmlet_index.specs.declared.lists.Lists.{Lists}
-use Rattle.charmlet_index.specs.declared.chain.Call.{Call}
-use Rattle.charmlet_index.proofs.Standing.{rooms_at_home, rooms_on_same}
-use Rattle.charmlet_index.specs.Index.{AreApart, AreHeld, ArePlaced, HaveRoom, Indexed, IsIndexOf, IsOn, IsPlaced, first_of, holds, is_ready_on, moved, place_by, stood}
+use Rattle.charmlet_ready_queue.specs.Births.Births.{AllBefore, Climbs, without_number}
+use Rattle.charmlet_ready_queue.proofs.BirthsLemmas.Rising.{all_append, all_filter, all_weaker, climbs_filter, climbs_last}
+use Rattle.charmlet_ready_queue.specs.declared.index.place.Place.{Place}
+use Rattle.charmlet_ready_queue.specs.declared.index.place.Stand.{Stand}
+use Rattle.charmlet_ready_queue.specs.declared.index.lists.Lists.{Lists}
+use Rattle.charmlet_ready_queue.specs.declared.index.chain.Call.{Call}
+use Rattle.charmlet_ready_queue.proofs.IndexLemmas.Standing.{rooms_at_home, rooms_on_same}
+use Rattle.charmlet_ready_queue.specs.Index.Index.{AreApart, AreHeld, ArePlaced, HaveRoom, Indexed, IsIndexOf, IsOn, IsPlaced, first_of, holds, is_ready_on, moved, place_by, stood}
 use Rattle.charmlet_world.specs.declared.element.Element.{Element}
 use Rattle.charmlet_world.specs.Seen.{Seen, element_at, is_deliverable, next_due, oldest, oldest_on, place_or_home_in}
 use Rattle.charmlet_world.specs.Standing.{risen}

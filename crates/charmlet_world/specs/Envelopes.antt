@@ -6,8 +6,8 @@ use Rattle.charmlet_model.specs.declared.names.Elem.{Elem}
 use Rattle.charmlet_model.specs.declared.names.MsgId.{MsgId}
 use Rattle.charmlet_model.specs.declared.TheConstants.{CONSTRUCT}
 use Rattle.charmlet_model.specs.Names.{same_elem}
-use Rattle.charmlet_births.specs.Births.{AllBefore, Climbs}
-use Rattle.charmlet_index.specs.declared.chain.Call.{Call}
+use Rattle.charmlet_ready_queue.specs.Births.Births.{AllBefore, Climbs}
+use Rattle.charmlet_ready_queue.specs.declared.index.chain.Call.{Call}
 use Rattle.charmlet_world.specs.declared.letter.Letter.{Letter}
 use Rattle.charmlet_world.specs.declared.receivers.Receiver.{Receiver}
 use Rattle.charmlet_world.specs.declared.envelope.Envelope.{Envelope}

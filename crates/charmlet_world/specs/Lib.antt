@@ -1,6 +1,5 @@
 -- The definitions that contracts cite.
 pub mod Changed
-pub use Rattle.charmlet_client.specs.Client
 pub mod Envelopes
 pub mod Ids
 pub mod Laws
@@ -9,6 +8,7 @@ pub mod Seen
 pub mod Standing
 pub mod Tied
 pub mod Waiting
+pub mod Client
 pub use Rattle.charmlet_model.specs.Core
 pub use Rattle.charmlet_model.specs.Fit
 pub use Rattle.charmlet_model.specs.Names

@@ -8,12 +8,12 @@ use Rattle.charmlet_model.specs.Core.{home}
 use Rattle.charmlet_model.specs.Names.{same_elem}
 use Rattle.charmlet_model.specs.Reaction.{greatest}
 use Rattle.charmlet_locate.specs.Locations.{is_processor_count}
-use Rattle.charmlet_births.specs.Births.{AllBefore, Climbs}
-use Rattle.charmlet_index.specs.declared.chain.Call.{Call}
-use Rattle.charmlet_index.specs.declared.lists.Lists.{Lists}
-use Rattle.charmlet_index.specs.declared.place.Place.{Place}
-use Rattle.charmlet_index.specs.declared.place.Stand.{Stand}
-use Rattle.charmlet_index.specs.Index.{Indexed, IsIndexOf, place_by}
+use Rattle.charmlet_ready_queue.specs.Births.Births.{AllBefore, Climbs}
+use Rattle.charmlet_ready_queue.specs.declared.index.chain.Call.{Call}
+use Rattle.charmlet_ready_queue.specs.declared.index.lists.Lists.{Lists}
+use Rattle.charmlet_ready_queue.specs.declared.index.place.Place.{Place}
+use Rattle.charmlet_ready_queue.specs.declared.index.place.Stand.{Stand}
+use Rattle.charmlet_ready_queue.specs.Index.Index.{Indexed, IsIndexOf, place_by}
 use Rattle.charmlet_world.specs.declared.element.Element.{Element}
 use Rattle.charmlet_world.specs.Seen.{IsSlot, element_at}
 use Rattle.charmlet_world.specs.Standing.{element_in, risen}

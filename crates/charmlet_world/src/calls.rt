@@ -5,8 +5,8 @@ ghost use Rattle.charmlet_world.specs.Envelopes.{call_of, calls_in};
 
 use crate::envelope::Envelope;
 use crate::letter::Letter;
-use charmlet_index::{Call, Chain};
 use charmlet_model::{CONSTRUCT, Elem, MsgId};
+use charmlet_ready_queue::{Call, Chain};
 use indexmap::IndexMap;
 use std::marker::Model;
 
@@ -24,7 +24,7 @@ pub(crate) struct Calls<'a> {
 
 impl<'a> Model for Calls<'a> {
     ghost use Rattle.std.specs.Prelude.{◌≡◌, List, take, length};
-    ghost use Rattle.charmlet_index.specs.declared.chain.Call.{Call as ACall};
+    ghost use Rattle.charmlet_ready_queue.specs.declared.index.chain.Call.{Call as ACall};
     ghost use Rattle.charmlet_world.specs.Envelopes.{calls_in};
 
     ghost Value = { List ACall };

@@ -5,7 +5,7 @@ ghost use Rattle.charmlet_model.specs.Row.{with_request};
 ghost use Rattle.charmlet_world.specs.Changed.{IsAwaited, flushed_row, with_answer, with_row};
 ghost use Rattle.charmlet_world.specs.Seen.{client_at};
 
-use charmlet_client::Client;
+use crate::client::Client;
 use charmlet_model::{MsgId, Origin, Words};
 use std::alloc::AllocError;
 use std::collections::BTreeMap;

@@ -3,10 +3,10 @@
 ghost use Rattle.std.specs.Prelude.{◌≡◌, ℕ, ◌+◌, ◌<◌, ◌≤◌, [], ◌∷◌, ◌++◌, length, true, is_none, is_some, slice_get, Some, None, IfOk, IfSome, IsOk, IsSome, OnOk, OnErr, unwrap_or, if◌then◌else◌};
 ghost use Rattle.std.specs.BTreeMap.{insert_entry, is_at};
 ghost use Rattle.std.specs.Map.{keys_of, lookup};
-ghost use Rattle.charmlet_births.specs.Births.{Climbs};
-ghost use Rattle.charmlet_index.specs.Index.{HaveRoom, IsIndexOf};
-ghost use Rattle.charmlet_index.specs.declared.place.Place.{Place as APlace};
-ghost use Rattle.charmlet_index.specs.declared.place.Stand.{Stand as AStand};
+ghost use Rattle.charmlet_ready_queue.specs.Births.Births.{Climbs};
+ghost use Rattle.charmlet_ready_queue.specs.Index.Index.{HaveRoom, IsIndexOf};
+ghost use Rattle.charmlet_ready_queue.specs.declared.index.place.Place.{Place as APlace};
+ghost use Rattle.charmlet_ready_queue.specs.declared.index.place.Stand.{Stand as AStand};
 ghost use Rattle.charmlet_locate.specs.Locations.{is_processor_count};
 ghost use Rattle.charmlet_model.specs.Core.{home};
 ghost use Rattle.charmlet_model.specs.Fit.{AreDistinct};
@@ -22,10 +22,9 @@ ghost use Rattle.charmlet_world.specs.declared.element.Element.{Element as AnEle
 use crate::element::Element;
 use crate::elements::{Elements, Slot};
 use crate::pending::{Pending, Taken};
-use charmlet_births::Ticks;
-use charmlet_index::{Index, Stand};
 use charmlet_locate::home;
 use charmlet_model::{CONSTRUCT, Elem, Message, MsgId};
+use charmlet_ready_queue::{Index, Stand, Ticks};
 use std::alloc::{AllocError, Global};
 use std::collections::BTreeMap;
 use std::marker::Model;

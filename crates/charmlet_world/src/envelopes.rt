@@ -1,8 +1,8 @@
 //! Where the message of a birth stands in a table of envelopes.
 
 ghost use Rattle.std.specs.Prelude.{◌≡◌, ◌<◌, ◌≤◌, false, length, slice_get, Some, None, IfSome};
-ghost use Rattle.charmlet_births.specs.Births.{Climbs};
-ghost use Rattle.charmlet_index.specs.Index.{holds};
+ghost use Rattle.charmlet_ready_queue.specs.Births.Births.{Climbs};
+ghost use Rattle.charmlet_ready_queue.specs.Index.Index.{holds};
 ghost use Rattle.charmlet_world.specs.Waiting.{borns};
 
 use crate::envelope::Envelope;

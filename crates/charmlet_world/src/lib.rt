@@ -3,6 +3,7 @@
 #![tactic(auto)]
 
 mod calls;
+mod client;
 mod clients;
 mod dispatch;
 mod element;
@@ -17,6 +18,7 @@ mod present;
 mod receivers;
 mod sending;
 
+pub use crate::client::Client;
 pub use crate::element::Element;
 pub use crate::elements::{Elements, Slot};
 pub use crate::letter::Letter;

@@ -21,6 +21,7 @@ ghost use Rattle.charmlet_world.specs.Seen.{IsSlot, Shows, client_at, element_at
 ghost use Rattle.charmlet_world.specs.Standing.{left_of, places_of, risen};
 ghost use Rattle.charmlet_world.specs.Waiting.{message_of};
 
+use crate::client::Client;
 use crate::clients::{flush_row, keep_reply, note_request};
 use crate::dispatch::{Delivered, Dispatch, place_in};
 use crate::element::Element;
@@ -28,10 +29,9 @@ use crate::elements::Slot;
 use crate::letter::Letter;
 use crate::messages::Messages;
 use crate::sending::push_sends;
-use charmlet_births::Ticks;
 use charmlet_chare::Output;
-use charmlet_client::Client;
 use charmlet_model::{ClientRow, Elem, MAX_SENDS, Manifest, Message, MsgId, Origin, Told, Words};
+use charmlet_ready_queue::Ticks;
 use std::alloc::{AllocError, Global};
 use std::collections::BTreeMap;
 use std::marker::Model;

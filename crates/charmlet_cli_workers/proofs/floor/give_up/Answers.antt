@@ -1,7 +1,7 @@
 use Rattle.std.proofs.Common.{rules, ◌≡◌, ◌+◌, List, [], ◌∷◌, ◌++◌, length, map, sym, ap, ◌∙◌, arith}
 use Rattle.std.proofs.lemmas.List.{append-nil, nil_from_length}
 use Rattle.charmlet_model.specs.declared.names.MsgId.{MsgId}
-use Rattle.charmlet_seats.specs.Seats.{HeldSeat}
+use Rattle.charmlet_leases.specs.Seats.Seats.{HeldSeat}
 use Rattle.charmlet_workers.specs.declared.working.Station.{Station}
 use Rattle.charmlet_cli_workers.proofs.Delivering.{moved}
 use Rattle.charmlet_cli_workers.proofs.floor.give_up.Goals as goal

@@ -1,5 +1,5 @@
 use Rattle.std.proofs.Common.{◌≡◌, ◌++◌, length, map}
-use Rattle.charmlet_seats.specs.Seats.{HeldSeat}
+use Rattle.charmlet_leases.specs.Seats.Seats.{HeldSeat}
 use Rattle.charmlet_workers.specs.declared.working.Station.{Station}
 use Rattle.charmlet_cli_workers.proofs.floor.give_up.Given as goal
 

@@ -4,7 +4,7 @@ use Rattle.charmlet_model.specs.declared.step.Answer.TheVariants as answers
 use Rattle.charmlet_model.specs.declared.step.Step.{Step}
 use Rattle.charmlet_model.specs.declared.step.Step.TheVariants as steps
 use Rattle.charmlet_history.specs.declared.request.Request.{Request}
-use Rattle.charmlet_passes.specs.Passes.{HeldPass, accepts_in, with_flush}
+use Rattle.charmlet_leases.specs.Passes.Passes.{HeldPass, accepts_in, with_flush}
 use Rattle.charmlet_cli_workers.specs.Heard.{AreAccepted, AreLater, AreTidy, IsDoneBy, IsRecorded, known_by}
 use Rattle.charmlet_cli_workers.specs.Said.{Answers, having_flushed}
 use Rattle.charmlet_cli_workers.proofs.Asking.{accepts_flushed, flushed_durable, stated_answers, tidy_flushed, told_answers, were_flushed}

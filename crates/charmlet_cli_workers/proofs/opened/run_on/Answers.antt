@@ -1,6 +1,6 @@
 use Rattle.std.proofs.Common.{List, [], inl, inr, map, refl, sym, subst}
 use Rattle.charmlet_model.specs.Row.{no_client}
-use Rattle.charmlet_passes.specs.Passes.{HeldPass}
+use Rattle.charmlet_leases.specs.Passes.Passes.{HeldPass}
 use Rattle.charmlet_workers.specs.declared.working.Station.{Station}
 use Rattle.charmlet_cli_workers.specs.Heard.{IsDoneBy}
 use Rattle.charmlet_cli_workers.specs.Said.{Deeds}

@@ -6,9 +6,9 @@ use Rattle.charmlet_history.specs.Kept.{core_in}
 use Rattle.charmlet_store.specs.Store.{StoreShown}
 use Rattle.charmlet_hub.specs.Hub.{deliveries_in}
 use Rattle.charmlet_model.specs.declared.names.MsgId.{MsgId}
-use Rattle.charmlet_passes.specs.Passes.{HaveAllAccepts, HeldPass, IsCurrent}
-use Rattle.charmlet_seats.specs.Seats.{HeldSeat}
-use Rattle.charmlet_seats.specs.Woven.{IsWoven}
+use Rattle.charmlet_leases.specs.Passes.Passes.{HaveAllAccepts, HeldPass, IsCurrent}
+use Rattle.charmlet_leases.specs.Seats.Seats.{HeldSeat}
+use Rattle.charmlet_leases.specs.Seats.Woven.{IsWoven}
 use Rattle.charmlet_workers.specs.declared.working.Station.{Station}
 use Rattle.charmlet_cli_workers.proofs.Leavings.{apart_by, not_ok}
 use Rattle.charmlet_cli_workers.proofs.opened.take_apart.Goals as goal

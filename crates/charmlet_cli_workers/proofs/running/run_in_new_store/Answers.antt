@@ -8,7 +8,7 @@ use Rattle.charmlet_lines.specs.Created.{IsCreationRefusal}
 use Rattle.charmlet_cli_workers.specs.Heard.{names_in}
 use Rattle.charmlet_lines.proofs.Creations.{created, handed_back}
 use Rattle.charmlet_cli_workers.specs.Left.{IsLeft, PrintsOver}
-use Rattle.charmlet_journal.specs.NewStores.{new_core}
+use Rattle.charmlet_persist.specs.Journal.NewStores.{new_core}
 use Rattle.charmlet_sequencer.specs.Sequencer.{IsOf}
 use Rattle.charmlet_workers.specs.Runtime.{RuntimeShown}
 use Rattle.charmlet_cli_workers.specs.Runs.{IsMade}

@@ -1,4 +1,4 @@
-use Rattle.charmlet_agreement.specs.Naming.{table_of}
+use Rattle.charmlet_locks.specs.GhostAuth.Naming.{table_of}
 use Rattle.charmlet_model.specs.Sound.{new_world}
 use Rattle.charmlet_script.specs.Script.{processors_of}
 use Rattle.charmlet_cli_workers.proofs.running.run_workers.Given as goal

@@ -1,7 +1,7 @@
 use Rattle.std.proofs.Common.{◌≡◌, ap, subst, ◌∙◌, [], List, ℕ}
 use Rattle.std.specs.Prelude.{IfOk}
-use Rattle.charmlet_plain_recovery.specs.Views.{files, seen}
-use Rattle.charmlet_plain_recovery.specs.Written.{recovered_as_written}
+use Rattle.charmlet_reference.specs.Recovery.Views.{files, seen}
+use Rattle.charmlet_reference.specs.Recovery.Written.{recovered_as_written}
 use Rattle.charmlet_dump.proofs.Findings.{alone_one, alone_zero}
 use Rattle.charmlet_dump.proofs.finding.recover_taken.Goals as goal
 

@@ -2,7 +2,7 @@ use Rattle.std.proofs.Common.{◌≡◌, true, false, IfOk, refl, sym, ap, subst
 use Rattle.charmlet_model.specs.Core.{Core}
 use Rattle.charmlet_model.specs.Run.{StoreView}
 use Rattle.charmlet_history.specs.Kept.{core_in}
-use Rattle.charmlet_journal.specs.Rest.{GoesOn, IsKept}
+use Rattle.charmlet_persist.specs.Journal.Rest.{GoesOn, IsKept}
 use Rattle.charmlet_recover.specs.Restart.{AnswersBy}
 use Rattle.charmlet_engine.specs.Engine.{core_of}
 use Rattle.charmlet_engine.specs.Outcomes.{is_lawful_now}

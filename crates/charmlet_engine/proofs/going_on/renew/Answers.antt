@@ -3,7 +3,7 @@ use Rattle.charmlet_model.specs.declared.refusal.Refusal.{Refusal}
 use Rattle.charmlet_model.specs.Core.{Core}
 use Rattle.charmlet_model.specs.Run.{StoreView}
 use Rattle.charmlet_history.specs.Kept.{core_in}
-use Rattle.charmlet_journal.specs.Rest.{Agrees, IsKept}
+use Rattle.charmlet_persist.specs.Journal.Rest.{Agrees, IsKept}
 use Rattle.charmlet_store.specs.Store.{StoreShown, blanks_of, supplied_in}
 use Rattle.charmlet_store.specs.Together as stores
 use Rattle.charmlet_replay.proofs.OpenHalves.{supplied_back, unused_back}

@@ -4,8 +4,8 @@ use Rattle.charmlet_model.specs.Core.{present}
 use Rattle.charmlet_model.proofs.SoundLemmas.{sound_fit}
 use Rattle.charmlet_history.specs.Kept.{core_in}
 use Rattle.charmlet_recovery.specs.Recovered.{Found, recovered}
-use Rattle.charmlet_checkpoint.specs.Showing.{event_count}
-use Rattle.charmlet_plain_recovery.specs.Views.{files, seen}
+use Rattle.charmlet_persist.specs.Snapshot.Showing.{event_count}
+use Rattle.charmlet_reference.specs.Recovery.Views.{files, seen}
 use Rattle.charmlet_lab.proofs.Read.{image_recovers, seen_found}
 use Rattle.charmlet_lab.proofs.judging.world_in.Goals as goal
 

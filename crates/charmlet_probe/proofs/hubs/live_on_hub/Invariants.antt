@@ -1,4 +1,4 @@
-use Rattle.charmlet_agreement.specs.Naming.{table_of}
+use Rattle.charmlet_locks.specs.GhostAuth.Naming.{table_of}
 use Rattle.charmlet_probe.proofs.hubs.live_on_hub.Given as goal
 
 -- the books that were just made

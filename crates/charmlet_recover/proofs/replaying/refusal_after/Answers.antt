@@ -1,7 +1,7 @@
 use Rattle.std.proofs.Common.{ℕ, ◌-◌, List, length, sym, subst, ◌≡◌}
 use Rattle.charmlet_image.specs.declared.half.OpenHalf.{OpenHalf}
 use Rattle.charmlet_record.specs.declared.reader.ReadError.TheVariants.{Damaged}
-use Rattle.charmlet_parallel.specs.unfinished.Unfinished.TheVariants.{Lack, Read}
+use Rattle.charmlet_parallel_replay.specs.declared.rounds.unfinished.Unfinished.TheVariants.{Lack, Read}
 use Rattle.charmlet_stock.specs.Stock.{blanks_in}
 use Rattle.charmlet_replay.specs.Replayed.{IsFaultAt}
 use Rattle.charmlet_recover.proofs.Answered.{enough_for_half, fault_answers, lack_answers}

@@ -1,8 +1,8 @@
 use Rattle.charmlet_disk.proofs.Moments.{started}
 use Rattle.charmlet_halves.specs.Halves.{disk_of}
 use Rattle.charmlet_history.specs.Kept.{core_in}
-use Rattle.charmlet_journal.specs.Rest.{HasOldOrSealed, keeps_durable}
-use Rattle.charmlet_journal.proofs.Turning.{rests_sealed}
+use Rattle.charmlet_persist.specs.Journal.Rest.{HasOldOrSealed, keeps_durable}
+use Rattle.charmlet_persist.proofs.JournalLemmas.Turning.{rests_sealed}
 use Rattle.charmlet_sequencer.proofs.checkpointing.write_running.Goals as goal
 
 pub returns-in_err-bytes-clause-any_moment : goal.returns-in_err-bytes-clause-any_moment

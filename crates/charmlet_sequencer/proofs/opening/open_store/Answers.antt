@@ -2,7 +2,7 @@ use Rattle.std.proofs.Common.{◌≡◌, ◌∷◌, ◌+◌, ◌++◌, [], false
 use Rattle.std.proofs.lemmas.List.{nil_from_length}
 use Rattle.charmlet_halves.specs.Halves.{disk_of}
 use Rattle.charmlet_history.specs.Kept.{core_in}
-use Rattle.charmlet_journal.specs.Rest.{Agrees, IsCurrent, IsKept}
+use Rattle.charmlet_persist.specs.Journal.Rest.{Agrees, IsCurrent, IsKept}
 use Rattle.charmlet_shelf.specs.Shelf.{View}
 use Rattle.charmlet_store.specs.Store.{StoreShown}
 use Rattle.charmlet_sequencer.specs.Book.{IsBookOf}

@@ -1,5 +1,5 @@
 use Rattle.charmlet_model.specs.Sound.{new_world}
-use Rattle.charmlet_agreement.specs.Naming.{table_of}
+use Rattle.charmlet_locks.specs.GhostAuth.Naming.{table_of}
 use Rattle.charmlet_serving.proofs.running.serve_new.Given as goal
 
 -- the book of shelves that was just made

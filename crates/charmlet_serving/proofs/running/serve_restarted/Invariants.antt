@@ -1,4 +1,4 @@
-use Rattle.charmlet_agreement.specs.Naming.{table_of}
+use Rattle.charmlet_locks.specs.GhostAuth.Naming.{table_of}
 use Rattle.charmlet_engine.specs.Reopened.{core_to_be}
 use Rattle.charmlet_serving.proofs.running.serve_restarted.Given as goal
 

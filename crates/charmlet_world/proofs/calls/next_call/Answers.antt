@@ -2,7 +2,7 @@ use Rattle.std.proofs.Common.{◌≡◌, ℕ, ◌-◌, ◌<◌, suc, List, sym, 
 use Rattle.std.specs.Prelude.{Option, option_and_then}
 use Rattle.charmlet_model.specs.declared.names.Elem.{Elem}
 use Rattle.charmlet_model.specs.declared.names.MsgId.{MsgId}
-use Rattle.charmlet_index.specs.declared.chain.Call.{Call}
+use Rattle.charmlet_ready_queue.specs.declared.index.chain.Call.{Call}
 use Rattle.charmlet_world.specs.declared.envelope.Envelope.{Envelope}
 use Rattle.charmlet_world.specs.Envelopes.{call_of, calls_in}
 use Rattle.charmlet_world.proofs.Enveloped.{calls_step, first_call}

@@ -9,7 +9,7 @@ use Rattle.std.proofs.lemmas.Map.Lookups.{exact_unsigned}
 use Rattle.charmlet_model.specs.declared.names.Origin.{Origin}
 use Rattle.charmlet_model.specs.Row.{awaits, no_client, with_reply}
 use Rattle.charmlet_model.proofs.Windows.{awaited-parts, inside-parts}
-use Rattle.charmlet_client.specs.Client.{with_present}
+use Rattle.charmlet_world.specs.Client.Client.{with_present}
 use Rattle.charmlet_world.specs.Seen.{client_at, new_client}
 use Rattle.charmlet_world.specs.Changed.{IsAwaited, with_answer}
 use Rattle.charmlet_model.proofs.Entries.{set_is_insert}

@@ -6,7 +6,7 @@ use Rattle.std.specs.Cmp.{nat_cmp_total}
 use Rattle.std.specs.Map.{lookup}
 use Rattle.std.specs.BTreeMap.{insert_entry, is_at}
 use Rattle.std.proofs.lemmas.Map.Lookups.{exact_unsigned}
-use Rattle.charmlet_client.specs.Client.{with_present}
+use Rattle.charmlet_world.specs.Client.Client.{with_present}
 use Rattle.charmlet_model.specs.Row.{with_request}
 use Rattle.charmlet_world.specs.Seen.{new_client}
 use Rattle.charmlet_model.proofs.Entries.{set_is_insert}

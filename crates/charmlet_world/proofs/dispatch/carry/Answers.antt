@@ -1,7 +1,7 @@
 use Rattle.std.proofs.Common.{◌<◌, ◌+◌, sym, subst, ◌∙◌, length, arith}
 use Rattle.std.specs.Prelude.{IfSome, OnErr, Result, Ok, Err}
-use Rattle.charmlet_index.specs.Index.{HaveRoom, IsRoomy}
-use Rattle.charmlet_index.proofs.Standing.{rooms_made}
+use Rattle.charmlet_ready_queue.specs.Index.Index.{HaveRoom, IsRoomy}
+use Rattle.charmlet_ready_queue.proofs.IndexLemmas.Standing.{rooms_made}
 use Rattle.charmlet_world.proofs.Ties.{some_births}
 use Rattle.charmlet_world.proofs.Tying.{indexed_none}
 use Rattle.charmlet_world.proofs.dispatch.carry.Goals as goal

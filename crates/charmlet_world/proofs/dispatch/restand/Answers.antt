@@ -1,5 +1,5 @@
 use Rattle.std.proofs.Common.{refl, sym, ap, subst, ◌∙◌, length}
-use Rattle.charmlet_index.specs.Index.{HaveRoom}
+use Rattle.charmlet_ready_queue.specs.Index.Index.{HaveRoom}
 use Rattle.charmlet_world.proofs.Tying.{called_apart, called_held, indexed_moved, indexed_none, indexed_same}
 use Rattle.charmlet_world.proofs.dispatch.restand.Goals as goal
 

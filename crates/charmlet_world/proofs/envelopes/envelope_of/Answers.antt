@@ -1,6 +1,6 @@
 use Rattle.std.proofs.Common.{◌<◌, ◌≤◌, arith, subst, sym, take, drop}
-use Rattle.charmlet_births.specs.Births.{AllAfter, AllBefore}
-use Rattle.charmlet_births.proofs.Rising.{up_to_one}
+use Rattle.charmlet_ready_queue.specs.Births.Births.{AllAfter, AllBefore}
+use Rattle.charmlet_ready_queue.proofs.BirthsLemmas.Rising.{up_to_one}
 use Rattle.charmlet_world.specs.Waiting.{borns}
 use Rattle.charmlet_world.proofs.Climbing.{after_one, nowhere}
 use Rattle.charmlet_world.proofs.envelopes.envelope_of.Goals as goal

@@ -1,5 +1,5 @@
 use Rattle.std.proofs.Common.{◌-◌, ◌<◌, ◌≤◌, length, take, drop}
-use Rattle.charmlet_births.specs.Births.{AllAfter, AllBefore}
+use Rattle.charmlet_ready_queue.specs.Births.Births.{AllAfter, AllBefore}
 use Rattle.charmlet_world.specs.Waiting.{borns}
 use Rattle.charmlet_world.proofs.envelopes.envelope_of.Given as goal
 

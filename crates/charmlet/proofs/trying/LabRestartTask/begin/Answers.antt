@@ -1,4 +1,4 @@
-use Rattle.charmlet_any_disk.specs.contracts.any_disk.AnyDiskDisk.TheImpl.{ghosts}
+use Rattle.charmlet_disk.specs.contracts.any_disk.AnyDiskDisk.TheImpl.{ghosts}
 use Rattle.charmlet_cli.specs.Wanted.{blanks_in}
 use Rattle.charmlet.proofs.Lacking.{some_judged, some_restart}
 use Rattle.charmlet.proofs.trying.LabRestartTask.begin.Goals as goal

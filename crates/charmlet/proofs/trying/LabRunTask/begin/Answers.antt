@@ -1,4 +1,4 @@
-use Rattle.charmlet_any_disk.specs.contracts.any_disk.AnyDiskDisk.TheImpl.{ghosts}
+use Rattle.charmlet_disk.specs.contracts.any_disk.AnyDiskDisk.TheImpl.{ghosts}
 use Rattle.charmlet.proofs.Lacking.{some_run}
 use Rattle.charmlet.proofs.trying.LabRunTask.begin.Goals as goal
 

@@ -1,5 +1,5 @@
 use Rattle.std.proofs.Common.{rules, ◌≡◌, ℕ, List, [], sym, subst}
-use Rattle.charmlet_passes.specs.Passes.{HeldPass}
+use Rattle.charmlet_leases.specs.Passes.Passes.{HeldPass}
 use Rattle.charmlet_cli_workers.specs.Heard.{AreTidy}
 use Rattle.charmlet_cli_workers.proofs.Asking.{tidy_none}
 use Rattle.charmlet_cli_workers.proofs.clients.Clients.new.Goals as goal

@@ -1,7 +1,7 @@
 use Rattle.std.proofs.Common.{◌≡◌, refl, sym, ap, ◌∙◌}
 use Rattle.std.specs.Prelude.{Some, length, slice_get, slice_set}
 use Rattle.std.proofs.lemmas.Option.{slice_get_read, slice_get_within}
-use Rattle.charmlet_passes.specs.Passes.{HeldPass}
+use Rattle.charmlet_leases.specs.Passes.Passes.{HeldPass}
 use Rattle.charmlet_cli_workers.proofs.Asking.{asked_cause, asked_err, asked_ok, asked_tidy, unlent_cause}
 use Rattle.charmlet_cli_workers.proofs.Hearing.{asked_heard, asked_later, asked_reached, later_still}
 use Rattle.charmlet_workers.specs.Refusals.{is_lending_refusal, is_request_refusal}

@@ -1,7 +1,7 @@
 use Rattle.std.proofs.Common.{◌≡◌, refl, sym, ap, ◌∙◌}
 use Rattle.std.specs.Prelude.{Some, length, slice_get, slice_set}
 use Rattle.std.proofs.lemmas.Option.{slice_get_read, slice_get_within}
-use Rattle.charmlet_passes.specs.Passes.{HeldPass}
+use Rattle.charmlet_leases.specs.Passes.Passes.{HeldPass}
 use Rattle.charmlet_cli_workers.proofs.Asking.{lent_status, stated_accepts, stated_tidy, unlent_status}
 use Rattle.charmlet_cli_workers.proofs.Hearing.{stated_heard, stated_later, later_still}
 use Rattle.charmlet_workers.specs.Refusals.{is_lending_refusal, is_status_refusal}

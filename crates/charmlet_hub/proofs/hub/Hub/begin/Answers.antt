@@ -1,8 +1,8 @@
 use Rattle.std.proofs.Common.{◌≡◌, ◌≤◌, ◌∙◌, false, true, length, ap, sym, subst, arith}
 use Rattle.std.specs.Prelude.{Option, is_some}
 use Rattle.charmlet_model.specs.Core.{Core}
-use Rattle.charmlet_passes.specs.Passes.{event_count}
-use Rattle.charmlet_running.specs.Running.{IsRunning, Run}
+use Rattle.charmlet_leases.specs.Passes.Passes.{event_count}
+use Rattle.charmlet_persist.specs.FuzzyCheckpoint.Running.{IsRunning, Run}
 use Rattle.charmlet_hub.specs.Checkpoint.{IsCheckpoint, IsCheckpointed}
 use Rattle.charmlet_hub.proofs.Hubs.{rebusied}
 use Rattle.charmlet_hub.proofs.Checkpoints.{begins, none_is}

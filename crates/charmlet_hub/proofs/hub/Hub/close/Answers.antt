@@ -2,9 +2,9 @@ use Rattle.std.proofs.Common.{◌≡◌, ◌≤◌, true, false, ◌∷◌, leng
 use Rattle.std.specs.Prelude.{◌==◌}
 use Rattle.std.specs.List.{AllByRecursion}
 use Rattle.charmlet_model.specs.Core.{Core}
-use Rattle.charmlet_passes.specs.Passes.{HaveAllAccepts, HeldPass, IsCurrent}
-use Rattle.charmlet_seats.specs.Seats.{HeldSeat, IdList}
-use Rattle.charmlet_seats.specs.Woven.{IsWoven}
+use Rattle.charmlet_leases.specs.Passes.Passes.{HaveAllAccepts, HeldPass, IsCurrent}
+use Rattle.charmlet_leases.specs.Seats.Seats.{HeldSeat, IdList}
+use Rattle.charmlet_leases.specs.Seats.Woven.{IsWoven}
 use Rattle.charmlet_hub.specs.Hub.{HubShown, deliveries_in}
 use Rattle.charmlet_hub.specs.Settling.{SettleAll, are_all_in, ended}
 use Rattle.charmlet_hub.proofs.Endings.{behind, left_true, shelves_idle}

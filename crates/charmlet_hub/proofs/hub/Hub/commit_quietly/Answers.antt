@@ -2,7 +2,7 @@ use Rattle.std.proofs.Common.{◌∙◌, sym, ◌≡◌, ◌+◌, ◌≤◌, Som
 use Rattle.std.specs.Prelude.{IfSome, is_some}
 use Rattle.charmlet_model.specs.Core.{Commit, Done, assigned_to}
 use Rattle.charmlet_model.specs.Run.{Goes}
-use Rattle.charmlet_seats.specs.Seats.{IdList}
+use Rattle.charmlet_leases.specs.Seats.Seats.{IdList}
 use Rattle.charmlet_shelf.specs.Shelf.{View}
 use Rattle.charmlet_sequencer.specs.Sequencer.{KeepsObjects, SequencerShown, store_of}
 use Rattle.charmlet_sequencer.specs.Shelf.{delivery_in}

@@ -3,8 +3,8 @@ use Rattle.std.specs.Prelude.{is_some}
 use Rattle.charmlet_model.specs.Core.{Counts, Flush, Stepped}
 use Rattle.charmlet_model.specs.Run.{Goes}
 use Rattle.charmlet_history.specs.Kept.{counts_or_refused}
-use Rattle.charmlet_passes.specs.Passes.{AreCurrent}
-use Rattle.charmlet_passes.proofs.OtherSteps.{steps_keep}
+use Rattle.charmlet_leases.specs.Passes.Passes.{AreCurrent}
+use Rattle.charmlet_leases.proofs.PassesLemmas.OtherSteps.{steps_keep}
 use Rattle.charmlet_sequencer.specs.Sequencer.{store_of}
 use Rattle.charmlet_hub.specs.Hub.{HubShown, store_in, while_busy}
 use Rattle.charmlet_hub.proofs.Hubs.{hub_aside, hub_stepped}

@@ -4,7 +4,7 @@ use Rattle.std.specs.List.{All}
 use Rattle.charmlet_model.specs.Core.{Core, present}
 use Rattle.charmlet_history.specs.Kept.{core_in}
 use Rattle.charmlet_stock.proofs.Results.{when_ok}
-use Rattle.charmlet_running.specs.Running.{IsRunning, IsShownBy}
+use Rattle.charmlet_persist.specs.FuzzyCheckpoint.Running.{IsRunning, IsShownBy}
 use Rattle.charmlet_sequencer.specs.Sequencer.{SequencerShown}
 use Rattle.charmlet_hub.specs.Checkpoint.{IsCheckpointed, Token, with_images_if}
 use Rattle.charmlet_hub.specs.Hub.{IsHub, shown_by}

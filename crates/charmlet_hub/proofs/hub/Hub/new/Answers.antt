@@ -1,6 +1,6 @@
 use Rattle.std.proofs.Common.{length, List, sym, ap, subst, arith}
 use Rattle.charmlet_model.specs.declared.event.Event.{Event}
-use Rattle.charmlet_seats.specs.Seats.{HaveAll}
+use Rattle.charmlet_leases.specs.Seats.Seats.{HaveAll}
 use Rattle.charmlet_hub.specs.Hub.{deliveries_in}
 use Rattle.charmlet_hub.proofs.Checkpoints.{none_there}
 use Rattle.charmlet_hub.proofs.hub.Hub.new.Goals as goal

@@ -1,6 +1,6 @@
 use Rattle.std.proofs.Common.{List, sym, subst}
 use Rattle.std.specs.Prelude.{Option, is_some}
-use Rattle.charmlet_running.specs.Running.{Run}
+use Rattle.charmlet_persist.specs.FuzzyCheckpoint.Running.{Run}
 use Rattle.charmlet_hub.specs.Checkpoint.{IsCheckpointed, Token}
 use Rattle.charmlet_hub.proofs.Hubs.{hub_sealed, seal_events}
 use Rattle.charmlet_hub.proofs.Checkpoints.{seal_keeps}

@@ -3,8 +3,8 @@ use Rattle.std.specs.Prelude.{Option}
 use Rattle.charmlet_disk.specs.File.{CrashBytes, MayLeave}
 use Rattle.charmlet_recovery.proofs.Outcomes.{kept_is_lawful}
 use Rattle.charmlet_history.specs.Kept.{core_in}
-use Rattle.charmlet_journal.specs.Rest.{HasOldOrSealed}
-use Rattle.charmlet_journal.proofs.Turning.{rests_sealed}
+use Rattle.charmlet_persist.specs.Journal.Rest.{HasOldOrSealed}
+use Rattle.charmlet_persist.proofs.JournalLemmas.Turning.{rests_sealed}
 use Rattle.charmlet_sequencer.specs.Book.{IsBookIn}
 use Rattle.charmlet_sequencer.specs.Part.{Part}
 use Rattle.charmlet_sequencer.specs.Sequencer.{IsOf, SequencerShown, is_lawful}

@@ -7,7 +7,7 @@ use Rattle.charmlet_disk.specs.Disk.{LeavesOnly}
 use Rattle.charmlet_disk.proofs.Moments.{weaker}
 use Rattle.charmlet_halves.specs.Halves.{disk_of}
 use Rattle.charmlet_history.specs.Kept.{core_in, counts_or_refused, plenty}
-use Rattle.charmlet_journal.specs.Rest.{keeps_durable}
+use Rattle.charmlet_persist.specs.Journal.Rest.{keeps_durable}
 use Rattle.charmlet_recovery.proofs.Outcomes.{kept_is_lawful}
 use Rattle.charmlet_stock.specs.Stock.{blanks_in}
 use Rattle.charmlet_delivery.specs.Workplace.{store_with}

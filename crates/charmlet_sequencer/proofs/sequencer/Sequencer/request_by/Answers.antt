@@ -5,7 +5,7 @@ use Rattle.charmlet_model.specs.Run.{Goes}
 use Rattle.charmlet_model.specs.Told.{Holds}
 use Rattle.charmlet_stock.specs.Stock.{blanks_in}
 use Rattle.charmlet_history.specs.Kept.{core_in, plenty, told_or_refused}
-use Rattle.charmlet_journal.proofs.Quietness.{quiet_step}
+use Rattle.charmlet_persist.proofs.JournalLemmas.Quietness.{quiet_step}
 use Rattle.charmlet_delivery.specs.Workplace.{store_with}
 use Rattle.charmlet_delivery.proofs.Leaving.{request_leaves}
 use Rattle.charmlet_sequencer.specs.Sequencer.{SequencerShown, store_of}

@@ -5,7 +5,7 @@ use Rattle.charmlet_disk.specs.Disk.{LeavesOnly}
 use Rattle.charmlet_disk.proofs.Moments.{weaker}
 use Rattle.charmlet_halves.specs.Halves.{disk_of}
 use Rattle.charmlet_history.specs.Kept.{core_in}
-use Rattle.charmlet_journal.specs.Rest.{HasOldOrSealed, HasSealed, keeps_durable}
+use Rattle.charmlet_persist.specs.Journal.Rest.{HasOldOrSealed, HasSealed, keeps_durable}
 use Rattle.charmlet_recovery.proofs.Outcomes.{kept_is_lawful}
 use Rattle.charmlet_sequencer.specs.Checkpointing.{IsSealedCore}
 use Rattle.charmlet_sequencer.specs.Sequencer.{SequencerShown, is_lawful}

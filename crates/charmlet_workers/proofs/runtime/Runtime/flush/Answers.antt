@@ -3,7 +3,7 @@ use Rattle.std.specs.Prelude.{IfOk}
 use Rattle.charmlet_model.specs.Core.{Flush}
 use Rattle.charmlet_model.specs.Run.{Goes}
 use Rattle.charmlet_history.specs.Kept.{counts_or_refused}
-use Rattle.charmlet_passes.specs.Passes.{TellAll}
+use Rattle.charmlet_leases.specs.Passes.Passes.{TellAll}
 use Rattle.charmlet_hub.specs.Hub.{HubShown, store_in}
 use Rattle.charmlet_workers.specs.Runtime.{AreFlushed, RuntimeShown, named}
 use Rattle.charmlet_workers.proofs.Flushing.{flushed_if}

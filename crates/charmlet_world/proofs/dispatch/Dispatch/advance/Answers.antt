@@ -3,8 +3,8 @@ use Rattle.std.specs.Prelude.{Some, None, unwrap_or}
 use Rattle.std.specs.BTreeMap.{insert_entry}
 use Rattle.charmlet_model.specs.Core.{home}
 use Rattle.charmlet_model.specs.Names.{elem_cmp}
-use Rattle.charmlet_index.specs.declared.place.Stand.{Stand}
-use Rattle.charmlet_index.specs.Index.{HaveRoom}
+use Rattle.charmlet_ready_queue.specs.declared.index.place.Stand.{Stand}
+use Rattle.charmlet_ready_queue.specs.Index.Index.{HaveRoom}
 use Rattle.charmlet_world.specs.declared.element.Element.{Element}
 use Rattle.charmlet_world.specs.Changed.{counted}
 use Rattle.charmlet_world.specs.Seen.{element_at}

@@ -1,9 +1,9 @@
 use Rattle.std.proofs.Common.{◌≡◌, ◌+◌, ◌<◌, ◌++◌, [], ◌∷◌, sym, ap, subst, ◌∙◌, arith}
 use Rattle.std.specs.Prelude.{◌==◌}
 use Rattle.charmlet_model.specs.declared.TheConstants.{CONSTRUCT}
-use Rattle.charmlet_index.specs.declared.place.Place.{Place}
-use Rattle.charmlet_index.specs.declared.place.Stand.{Stand}
-use Rattle.charmlet_index.specs.Index.{IsIndexOf, moved, place_by}
+use Rattle.charmlet_ready_queue.specs.declared.index.place.Place.{Place}
+use Rattle.charmlet_ready_queue.specs.declared.index.place.Stand.{Stand}
+use Rattle.charmlet_ready_queue.specs.Index.Index.{IsIndexOf, moved, place_by}
 use Rattle.charmlet_world.specs.Standing.{Standing}
 use Rattle.charmlet_world.specs.Tied.{Dispatched, IsTied, stand_by, stand_of}
 use Rattle.charmlet_world.proofs.Showing.{element_risen}

@@ -3,7 +3,7 @@ use Rattle.std.specs.Prelude.{Some, None, Option, is_some, unwrap_or}
 use Rattle.std.specs.BTreeMap.{insert_entry}
 use Rattle.std.specs.Map.{lookup}
 use Rattle.charmlet_model.specs.Names.{elem_cmp, same_elem}
-use Rattle.charmlet_index.specs.declared.place.Stand.{Stand}
+use Rattle.charmlet_ready_queue.specs.declared.index.place.Stand.{Stand}
 use Rattle.charmlet_world.specs.declared.element.Element.{Element}
 use Rattle.charmlet_world.specs.Seen.{element_at, no_element}
 use Rattle.charmlet_world.specs.Standing.{element_in, risen}

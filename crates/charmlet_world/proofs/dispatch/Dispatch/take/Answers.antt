@@ -3,9 +3,9 @@ use Rattle.std.specs.Prelude.{◌==◌}
 use Rattle.charmlet_model.specs.declared.TheConstants.{CONSTRUCT}
 use Rattle.charmlet_model.specs.World.{without}
 use Rattle.charmlet_model.proofs.Fits.{found-id}
-use Rattle.charmlet_index.specs.declared.place.Place.{Place}
-use Rattle.charmlet_index.specs.declared.place.Stand.{Stand}
-use Rattle.charmlet_index.specs.Index.{place_by}
+use Rattle.charmlet_ready_queue.specs.declared.index.place.Place.{Place}
+use Rattle.charmlet_ready_queue.specs.declared.index.place.Stand.{Stand}
+use Rattle.charmlet_ready_queue.specs.Index.Index.{place_by}
 use Rattle.charmlet_world.specs.Seen.{IsSlot}
 use Rattle.charmlet_world.specs.Tied.{stand_at, stand_by, stand_of}
 use Rattle.charmlet_world.proofs.Showing.{element_is, element_risen}

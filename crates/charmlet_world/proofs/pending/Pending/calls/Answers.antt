@@ -1,6 +1,6 @@
 use Rattle.std.proofs.Common.{◌≤◌, sym, ap, subst, ◌∙◌, length}
 use Rattle.std.specs.List.{AllByRecursion}
-use Rattle.charmlet_index.specs.declared.chain.Call.{Call}
+use Rattle.charmlet_ready_queue.specs.declared.index.chain.Call.{Call}
 use Rattle.charmlet_world.specs.declared.receivers.Receiver.{Receiver}
 use Rattle.charmlet_world.specs.Envelopes.{calls_in}
 use Rattle.charmlet_world.specs.Tied.{calls_down}

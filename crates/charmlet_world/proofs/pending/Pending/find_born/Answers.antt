@@ -2,7 +2,7 @@ use Rattle.std.proofs.Common.{ℕ, ◌≡◌, sym, ap, ◌∙◌, slice_get}
 use Rattle.std.specs.Prelude.{None, Some, Option, option_map}
 use Rattle.std.specs.Borrow.{Bor}
 use Rattle.std.specs.Option.{option_copied}
-use Rattle.charmlet_births.specs.Births.{Climbs}
+use Rattle.charmlet_ready_queue.specs.Births.Births.{Climbs}
 use Rattle.charmlet_model.specs.declared.names.MsgId.{MsgId}
 use Rattle.charmlet_world.specs.declared.letter.Letter.{Letter}
 use Rattle.charmlet_world.specs.declared.envelope.Envelope.{Envelope}

@@ -1,9 +1,0 @@
-use Rattle.std.proofs.Common.{rules}
-use Rattle.charmlet_any_disk.proofs.Timed.{in_failing, in_memory}
-use Rattle.charmlet_any_disk.proofs.any_disk.AnyDiskDisk.len.Goals as goal
-
-pub returns-in-Memory-clause-time : goal.returns-in-Memory-clause-time
-returns-in-Memory-clause-time c = search (rules, in_memory)
-
-pub returns-in-Failing-clause-time : goal.returns-in-Failing-clause-time
-returns-in-Failing-clause-time c = search (rules, in_failing)

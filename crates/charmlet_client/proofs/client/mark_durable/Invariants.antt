@@ -1,6 +1,0 @@
-use Rattle.std.proofs.Common.{◌≡◌, replicate}
-use Rattle.std.specs.Prelude.{true}
-use Rattle.charmlet_client.proofs.client.mark_durable.Given as goal
-
-abbrev pub invariant-loop : goal.invariant-loop
-invariant-loop l = l.durable.items ≡ replicate l.counter true

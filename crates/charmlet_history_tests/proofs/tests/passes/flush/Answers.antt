@@ -1,8 +1,0 @@
-use Rattle.charmlet_model.specs.Core.{Flush}
-use Rattle.charmlet_history.specs.Kept.{core_in, counts_or_refused, plenty}
-use Rattle.charmlet_history_tests.proofs.tests.passes.flush.Goals as goal
-
-pub returns-clause-current : goal.returns-clause-current
-returns-clause-current g c =
-    c.steps_keep_passes.ensures c.args._book.now (core_in c.args.history.now) plenty Flush (record { answer = counts_or_refused c.flush.result; core = core_in c.flush.new.self; blanks = plenty })
-    c.facts.ensures.sound tt tt (c.flush.ensures.steps plenty) c.requires

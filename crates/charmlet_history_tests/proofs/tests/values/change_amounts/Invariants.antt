@@ -1,5 +1,0 @@
-use Rattle.charmlet_history_tests.proofs.tests.values.change_amounts.Given as goal
-
--- a value that no code has
-abbrev pub ghosts-change_to : goal.ghosts-change_to
-ghosts-change_to g a = record { value = record { count = 4 } }

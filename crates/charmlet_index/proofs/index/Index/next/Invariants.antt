@@ -1,4 +1,0 @@
-use Rattle.charmlet_index.proofs.index.Index.next.Given as goal
-
-abbrev pub ghosts-next_counted : goal.ghosts-next_counted
-ghosts-next_counted a = record { name = a.blank.name; parts = a.blank.parts }

@@ -1,6 +1,0 @@
-use Rattle.std.proofs.Common.{◌<◌, length, sym, subst}
-use Rattle.charmlet_index.specs.Index.{Indexed, IsIndexOf}
-use Rattle.charmlet_index.proofs.index.Index.oldest_on.Goals as goal
-
-pub returns-clause-index : goal.returns-clause-index
-returns-clause-index g c = λ births place is within. c.oldest_of.ensures.index births place (subst (λ (v : Indexed). IsIndexOf births place v.lists) (sym c.self.view_is) is) (subst (λ (v : Indexed). c.args.on < length v.lists) (sym c.self.view_is) within)

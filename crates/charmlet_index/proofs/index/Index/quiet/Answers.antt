@@ -1,7 +1,0 @@
-use Rattle.std.proofs.Common.{◌<◌, length, sym, subst}
-use Rattle.std.specs.List.{AllByRecursion}
-use Rattle.charmlet_index.specs.Index.{Indexed, IsIndexOf}
-use Rattle.charmlet_index.proofs.index.Index.quiet.Goals as goal
-
-pub returns : goal.returns
-returns c = λ births place is on_all. c.none_ready.ensures births place (subst (λ (v : Indexed). IsIndexOf births place v.lists) (sym c.self.view_is) is) (subst (λ (v : Indexed). AllByRecursion (λ n. (place n).on < length v.lists) births) (sym c.self.view_is) on_all)

@@ -1,9 +1,0 @@
-use Rattle.std.proofs.Common.{sym, subst}
-use Rattle.charmlet_index.specs.Index.{Indexed, IsIndexOf}
-use Rattle.charmlet_index.proofs.index.Index.reserve_on.Goals as goal
-
-pub invariant_of-self : goal.invariant_of-self
-invariant_of-self c = record { numbers = c.self.invariant.numbers; roomy = c.reserve_one.ensures.roomy; below = c.reserve_one.ensures.below c.self.inside.next c.self.invariant.below }
-
-pub returns-clause-index : goal.returns-clause-index
-returns-clause-index c = λ births place is. c.reserve_one.ensures.index births place (subst (λ (v : Indexed). IsIndexOf births place v.lists) (sym c.self.view_is) is)

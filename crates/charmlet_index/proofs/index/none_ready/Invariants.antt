@@ -1,9 +1,0 @@
-use Rattle.std.proofs.Common.{◌≡◌, ℕ, List}
-use Rattle.std.specs.Prelude.{None}
-use Rattle.charmlet_index.specs.declared.place.Place.{Place}
-use Rattle.charmlet_index.specs.Index.{IsIndexOf, first_of}
-use Rattle.charmlet_index.proofs.Firsts.{is_below}
-use Rattle.charmlet_index.proofs.index.none_ready.Given as goal
-
-abbrev pub invariant-loop-on : goal.invariant-loop-on
-invariant-loop-on l = (births : List ℕ) (place : ℕ → Place) → IsIndexOf births place l.lists.items → first_of (is_below place l.on) births ≡ None

@@ -1,9 +1,0 @@
-use Rattle.std.proofs.Common.{◌∙◌}
-use Rattle.charmlet_index.proofs.lists.Lists.push.Goals as goal
-use Rattle.charmlet_index.proofs.Numbers.{last_with}
-
-pub returns-then-is_ready-clause-ready : goal.returns-then-is_ready-clause-ready
-returns-then-is_ready-clause-ready c = rw c.if-is_ready.true (c.push.ensures.births ∙ last_with c.args.self.now.ready.births c.args.number c.requires.last.ready)
-
-pub returns-else-is_ready-clause-waiting : goal.returns-else-is_ready-clause-waiting
-returns-else-is_ready-clause-waiting c = rw c.if-is_ready.false (c.push-else-is_ready.ensures.births ∙ last_with c.args.self.now.waiting.births c.args.number c.requires.last.waiting)

@@ -1,5 +1,0 @@
-use Rattle.charmlet_lab_tests.proofs.Lacking.{no_run}
-use Rattle.charmlet_lab_tests.proofs.tests.counters.run_counters.Goals as goal
-
-pub returns-in_err-blanks-clause-err : goal.returns-in_err-blanks-clause-err
-returns-in_err-blanks-clause-err g c = no_run g.D.Disk c.args.script.now c.args.disk c.from_residual.result c.from_residual.ensures.1

@@ -1,5 +1,0 @@
-//! Tests of the laboratory, in a crate of their own, since a crate with tests is proved twice.
-#![tactic(auto)]
-
-#[cfg(test)]
-mod tests;

@@ -1,0 +1,3 @@
+pub mod TicketsLemmas
+pub mod SeatsLemmas
+pub mod PassesLemmas

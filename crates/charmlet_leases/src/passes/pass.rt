@@ -1,0 +1,90 @@
+//! Clients' passes.
+
+use charmlet_locks::{BookName, GhostValue, Share};
+use charmlet_model::Told;
+use charmlet_requests as requests;
+use std::alloc::AllocError;
+use std::marker::{Brand, Model};
+
+/// What a pass holds, as only contracts see it. The values that code makes are those of passes that
+/// are being lent.
+#[derive(Drop)]
+pub struct SeenPass {
+    pub(crate) client: u32,
+    pub(crate) last: u64,
+    pub(crate) since: u64,
+}
+
+impl Model for SeenPass {
+    ghost use Rattle.charmlet_leases.specs.Passes.Passes.{HeldPass, lent_since};
+
+    ghost Value = { HeldPass };
+
+    ghost view = { λ s. lent_since s.client s.last s.since };
+}
+
+impl GhostValue<SeenPass> for Brand {
+    ghost use Rattle.charmlet_leases.specs.Passes.Passes.{lent_since};
+
+    ghost value = { lent_since 0 0 0 };
+}
+
+/// The right to make requests for a client. A contract sees after how many events it was lent, its
+/// client's accepts since then, in order, all that its client was told, in order, and how many
+/// events the last flush counted that it was handed to. The accepts have no bytes: their numbers
+/// follow one another, up to `last`. Of what was told the highest of each request is kept.
+#[derive(Drop)]
+pub struct ClientPass<B: BookName> {
+    pub(crate) pass: requests::ClientPass,
+    pub(crate) share: Share<SeenPass, B>,
+}
+
+impl<B: BookName> Model for ClientPass<B> {
+    ghost use Rattle.std.specs.Prelude.{◌≡◌, Some};
+    ghost use Rattle.charmlet_leases.specs.Passes.Passes.{HeldPass, held_by};
+
+    ghost Value = { HeldPass };
+
+    ghost view = { λ p. held_by p.share.1 };
+
+    ghost invariant = { λ p. (p.share.1 ≡ Some (held_by p.share.1))
+        × ((held_by p.share.1).pass ≡ p.pass) };
+}
+
+impl<B: BookName> ClientPass<B> {
+    ghost use Rattle.std.specs.Prelude.{◌≡◌, ◌-◌, IfOk, OnErr, true};
+    ghost use Rattle.charmlet_model.specs.Core.{has_words};
+    ghost use Rattle.charmlet_requests.specs.Pass.{known};
+
+    /// The client whose pass it is.
+    pub fn client(&self) -> u32
+        ensures { result ≡ self.now.pass.client }
+    {
+        self.pass.client()
+    }
+
+    /// The number of its last accept, or, if there is none, the client's last number when the pass
+    /// was lent.
+    pub fn last(&self) -> u64
+        ensures { result ≡ self.now.pass.last }
+    {
+        self.pass.last()
+    }
+
+    /// How many requests were accepted since the pass was lent.
+    pub fn accept_count(&self) -> u64
+        ensures { result ≡ self.now.pass.last - self.now.pass.lent_at }
+    {
+        self.pass.accept_count()
+    }
+
+    /// What is known about request `number`: the highest answer that the client was told about it,
+    /// or what follows from what it was told about others. It fails only when out of memory, and
+    /// takes none if what is known has no words.
+    pub fn known(&self, number: u64) -> Result<Told, AllocError>
+        ensures known { IfOk result (λ told. told ≡ known self.now.pass number) }
+        ensures words { OnErr result (has_words (known self.now.pass number) ≡ true) }
+    {
+        self.pass.known(number)
+    }
+}

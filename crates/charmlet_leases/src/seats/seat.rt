@@ -1,0 +1,116 @@
+//! Seats.
+
+use crate::seats::ids::DeliveryIds;
+use crate::tickets::{Ticket, TicketQueue};
+use charmlet_locks::{BookName, GhostValue, Share};
+use charmlet_model::MsgId;
+use std::alloc::AllocError;
+use std::marker::{Brand, Model};
+
+/// Names the book of the seats of one runtime, and says how many processors it has. The call that
+/// makes a book picks both.
+pub trait SeatBookName: BookName {
+    ghost use Rattle.std.specs.Prelude.{ℕ};
+
+    ghost processors: { ℕ };
+}
+
+impl SeatBookName for Brand {
+    ghost processors = { 0 };
+}
+
+/// The ids that a seat holds, as only contracts see them. The one value that code makes has none.
+#[derive(Drop)]
+pub struct SeenIds;
+
+impl Model for SeenIds {
+    ghost use Rattle.std.specs.Prelude.{List, []};
+    ghost use Rattle.charmlet_model.specs.declared.names.MsgId.{MsgId};
+
+    ghost Value = { List MsgId };
+
+    ghost view = { λ _. [] };
+}
+
+impl GhostValue<SeenIds> for Brand {
+    ghost use Rattle.std.specs.Prelude.{[]};
+
+    ghost value = { [] };
+}
+
+/// The right to work for a processor. It holds the ids of the deliveries that were committed with
+/// it, in order, and a handle on its processor's queue of tickets. A contract sees the ids beside
+/// the seat's place in its book, its processor, and the room for more ids.
+#[derive(Drop)]
+pub struct Seat<B: SeatBookName> {
+    pub(crate) place: usize,
+    pub(crate) processor: u16,
+    pub(crate) ids: DeliveryIds,
+    pub(crate) share: Share<SeenIds, B>,
+    pub(crate) queue: TicketQueue,
+}
+
+impl<B: SeatBookName> Model for Seat<B> {
+    ghost use Rattle.std.specs.Prelude.{◌≡◌, ◌<◌, Some};
+    ghost use Rattle.charmlet_leases.specs.Seats.Seats.{HeldSeat};
+
+    ghost Value = { HeldSeat };
+
+    ghost view = { λ s. record {
+      place = s.place;
+      processor = s.processor;
+      ids = s.ids.items;
+      room = s.ids.room;
+    } };
+
+    ghost invariant = { λ s. (s.share ≡ (s.place, Some s.ids.items))
+        × (s.processor < B.processors)
+        × (s.queue ≡ s.processor) };
+}
+
+impl<B: SeatBookName> Seat<B> {
+    ghost use Rattle.std.specs.Prelude.{◌≡◌, ◌<◌, ◌≤◌, IfSome, IsOk, OnOk};
+
+    /// The processor, one of those that the runtime has.
+    pub fn processor(&self) -> u16
+        ensures processor { result ≡ self.now.processor }
+        ensures is_there { result < B.processors }
+    {
+        self.processor
+    }
+
+    /// The ids that it holds.
+    pub fn ids(&self) -> &[MsgId]
+        ensures { result.now ≡ self.now.ids }
+    {
+        self.ids.as_slice()
+    }
+
+    /// Takes the foremost ticket of its processor's queue, if there is one. It doesn't wait.
+    pub fn next_ticket(&mut self) -> Option<Ticket>
+        ensures seat { self.new ≡ self.old }
+        ensures ticket { IfSome result (λ ticket. ticket.processor ≡ self.old.processor) }
+    {
+        self.queue.pop()
+    }
+
+    /// For how many more commits there is room.
+    pub fn room(&self) -> usize
+        ensures { result ≡ self.now.room }
+    {
+        self.ids.room()
+    }
+
+    /// Makes room for `count` more commits, and never gives up room. It fails only when out of
+    /// memory, and takes none if there is room. What it holds stays.
+    pub fn reserve(&mut self, count: usize) -> Result<(), AllocError>
+        ensures place { self.new.place ≡ self.old.place }
+        ensures processor { self.new.processor ≡ self.old.processor }
+        ensures ids { self.new.ids ≡ self.old.ids }
+        ensures room { OnOk result (count ≤ self.new.room) }
+        ensures stays { self.old.room ≤ self.new.room }
+        ensures memory { count ≤ self.old.room → IsOk result }
+    {
+        self.ids.reserve(count)
+    }
+}

@@ -1,0 +1,3 @@
+pub mod PartitionLemmas
+pub mod WorldLemmas
+pub mod RoutingLemmas

@@ -1,0 +1,4 @@
+-- The definitions that contracts cite.
+pub mod Partition
+pub mod World
+pub mod Routing

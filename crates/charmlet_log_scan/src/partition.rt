@@ -1,0 +1,6 @@
+//! What several workers do of a recovery, each for its own elements: definitions, and their laws.
+
+pub mod laws;
+mod task;
+
+pub use crate::partition::task::Task;

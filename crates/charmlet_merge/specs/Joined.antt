@@ -1,0 +1,41 @@
+-- Lots that can become one.
+use Rattle.std.specs.Prelude.{◌≡◌, ℕ, ◌+◌, ◌<◌, ◌%◌, List, length, slice_get, Some, sum_by}
+use Rattle.charmlet_model.specs.declared.kind.Kind.{Kind}
+use Rattle.charmlet_model.specs.declared.names.Elem.{Elem}
+use Rattle.charmlet_model.specs.declared.state.Record.{Record}
+use Rattle.charmlet_model.specs.Core.{home}
+use Rattle.charmlet_chare.specs.declared.chare.Chare.{Ghosts}
+use Rattle.charmlet_shelf.specs.Shelf.{View}
+use Rattle.charmlet_stock.specs.declared.stock.Stock.{Stock}
+use Rattle.charmlet_stock.specs.Stock.{blanks_in, supplied_to, tally_in}
+use Rattle.charmlet_store.specs.Store.{AreEmpty}
+use Rattle.charmlet_replay.specs.Restored.{IsHeld}
+use Rattle.charmlet_replay_workers.specs.Worker.Workers.{AreParts}
+use Rattle.charmlet_replay_workers.specs.declared.worker.lot.Lot.{Lot}
+
+-- of so many workers the one that has the element: that of its home
+abbrev pub worker_at_home : ℕ → ℕ → Elem → ℕ
+worker_at_home processors workers x = home x processors % workers
+
+-- how many blanks of a kind the workers have
+abbrev pub blanks_of_lots : {C : Type 0} {G : Ghosts C} → List (Lot C G) → Kind → ℕ
+blanks_of_lots {C} {G} lots kind = sum_by (λ (lot : Lot C G). blanks_in lot.restored.stock kind) lots
+
+-- how many objects of a kind they drew
+abbrev pub drawn_by_lots : {C : Type 0} {G : Ghosts C} → List (Lot C G) → Kind → ℕ
+drawn_by_lots {C} {G} lots kind =
+    sum_by (λ (lot : Lot C G). supplied_to lot.restored.stock kind) lots
+
+-- Each worker has its part of the records, and all objects that it drew from the stock; what isn't
+-- in the stock, they drew; and there are empty shelves for all processors.
+pub record IsJoinable {C : Type 0} {G : Ghosts C} (processors : ℕ)
+    (records : List (Elem × Record)) (lots : List (Lot C G)) (shelves : List View)
+    (stock : Stock C G) : Type 0 where
+  pub some : 0 < length lots
+  pub parts : AreParts (worker_at_home processors (length lots)) records lots
+  pub on : (v : ℕ) (lot : Lot C G) → slice_get lots v ≡ Some lot →
+      lot.restored.processors ≡ processors
+  pub held : (v : ℕ) (lot : Lot C G) → slice_get lots v ≡ Some lot → IsHeld lot.restored
+  pub empty : AreEmpty processors shelves
+  pub shared : (kind : Kind) → supplied_to stock kind ≡ drawn_by_lots lots kind
+      + blanks_in stock kind + (tally_in stock kind).retired

@@ -1,0 +1,19 @@
+-- What is kept of the elements of all workers.
+use Rattle.std.specs.Prelude.{◌≡◌, ℕ, ◌<◌, List, length, slice_get, Some}
+use Rattle.std.specs.List.Sorted.{IsStrictlySortedBy}
+use Rattle.std.specs.Map.{keys_of}
+use Rattle.charmlet_model.specs.declared.names.Elem.{Elem}
+use Rattle.charmlet_model.specs.declared.state.Record.{Record}
+use Rattle.charmlet_model.specs.Names.{elem_cmp}
+use Rattle.charmlet_chare.specs.declared.chare.Chare.{Ghosts}
+use Rattle.charmlet_replay_workers.specs.Worker.Workers.{AreParts}
+use Rattle.charmlet_replay_workers.specs.declared.worker.lot.Lot.{Lot}
+
+-- each worker has its part of the records, which rise, on so many processors
+pub record ArePartsOn {C : Type 0} {G : Ghosts C} (worker : Elem → ℕ) (processors : ℕ)
+    (records : List (Elem × Record)) (lots : List (Lot C G)) : Type 0 where
+  pub rising : IsStrictlySortedBy elem_cmp (keys_of records)
+  pub within : (x : Elem) → worker x < length lots
+  pub parts : AreParts worker records lots
+  pub on : (v : ℕ) (lot : Lot C G) → slice_get lots v ≡ Some lot →
+      lot.restored.processors ≡ processors

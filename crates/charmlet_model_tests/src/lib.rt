@@ -1,5 +1,0 @@
-//! Tests of the model's calls, in a crate of their own, since a crate with tests is proved twice.
-#![tactic(auto)]
-
-#[cfg(test)]
-mod tests;

@@ -1,4 +1,0 @@
--- Lemmas on what several workers make of a half.
-pub mod Redone
-pub mod Sharing
-pub mod Repeating

@@ -1,0 +1,6 @@
+-- Lemmas on what several workers make of a half.
+pub mod Redone
+pub mod Sharing
+pub mod Repeating
+pub mod ImageLemmas
+pub mod RoundsLemmas

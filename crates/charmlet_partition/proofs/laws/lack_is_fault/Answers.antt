@@ -1,5 +1,0 @@
-use Rattle.charmlet_partition.proofs.Dealt.{dealt-are-made, lack-is-fault}
-use Rattle.charmlet_partition.proofs.laws.lack_is_fault.Goals as goal
-
-pub returns : goal.returns
-returns c = record { made = dealt-are-made; lack = lack-is-fault }

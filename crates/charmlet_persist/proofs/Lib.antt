@@ -1,0 +1,3 @@
+pub mod JournalLemmas
+pub mod SnapshotLemmas
+pub mod FuzzyCheckpointLemmas

@@ -1,0 +1,4 @@
+-- The definitions that contracts cite.
+pub mod Rest
+pub mod NewStores
+pub mod Quiet

@@ -1,0 +1,13 @@
+//! Checkpoints: the image of the present world of a history and its shelves, and what takes the
+//! place of a store.
+
+mod clients;
+mod image;
+mod pending;
+mod records;
+mod taking;
+
+pub use crate::snapshot::clients::append_clients;
+pub use crate::snapshot::image::{append_arrays, count_of, fill_header, image_of};
+pub use crate::snapshot::pending::append_pending;
+pub use crate::snapshot::taking::checkpoint;

@@ -1,4 +1,0 @@
-pub mod PlainWorlds
-pub mod Readings
-pub mod RisingMaps
-pub mod Upgrades

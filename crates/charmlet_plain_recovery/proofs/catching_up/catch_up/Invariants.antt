@@ -1,5 +1,0 @@
-use Rattle.charmlet_plain_recovery.proofs.CatchUpLoops.{IsUnderWay}
-use Rattle.charmlet_plain_recovery.proofs.catching_up.catch_up.Given as goal
-
-abbrev pub invariant-loop-place : goal.invariant-loop-place
-invariant-loop-place l = IsUnderWay l.fn.plain l.plain l.place l.deliveries

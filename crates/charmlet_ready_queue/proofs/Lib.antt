@@ -1,0 +1,2 @@
+pub mod BirthsLemmas
+pub mod IndexLemmas

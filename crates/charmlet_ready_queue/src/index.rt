@@ -1,0 +1,13 @@
+//! An index of the pending messages: for each processor the births that are ready on it, and those
+//! that wait there.
+
+mod chain;
+mod index;
+mod lists;
+mod place;
+mod turns;
+
+pub use crate::index::chain::{Call, Chain};
+pub use crate::index::index::Index;
+pub use crate::index::lists::Lists;
+pub use crate::index::place::{Place, Stand};

@@ -1,0 +1,23 @@
+//! The births of messages to one element.
+
+ghost use Rattle.std.specs.Prelude.{◌≡◌, [], ◌∷◌, List, MatchOption};
+ghost use Rattle.charmlet_ready_queue.specs.declared.index.chain.Call.{Call as ACall};
+
+/// The birth of a message to an element, and whether the message constructs the element.
+#[derive(Clone, Copy, Debug, PartialEq, Eq)]
+pub struct Call {
+    pub number: u64,
+    pub constructs: bool,
+}
+
+/// The births of messages to one element, which are gone through one after another. They move least
+/// where they come in rising or in falling order.
+pub trait Chain {
+    /// Those that are left.
+    ghost left: { Self → List ACall };
+
+    /// The next one, if there is one.
+    fn next(&mut self) -> Option<Call>
+        ensures { MatchOption result ((left self.old ≡ []) × (left self.new ≡ []))
+            (λ call. left self.old ≡ call ∷ left self.new) };
+}

@@ -1,0 +1,146 @@
+//! The births on one processor.
+
+ghost use Rattle.std.specs.Prelude.{◌≡◌, ◌+◌, ◌≤◌, ◌<◌, [], OnOk, if◌then◌else◌};
+ghost use Rattle.charmlet_ready_queue.specs.Births.Births.{with_number, without_number};
+ghost use Rattle.charmlet_ready_queue.specs.Index.Index.{IsBelow, IsRoomy};
+
+use crate::births::Births;
+use std::alloc::{AllocError, Global};
+
+/// The births on one processor: those that are ready, and those that wait. Beside them, how many
+/// births of elements that have their home here are on other processors.
+#[derive(Drop)]
+pub struct Lists {
+    pub ready: Births,
+    pub waiting: Births,
+    pub away: usize,
+}
+
+impl Lists {
+    /// None. It takes no memory.
+    pub(crate) fn new(alloc: Global) -> Self
+        ensures ready { result.ready.births ≡ [] }
+        ensures waiting { result.waiting.births ≡ [] }
+        ensures away { result.away ≡ 0 }
+        ensures roomy { IsRoomy 0 result }
+    {
+        Lists {
+            ready: Births::new(alloc),
+            waiting: Births::new(alloc),
+            away: 0,
+        }
+    }
+
+    /// Makes room in each list for all births that may have to stand there, and for so many more.
+    /// Where memory is refused, no birth changes.
+    pub(crate) fn reserve(&mut self, headroom: usize) -> Result<(), AllocError>
+        ensures ready { self.new.ready.births ≡ self.old.ready.births }
+        ensures waiting { self.new.waiting.births ≡ self.old.waiting.births }
+        ensures away { self.new.away ≡ self.old.away }
+        ensures ready_capacity { self.old.ready.capacity ≤ self.new.ready.capacity }
+        ensures waiting_capacity { self.old.waiting.capacity ≤ self.new.waiting.capacity }
+        ensures ok { OnOk result (IsRoomy headroom self.new) }
+    {
+        let Some(here) = self.ready.len().checked_add(self.waiting.len()) else {
+            return Err(AllocError);
+        };
+        let Some(load) = here.checked_add(self.away) else {
+            return Err(AllocError);
+        };
+        let Some(wanted) = load.checked_add(headroom) else {
+            return Err(AllocError);
+        };
+        grow(&mut self.ready, wanted)?;
+        grow(&mut self.waiting, wanted)?;
+        Ok(())
+    }
+
+    /// Takes a birth out of the list in which it is.
+    pub(crate) fn take(&mut self, number: u64, is_ready: bool)
+        ensures ready { self.new.ready.births ≡ (if is_ready
+            then without_number number self.old.ready.births else self.old.ready.births) }
+        ensures waiting { self.new.waiting.births ≡ (if is_ready then self.old.waiting.births
+            else without_number number self.old.waiting.births) }
+        ensures away { self.new.away ≡ self.old.away }
+        ensures ready_capacity { self.new.ready.capacity ≡ self.old.ready.capacity }
+        ensures waiting_capacity { self.new.waiting.capacity ≡ self.old.waiting.capacity }
+    {
+        if is_ready {
+            self.ready.take(number);
+        } else {
+            self.waiting.take(number);
+        }
+    }
+
+    /// Puts a birth in its place of one list, where there is room.
+    pub(crate) fn put(&mut self, number: u64, is_ready: bool)
+        requires { IsRoomy 1 self.old }
+        ensures ready { self.new.ready.births ≡ (if is_ready
+            then with_number number self.old.ready.births else self.old.ready.births) }
+        ensures waiting { self.new.waiting.births ≡ (if is_ready then self.old.waiting.births
+            else with_number number self.old.waiting.births) }
+        ensures away { self.new.away ≡ self.old.away }
+        ensures ready_capacity { self.new.ready.capacity ≡ self.old.ready.capacity }
+        ensures waiting_capacity { self.new.waiting.capacity ≡ self.old.waiting.capacity }
+    {
+        if is_ready {
+            self.ready.put(number);
+        } else {
+            self.waiting.put(number);
+        }
+    }
+
+    /// Adds the last birth of all to one list, where there is room.
+    pub(crate) fn push(&mut self, number: u64, is_ready: bool)
+        requires roomy { IsRoomy 1 self.old }
+        requires last { IsBelow number self.old }
+        ensures ready { self.new.ready.births ≡ (if is_ready
+            then with_number number self.old.ready.births else self.old.ready.births) }
+        ensures waiting { self.new.waiting.births ≡ (if is_ready then self.old.waiting.births
+            else with_number number self.old.waiting.births) }
+        ensures away { self.new.away ≡ self.old.away }
+        ensures ready_capacity { self.new.ready.capacity ≡ self.old.ready.capacity }
+        ensures waiting_capacity { self.new.waiting.capacity ≡ self.old.waiting.capacity }
+    {
+        if is_ready {
+            self.ready.push(number);
+        } else {
+            self.waiting.push(number);
+        }
+    }
+
+    /// One more birth of an element that has its home here is elsewhere.
+    pub(crate) fn send_away(&mut self)
+        requires { IsRoomy 1 self.old }
+        ensures ready { self.new.ready ≡ self.old.ready }
+        ensures waiting { self.new.waiting ≡ self.old.waiting }
+        ensures away { self.new.away ≡ self.old.away + 1 }
+    {
+        // The room is what says that the count fits.
+        let _capacity = self.ready.capacity();
+        self.away += 1;
+    }
+
+    /// One of the births that were elsewhere isn't any more.
+    pub(crate) fn take_back(&mut self)
+        requires { 0 < self.old.away }
+        ensures ready { self.new.ready ≡ self.old.ready }
+        ensures waiting { self.new.waiting ≡ self.old.waiting }
+        ensures away { self.new.away + 1 ≡ self.old.away }
+    {
+        self.away -= 1;
+    }
+}
+
+/// Makes room for so many births in all, and, where that takes memory, for a quarter more, so that
+/// a list that grows is seldom moved.
+fn grow(births: &mut Births, wanted: usize) -> Result<(), AllocError>
+    ensures births { births.new.births ≡ births.old.births }
+    ensures capacity { births.old.capacity ≤ births.new.capacity }
+    ensures ok { OnOk result (wanted ≤ births.new.capacity) }
+{
+    if wanted <= births.capacity() {
+        return Ok(());
+    }
+    births.reserve(wanted.saturating_add(wanted / 4))
+}

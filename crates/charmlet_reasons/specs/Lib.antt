@@ -1,1 +1,0 @@
--- The definitions that contracts cite.

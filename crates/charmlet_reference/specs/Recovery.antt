@@ -1,0 +1,4 @@
+-- The definitions that contracts cite.
+pub mod Views
+pub mod Parts
+pub mod Written

@@ -1,0 +1,15 @@
+//! The model's definitions a second time, as programs that are as plain as possible and are proved
+//! equal to them: the kind table, packed objects, and the world with its events. Tests run them,
+//! and faster code is compared with them.
+#![tactic(auto)]
+
+mod kind_table;
+mod packed;
+mod recovery;
+mod upgrading;
+mod world;
+
+pub use crate::kind_table::react;
+pub use crate::packed::{pack_state, read_state, state_at};
+pub use crate::recovery::{Meaning, Recovered, recover, recover_as_written, replay};
+pub use crate::world::PlainWorld;

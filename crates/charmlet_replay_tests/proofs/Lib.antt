@@ -1,1 +1,0 @@
--- The tests need no lemma.

@@ -1,0 +1,170 @@
+//! Calls in well formed scripts of names that no `handler` line has.
+
+use crate::reasons::line::{Meant, word_at};
+use crate::reasons::near::Search;
+use crate::reasons::setting::Purpose;
+use crate::reasons::shown::Quoted;
+use crate::reasons::source::Source;
+use crate::reasons::table::{CALL, HANDLER};
+use indexmap::IndexSet;
+use std::alloc::{AllocError, Global};
+use std::fmt;
+
+/// The most names that are shown, and the most lines that are shown of each.
+const MOST_SHOWN: usize = 20;
+
+/// A name that no `handler` line has, and the lines that call it.
+#[derive(Debug, Drop)]
+struct Called<'a> {
+    name: &'a [u8],
+    /// The first of these lines.
+    lines: Vec<u64>,
+    /// How many more there are.
+    more: u64,
+    /// The nearest name of a handler.
+    meant: Option<&'a [u8]>,
+}
+
+/// What is told of a script without a malformed line: that there is none, and which names its lines
+/// call that no `handler` line has. It is printed without a line feed at the end.
+#[derive(Debug, Drop)]
+pub struct WellFormed<'a> {
+    purpose: Purpose,
+    /// The first of these names.
+    called: Vec<Called<'a>>,
+    /// How many there are in all.
+    names: usize,
+}
+
+/// Says what may be wrong in a script that is well formed.
+pub fn well_formed<'a>(
+    alloc: Global,
+    text: &'a [u8],
+    purpose: Purpose,
+) -> Result<WellFormed<'a>, AllocError> {
+    let source = Source::new(alloc, text)?;
+    let mut handlers: IndexSet<&'a [u8]> = IndexSet::new(alloc);
+    let mut names: IndexSet<&'a [u8]> = IndexSet::new(alloc);
+    let mut called: Vec<Called<'a>> = Vec::new(alloc);
+    for (place, line) in source.lines().iter().enumerate() {
+        if let Some(name) = name_after(line, HANDLER, 1) {
+            handlers.insert(name)?;
+        }
+        let Some(name) = name_after(line, CALL, 3) else {
+            continue;
+        };
+        if handlers.contains(&name) {
+            continue;
+        }
+        let (index, is_new) = names.insert_full(name)?;
+        if is_new && index < MOST_SHOWN {
+            called.push(Called::new(alloc, name))?;
+        }
+        if let Some(call) = called.get_mut(index) {
+            call.add((place as u64).saturating_add(1))?;
+        }
+    }
+    let mut search = Search::new();
+    for call in &mut called {
+        call.meant = search.nearest(call.name, handlers.as_slice());
+    }
+    Ok(WellFormed {
+        purpose,
+        called,
+        names: names.len(),
+    })
+}
+
+/// The word in this place of a line that begins with this one.
+fn name_after<'a>(line: &'a [u8], first: &str, place: usize) -> Option<&'a [u8]> {
+    if word_at(line, 0)? != first.as_bytes() {
+        return None;
+    }
+    word_at(line, place)
+}
+
+impl<'a> Called<'a> {
+    fn new(alloc: Global, name: &'a [u8]) -> Self {
+        Called {
+            name,
+            lines: Vec::new(alloc),
+            more: 0,
+            meant: None,
+        }
+    }
+
+    /// Adds a line that calls it.
+    fn add(&mut self, line: u64) -> Result<(), AllocError> {
+        if self.lines.len() < MOST_SHOWN {
+            self.lines.push(line)?;
+        } else {
+            self.more = self.more.saturating_add(1);
+        }
+        Ok(())
+    }
+}
+
+/// Writes numbers with commas between them.
+fn write_numbers<W: fmt::Write>(f: &mut fmt::Formatter<W>, numbers: &[u64]) -> fmt::Result {
+    for (place, number) in numbers.iter().enumerate() {
+        if place > 0 {
+            write!(f, ", ")?;
+        }
+        write!(f, "{number}")?;
+    }
+    Ok(())
+}
+
+/// Writes which lines call a name: these, and so many more.
+fn write_callers<W: fmt::Write>(
+    f: &mut fmt::Formatter<W>,
+    lines: &[u64],
+    more: u64,
+) -> fmt::Result {
+    if more > 0 {
+        write!(f, "lines ")?;
+        write_numbers(f, lines)?;
+        return write!(f, " and {more} more call");
+    }
+    match lines {
+        [] => Ok(()),
+        [only] => write!(f, "line {only} calls"),
+        [first @ .., last] => {
+            write!(f, "lines ")?;
+            write_numbers(f, first)?;
+            write!(f, " and {last} call")
+        }
+    }
+}
+
+impl<'a> fmt::Display for Called<'a> {
+    fn fmt<W: fmt::Write>(&self, f: &mut fmt::Formatter<W>) -> fmt::Result {
+        write_callers(f, &self.lines, self.more)?;
+        let name = Quoted(self.name);
+        let meant = Meant(self.meant);
+        write!(f, " {name}, and no handler line has that name{meant}")
+    }
+}
+
+impl<'a> fmt::Display for WellFormed<'a> {
+    fn fmt<W: fmt::Write>(&self, f: &mut fmt::Formatter<W>) -> fmt::Result {
+        write!(f, "every line is well formed")?;
+        for call in &self.called {
+            write!(f, "\n{call}")?;
+        }
+        let names = self.names;
+        if names > MOST_SHOWN {
+            write!(
+                f,
+                "\nin all {names} names are called that no handler line has"
+            )?;
+        }
+        if names > 0 && self.purpose == Purpose::Restart {
+            write!(
+                f,
+                "\na store keeps no handlers: the script of a restart has its own"
+            )?;
+        }
+        Ok(())
+    }
+}

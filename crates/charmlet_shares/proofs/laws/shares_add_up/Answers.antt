@@ -1,6 +1,0 @@
-use Rattle.charmlet_shares.proofs.AddUp.{catch-ups-add-up, records-add-up, tasks-add-up}
-use Rattle.charmlet_shares.proofs.Sums.{together-is-sum}
-use Rattle.charmlet_shares.proofs.laws.shares_add_up.Goals as goal
-
-pub returns : goal.returns
-returns c = record { sum = together-is-sum; records = records-add-up; catch_ups = catch-ups-add-up; tasks = tasks-add-up }

@@ -1,0 +1,6 @@
+//! Tests of objects, of worlds and histories, and of the leases of a runtime with threads. They
+//! have a crate of their own, since a crate with tests is proved twice.
+#![tactic(auto)]
+
+#[cfg(test)]
+mod tests;

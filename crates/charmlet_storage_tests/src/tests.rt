@@ -1,0 +1,4 @@
+mod disk;
+mod format;
+mod model;
+mod recovery;

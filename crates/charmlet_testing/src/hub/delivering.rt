@@ -1,0 +1,115 @@
+//! What a worker does with a hub and what lies under the locks of processors.
+
+use crate::disk::ProbeDisk;
+use crate::objects::Object;
+use crate::store::{Failed, Turn};
+use charmlet_hub::{Hub, SeatsOf};
+use charmlet_leases::Seat;
+use charmlet_model::{Elem, MsgId, Refusal};
+use charmlet_sequencer::{LockedShelf, RuntimeName};
+
+/// What lacks where no delivery is under way, or where it isn't as far as it has to be.
+const DELIVERY: Failed = Failed::Lacks("delivery");
+
+/// Delivers a message as a worker does, with the seat of the shelf's processor.
+pub(crate) fn deliver<B: RuntimeName>(
+    hub: &mut Hub<ProbeDisk, Object, B>,
+    shelf: &mut LockedShelf<Object, B>,
+    seat: &mut Seat<SeatsOf<B>>,
+    id: MsgId,
+) -> Result<(), Refusal> {
+    seat.reserve(1)?;
+    hub.assign(shelf, id)?;
+    if shelf.enter().is_err() {
+        hub.release(shelf);
+        return Err(Refusal::Memory);
+    }
+    hub.commit(shelf, seat)?;
+    Ok(())
+}
+
+/// Commits what was done on a shelf, with the seat of its processor.
+pub(crate) fn commit<B: RuntimeName>(
+    hub: &mut Hub<ProbeDisk, Object, B>,
+    shelf: &mut LockedShelf<Object, B>,
+    seat: &mut Seat<SeatsOf<B>>,
+) -> Result<(), Failed> {
+    seat.reserve(1)?;
+    if !shelf.is_done() {
+        return Err(DELIVERY);
+    }
+    hub.commit(shelf, seat)?;
+    Ok(())
+}
+
+/// Has the receiver on a shelf react.
+pub(crate) fn enter<B: RuntimeName>(shelf: &mut LockedShelf<Object, B>) -> Result<(), Failed> {
+    if !shelf.is_assigned() {
+        return Err(DELIVERY);
+    }
+    Ok(shelf.enter()?)
+}
+
+/// Calls this on a shelf, for which no seat is needed.
+pub(crate) fn turn<B: RuntimeName>(
+    hub: &mut Hub<ProbeDisk, Object, B>,
+    shelf: &mut LockedShelf<Object, B>,
+    turn: Turn,
+) -> Result<(), Failed> {
+    match turn {
+        Turn::Enter => enter(shelf),
+        Turn::CommitOwn if shelf.is_done() => {
+            hub.commit_own(shelf)?;
+            Ok(())
+        }
+        Turn::Finish if shelf.is_done() => {
+            hub.finish(shelf);
+            Ok(())
+        }
+        Turn::Release if shelf.is_assigned() => {
+            hub.release(shelf);
+            Ok(())
+        }
+        Turn::Settle => {
+            hub.settle(shelf);
+            Ok(())
+        }
+        _ => Err(DELIVERY),
+    }
+}
+
+/// Moves an element from one shelf to another, if it stands on the first one.
+pub(crate) fn carry<B: RuntimeName>(
+    hub: &mut Hub<ProbeDisk, Object, B>,
+    from: &mut LockedShelf<Object, B>,
+    to: &mut LockedShelf<Object, B>,
+    elem: Elem,
+) -> Result<(), Refusal> {
+    let Some(place) = hub.history().where_is(elem) else {
+        return Err(Refusal::Absent);
+    };
+    if place != from.number() || from.number() == to.number() {
+        return Err(Refusal::Absent);
+    }
+    hub.relocate(from, to, elem)
+}
+
+/// Moves an element from the shelf at one place to that at another.
+pub(crate) fn carry_among<B: RuntimeName>(
+    hub: &mut Hub<ProbeDisk, Object, B>,
+    shelves: &mut [LockedShelf<Object, B>],
+    source: usize,
+    destination: usize,
+    elem: Elem,
+) -> Result<(), Refusal> {
+    let greater = source.max(destination);
+    if source == destination || greater >= shelves.len() {
+        return Err(Refusal::BadPes);
+    }
+    let (front, back) = shelves.split_at_mut(greater);
+    if source < destination {
+        carry(hub, &mut front[source], &mut back[0], elem)
+    } else {
+        carry(hub, &mut back[0], &mut front[destination], elem)
+    }
+}

@@ -1,5 +1,0 @@
-use Rattle.charmlet_tickets.proofs.queue.TicketQueue.new.Given as goal
-
--- the processor of the new queue
-abbrev pub ghosts-new_named : goal.ghosts-new_named
-ghosts-new_named a = record { processor = a.processor }

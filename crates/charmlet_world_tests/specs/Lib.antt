@@ -1,2 +1,0 @@
--- What the tests keep.
-pub mod Pair
