@@ -1,10 +1,10 @@
 //! The laboratory of crashes, with objects of all kinds.
 
 use crate::cause::Cause;
+use crate::lab_tasks::AllKinds;
 use crate::output::Output;
 use crate::scripts::script_in;
-use crate::trying::AllKinds;
-use charmlet_cli::{Stop, write_line};
+use charmlet_cli::{ExitReason, write_line};
 use charmlet_disk::AnyDisk;
 use charmlet_lab::{LabLine, Watch, try_crashes};
 use charmlet_model::{Answer, Refusal};
@@ -67,21 +67,21 @@ fn tell_found<W: Write>(
     alloc: Global,
     found: Result<LabLine, Refusal>,
     writer: &mut W,
-) -> Result<(), Stop> {
+) -> Result<(), ExitReason> {
     match found {
         Ok(line) => {
             write_line(alloc, writer, &line)?;
             if line.bad > 0 {
-                Err(Stop::NotSurvived)
+                Err(ExitReason::NotSurvived)
             } else {
                 Ok(())
             }
         }
         Err(Refusal::BadPes) => {
             write_line(alloc, writer, &Answer::Refused(Refusal::BadPes))?;
-            Err(Stop::NotCreated(Refusal::BadPes))
+            Err(ExitReason::NotCreated(Refusal::BadPes))
         }
-        Err(_) => Err(Stop::CannotGoOn),
+        Err(_) => Err(ExitReason::CannotGoOn),
     }
 }
 
@@ -92,7 +92,7 @@ pub(crate) fn lab<'a, R: Threads + Sync>(
     threads: &R,
     path: &'a str,
     cause: &mut Option<Cause<'a>>,
-) -> Result<(), Stop> {
+) -> Result<(), ExitReason> {
     let script = script_in(rt, path, Runner::Engine, cause)?;
     let mut progress = Progress::new(rt);
     let kinds = AllKinds { threads };

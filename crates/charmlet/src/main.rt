@@ -5,10 +5,10 @@
 mod blanks;
 mod cause;
 mod lab;
+mod lab_tasks;
 mod output;
 mod runs;
 mod scripts;
-mod trying;
 mod workers;
 
 use crate::cause::{Cause, note_command, note_folder, warn_of_spare};
@@ -17,7 +17,7 @@ use crate::output::Output;
 use crate::runs::{restart, run};
 use crate::workers::{restart_by_workers, run_by_workers};
 use charmlet_cli::{
-    Command, Failure, Stop, command_of, end_program, look_at_spare, show_store, write_line,
+    Command, ExitReason, Failure, command_of, end_program, look_at_spare, show_store, write_line,
 };
 use charmlet_disk::AnyDisk;
 use charmlet_model::{Answer, Refusal};
@@ -33,7 +33,7 @@ fn show_in<'a, W: Write>(
     dir: &'a str,
     writer: &mut W,
     cause: &mut Option<Cause<'a>>,
-) -> Result<(), Stop> {
+) -> Result<(), ExitReason> {
     let mut disk = AnyDisk::folder(rt, dir)?;
     let shown = show_disk(rt, dir, &mut disk, writer);
     note_folder(cause, dir, disk.cause());
@@ -46,11 +46,11 @@ fn show_disk<W: Write>(
     dir: &str,
     disk: &mut AnyDisk,
     writer: &mut W,
-) -> Result<(), Stop> {
+) -> Result<(), ExitReason> {
     let alloc = rt.alloc();
     let Ok(spare) = look_at_spare(disk) else {
         write_line(alloc, writer, &Answer::Refused(Refusal::Device))?;
-        return Err(Stop::NotShown(Refusal::Device));
+        return Err(ExitReason::NotShown(Refusal::Device));
     };
     show_store(alloc, disk, writer)?;
     warn_of_spare(rt, dir, spare);
@@ -58,7 +58,11 @@ fn show_disk<W: Write>(
 }
 
 /// The same, on standard output.
-fn show<'a>(rt: HostRuntime, dir: &'a str, cause: &mut Option<Cause<'a>>) -> Result<(), Stop> {
+fn show<'a>(
+    rt: HostRuntime,
+    dir: &'a str,
+    cause: &mut Option<Cause<'a>>,
+) -> Result<(), ExitReason> {
     let mut output = Output::new(BufWriter::new(rt.alloc(), io::writer(&rt))?, false);
     let shown = show_in(rt, dir, &mut output, cause);
     output.end(shown, cause)

@@ -1,7 +1,7 @@
 //! Standard output.
 
 use crate::cause::Cause;
-use charmlet_cli::Stop;
+use charmlet_cli::ExitReason;
 use std::io;
 use std::io::{IsTerminal, Write};
 
@@ -56,16 +56,16 @@ impl<W: Write + Drop> Output<W> {
     /// How what was run ends, once all that it printed is written. Why that failed is noted.
     pub(crate) fn end(
         mut self,
-        ran: Result<(), Stop>,
+        ran: Result<(), ExitReason>,
         cause: &mut Option<Cause<'_>>,
-    ) -> Result<(), Stop> {
+    ) -> Result<(), ExitReason> {
         let flushed = self.flush();
         if let Some(error) = self.failure {
             *cause = Some(Cause::Output(error));
         }
         flushed?;
         if self.is_refused {
-            return Err(Stop::AtRefusal);
+            return Err(ExitReason::AtRefusal);
         }
         ran
     }

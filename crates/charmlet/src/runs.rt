@@ -9,7 +9,7 @@ use crate::cause::{Cause, note_folder, warn_of_constructions, warn_of_spare};
 use crate::output::{Output, block};
 use crate::scripts::{restart_script_in, script_in};
 use charmlet_cli::{
-    Ran, RestartError, Restarted, RunError, Stop, Wanted, find_blanks, look_at_spare,
+    ExitReason, Ran, RestartError, Restarted, RunError, Wanted, find_blanks, look_at_spare,
     restart_script, run_script, write_line,
 };
 use charmlet_disk::AnyDisk;
@@ -23,7 +23,7 @@ use std::thread::Threads;
 /// How a script was run.
 #[derive(Drop)]
 pub(crate) struct Ended {
-    pub(crate) result: Result<(), Stop>,
+    pub(crate) result: Result<(), ExitReason>,
     /// Why its disk failed first, if it did.
     pub(crate) failure: Option<io::Error>,
     /// How many blanks of each kind the messages want that were pending when its store came back.
@@ -32,7 +32,7 @@ pub(crate) struct Ended {
 
 impl Ended {
     /// A script that wasn't run, since no store comes back.
-    pub(crate) fn before_its_lines(stop: Stop, failure: Option<io::Error>) -> Ended {
+    pub(crate) fn before_its_lines(stop: ExitReason, failure: Option<io::Error>) -> Ended {
         Ended {
             result: Err(stop),
             failure,
@@ -72,7 +72,7 @@ impl<W: Write> Task for ScriptRun<'_, W> {
         } = self;
         let Ran { disk, result } = run_script(alloc, disk, script, supplies, writer);
         Ended {
-            result: result.map_err(Stop::from),
+            result: result.map_err(ExitReason::from),
             failure: disk.cause(),
             constructions: None,
         }
@@ -85,7 +85,7 @@ fn run_in<W: Write>(
     script: &Script,
     dir: Option<&str>,
     writer: &mut W,
-) -> Result<Ended, Stop> {
+) -> Result<Ended, ExitReason> {
     let alloc = rt.alloc();
     let disk = match dir {
         Some(dir) => AnyDisk::folder(rt, dir)?,
@@ -108,7 +108,7 @@ pub(crate) fn run<'a>(
     dir: Option<&'a str>,
     is_strict: bool,
     cause: &mut Option<Cause<'a>>,
-) -> Result<(), Stop> {
+) -> Result<(), ExitReason> {
     let script = script_in(rt, path, Runner::Engine, cause)?;
     let writer = BufWriter::with_capacity(rt.alloc(), block(rt), io::writer(&rt))?;
     let mut output = Output::new(writer, is_strict);
@@ -119,10 +119,10 @@ pub(crate) fn run<'a>(
 
 /// How a script was run. Why the disk in its folder failed is noted.
 pub(crate) fn ended_in<'a>(
-    ran: Result<Ended, Stop>,
+    ran: Result<Ended, ExitReason>,
     dir: Option<&'a str>,
     cause: &mut Option<Cause<'a>>,
-) -> Result<(), Stop> {
+) -> Result<(), ExitReason> {
     let Ended {
         result,
         failure,
@@ -178,7 +178,7 @@ impl<R: Threads + Sync, W: Write> Task for ScriptRestart<'_, R, W> {
             threads, alloc, disk, processors, script, blanks, supplies, writer,
         );
         Ended {
-            result: result.map_err(Stop::from),
+            result: result.map_err(ExitReason::from),
             failure: disk.cause(),
             constructions,
         }
@@ -194,13 +194,13 @@ fn restart_in<R: Threads + Sync, W: Write>(
     script: &RestartScript,
     processors: u16,
     writer: &mut W,
-) -> Result<Ended, Stop> {
+) -> Result<Ended, ExitReason> {
     let alloc = rt.alloc();
     let mut disk = AnyDisk::folder(rt, dir)?;
     let wanted = match find_blanks(alloc, &mut disk, processors, writer) {
         Ok(wanted) => wanted,
         Err(error) => {
-            return Ok(Ended::before_its_lines(Stop::from(error), disk.cause()));
+            return Ok(Ended::before_its_lines(ExitReason::from(error), disk.cause()));
         }
     };
     match look_at_spare(&mut disk) {
@@ -233,7 +233,7 @@ pub(crate) fn restart<'a, R: Threads + Sync>(
     processors: u16,
     is_strict: bool,
     cause: &mut Option<Cause<'a>>,
-) -> Result<(), Stop> {
+) -> Result<(), ExitReason> {
     let script = restart_script_in(rt, path, Runner::Engine, cause)?;
     let writer = BufWriter::with_capacity(rt.alloc(), block(rt), io::writer(&rt))?;
     let mut output = Output::new(writer, is_strict);
@@ -246,15 +246,15 @@ pub(crate) fn restart<'a, R: Threads + Sync>(
 }
 
 /// Writes that no store comes back, since the disk failed.
-pub(crate) fn refuse_restart<W: Write>(alloc: Global, writer: &mut W) -> Stop {
+pub(crate) fn refuse_restart<W: Write>(alloc: Global, writer: &mut W) -> ExitReason {
     match write_line(alloc, writer, &Answer::Refused(Refusal::Device)) {
-        Ok(()) => Stop::NotRestarted(Refusal::Device),
-        Err(error) => Stop::from(error),
+        Ok(()) => ExitReason::NotRestarted(Refusal::Device),
+        Err(error) => ExitReason::from(error),
     }
 }
 
 /// How many blanks of each kind the messages want that were pending when a store came back.
-pub(crate) fn constructions_in(ran: &Result<Ended, Stop>) -> Option<Wanted> {
+pub(crate) fn constructions_in(ran: &Result<Ended, ExitReason>) -> Option<Wanted> {
     match ran {
         Ok(ended) => ended.constructions,
         Err(_) => None,

@@ -1,7 +1,7 @@
 //! Scripts in files.
 
 use crate::cause::Cause;
-use charmlet_cli::Stop;
+use charmlet_cli::ExitReason;
 use charmlet_script::{Purpose, ReadError, RestartScript, Runner, Script, ScriptText, Setting};
 use std::fs::{File, OpenFile};
 use std::io;
@@ -18,7 +18,7 @@ fn source_in<'a>(
     rt: HostRuntime,
     path: &'a str,
     cause: &mut Option<Cause<'a>>,
-) -> Result<Source, Stop> {
+) -> Result<Source, ExitReason> {
     let mut file = match File::open(&rt, path) {
         Ok(file) => file,
         Err(error) => return Err(unreadable(path, error, cause)),
@@ -29,7 +29,7 @@ fn source_in<'a>(
             length: length_of(&file),
         }),
         Err(ReadError::Failed(error)) => Err(unreadable(path, error, cause)),
-        Err(error) => Err(Stop::from(error)),
+        Err(error) => Err(ExitReason::from(error)),
     }
 }
 
@@ -44,9 +44,9 @@ fn length_of<F: OpenFile>(file: &F) -> Option<u64> {
 }
 
 /// The stop at a script that can't be read, for this reason.
-fn unreadable<'a>(path: &'a str, error: io::Error, cause: &mut Option<Cause<'a>>) -> Stop {
+fn unreadable<'a>(path: &'a str, error: io::Error, cause: &mut Option<Cause<'a>>) -> ExitReason {
     *cause = Some(Cause::Script(path, error));
-    Stop::UnreadableScript
+    ExitReason::UnreadableScript
 }
 
 /// The stop at a script that wasn't read. Why a line is malformed is noted.
@@ -56,7 +56,7 @@ fn unread(
     runner: Runner,
     error: ReadError,
     cause: &mut Option<Cause<'_>>,
-) -> Stop {
+) -> ExitReason {
     let Source { text, length } = source;
     if let ReadError::Malformed(line) = &error {
         *cause = Some(Cause::Malformed {
@@ -69,7 +69,7 @@ fn unread(
             },
         });
     }
-    Stop::from(error)
+    ExitReason::from(error)
 }
 
 /// The script in a file.
@@ -78,7 +78,7 @@ pub(crate) fn script_in<'a>(
     path: &'a str,
     runner: Runner,
     cause: &mut Option<Cause<'a>>,
-) -> Result<Script, Stop> {
+) -> Result<Script, ExitReason> {
     let source = source_in(rt, path, cause)?;
     match source.text.script(rt.alloc(), runner) {
         Ok(script) => Ok(script),
@@ -92,7 +92,7 @@ pub(crate) fn restart_script_in<'a>(
     path: &'a str,
     runner: Runner,
     cause: &mut Option<Cause<'a>>,
-) -> Result<RestartScript, Stop> {
+) -> Result<RestartScript, ExitReason> {
     let source = source_in(rt, path, cause)?;
     match source.text.restart_script(rt.alloc(), runner) {
         Ok(script) => Ok(script),

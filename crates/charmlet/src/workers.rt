@@ -9,7 +9,7 @@ use crate::cause::{Cause, warn_of_constructions, warn_of_spare};
 use crate::output::{Output, block};
 use crate::runs::{Ended, constructions_in, ended_in, refuse_restart};
 use crate::scripts::{restart_script_in, script_in};
-use charmlet_cli::{Stop, Wanted, find_blanks, look_at_spare};
+use charmlet_cli::{ExitReason, Wanted, find_blanks, look_at_spare};
 use charmlet_cli_workers::{RanByWorkers, restart_workers, run_workers};
 use charmlet_disk::AnyDisk;
 use charmlet_model::Kind;
@@ -32,7 +32,7 @@ fn ended_by_workers<T: Drop>(ran: RanByWorkers<AnyDisk, T>) -> Ended {
         None => None,
     };
     Ended {
-        result: result.map_err(Stop::from),
+        result: result.map_err(ExitReason::from),
         failure,
         constructions,
     }
@@ -83,7 +83,7 @@ fn run_in<R: Threads + Wait + Sync, W: Write>(
     script: &Script,
     dir: Option<&str>,
     writer: &mut W,
-) -> Result<Ended, Stop> {
+) -> Result<Ended, ExitReason> {
     let alloc = rt.alloc();
     let disk = match dir {
         Some(dir) => AnyDisk::folder(rt, dir)?,
@@ -108,7 +108,7 @@ pub(crate) fn run_by_workers<'a, R: Threads + Wait + Sync>(
     dir: Option<&'a str>,
     is_strict: bool,
     cause: &mut Option<Cause<'a>>,
-) -> Result<(), Stop> {
+) -> Result<(), ExitReason> {
     let script = script_in(rt, path, Runner::Workers, cause)?;
     let writer = BufWriter::with_capacity(rt.alloc(), block(rt), io::writer(&rt))?;
     let mut output = Output::new(writer, is_strict);
@@ -169,13 +169,13 @@ fn restart_in<R: Threads + Wait + Sync, W: Write>(
     script: &RestartScript,
     processors: u16,
     writer: &mut W,
-) -> Result<Ended, Stop> {
+) -> Result<Ended, ExitReason> {
     let alloc = rt.alloc();
     let mut disk = AnyDisk::folder(rt, dir)?;
     let wanted = match find_blanks(alloc, &mut disk, processors, writer) {
         Ok(wanted) => wanted,
         Err(error) => {
-            return Ok(Ended::before_its_lines(Stop::from(error), disk.cause()));
+            return Ok(Ended::before_its_lines(ExitReason::from(error), disk.cause()));
         }
     };
     match look_at_spare(&mut disk) {
@@ -207,7 +207,7 @@ pub(crate) fn restart_by_workers<'a, R: Threads + Wait + Sync>(
     processors: u16,
     is_strict: bool,
     cause: &mut Option<Cause<'a>>,
-) -> Result<(), Stop> {
+) -> Result<(), ExitReason> {
     let script = restart_script_in(rt, path, Runner::Workers, cause)?;
     let writer = BufWriter::with_capacity(rt.alloc(), block(rt), io::writer(&rt))?;
     let mut output = Output::new(writer, is_strict);

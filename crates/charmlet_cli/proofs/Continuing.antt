@@ -8,8 +8,8 @@ use Rattle.charmlet_engine.specs.Advances.{Advances}
 use Rattle.charmlet_engine.specs.Engine.{EngineShown}
 use Rattle.charmlet_engine.proofs.Lawful.{leaves_more}
 use Rattle.charmlet_engine.proofs.Onward.{onward_after}
-use Rattle.charmlet_lines.specs.Ledgers.{Ledger, ledger_in}
-use Rattle.charmlet_lines.specs.Named.{Names}
+use Rattle.charmlet_script_output.specs.Ledgers.{Ledger, ledger_in}
+use Rattle.charmlet_script_output.specs.Named.{Names}
 use Rattle.charmlet_cli.specs.Lines.{Continues, Follows, Prints}
 
 module _ {D : Type 0} (G : disks.Ghosts D) where

@@ -5,9 +5,9 @@ use Rattle.charmlet_model.specs.declared.state.State.{State}
 use Rattle.charmlet_model.specs.Texts.{Text}
 use Rattle.charmlet_disk.specs.declared.disk.Disk as disks
 use Rattle.charmlet_script.specs.Script.{Contents}
-use Rattle.charmlet_cli.specs.declared.running.RunError.{RunError}
-use Rattle.charmlet_cli.specs.declared.running.RunError.TheVariants.{TooFewBlanks, NotCreated, Memory, Output}
-use Rattle.charmlet_lines.specs.Supplied.{AreEnough}
+use Rattle.charmlet_cli.specs.declared.new_run.RunError.{RunError}
+use Rattle.charmlet_cli.specs.declared.new_run.RunError.TheVariants.{TooFewBlanks, NotCreated, Memory, Output}
+use Rattle.charmlet_script_output.specs.Supplied.{AreEnough}
 use Rattle.charmlet_cli.specs.RunError.{EndsRun, Lacks, Leaves}
 
 -- memory was refused although there were enough objects

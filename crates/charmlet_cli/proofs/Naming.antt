@@ -3,7 +3,7 @@ use Rattle.std.proofs.Common.{◌≡◌, ℕ, List, ap}
 use Rattle.charmlet_requests.specs.Handlers.{handler_of}
 use Rattle.charmlet_script.specs.declared.script.HandlerLine.{HandlerLine}
 use Rattle.charmlet_cli.specs.declared.desk.Desk.{Desk}
-use Rattle.charmlet_lines.specs.Named.{named_by}
+use Rattle.charmlet_script_output.specs.Named.{named_by}
 use Rattle.charmlet_cli.specs.Lines.{named_at}
 
 -- a desk that says the same of each name says the same

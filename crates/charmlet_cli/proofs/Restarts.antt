@@ -17,12 +17,12 @@ use Rattle.charmlet_engine.specs.Advances.{Advances}
 use Rattle.charmlet_engine.specs.Engine.{EngineShown, core_of}
 use Rattle.charmlet_engine.specs.Outcomes.{Onward}
 use Rattle.charmlet_engine.specs.Restarted.{IsFound, IsLeftByRestart, IsSameOrNext}
-use Rattle.charmlet_cli.specs.declared.restarting.RestartError.{RestartError}
-use Rattle.charmlet_cli.specs.declared.restarting.RestartError.TheVariants as ends
-use Rattle.charmlet_lines.specs.Supplied.{AreEnough}
-use Rattle.charmlet_lines.specs.Writing.{in_lines}
-use Rattle.charmlet_lines.specs.Ledgers.{ledger_in}
-use Rattle.charmlet_lines.specs.Back.{WasNotRestarted, given_of, restarted_line_text, restarted_text}
+use Rattle.charmlet_cli.specs.declared.restarted_run.RestartError.{RestartError}
+use Rattle.charmlet_cli.specs.declared.restarted_run.RestartError.TheVariants as ends
+use Rattle.charmlet_script_output.specs.Supplied.{AreEnough}
+use Rattle.charmlet_script_output.specs.Writing.{in_lines}
+use Rattle.charmlet_script_output.specs.Ledgers.{ledger_in}
+use Rattle.charmlet_script_output.specs.Back.{WasNotRestarted, given_of, restarted_line_text, restarted_text}
 use Rattle.charmlet_cli.specs.Restarted.{EndsRestart, EndsRestartWrite, RestartLeaves, is_left_by}
 use Rattle.charmlet_cli.specs.Run.{IsEarlierOrLawful, Stands}
 use Rattle.charmlet_cli.proofs.Standings.{IsLawfulDisk, stands_after}

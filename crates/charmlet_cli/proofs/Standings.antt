@@ -1,6 +1,6 @@
 -- What stands on a disk on which a store was made and run.
 use Rattle.std.proofs.Common.{◌≡◌, ◌⊎◌, inl, inr, ⊎_elim, ℕ, List, refl, sym, ap, subst, ◌∙◌, arith}
-use Rattle.charmlet_model.specs.declared.edition.Edition.{Edition}
+use Rattle.charmlet_model.specs.declared.kind_version.KindVersion.{KindVersion}
 use Rattle.charmlet_model.specs.Core.{Core}
 use Rattle.charmlet_model.specs.Sound.{new_world}
 use Rattle.charmlet_model.specs.World.{World}
@@ -8,16 +8,16 @@ use Rattle.charmlet_disk.specs.declared.disk.Disk as disks
 use Rattle.charmlet_disk.specs.Disk.{LeavesOnly}
 use Rattle.charmlet_disk.specs.File.{MayLeave, CrashBytes}
 use Rattle.charmlet_disk.proofs.Moments.{after_that}
-use Rattle.charmlet_persist.specs.Journal.NewStores.{new_core}
+use Rattle.charmlet_persist.specs.Writes.NewStores.{new_core}
 use Rattle.charmlet_recovery.specs.Recovered.{Found}
 use Rattle.charmlet_engine.specs.Advances.{Advances}
 use Rattle.charmlet_engine.specs.Engine.{EngineShown, core_of}
 use Rattle.charmlet_engine.specs.Outcomes.{IsNothingOrNew, Onward, is_lawful_now, is_lawful_since}
-use Rattle.charmlet_lines.specs.Ledgers.{ledger_in}
+use Rattle.charmlet_script_output.specs.Ledgers.{ledger_in}
 use Rattle.charmlet_cli.specs.Run.{IsEarlierOrLawful, IsNothing, Stands}
 
 -- a new store that went on to this one
-module _ (manifest : List (ℕ × Edition)) (processors : ℕ) (old new : Core) (opens : old ≡ new_core processors manifest) (on : Onward old new) where
+module _ (manifest : List (ℕ × KindVersion)) (processors : ℕ) (old new : Core) (opens : old ≡ new_core processors manifest) (on : Onward old new) where
   opening : new.opening ≡ new_world manifest
   opening = on.opening ∙ ap (λ (core : Core). core.opening) opens
 
@@ -63,7 +63,7 @@ module _ {D : Type 0} (G : disks.Ghosts D) where
       })
 
   -- of a new store
-  pub stands : (manifest : List (ℕ × Edition)) (processors : ℕ) (disk end : D) (first last : EngineShown D) → core_of first ≡ new_core processors manifest → IsLawfulDisk last → Advances G first last →
+  pub stands : (manifest : List (ℕ × KindVersion)) (processors : ℕ) (disk end : D) (first last : EngineShown D) → core_of first ≡ new_core processors manifest → IsLawfulDisk last → Advances G first last →
       (G.honest disk → G.honest first.disk) → (G.honest disk → LeavesOnly G.moment G.since disk first.disk (IsNothingOrNew manifest)) → end ≡ last.disk → Stands G IsNothing disk end (ledger_in last)
   stands manifest processors disk end first last opens lawful advances honest leaves is =
       stands_after IsNothing (IsNothingOrNew manifest) disk end first last lawful advances honest leaves

@@ -4,11 +4,11 @@ use Rattle.std.specs.Io.KnownBytes.{Appends}
 use Rattle.charmlet_model.specs.Texts.{Text}
 use Rattle.charmlet_cli.specs.declared.command.CommandError.{CommandError}
 use Rattle.charmlet_cli.specs.declared.command.CommandError.TheVariants as commands
-use Rattle.charmlet_cli.specs.declared.ending.Failure.{Failure}
-use Rattle.charmlet_cli.specs.declared.ending.Failure.TheVariants.{Command, Stopped}
-use Rattle.charmlet_lines.specs.declared.stop.Stop.TheVariants as stops
-use Rattle.charmlet_lines.specs.Writing.{in_lines}
-use Rattle.charmlet_lines.specs.Stop.{status_of, stop_text}
+use Rattle.charmlet_cli.specs.declared.exit.Failure.{Failure}
+use Rattle.charmlet_cli.specs.declared.exit.Failure.TheVariants.{Command, Stopped}
+use Rattle.charmlet_script_output.specs.declared.exit_reason.ExitReason.TheVariants as stops
+use Rattle.charmlet_script_output.specs.Writing.{in_lines}
+use Rattle.charmlet_script_output.specs.ExitReason.{status_of, stop_text}
 
 -- the failure of a command line that asks for nothing
 abbrev pub failure_of : CommandError → Failure

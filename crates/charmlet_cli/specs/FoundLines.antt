@@ -2,17 +2,17 @@
 use Rattle.std.specs.Prelude.{ℕ, List, [], ◌∷◌, ◌++◌, nat_lt, if◌then◌else◌, codes}
 use Rattle.std.specs.Fmt.{decimal}
 use Rattle.std.specs.List.{flat_map}
-use Rattle.charmlet_model.specs.declared.edition.Edition.{Edition}
+use Rattle.charmlet_model.specs.declared.kind_version.KindVersion.{KindVersion}
 use Rattle.charmlet_model.specs.declared.kind.Kind.{Kind}
-use Rattle.charmlet_model.specs.Edition.{edition_kind, edition_version}
+use Rattle.charmlet_model.specs.KindVersion.{kind_of_version, number_of_version}
 use Rattle.charmlet_model.specs.Texts.{Text, half_text, kind_text}
-use Rattle.charmlet_engine.specs.finding.Found.{Found}
+use Rattle.charmlet_engine.specs.found.Found.{Found}
 use Rattle.charmlet_engine.specs.wanted.Wanted.{Wanted}
 use Rattle.charmlet_engine.specs.Wanted.{blanks_in}
 use Rattle.charmlet_cli.specs.declared.found_lines.ArrayLine.{ArrayLine}
 use Rattle.charmlet_cli.specs.declared.found_lines.HalfLine.{HalfLine}
 use Rattle.charmlet_cli.specs.declared.found_lines.WantedLine.{WantedLine}
-use Rattle.charmlet_lines.specs.Shown.{all_kinds}
+use Rattle.charmlet_script_output.specs.Shown.{all_kinds}
 
 -- half H generation G base B log L
 abbrev pub half_line_text : HalfLine → Text
@@ -23,8 +23,8 @@ half_line_text line =
 -- array A kind K version V
 abbrev pub array_line_text : ArrayLine → Text
 array_line_text line =
-    codes "array " ++ decimal line.array ++ codes " kind " ++ kind_text (edition_kind line.edition)
-    ++ codes " version " ++ decimal (edition_version line.edition)
+    codes "array " ++ decimal line.array ++ codes " kind " ++ kind_text (kind_of_version line.kind_version)
+    ++ codes " version " ++ decimal (number_of_version line.kind_version)
 
 -- wanted K C
 abbrev pub wanted_line_text : WantedLine → Text
@@ -35,8 +35,8 @@ abbrev pub half_line : Found → HalfLine
 half_line f = record { half = f.half; generation = f.generation; base = f.before; log = f.logged }
 
 -- the line of an array
-abbrev pub array_texts : ℕ × Edition → List Text
-array_texts e = array_line_text (record { array = e.0; edition = e.1 }) ∷ []
+abbrev pub array_texts : ℕ × KindVersion → List Text
+array_texts e = array_line_text (record { array = e.0; kind_version = e.1 }) ∷ []
 
 -- the line of a kind, if any blanks of it are wanted
 abbrev pub count_texts : Kind → ℕ → List Text

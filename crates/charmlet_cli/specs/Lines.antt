@@ -22,19 +22,19 @@ use Rattle.charmlet_model.specs.Core.{present, place_or_home}
 use Rattle.charmlet_model.specs.World.{record_of}
 use Rattle.charmlet_disk.specs.declared.disk.Disk as disks
 use Rattle.charmlet_disk.specs.Disk.{LeavesOnly, faults_after}
-use Rattle.charmlet_persist.specs.Journal.NewStores.{new_core}
+use Rattle.charmlet_persist.specs.Writes.NewStores.{new_core}
 use Rattle.charmlet_engine.specs.Outcomes.{IsFlushedAnyway, IsOldOrImage, Onward, is_lawful_since, is_no_fault, is_still}
 use Rattle.charmlet_stock.specs.Stock.{part_of}
 use Rattle.charmlet_engine.specs.Delivering.{DrainsUpTo}
 use Rattle.charmlet_cli.specs.Drain.{drain_texts}
-use Rattle.charmlet_lines.specs.Shown.{IsWhole, all_kinds, counted_in, counted_texts, record_text}
-use Rattle.charmlet_lines.specs.Writing.{AppendsBeginning, Writes, in_lines, memory_text}
-use Rattle.charmlet_lines.specs.Ledgers.{Ledger, kinds_of}
-use Rattle.charmlet_lines.specs.Named.{Names}
+use Rattle.charmlet_script_output.specs.Shown.{IsWhole, all_kinds, counted_in, counted_texts, record_text}
+use Rattle.charmlet_script_output.specs.Writing.{AppendsBeginning, Writes, in_lines, memory_text}
+use Rattle.charmlet_script_output.specs.Ledgers.{Ledger, kinds_of}
+use Rattle.charmlet_script_output.specs.Named.{Names}
 
 -- before the first line: the script's processors and arrays on this disk, and nothing else
-abbrev pub opening_of : {D : Type 0} → Contents → D → Ledger D
-opening_of script disk = record {
+abbrev pub history_opening : {D : Type 0} → Contents → D → Ledger D
+history_opening script disk = record {
   store = record { core = new_core (processors_of script) (kinds_of script); blanks = λ _. 0 };
   supplied = λ _. 0;
   disk = disk;

@@ -8,22 +8,22 @@ use Rattle.charmlet_model.specs.Texts.{Text}
 use Rattle.charmlet_locate.specs.Locations.{is_processor_count}
 use Rattle.charmlet_disk.specs.declared.disk.Disk as disks
 use Rattle.charmlet_disk.specs.File.{MayLeave, CrashBytes}
-use Rattle.charmlet_engine.specs.finding.Found as findings
+use Rattle.charmlet_engine.specs.found.Found as findings
 use Rattle.charmlet_engine.specs.wanted.Wanted.{Wanted}
 use Rattle.charmlet_script.specs.Script.{RestartContents}
-use Rattle.charmlet_cli.specs.declared.restarting.FindError.{FindError}
-use Rattle.charmlet_cli.specs.declared.restarting.FindError.TheVariants as finds
-use Rattle.charmlet_cli.specs.declared.restarting.RestartError.{RestartError}
-use Rattle.charmlet_cli.specs.declared.restarting.RestartError.TheVariants.{TooFewBlanks, NotRestarted, Memory, Output}
-use Rattle.charmlet_lines.specs.declared.stop.Stop.{Stop}
-use Rattle.charmlet_lines.specs.declared.stop.Stop.TheVariants as stops
-use Rattle.charmlet_lines.specs.Supplied.{AreEnough}
-use Rattle.charmlet_lines.specs.Ledgers.{Ledger}
-use Rattle.charmlet_lines.specs.Writing.{AppendsBeginning}
-use Rattle.charmlet_lines.specs.Named.{named_by}
+use Rattle.charmlet_cli.specs.declared.restarted_run.FindError.{FindError}
+use Rattle.charmlet_cli.specs.declared.restarted_run.FindError.TheVariants as finds
+use Rattle.charmlet_cli.specs.declared.restarted_run.RestartError.{RestartError}
+use Rattle.charmlet_cli.specs.declared.restarted_run.RestartError.TheVariants.{TooFewBlanks, NotRestarted, Memory, Output}
+use Rattle.charmlet_script_output.specs.declared.exit_reason.ExitReason.{ExitReason}
+use Rattle.charmlet_script_output.specs.declared.exit_reason.ExitReason.TheVariants as stops
+use Rattle.charmlet_script_output.specs.Supplied.{AreEnough}
+use Rattle.charmlet_script_output.specs.Ledgers.{Ledger}
+use Rattle.charmlet_script_output.specs.Writing.{AppendsBeginning}
+use Rattle.charmlet_script_output.specs.Named.{named_by}
 use Rattle.charmlet_cli.specs.Lines.{AreRun, BreakOff}
 use Rattle.charmlet_cli.specs.Run.{Stands}
-use Rattle.charmlet_lines.specs.Back.{IsBack, WasNotRestarted, given_of, refusal_text, restarted_text}
+use Rattle.charmlet_script_output.specs.Back.{IsBack, WasNotRestarted, given_of, refusal_text, restarted_text}
 
 -- ---- blanks
 
@@ -135,13 +135,13 @@ is_without_store (Output error) = false
 -- ---- how the program ends
 
 -- why the program stops after it
-abbrev pub stop_restarted : {C : Type 0} → RestartError C → Stop
+abbrev pub stop_restarted : {C : Type 0} → RestartError C → ExitReason
 stop_restarted (NotRestarted refusal) = stops.NotRestarted refusal
 stop_restarted (TooFewBlanks blanks supplies) = stops.CannotGoOn
 stop_restarted Memory = stops.CannotGoOn
 stop_restarted (Output error) = stops.CannotGoOn
 
 -- the same if no store is found
-abbrev pub stop_found : FindError → Stop
+abbrev pub stop_found : FindError → ExitReason
 stop_found (finds.Refused refusal) = stops.NotRestarted refusal
 stop_found (finds.Output error) = stops.CannotGoOn

@@ -10,10 +10,10 @@ use Rattle.charmlet_disk.specs.Disk.{LeavesOnly}
 use Rattle.charmlet_disk.specs.File.{MayLeave, CrashBytes}
 use Rattle.charmlet_engine.specs.Outcomes.{is_lawful_now}
 use Rattle.charmlet_script.specs.Script.{Contents, processors_of}
-use Rattle.charmlet_lines.specs.Ledgers.{Ledger, kinds_of}
-use Rattle.charmlet_lines.specs.Named.{named_by}
-use Rattle.charmlet_cli.specs.Lines.{AreRun, BreakOff, opening_of}
-use Rattle.charmlet_lines.specs.Created.{IsCreated}
+use Rattle.charmlet_script_output.specs.Ledgers.{Ledger, kinds_of}
+use Rattle.charmlet_script_output.specs.Named.{named_by}
+use Rattle.charmlet_cli.specs.Lines.{AreRun, BreakOff, history_opening}
+use Rattle.charmlet_script_output.specs.Created.{IsCreated}
 
 -- the files recover to nothing
 abbrev pub IsNothing : CrashBytes → Type 0
@@ -41,7 +41,7 @@ module _ {D : Type 0} (G : disks.Ghosts D) where
   IsRun first end script before after =
       IsTrue (is_processor_count (processors_of script)) × (made : D)
       × IsCreated G (kinds_of script) first made
-      × (last : Ledger D) × AreRun G (named_by script.handlers) last (opening_of script made)
+      × (last : Ledger D) × AreRun G (named_by script.handlers) last (history_opening script made)
       script.lines last before after × Stands IsNothing first end last
 
   -- a store is made, some of its lines are run, a beginning of their texts is printed, and the
@@ -51,4 +51,4 @@ module _ {D : Type 0} (G : disks.Ghosts D) where
       IsTrue (is_processor_count (processors_of script)) × (made : D)
       × IsCreated G (kinds_of script) first made
       × (last : Ledger D) × BreakOff G (named_by script.handlers)
-      (opening_of script made) script.lines last before after × Stands IsNothing first end last
+      (history_opening script made) script.lines last before after × Stands IsNothing first end last

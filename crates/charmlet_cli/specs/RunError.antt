@@ -5,12 +5,12 @@ use Rattle.charmlet_model.specs.declared.refusal.Refusal.{Refusal}
 use Rattle.charmlet_model.specs.Texts.{Text}
 use Rattle.charmlet_disk.specs.declared.disk.Disk as disks
 use Rattle.charmlet_script.specs.Script.{Contents}
-use Rattle.charmlet_cli.specs.declared.running.RunError.{RunError}
-use Rattle.charmlet_cli.specs.declared.running.RunError.TheVariants.{TooFewBlanks, NotCreated, Memory, Output}
-use Rattle.charmlet_lines.specs.declared.stop.Stop.{Stop}
-use Rattle.charmlet_lines.specs.declared.stop.Stop.TheVariants as stops
-use Rattle.charmlet_lines.specs.Supplied.{AreEnough}
-use Rattle.charmlet_lines.specs.Created.{IsHandedBack, IsNotCreated, IsNotSaid}
+use Rattle.charmlet_cli.specs.declared.new_run.RunError.{RunError}
+use Rattle.charmlet_cli.specs.declared.new_run.RunError.TheVariants.{TooFewBlanks, NotCreated, Memory, Output}
+use Rattle.charmlet_script_output.specs.declared.exit_reason.ExitReason.{ExitReason}
+use Rattle.charmlet_script_output.specs.declared.exit_reason.ExitReason.TheVariants as stops
+use Rattle.charmlet_script_output.specs.Supplied.{AreEnough}
+use Rattle.charmlet_script_output.specs.Created.{IsHandedBack, IsNotCreated, IsNotSaid}
 use Rattle.charmlet_cli.specs.Run.{IsCutOff}
 
 module _ {D : Type 0} (G : disks.Ghosts D) where
@@ -56,7 +56,7 @@ Lacks state objects script (NotCreated refusal) = ⊥
 Lacks state objects script (Output error) = ⊥
 
 -- why the program stops after it
-abbrev pub stop_after : {C : Type 0} → RunError C → Stop
+abbrev pub stop_after : {C : Type 0} → RunError C → ExitReason
 stop_after (NotCreated refusal) = stops.NotCreated refusal
 stop_after (TooFewBlanks back) = stops.CannotGoOn
 stop_after Memory = stops.CannotGoOn

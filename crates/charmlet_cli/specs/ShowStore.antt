@@ -4,14 +4,14 @@ use Rattle.std.specs.Io.KnownBytes.{Appends}
 use Rattle.charmlet_model.specs.declared.refusal.Refusal.{Refusal}
 use Rattle.charmlet_model.specs.declared.step.Answer.TheVariants as answers
 use Rattle.charmlet_model.specs.Texts.{Text, answer_text}
-use Rattle.charmlet_engine.specs.finding.Found.{Found}
+use Rattle.charmlet_engine.specs.found.Found.{Found}
 use Rattle.charmlet_cli.specs.declared.show.Listed.{Listed}
 use Rattle.charmlet_cli.specs.declared.show.ShowError.{ShowError}
 use Rattle.charmlet_cli.specs.declared.show.ShowError.TheVariants.{Refused, Output}
-use Rattle.charmlet_lines.specs.declared.stop.Stop.{Stop}
-use Rattle.charmlet_lines.specs.declared.stop.Stop.TheVariants as stops
+use Rattle.charmlet_script_output.specs.declared.exit_reason.ExitReason.{ExitReason}
+use Rattle.charmlet_script_output.specs.declared.exit_reason.ExitReason.TheVariants as stops
 use Rattle.charmlet_cli.specs.FoundLines.{found_texts}
-use Rattle.charmlet_lines.specs.Writing.{in_lines, AppendsBeginning}
+use Rattle.charmlet_script_output.specs.Writing.{in_lines, AppendsBeginning}
 
 -- what is found, without its list of arrays
 abbrev pub found_of : Result Listed Refusal → Result Found Refusal
@@ -35,6 +35,6 @@ IsSaid answer (Err (Output error)) before after =
     AppendsBeginning before after (in_lines (texts_of answer))
 
 -- why the program stops after it
-abbrev pub stop_shown : ShowError → Stop
+abbrev pub stop_shown : ShowError → ExitReason
 stop_shown (Refused refusal) = stops.NotShown refusal
 stop_shown (Output error) = stops.CannotGoOn

@@ -6,17 +6,17 @@ ghost use Rattle.charmlet_model.specs.declared.step.Step.TheVariants as steps;
 ghost use Rattle.charmlet_requests.specs.Handlers.{IsTarget};
 ghost use Rattle.charmlet_engine.specs.Engine.{client_answer, world_of};
 ghost use Rattle.charmlet_engine.specs.Taken.{Takes};
-ghost use Rattle.charmlet_lines.specs.Named.{named_by};
+ghost use Rattle.charmlet_script_output.specs.Named.{named_by};
 ghost use Rattle.charmlet_cli.specs.Lines.{named_at};
 
 use charmlet_chare::Chare;
 use charmlet_disk::Disk;
 use charmlet_engine::Engine;
 use charmlet_history::Request;
-use charmlet_lines::{Call, handlers_of};
 use charmlet_model::{Elem, Refusal, Told};
 use charmlet_requests::{ClientPass, Handlers, Passes};
 use charmlet_script::HandlerLine;
+use charmlet_script_output::{Call, handlers_of};
 use std::alloc::{AllocError, Global};
 use std::collections::BTreeMap;
 

@@ -1,6 +1,6 @@
 //! The lines that show what is found in two halves.
 
-use charmlet_model::{Edition, Half, Kind};
+use charmlet_model::{Half, Kind, KindVersion};
 use std::fmt;
 
 /// The taken half: its generation, how many events came before its image, and how many its log has.
@@ -16,7 +16,7 @@ pub struct HalfLine {
 #[derive(Clone, Copy, Debug, PartialEq, Eq)]
 pub struct ArrayLine {
     pub array: u16,
-    pub edition: Edition,
+    pub kind_version: KindVersion,
 }
 
 /// How many blank objects of a kind a restart needs.
@@ -54,8 +54,8 @@ impl fmt::Display for ArrayLine {
 
     fn fmt<W: fmt::Write>(&self, f: &mut fmt::Formatter<W>) -> fmt::Result {
         let array = self.array;
-        let kind = self.edition.kind();
-        let version = self.edition.version();
+        let kind = self.kind_version.kind();
+        let version = self.kind_version.version();
         write!(f, "array {array} kind {kind} version {version}")
     }
 }

@@ -8,18 +8,18 @@ ghost use Rattle.charmlet_model.specs.declared.refusal.Refusal.{Refusal};
 ghost use Rattle.charmlet_disk.specs.Disk.{LeavesOnly, SameFiles, faults_after};
 ghost use Rattle.charmlet_disk.specs.File.{MayLeave};
 ghost use Rattle.charmlet_halves.specs.Answers.{is_no_failure};
-ghost use Rattle.charmlet_engine.specs.finding.Found.{Found};
+ghost use Rattle.charmlet_engine.specs.found.Found.{Found};
 ghost use Rattle.charmlet_engine.specs.Found.{IsFoundIn, IsRead};
 ghost use Rattle.charmlet_cli.specs.FoundLines.{array_texts, count_texts, found_texts, wanted_texts};
-ghost use Rattle.charmlet_lines.specs.Writing.{in_lines, Writes};
+ghost use Rattle.charmlet_script_output.specs.Writing.{in_lines, Writes};
 ghost use Rattle.charmlet_cli.specs.ShowStore.{IsSaid, found_of};
-ghost use Rattle.charmlet_lines.specs.Shown.{all_kinds};
+ghost use Rattle.charmlet_script_output.specs.Shown.{all_kinds};
 
 use crate::found_lines::{ArrayLine, HalfLine, WantedLine};
 use charmlet_disk::Disk;
 use charmlet_engine::{Found, Wanted, manifest};
-use charmlet_lines::{Stop, write_answer, write_line};
-use charmlet_model::{Answer, Edition, Kind, Refusal};
+use charmlet_model::{Answer, Kind, KindVersion, Refusal};
+use charmlet_script_output::{ExitReason, write_answer, write_line};
 use std::alloc::{AllocError, Global};
 use std::io;
 use std::io::Write;
@@ -34,16 +34,16 @@ pub enum ShowError {
     Output(io::Error),
 }
 
-impl From<ShowError> for Stop {
+impl From<ShowError> for ExitReason {
     ghost use Rattle.std.specs.Prelude.{◌≡◌};
     ghost use Rattle.charmlet_cli.specs.ShowStore.{stop_shown};
 
     ghost from_gives = { λ error stop. stop ≡ stop_shown error };
 
-    fn from(error: ShowError) -> Stop {
+    fn from(error: ShowError) -> ExitReason {
         match error {
-            ShowError::Refused(refusal) => Stop::NotShown(refusal),
-            ShowError::Output(_) => Stop::CannotGoOn,
+            ShowError::Refused(refusal) => ExitReason::NotShown(refusal),
+            ShowError::Output(_) => ExitReason::CannotGoOn,
         }
     }
 }
@@ -87,7 +87,7 @@ pub fn show_store<D: Disk, W: Write>(
 #[derive(Drop)]
 struct Listed {
     found: Found,
-    arrays: Vec<(u16, Edition)>,
+    arrays: Vec<(u16, KindVersion)>,
 }
 
 /// What is found in the two halves of a disk, and the list of its arrays. The refusals are those of
@@ -136,15 +136,15 @@ fn write_found<W: Write>(alloc: Global, writer: &mut W, listed: &Listed) -> io::
 fn write_arrays<W: Write>(
     alloc: Global,
     writer: &mut W,
-    arrays: &[(u16, Edition)],
+    arrays: &[(u16, KindVersion)],
 ) -> io::Result<()>
     ensures { Writes result (W.contents writer.old) (W.contents writer.new)
         (in_lines (flat_map array_texts arrays.now)) }
 {
-    for (array, edition) in arrays {
+    for (array, kind_version) in arrays {
         let line = ArrayLine {
             array: *array,
-            edition: *edition,
+            kind_version: *kind_version,
         };
         write_line(alloc, writer, &line)?;
     }

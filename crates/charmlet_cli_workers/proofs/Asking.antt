@@ -36,7 +36,7 @@ use Rattle.charmlet_leases.proofs.PassesLemmas.Places.{all-last, at_end, at_set}
 use Rattle.charmlet_runtime.specs.Engine.{client_answer}
 use Rattle.charmlet_workers.specs.Refusals.{IsCauseAfter, IsRecent, IsRequestCause, is_lending_refusal, is_request_refusal, is_status_refusal}
 use Rattle.std.specs.Prelude.{◌||◌}
-use Rattle.charmlet_lines.specs.Named.{Names}
+use Rattle.charmlet_script_output.specs.Named.{Names}
 use Rattle.charmlet_workers.specs.Runtime.{AreFlushed, RuntimeShown}
 use Rattle.charmlet_workers.proofs.Rows.{reached_least}
 use Rattle.charmlet_cli_workers.specs.Heard.{AreAccepted, AreRising, AreTidy, HaveNone, IsAsked, IsCounted, IsAskingCauseBy, IsDoneBy, IsHeard, IsLentAt, IsPassOf, IsReached, IsStepCauseBy, IsSure, IsToldBy, KnowTheSame, accepts_by, known_by, row_by}

@@ -2,7 +2,7 @@
 use Rattle.std.proofs.Common.{◌≡◌, ◌≤◌, ℕ, inr, List, [], refl, sym, ap, subst, ◌∙◌, Option, Some, None, Result, Ok, Err, OnOk}
 use Rattle.std.specs.Prelude.{IfErr, IfSome, unwrap_or}
 use Rattle.std.specs.Global.{Vec}
-use Rattle.charmlet_model.specs.declared.edition.Edition.{Edition}
+use Rattle.charmlet_model.specs.declared.kind_version.KindVersion.{KindVersion}
 use Rattle.charmlet_model.specs.declared.kind.Kind.{Kind}
 use Rattle.charmlet_model.specs.declared.state.State.{State}
 use Rattle.charmlet_model.specs.Core.{Core}
@@ -11,12 +11,12 @@ use Rattle.charmlet_model.specs.Shelves.{count_of}
 use Rattle.charmlet_model.specs.Sound.{new_world}
 use Rattle.charmlet_model.specs.Texts.{Text}
 use Rattle.charmlet_disk.specs.declared.disk.Disk.{Ghosts}
-use Rattle.charmlet_persist.specs.Journal.NewStores.{new_core}
+use Rattle.charmlet_persist.specs.Writes.NewStores.{new_core}
 use Rattle.charmlet_script.specs.declared.script.Line.{Line}
 use Rattle.charmlet_script.specs.Script.{Contents, blanks_of, pairs_of, processors_of}
-use Rattle.charmlet_lines.specs.Supplied.{AreEnough}
-use Rattle.charmlet_lines.specs.Ledgers.{kinds_of}
-use Rattle.charmlet_lines.specs.Named.{named_by}
+use Rattle.charmlet_script_output.specs.Supplied.{AreEnough}
+use Rattle.charmlet_script_output.specs.Ledgers.{kinds_of}
+use Rattle.charmlet_script_output.specs.Named.{named_by}
 use Rattle.charmlet_cli_workers.specs.declared.ended.WorkersError.{WorkersError}
 use Rattle.charmlet_cli_workers.specs.declared.ended.WorkersError.TheVariants.{Delivers, TooFewBlanks, Memory, NotCreated, NotRestarted, NoSeats, Output, NotClosed}
 use Rattle.charmlet_cli_workers.specs.Left.{EndsEarly, IsLeft, Prints, PrintsOver}
@@ -29,11 +29,11 @@ pub enough_in : {C : Type 0} (state : C → State) (objects : List C) (lines : L
 enough_in state objects lines left enough same kind = subst (λ n. blanks_of kind lines ≤ n) (sym (same kind)) (enough kind)
 
 -- a new store has the script's arrays and processors
-made_of : (script : Contents) (manifest : List (ℕ × Edition)) → manifest_of (pairs_of script.arrays) ≡ Some manifest → manifest ≡ kinds_of script
-made_of script manifest is = sym (ap (λ (o : Option (List (ℕ × Edition))). unwrap_or o []) is)
+made_of : (script : Contents) (manifest : List (ℕ × KindVersion)) → manifest_of (pairs_of script.arrays) ≡ Some manifest → manifest ≡ kinds_of script
+made_of script manifest is = sym (ap (λ (o : Option (List (ℕ × KindVersion))). unwrap_or o []) is)
 
 module _ {D : Type 0} (G : Ghosts D) where
-  pub left_new : (script : Contents) (manifest : List (ℕ × Edition)) (processors : ℕ) (core : Core) (end : Option D) → manifest_of (pairs_of script.arrays) ≡ Some manifest → processors ≡ processors_of script → core ≡ new_core processors manifest →
+  pub left_new : (script : Contents) (manifest : List (ℕ × KindVersion)) (processors : ℕ) (core : Core) (end : Option D) → manifest_of (pairs_of script.arrays) ≡ Some manifest → processors ≡ processors_of script → core ≡ new_core processors manifest →
       (P : Core → Type 0) → IfSome end (IsLeft G core.opening core.before core.processors P) → IfSome end (IsLeft G (new_world (kinds_of script)) 0 (processors_of script) P)
   left_new script manifest processors core end is count opens P left =
       let new : core ≡ new_core (processors_of script) (kinds_of script) = opens ∙ ap (λ n. new_core n manifest) count ∙ ap (new_core (processors_of script)) (made_of script manifest is) in

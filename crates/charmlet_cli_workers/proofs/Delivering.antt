@@ -8,7 +8,7 @@ use Rattle.charmlet_model.specs.declared.refusal.Refusal.{Refusal}
 use Rattle.charmlet_script.specs.declared.printed.Drained.{Drained}
 use Rattle.charmlet_script.specs.Printed.{drained_text}
 use Rattle.charmlet_leases.specs.Seats.Seats.{HeldSeat}
-use Rattle.charmlet_workers.specs.declared.working.Worked.{Worked}
+use Rattle.charmlet_workers.specs.declared.work.Worked.{Worked}
 use Rattle.charmlet_workers.specs.Refusals.{is_work_refusal}
 use Rattle.charmlet_workers.specs.Working.{HasServed}
 use Rattle.charmlet_cli_workers.specs.Said.{Clients, Deeds, HaveDelivered, IsDrained, refused_texts}
@@ -39,9 +39,9 @@ module _ {S : Type 0} (seat : S → HeldSeat) (worked : S → Worked) where
       )
 
   -- one more seat without ids
-  pub none_more : (stations : List S) (s : S) → AllByRecursion (λ ids. ids ≡ []) (map (λ s. (seat s).ids) stations) → (seat s).ids ≡ [] → AllByRecursion (λ ids. ids ≡ []) (map (λ s. (seat s).ids) (stations ++ s ∷ []))
+  pub none_more : (slots : List S) (s : S) → AllByRecursion (λ ids. ids ≡ []) (map (λ s. (seat s).ids) slots) → (seat s).ids ≡ [] → AllByRecursion (λ ids. ids ≡ []) (map (λ s. (seat s).ids) (slots ++ s ∷ []))
   none_more [] s all none = (none, tt)
-  none_more (t ∷ stations) s all none = (all.0, none_more stations s all.1 none)
+  none_more (t ∷ slots) s all none = (all.0, none_more slots s all.1 none)
 
   -- what a drain prints
   pub drained_so : (clients : Clients) (turns : ℕ) (before : Deeds) (old new : List S) (drained : Drained) (refusal : Option Refusal) → before.delivered ≡ map (λ s. (seat s).ids) old → length new ≡ length old →
@@ -61,8 +61,8 @@ module _ {S : Type 0} (seat : S → HeldSeat) (worked : S → Worked) where
     texts_are = refl;
   }
 
-  pub none_pushed : (stations new : List S) (s : S) → new ≡ stations ++ s ∷ [] → AllByRecursion (λ ids. ids ≡ []) (map (λ s. (seat s).ids) stations) → (seat s).ids ≡ [] → AllByRecursion (λ ids. ids ≡ []) (map (λ s. (seat s).ids) new)
-  none_pushed stations new s is all none = subst (λ (ss : List S). AllByRecursion (λ ids. ids ≡ []) (map (λ s. (seat s).ids) ss)) (sym is) (none_more stations s all none)
+  pub none_pushed : (slots new : List S) (s : S) → new ≡ slots ++ s ∷ [] → AllByRecursion (λ ids. ids ≡ []) (map (λ s. (seat s).ids) slots) → (seat s).ids ≡ [] → AllByRecursion (λ ids. ids ≡ []) (map (λ s. (seat s).ids) new)
+  none_pushed slots new s is all none = subst (λ (ss : List S). AllByRecursion (λ ids. ids ≡ []) (map (λ s. (seat s).ids) ss)) (sym is) (none_more slots s all none)
 
 -- one more seat in a list, and one fewer behind it
 pub moved : (seats : List HeldSeat) (held : HeldSeat) (lists : List (List MsgId)) → map (λ (h : HeldSeat). h.ids) (seats ++ held ∷ []) ++ lists ≡ map (λ (h : HeldSeat). h.ids) seats ++ held.ids ∷ lists

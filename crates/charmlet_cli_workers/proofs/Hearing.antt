@@ -23,7 +23,7 @@ use Rattle.charmlet_requests.specs.Pass.{Pass, known, with_accept, with_told}
 use Rattle.charmlet_leases.specs.Passes.Passes.{AreTrue, HeldPass, IsAnswered, IsCurrent, accepts_in, with_answer, with_flush}
 use Rattle.charmlet_workers.specs.Refusals.{IsRecent}
 use Rattle.charmlet_workers.specs.Runtime.{RuntimeShown}
-use Rattle.charmlet_lines.specs.Named.{Names}
+use Rattle.charmlet_script_output.specs.Named.{Names}
 use Rattle.charmlet_cli_workers.specs.Heard.{AreLater, IsRecorded, IsHeard, accepts_by, IsLater, IsLentAt, IsReached, IsStepCauseBy, IsSure, known_by}
 use Rattle.charmlet_cli_workers.specs.Said.{IsAskingCause, StaysTrue}
 use Rattle.charmlet_cli_workers.proofs.Rows.{accepted_of, heard_least, last_known}

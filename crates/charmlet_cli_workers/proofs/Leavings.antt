@@ -11,9 +11,9 @@ use Rattle.charmlet_hub.specs.Hub.{deliveries_in}
 use Rattle.charmlet_leases.specs.Passes.Passes.{HaveAllAccepts, HeldPass, IsCurrent}
 use Rattle.charmlet_leases.specs.Seats.Woven.{IsWoven}
 use Rattle.charmlet_script.specs.declared.script.Line.{Line}
-use Rattle.charmlet_lines.specs.declared.restarting.RestartedLine.{RestartedLine}
+use Rattle.charmlet_script_output.specs.declared.restarted_line.RestartedLine.{RestartedLine}
 use Rattle.charmlet_requests.specs.Handlers.{IsTarget}
-use Rattle.charmlet_lines.specs.Named.{Names}
+use Rattle.charmlet_script_output.specs.Named.{Names}
 use Rattle.charmlet_workers.specs.Refusals.{IsRecent}
 use Rattle.charmlet_workers.specs.Runtime.{ArePending, ArePendingIds, RuntimeShown, StoodOn, WasSeen, WereCounted}
 use Rattle.charmlet_cli_workers.specs.Heard.{IsDoneBy, IsStepCauseBy, known_by}

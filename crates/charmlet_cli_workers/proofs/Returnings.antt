@@ -16,10 +16,10 @@ use Rattle.charmlet_stock.specs.Stock.{supplied_to}
 use Rattle.charmlet_replay.specs.Unused.{IsUnused}
 use Rattle.charmlet_script.specs.declared.script.HandlerLine.{HandlerLine}
 use Rattle.charmlet_script.specs.declared.script.Line.{Line}
-use Rattle.charmlet_lines.specs.declared.restarting.RestartedLine.{RestartedLine}
-use Rattle.charmlet_lines.specs.Named.{Names, named_by}
+use Rattle.charmlet_script_output.specs.declared.restarted_line.RestartedLine.{RestartedLine}
+use Rattle.charmlet_script_output.specs.Named.{Names, named_by}
 use Rattle.charmlet_workers.specs.Runtime.{shown_of}
-use Rattle.charmlet_runtime.specs.restarting.NotRestarted.{NotRestarted as NoStore}
+use Rattle.charmlet_runtime.specs.restarted.NotRestarted.{NotRestarted as NoStore}
 use Rattle.charmlet_runtime.specs.Engine.{EngineShown, core_of, view_of}
 use Rattle.charmlet_runtime.specs.Constructions.{AreConstructions}
 use Rattle.charmlet_runtime.specs.wanted.Wanted.{Wanted}
@@ -27,9 +27,9 @@ use Rattle.charmlet_runtime.specs.Reopened.{IsReopened, IsRestart, ReopenedShown
 use Rattle.charmlet_runtime.specs.Reopening.{IsOver}
 use Rattle.charmlet_runtime.specs.Restart.{AnswersBy, bytes_on}
 use Rattle.charmlet_runtime.specs.Restarted.{IsOpenedOn, IsTakenFrom}
-use Rattle.charmlet_lines.specs.Back.{CameBackWith, given_of, refusal_text}
-use Rattle.charmlet_lines.specs.Ledgers.{ledger_in}
-use Rattle.charmlet_lines.proofs.Backs.{all_given, counted_processors, is_back, was_not_restarted}
+use Rattle.charmlet_script_output.specs.Back.{CameBackWith, given_of, refusal_text}
+use Rattle.charmlet_script_output.specs.Ledgers.{ledger_in}
+use Rattle.charmlet_script_output.proofs.Backs.{all_given, counted_processors, is_back, was_not_restarted}
 use Rattle.charmlet_cli_workers.specs.declared.ended.WorkersError.{WorkersError}
 use Rattle.charmlet_cli_workers.specs.declared.ended.WorkersError.TheVariants.{Delivers, TooFewBlanks, Memory, NotCreated, NotRestarted, NoSeats, Output, NotClosed}
 use Rattle.charmlet_cli_workers.specs.Left.{EndsEarly, IsLeft, Prints, PrintsOver}

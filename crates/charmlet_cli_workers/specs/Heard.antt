@@ -21,7 +21,7 @@ use Rattle.charmlet_leases.specs.Passes.Passes.{HeldPass, accept_of, accepts_in}
 use Rattle.charmlet_requests.specs.declared.handlers.Handlers.{Handlers}
 use Rattle.charmlet_requests.specs.Handlers.{IsTarget, handler_of}
 use Rattle.charmlet_requests.specs.Knowing.{IsNoLess, heard}
-use Rattle.charmlet_lines.specs.Named.{Names}
+use Rattle.charmlet_script_output.specs.Named.{Names}
 use Rattle.charmlet_workers.specs.Refusals.{IsRecent}
 use Rattle.charmlet_workers.specs.Runtime.{ArePending, ArePendingIds, RuntimeShown, StoodOn, WasSeen, WereCounted}
 use Rattle.charmlet_cli_workers.specs.Said.{Clients, Deeds, IsAskingCause, IsOfCheckpoint, IsStepCause, WereFlushed, last_of}

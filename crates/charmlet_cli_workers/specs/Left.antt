@@ -13,8 +13,8 @@ use Rattle.charmlet_leases.specs.Seats.Woven.{IsWoven}
 use Rattle.std.specs.List.{AllByRecursion}
 use Rattle.charmlet_script.specs.declared.script.Line.{Line}
 use Rattle.charmlet_sequencer.specs.Sequencer.{IsOf, is_lawful}
-use Rattle.charmlet_lines.specs.declared.restarting.RestartedLine.{RestartedLine}
-use Rattle.charmlet_lines.specs.Named.{Names}
+use Rattle.charmlet_script_output.specs.declared.restarted_line.RestartedLine.{RestartedLine}
+use Rattle.charmlet_script_output.specs.Named.{Names}
 use Rattle.charmlet_cli_workers.specs.declared.ended.WorkersError.{WorkersError}
 use Rattle.charmlet_cli_workers.specs.declared.ended.WorkersError.TheVariants.{NoSeats, Output, NotClosed}
 use Rattle.charmlet_cli_workers.specs.Said.{ArePrinted, Clients, Deeds, HaveDone, IsBrokenOff, opening_generation, known_in}

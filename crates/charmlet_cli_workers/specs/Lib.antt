@@ -15,11 +15,11 @@ pub use Rattle.charmlet_sequencer.specs.Sequencer
 pub use Rattle.charmlet_runtime.specs.Engine
 pub use Rattle.charmlet_stock.specs.Stock
 pub use Rattle.charmlet_script.specs.Script
-pub use Rattle.charmlet_lines.specs.Named
-pub use Rattle.charmlet_lines.specs.Supplied
-pub use Rattle.charmlet_lines.specs.Ledgers
-pub use Rattle.charmlet_lines.specs.Created
-pub use Rattle.charmlet_lines.specs.Back
+pub use Rattle.charmlet_script_output.specs.Named
+pub use Rattle.charmlet_script_output.specs.Supplied
+pub use Rattle.charmlet_script_output.specs.Ledgers
+pub use Rattle.charmlet_script_output.specs.Created
+pub use Rattle.charmlet_script_output.specs.Back
 pub use Rattle.charmlet_replay.specs.Unused
 pub use Rattle.charmlet_model.specs.Sound
 pub use Rattle.charmlet_model.specs.Told
@@ -27,5 +27,5 @@ pub use Rattle.charmlet_model.specs.Texts
 pub use Rattle.charmlet_leases.specs.Passes.Passes
 pub use Rattle.charmlet_script.specs.Printed
 pub use Rattle.charmlet_workers.specs.Sealing
-pub use Rattle.charmlet_lines.specs.Shown
-pub use Rattle.charmlet_lines.specs.Writing
+pub use Rattle.charmlet_script_output.specs.Shown
+pub use Rattle.charmlet_script_output.specs.Writing

@@ -11,11 +11,11 @@ use Rattle.charmlet_locate.specs.Locations.{is_processor_count}
 use Rattle.charmlet_disk.specs.declared.disk.Disk.{Ghosts}
 use Rattle.charmlet_script.specs.declared.script.HandlerLine.{HandlerLine}
 use Rattle.charmlet_script.specs.declared.script.Line.{Line}
-use Rattle.charmlet_lines.specs.declared.restarting.RestartedLine.{RestartedLine}
-use Rattle.charmlet_lines.specs.Supplied.{AreEnough}
-use Rattle.charmlet_lines.specs.Ledgers.{Ledger}
-use Rattle.charmlet_lines.specs.Back.{IsBack, WasNotRestarted, given_of, refusal_text}
-use Rattle.charmlet_lines.specs.Writing.{AppendsBeginning}
+use Rattle.charmlet_script_output.specs.declared.restarted_line.RestartedLine.{RestartedLine}
+use Rattle.charmlet_script_output.specs.Supplied.{AreEnough}
+use Rattle.charmlet_script_output.specs.Ledgers.{Ledger}
+use Rattle.charmlet_script_output.specs.Back.{IsBack, WasNotRestarted, given_of, refusal_text}
+use Rattle.charmlet_script_output.specs.Writing.{AppendsBeginning}
 use Rattle.charmlet_cli_workers.specs.declared.ended.WorkersError.{WorkersError}
 use Rattle.charmlet_cli_workers.specs.declared.ended.WorkersError.TheVariants.{Delivers, TooFewBlanks, Memory, NotCreated, NotRestarted, NoSeats, Output, NotClosed}
 use Rattle.charmlet_cli_workers.specs.Left.{IsLeft}

@@ -10,9 +10,9 @@ use Rattle.charmlet_locate.specs.Locations.{is_processor_count}
 use Rattle.charmlet_disk.specs.declared.disk.Disk.{Ghosts}
 use Rattle.charmlet_script.specs.declared.script.Line.{Line}
 use Rattle.charmlet_script.specs.Script.{Contents, processors_of}
-use Rattle.charmlet_lines.specs.Supplied.{AreEnough}
-use Rattle.charmlet_lines.specs.Ledgers.{kinds_of}
-use Rattle.charmlet_lines.specs.Created.{IsCreated, IsHandedBack, IsNotCreated, IsNotSaid}
+use Rattle.charmlet_script_output.specs.Supplied.{AreEnough}
+use Rattle.charmlet_script_output.specs.Ledgers.{kinds_of}
+use Rattle.charmlet_script_output.specs.Created.{IsCreated, IsHandedBack, IsNotCreated, IsNotSaid}
 use Rattle.charmlet_cli_workers.specs.declared.ended.WorkersError.{WorkersError}
 use Rattle.charmlet_cli_workers.specs.declared.ended.WorkersError.TheVariants.{Delivers, TooFewBlanks, Memory, NotCreated, NotRestarted, NoSeats, Output, NotClosed}
 use Rattle.charmlet_cli_workers.specs.Left.{IsLeft}

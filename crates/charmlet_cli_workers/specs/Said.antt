@@ -40,11 +40,11 @@ use Rattle.charmlet_store.specs.declared.look.Look.{Look}
 use Rattle.charmlet_workers.specs.Refusals.{IsCauseAfter, IsMoveCause, IsRecent, is_flush_refusal, is_lending_refusal, is_move_refusal, is_request_refusal, is_status_refusal, is_work_refusal}
 use Rattle.charmlet_workers.specs.Runtime.{ArePending, ArePendingIds, IsMoment, RuntimeShown, StoodOn, WasSealed, WasSeen, WereCounted, named}
 use Rattle.charmlet_workers.specs.Sealing.{IsLaterGeneration, is_sealing_refusal}
-use Rattle.charmlet_lines.specs.declared.restarting.RestartedLine.{RestartedLine}
-use Rattle.charmlet_lines.specs.Named.{Names, named_by}
-use Rattle.charmlet_lines.specs.Writing.{in_lines, memory_text, AppendsBeginning, Writes}
-use Rattle.charmlet_lines.specs.Back.{restarted_line_text}
-use Rattle.charmlet_lines.specs.Shown.{IsWhole, all_kinds, counted_texts, look_text}
+use Rattle.charmlet_script_output.specs.declared.restarted_line.RestartedLine.{RestartedLine}
+use Rattle.charmlet_script_output.specs.Named.{Names, named_by}
+use Rattle.charmlet_script_output.specs.Writing.{in_lines, memory_text, AppendsBeginning, Writes}
+use Rattle.charmlet_script_output.specs.Back.{restarted_line_text}
+use Rattle.charmlet_script_output.specs.Shown.{IsWhole, all_kinds, counted_texts, look_text}
 
 -- ---- what lines do
 

@@ -1,9 +1,9 @@
 //! How a run by workers ends.
 
 use charmlet_disk::Disk;
-use charmlet_lines::Stop;
 use charmlet_model::Refusal;
 use charmlet_runtime::Wanted;
+use charmlet_script_output::ExitReason;
 use std::io;
 
 /// Why a script wasn't run to its last line by workers. `T` is what was handed in as objects.
@@ -46,22 +46,22 @@ pub struct RanByWorkers<D: Disk, T: Drop> {
     pub constructions: Option<Wanted>,
 }
 
-impl<T: Drop> From<WorkersError<T>> for Stop {
+impl<T: Drop> From<WorkersError<T>> for ExitReason {
     ghost use Rattle.std.specs.Prelude.{◌≡◌};
     ghost use Rattle.charmlet_cli_workers.specs.Ended.{stop_after};
 
     ghost from_gives = { λ error stop. stop ≡ stop_after error };
 
-    fn from(error: WorkersError<T>) -> Stop {
+    fn from(error: WorkersError<T>) -> ExitReason {
         match error {
-            WorkersError::NotCreated(refusal) => Stop::NotCreated(refusal),
-            WorkersError::NotRestarted(refusal) => Stop::NotRestarted(refusal),
+            WorkersError::NotCreated(refusal) => ExitReason::NotCreated(refusal),
+            WorkersError::NotRestarted(refusal) => ExitReason::NotRestarted(refusal),
             WorkersError::Delivers(_)
             | WorkersError::TooFewBlanks(_)
             | WorkersError::Memory
             | WorkersError::NoSeats
             | WorkersError::Output(_)
-            | WorkersError::NotClosed => Stop::CannotGoOn,
+            | WorkersError::NotClosed => ExitReason::CannotGoOn,
         }
     }
 }

@@ -5,16 +5,16 @@
 #![tactic(auto)]
 
 mod clients;
-mod draining;
+mod drain;
 mod ended;
-mod floor;
+mod inquiries;
 mod lines;
+mod new_run;
 mod opened;
-mod restarting;
-mod running;
-mod showing;
-mod supplying;
+mod restarted_run;
+mod seats;
+mod supply;
 
 pub use crate::ended::{RanByWorkers, WorkersError};
-pub use crate::restarting::restart_workers;
-pub use crate::running::run_workers;
+pub use crate::new_run::run_workers;
+pub use crate::restarted_run::restart_workers;

@@ -10,23 +10,23 @@ ghost use Rattle.charmlet_script.specs.declared.script.Line.TheVariants as lines
 ghost use Rattle.charmlet_model.specs.declared.step.Step.TheVariants as steps;
 ghost use Rattle.charmlet_runtime.specs.Engine.{client_answer};
 ghost use Rattle.charmlet_requests.specs.Handlers.{IsTarget};
-ghost use Rattle.charmlet_lines.specs.Named.{Names};
+ghost use Rattle.charmlet_script_output.specs.Named.{Names};
 ghost use Rattle.charmlet_cli_workers.specs.Heard.{AreLater, AreTidy, IsDoneBy, known_by, names_in};
 ghost use Rattle.charmlet_cli_workers.specs.Lines.{has_delivery, is_delivery};
 ghost use Rattle.charmlet_cli_workers.specs.Said.{Answers, AreCutOff, AreSaid, Deeds, IsWritten, Says};
 
 use crate::clients::Clients;
-use crate::draining::drain_line;
-use crate::floor::Floor;
-use crate::showing::{census_line, pending_line, state_line};
-use crate::supplying::supply_line;
+use crate::drain::drain_line;
+use crate::inquiries::{census_line, pending_line, state_line};
+use crate::seats::Floor;
+use crate::supply::supply_line;
 use charmlet_chare::Chare;
 use charmlet_disk::Disk;
 use charmlet_history::Request;
-use charmlet_lines::{Call, told_answer, write_answer, write_step_answer};
 use charmlet_model::{Answer, Elem, Refusal, Step, Told};
 use charmlet_requests::Handlers;
 use charmlet_script::Line;
+use charmlet_script_output::{Call, told_answer, write_answer, write_step_answer};
 use charmlet_sequencer::RuntimeName;
 use charmlet_workers::Runtime;
 use std::alloc::Global;
@@ -70,16 +70,16 @@ pub(crate) fn run_lines<
     requires tidy { AreTidy floor.old.clients.passes.items floor.old.clients.places.entries }
     ensures seats { floor.new.seats ≡ floor.old.seats }
     ensures said { OnOk result ((first : Deeds) → IsDoneBy floor.old.clients.passes.items
-        (map (λ station. station.seat.ids) floor.old.stations.items) first →
+        (map (λ slot. slot.seat.ids) floor.old.slots.items) first →
         (last : Deeds) × IsDoneBy floor.new.clients.passes.items
-        (map (λ station. station.seat.ids) floor.new.stations.items) last
+        (map (λ slot. slot.seat.ids) floor.new.slots.items) last
         × AreSaid (known_by runtime.now (names_in floor.old.handlers)
         floor.new.clients.passes.items) first lines.now last
         (W.contents writer.old) (W.contents writer.new)) }
     ensures cut_off { OnErr result ((first : Deeds) → IsDoneBy floor.old.clients.passes.items
-        (map (λ station. station.seat.ids) floor.old.stations.items) first →
+        (map (λ slot. slot.seat.ids) floor.old.slots.items) first →
         (last : Deeds) × IsDoneBy floor.new.clients.passes.items
-        (map (λ station. station.seat.ids) floor.new.stations.items) last
+        (map (λ slot. slot.seat.ids) floor.new.slots.items) last
         × AreCutOff (known_by runtime.now (names_in floor.old.handlers)
         floor.new.clients.passes.items) first lines.now last
         (W.contents writer.old) (W.contents writer.new)) }
@@ -109,9 +109,9 @@ fn run_line<D: Disk, C: Chare, B: RuntimeName + Send + Sync, W: Write, R: Thread
     ensures seats { floor.new.seats ≡ floor.old.seats }
     ensures handlers { floor.new.handlers ≡ floor.old.handlers }
     ensures said { (before : Deeds) → IsDoneBy floor.old.clients.passes.items
-        (map (λ station. station.seat.ids) floor.old.stations.items) before →
+        (map (λ slot. slot.seat.ids) floor.old.slots.items) before →
         (after : Deeds) × IsDoneBy floor.new.clients.passes.items
-        (map (λ station. station.seat.ids) floor.new.stations.items) after
+        (map (λ slot. slot.seat.ids) floor.new.slots.items) after
         × IsWritten result (λ texts. Says (known_by runtime.now (names_in floor.old.handlers)
         floor.new.clients.passes.items) before line.now texts after) (W.contents writer.old)
         (W.contents writer.new) }
@@ -123,8 +123,8 @@ fn run_line<D: Disk, C: Chare, B: RuntimeName + Send + Sync, W: Write, R: Thread
             supply_line(rt, alloc, runtime, source, *kind, *count, writer)
         }
         Line::Drain { count } => {
-            let stations = floor.stations.as_mut_slice();
-            drain_line(rt, alloc, runtime, stations, *count, writer)
+            let slots = floor.slots.as_mut_slice();
+            drain_line(rt, alloc, runtime, slots, *count, writer)
         }
         Line::State(elem) => state_line(rt, alloc, runtime, *elem, writer),
         Line::Pending => pending_line(rt, alloc, runtime, writer),

@@ -14,21 +14,21 @@ ghost use Rattle.charmlet_cli_workers.specs.Heard.{AreTidy, IsDoneBy, known_by, 
 ghost use Rattle.charmlet_cli_workers.specs.Left.{EndsApart, EndsEarly, IsApart, IsEarly, IsLeft, Prints, PrintsOver};
 ghost use Rattle.charmlet_cli_workers.specs.Lines.{has_delivery};
 ghost use Rattle.charmlet_cli_workers.specs.Said.{opening_generation, opening_texts, unknown};
-ghost use Rattle.charmlet_lines.specs.Writing.{in_lines, Writes};
+ghost use Rattle.charmlet_script_output.specs.Writing.{in_lines, Writes};
 
 use crate::ended::{RanByWorkers, WorkersError};
-use crate::floor::{Floor, Lent, give_up, take_seats};
 use crate::lines::run_lines;
+use crate::seats::{Floor, Lent, give_up, take_seats};
 use charmlet_chare::Chare;
 use charmlet_disk::Disk;
 use charmlet_hub::Closed;
-use charmlet_lines::{RestartedLine, write_line};
 use charmlet_requests::Handlers;
 use charmlet_runtime::{NotRestarted, Reopened, open_reopened};
 use charmlet_script::Line;
+use charmlet_script_output::{RestartedLine, write_line};
 use charmlet_sequencer::RuntimeName;
 use charmlet_stock::Stock;
-use charmlet_workers::{Runtime, UnnamedBooks};
+use charmlet_workers::{Runtime, UnnamedAuthorities};
 use std::alloc::Global;
 use std::io;
 use std::io::Write;
@@ -64,7 +64,7 @@ pub(crate) fn run_reopened<
     rt: &R,
     alloc: Global,
     reopened: Reopened<D, C>,
-    books: UnnamedBooks,
+    authorities: UnnamedAuthorities,
     given: Given<C>,
     lines: &Lines<'_>,
     writer: &mut W,
@@ -73,10 +73,10 @@ pub(crate) fn run_reopened<
     requires generation { B.generation ≡ (core_to_be reopened).generation }
     requires restarted { (core_to_be reopened).generation
         ≡ opening_generation lines.now.restarted }
-    requires parts { table_of books.parts ≡ B.table }
-    requires seats { table_of books.seats ≡ B.seats }
-    requires passes { table_of books.passes ≡ B.passes }
-    requires checkpoints { table_of books.checkpoints ≡ B.checkpoints }
+    requires parts { table_of authorities.parts ≡ B.table }
+    requires seats { table_of authorities.seats ≡ B.seats }
+    requires passes { table_of authorities.passes ≡ B.passes }
+    requires checkpoints { table_of authorities.checkpoints ≡ B.checkpoints }
     requires honest { B.honest → D.honest reopened.disk }
     requires only_honest { D.honest reopened.disk → B.honest }
     requires no_delivery { has_delivery lines.now.lines.now ≡ false }
@@ -102,7 +102,7 @@ pub(crate) fn run_reopened<
         IsRestart D.Disk processors blanks first (Err refused)) }
     ensures silent { OnErr result (writer.new ≡ writer.old) }
 {
-    match open_reopened::<D, C, B>(alloc, reopened, books) {
+    match open_reopened::<D, C, B>(alloc, reopened, authorities) {
         Ok(runtime) => Ok(run_opened(rt, alloc, runtime, given, lines, writer)),
         Err(refused) => Err(refused),
     }
@@ -165,19 +165,19 @@ fn run_on<
         ≤ blanks_in floor.old.source kind }
     requires passes { floor.old.clients.passes.items ≡ [] }
     requires tidy { AreTidy floor.old.clients.passes.items floor.old.clients.places.entries }
-    requires stations { floor.old.stations.items ≡ [] }
+    requires slots { floor.old.slots.items ≡ [] }
     requires seats { floor.old.seats.items ≡ [] }
     ensures seats { floor.new.seats.items ≡ [] }
     ensures err { IfErr result (IsEarly writer.old writer.new) }
     ensures prints { Prints result lines.now.restarted
         (known_by runtime.now (names_in floor.old.handlers) floor.new.clients.passes.items)
         (IsDoneBy floor.new.clients.passes.items
-        (map (λ station. station.seat.ids) floor.new.stations.items)) lines.now.lines.now
+        (map (λ slot. slot.seat.ids) floor.new.slots.items)) lines.now.lines.now
         (W.contents writer.old) (W.contents writer.new) }
 {
-    let stations = &mut floor.stations;
+    let slots = &mut floor.slots;
     let seats = &mut floor.seats;
-    let Ok(()) = take_seats(rt, runtime, stations, seats, lines.processors) else {
+    let Ok(()) = take_seats(rt, runtime, slots, seats, lines.processors) else {
         return Err(WorkersError::NoSeats);
     };
     if let Err(error) = write_opening(alloc, lines.restarted, writer) {
@@ -215,18 +215,18 @@ fn take_apart<D: Disk, C: Chare, T: Drop, B: RuntimeName>(
     requires seats { floor.seats.items ≡ [] }
     ensures left { IfSome result.disk (IsApart D.Disk runtime.opening runtime.before
         runtime.processors floor.clients.passes.items
-        (map (λ station. station.seat.ids) floor.stations.items)) }
+        (map (λ slot. slot.seat.ids) floor.slots.items)) }
     ensures honest { IfSome result.disk (λ disk. B.honest → D.honest disk) }
     ensures same { IsSome result.disk → result.result ≡ ran }
     ensures back { OnOk result.result (IsSome result.disk) }
     ensures err { IfErr result.result (EndsApart ran result.disk) }
 {
     let Lent {
-        stations,
+        slots,
         mut seats,
         passes,
     } = floor.into_lent();
-    let Ok(()) = give_up(stations, &mut seats) else {
+    let Ok(()) = give_up(slots, &mut seats) else {
         return not_closed(ran);
     };
     match runtime.close(seats, passes) {

@@ -13,7 +13,7 @@ use Rattle.charmlet_model.specs.declared.names.MsgId.{MsgId}
 use Rattle.charmlet_model.specs.declared.message.Message.{Message}
 use Rattle.charmlet_model.specs.declared.kind.Kind.{Kind}
 use Rattle.charmlet_model.specs.declared.kind.Kind.TheVariants as kinds
-use Rattle.charmlet_model.specs.declared.edition.Edition.{Edition}
+use Rattle.charmlet_model.specs.declared.kind_version.KindVersion.{KindVersion}
 use Rattle.charmlet_model.specs.declared.refusal.Refusal.{Refusal}
 use Rattle.charmlet_model.specs.declared.refusal.Refusal.TheVariants as refusals
 use Rattle.charmlet_model.specs.declared.TheConstants.{CONSTRUCT}
@@ -32,18 +32,18 @@ use Rattle.charmlet_history.proofs.Orders.{none_of_both, some_of_first, in_front
 -- ---- an assignment, up to the blank and from it on
 
 -- a stock has the blank, where one is wanted
-abbrev pub Has : Blanks → Option Edition → Type 0
+abbrev pub Has : Blanks → Option KindVersion → Type 0
 Has blanks wanted = first_refusal (lacks_blank blanks wanted) ≡ None
 
-rest_passes : (blanks : Blanks) (wanted : Option Edition) → Has blanks wanted → first_refusal (lacks_blank blanks wanted ++ MayLackMemory ∷ []) ≡ None
+rest_passes : (blanks : Blanks) (wanted : Option KindVersion) → Has blanks wanted → first_refusal (lacks_blank blanks wanted ++ MayLackMemory ∷ []) ≡ None
 rest_passes blanks wanted has = none_of_both (lacks_blank blanks wanted) (MayLackMemory ∷ []) has
 
-rest_lacks : (blanks : Blanks) (wanted : Option Edition) → Has blanks wanted → may_lack_memory (lacks_blank blanks wanted ++ MayLackMemory ∷ []) ≡ true
+rest_lacks : (blanks : Blanks) (wanted : Option KindVersion) → Has blanks wanted → may_lack_memory (lacks_blank blanks wanted ++ MayLackMemory ∷ []) ≡ true
 rest_lacks blanks wanted has = memory_after (lacks_blank blanks wanted) (MayLackMemory ∷ []) has refl
 
-plenty_has : (wanted : Option Edition) → Has plenty wanted
+plenty_has : (wanted : Option KindVersion) → Has plenty wanted
 plenty_has None = refl
-plenty_has (Some edition) = refl
+plenty_has (Some kind_version) = refl
 
 module _ (core : Core) (processor : ℕ) (id : MsgId) where
   abbrev front_of : Option Message → List Check
@@ -73,7 +73,7 @@ module _ (core : Core) (processor : ℕ) (id : MsgId) where
   split blanks None = refl
   split blanks (Some m) = refl
 
-  abbrev blank_in : Option Message → Option Edition
+  abbrev blank_in : Option Message → Option KindVersion
   blank_in m = option_and_then (blank_for core) m
 
   plenty_rest : (m : Option Message) → first_refusal (rest_of plenty m) ≡ None

@@ -4,9 +4,9 @@ use Rattle.std.specs.Prelude.{None, is_none}
 use Rattle.std.specs.Cmp.{nat_eq_equiv}
 use Rattle.charmlet_model.specs.declared.kind.Kind.{Kind}
 use Rattle.charmlet_model.specs.declared.state.State.{State}
-use Rattle.charmlet_model.specs.Edition.{edition_kind}
+use Rattle.charmlet_model.specs.KindVersion.{kind_of_version}
 use Rattle.charmlet_model.specs.Kind.{kind_number}
-use Rattle.charmlet_model.specs.Reaction.{edition_of, kind_of}
+use Rattle.charmlet_model.specs.Reaction.{kind_version_of, kind_of}
 use Rattle.charmlet_model.specs.Shelves.{count_of}
 use Rattle.charmlet_chare.specs.declared.chare.Chare.{Ghosts}
 use Rattle.charmlet_shelf.specs.Count.{comes_as, is_newcomer_of, objects_on}
@@ -116,12 +116,12 @@ abbrev one_if : Bool → ℕ
 one_if b = cond b 1 0
 
 -- an object that a message is to construct is one more on a shelf with no delivery under way
-pub one_newcomer : {C : Type 0} (state : C → State) (object : C) (old new : View) (due : Due) → old.phase ≡ phases.Idle → due.receiver.state ≡ None → due.edition ≡ edition_of (state object) →
+pub one_newcomer : {C : Type 0} (state : C → State) (object : C) (old new : View) (due : Due) → old.phase ≡ phases.Idle → due.receiver.state ≡ None → due.kind_version ≡ kind_version_of (state object) →
     new ≡ record old { phase = phases.Assigned due } → (kind : Kind) → objects_on new kind ≡ objects_on old kind + count_of state (object ∷ []) kind
 one_newcomer state object old new due idle absent its is kind =
     let before : one_if (is_newcomer_of kind old.phase) ≡ one_if false = ap (λ p. one_if (is_newcomer_of kind p)) idle in
     let one : one_if (comes_as kind due) ≡ one_if (kind_number (kind_of (state object)) == kind_number kind) =
-    λ i. one_if (is_none (absent i) && (kind_number (edition_kind (its i)) == kind_number kind)) in
+    λ i. one_if (is_none (absent i) && (kind_number (kind_of_version (its i)) == kind_number kind)) in
     ap (λ (v : View). objects_on v kind) is ∙ omega (arith, before, one)
 
 -- ---- pointwise

@@ -9,16 +9,16 @@ use Rattle.charmlet_model.specs.declared.names.Elem.{Elem}
 use Rattle.charmlet_model.specs.declared.names.MsgId.{MsgId}
 use Rattle.charmlet_model.specs.declared.message.Message.{Message}
 use Rattle.charmlet_model.specs.declared.kind.Kind.{Kind}
-use Rattle.charmlet_model.specs.declared.edition.Edition.{Edition}
+use Rattle.charmlet_model.specs.declared.kind_version.KindVersion.{KindVersion}
 use Rattle.charmlet_model.specs.declared.state.State.{State}
 use Rattle.charmlet_model.specs.declared.state.Record.{Record}
 use Rattle.charmlet_model.specs.declared.reaction.Reaction.{Reaction}
 use Rattle.charmlet_model.specs.declared.TheConstants.{CONSTRUCT}
 use Rattle.charmlet_model.specs.Names.{elem_cmp}
 use Rattle.charmlet_model.specs.declared.refusal.Refusal.TheVariants as refusals
-use Rattle.charmlet_model.specs.Reaction.{constructed, edition_of, react}
+use Rattle.charmlet_model.specs.Reaction.{constructed, kind_version_of, react}
 use Rattle.charmlet_model.specs.Packed.{IsState}
-use Rattle.charmlet_model.specs.World.{World, advanced, performed, record_of, reaction_of, edition_of_array, can_deliver}
+use Rattle.charmlet_model.specs.World.{World, advanced, performed, record_of, reaction_of, version_of_array, can_deliver}
 use Rattle.charmlet_model.specs.Core.{Core, present, pending_message, place_of, assigned_to, next_core, Commit, blank_for, blank_of_id}
 use Rattle.charmlet_model.specs.Sound.{IsAssigned}
 use Rattle.charmlet_model.specs.Shelves.{if_here, if_there, there_in}
@@ -72,27 +72,27 @@ module _ (k : Kept) (consistent : IsConsistent k) (p : ℕ) where
     under_way_there records shows due at =
         let receiver : record_of w m.to ≡ due.receiver = seen_is (place_of core m.to) p (record_of w m.to) due.receiver (sym (shows.shown m.to) ∙ at.1) in
         let state : (record_of w m.to).state ≡ Some at.0 = ap (λ (r : Record). r.state) receiver ∙ at.2 in
-        let edition : edition_of_array w m.to.array ≡ Some (edition_of at.0) =
-        (subst (λ o. IfSome o (λ s. (edition_of_array w m.to.array ≡ Some (edition_of s)) × IsState s)) state ((sound_fit core consistent.sound).records m.to).state).0 in
+        let kind_version : version_of_array w m.to.array ≡ Some (kind_version_of at.0) =
+        (subst (λ o. IfSome o (λ s. (version_of_array w m.to.array ≡ Some (kind_version_of s)) × IsState s)) state ((sound_fit core consistent.sound).records m.to).state).0 in
         subst (IsUnderWay core p) (sym at.3) (record {
           message = here;
-          edition = edition;
+          kind_version = kind_version;
           receiver = receiver;
-          reacts = ap (λ o. is_some (react (edition_of at.0) m.to o m.entry m.words)) at.2;
+          reacts = ap (λ o. is_some (react (kind_version_of at.0) m.to o m.entry m.words)) at.2;
         })
 
     -- a message for which a blank is wanted constructs its receiver, which isn't there
-    module _ (edition : Edition) (wanted : blank_of_id core (assigned_to core p) ≡ Some edition) where
+    module _ (kind_version : KindVersion) (wanted : blank_of_id core (assigned_to core p) ≡ Some kind_version) where
       abbrev Wants : Type 0
-      Wants = ((record_of w m.to).state ≡ None) × (m.entry ≡ CONSTRUCT) × (edition_of_array w m.to.array ≡ Some edition)
+      Wants = ((record_of w m.to).state ≡ None) × (m.entry ≡ CONSTRUCT) × (version_of_array w m.to.array ≡ Some kind_version)
 
-      by_entry : (record_of w m.to).state ≡ None → (if m.entry == CONSTRUCT then edition_of_array w m.to.array else None) ≡ Some edition → Wants
-      by_entry none h = elim (m.entry == CONSTRUCT) as (λ b. (m.entry == CONSTRUCT) ≡ b → (if b then edition_of_array w m.to.array else None) ≡ Some edition → Wants) [
+      by_entry : (record_of w m.to).state ≡ None → (if m.entry == CONSTRUCT then version_of_array w m.to.array else None) ≡ Some kind_version → Wants
+      by_entry none h = elim (m.entry == CONSTRUCT) as (λ b. (m.entry == CONSTRUCT) ≡ b → (if b then version_of_array w m.to.array else None) ≡ Some kind_version → Wants) [
         | true ↦ λ same array. (none, exact_unsigned_eq m.entry CONSTRUCT same, array)
         | false ↦ λ _ no. absurd (let never : ⊥ = cc in never)
       ] refl h
 
-      by_state : (o : Option State) → (record_of w m.to).state ≡ o → (if is_some o then None else (if m.entry == CONSTRUCT then edition_of_array w m.to.array else None)) ≡ Some edition → Wants
+      by_state : (o : Option State) → (record_of w m.to).state ≡ o → (if is_some o then None else (if m.entry == CONSTRUCT then version_of_array w m.to.array else None)) ≡ Some kind_version → Wants
       by_state (Some s) is h = absurd (let never : ⊥ = cc in never)
       by_state None is h = by_entry is h
 
@@ -100,12 +100,12 @@ module _ (k : Kept) (consistent : IsConsistent k) (p : ℕ) where
       wants_new = by_state (record_of w m.to).state refl (ap (option_and_then (blank_for core)) (sym here) ∙ wanted)
 
       -- the delivery that constructs it
-      pub under_way_new : (sent received : ℕ) → sent ≡ (record_of w m.to).sent → received ≡ (record_of w m.to).received → IsUnderWay core p (newcomer_due m edition sent received)
+      pub under_way_new : (sent received : ℕ) → sent ≡ (record_of w m.to).sent → received ≡ (record_of w m.to).received → IsUnderWay core p (newcomer_due m kind_version sent received)
       under_way_new sent received sends receives = record {
         message = here;
-        edition = wants_new.2;
+        kind_version = wants_new.2;
         receiver = λ i. record { state = wants_new.0 i; sent = sym sends i; received = sym receives i };
-        reacts = ap (λ e. is_some (if e == CONSTRUCT then Some (constructed edition m.to m.words) else None)) wants_new.1;
+        reacts = ap (λ e. is_some (if e == CONSTRUCT then Some (constructed kind_version m.to m.words) else None)) wants_new.1;
       }
 
   -- ---- what a delivery makes of the world
@@ -113,8 +113,8 @@ module _ (k : Kept) (consistent : IsConsistent k) (p : ℕ) where
   module _ (due : Due) (under_way : IsUnderWay core p due) where
     reaction_is : reaction_of w due.message ≡ reaction_in due
     reaction_is =
-        ap (option_and_then (λ edition. react edition due.message.to (record_of w due.message.to).state due.message.entry due.message.words)) under_way.edition
-        ∙ ap (λ (r : Record). react due.edition due.message.to r.state due.message.entry due.message.words) under_way.receiver
+        ap (option_and_then (λ kind_version. react kind_version due.message.to (record_of w due.message.to).state due.message.entry due.message.words)) under_way.kind_version
+        ∙ ap (λ (r : Record). react due.kind_version due.message.to r.state due.message.entry due.message.words) under_way.receiver
 
     made : (r : Reaction) × (reaction_in due ≡ Some r)
     made = some_of (reaction_in due) under_way.reacts
@@ -159,14 +159,14 @@ module _ (k : Kept) (consistent : IsConsistent k) (p : ℕ) where
 
     -- ---- the blank that it took
 
-    abbrev blank_taken : Option Edition
+    abbrev blank_taken : Option KindVersion
     blank_taken = blank_in (phases.Assigned due)
 
-    blank_by : (o : Option State) → due.receiver.state ≡ o → is_some (react due.edition due.message.to o due.message.entry due.message.words) ≡ true →
-        (if is_some o then None else (if due.message.entry == CONSTRUCT then Some due.edition else None)) ≡ (if is_some o then None else Some due.edition)
+    blank_by : (o : Option State) → due.receiver.state ≡ o → is_some (react due.kind_version due.message.to o due.message.entry due.message.words) ≡ true →
+        (if is_some o then None else (if due.message.entry == CONSTRUCT then Some due.kind_version else None)) ≡ (if is_some o then None else Some due.kind_version)
     blank_by (Some s) is reacts = refl
     blank_by None is reacts =
-        elim (due.message.entry == CONSTRUCT) as (λ b. is_some (if b then Some (constructed due.edition due.message.to due.message.words) else None) ≡ true → (if b then Some due.edition else None) ≡ Some due.edition) [
+        elim (due.message.entry == CONSTRUCT) as (λ b. is_some (if b then Some (constructed due.kind_version due.message.to due.message.words) else None) ≡ true → (if b then Some due.kind_version else None) ≡ Some due.kind_version) [
           | true ↦ λ _. refl
           | false ↦ λ no. absurd (let never : ⊥ = cc in never)
         ] reacts
@@ -174,8 +174,8 @@ module _ (k : Kept) (consistent : IsConsistent k) (p : ℕ) where
     pub blank_is : blank_of_id core (assigned_to core p) ≡ blank_taken
     blank_is =
         ap (option_and_then (blank_for core)) under_way.message
-        ∙ ap (λ (r : Record). if is_some r.state then None else (if due.message.entry == CONSTRUCT then edition_of_array w due.message.to.array else None)) under_way.receiver
-        ∙ ap (λ o. if is_some due.receiver.state then None else (if due.message.entry == CONSTRUCT then o else None)) under_way.edition
+        ∙ ap (λ (r : Record). if is_some r.state then None else (if due.message.entry == CONSTRUCT then version_of_array w due.message.to.array else None)) under_way.receiver
+        ∙ ap (λ o. if is_some due.receiver.state then None else (if due.message.entry == CONSTRUCT then o else None)) under_way.kind_version
         ∙ blank_by due.receiver.state refl under_way.reacts
 
 -- ---- what is assigned
@@ -233,16 +233,16 @@ module _ (history : History) (consistent : IsConsistent history) (old shelf : Vi
     )
 
   -- with a newcomer
-  module _ (edition : Edition) (wanted : blank_of_id (core_in history) (assigned_to (core_in history) old.number) ≡ Some edition) (sent received : ℕ) (is : shelf ≡ record old { phase = phases.Assigned (newcomer_due m edition sent received) }) where
+  module _ (kind_version : KindVersion) (wanted : blank_of_id (core_in history) (assigned_to (core_in history) old.number) ≡ Some kind_version) (sent received : ℕ) (is : shelf ≡ record old { phase = phases.Assigned (newcomer_due m kind_version sent received) }) where
     abbrev due_new : Due
-    due_new = newcomer_due m edition sent received
+    due_new = newcomer_due m kind_version sent received
 
     pub delivering_new : sent ≡ (record_of (present (core_in history)) m.to).sent → received ≡ (record_of (present (core_in history)) m.to).received → (due : Due) × IsDelivering history shelf due (phases.Assigned due)
     delivering_new sends receives = (
       due_new,
       subst (λ (v : View). IsDelivering history v due_new (phases.Assigned due_new)) (sym is) (record {
         phase_is = refl;
-        under_way = under_way_new history consistent old.number m here edition wanted sent received sends receives;
+        under_way = under_way_new history consistent old.number m here kind_version wanted sent received sends receives;
         part = record { on = shows.on; objects = shows.objects };
       }),
     )

@@ -18,7 +18,7 @@ use Rattle.charmlet_chare.specs.declared.output.Output.{Output}
 use Rattle.charmlet_history.specs.Kept.{IsConsistent, core_in}
 use Rattle.charmlet_shelf.specs.Count.{comes_as, is_newcomer_of, objects_on}
 use Rattle.charmlet_shelf.specs.Due.{Due, reaction_in, record_after}
-use Rattle.charmlet_shelf.specs.Outcome.{Performed}
+use Rattle.charmlet_shelf.specs.PerformedDelivery.{Performed}
 use Rattle.charmlet_shelf.specs.Shelf.{View, done_by, is_assigned, performed, released, with_record, without_output}
 use Rattle.charmlet_shelf.specs.declared.phase.Phase.{Phase}
 use Rattle.charmlet_shelf.specs.declared.phase.Phase.TheVariants as phases

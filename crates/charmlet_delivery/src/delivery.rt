@@ -18,7 +18,7 @@ ghost use Rattle.charmlet_delivery.specs.Workplace.{IsConsistentWorkplace, Shows
 use crate::parts::{assign_tested, commit, release};
 use charmlet_chare::Chare;
 use charmlet_history::History;
-use charmlet_model::{Edition, MsgId, Refusal};
+use charmlet_model::{KindVersion, MsgId, Refusal};
 use charmlet_shelf::{Delivered, Shelf};
 use charmlet_stock::Stock;
 use std::alloc::{AllocError, Global};
@@ -41,8 +41,8 @@ pub fn deliver_on<C: Chare>(
     ensures idle { shelf.new.phase ≡ phases.Idle }
 {
     let wanted = history.test_delivery(shelf.number(), id)?;
-    if let Some(edition) = wanted {
-        return deliver_new(alloc, history, shelf, stock, id, edition);
+    if let Some(kind_version) = wanted {
+        return deliver_new(alloc, history, shelf, stock, id, kind_version);
     }
     deliver_there(history, shelf, stock, id)
 }
@@ -94,11 +94,11 @@ fn enter<C: Chare>(history: &History, shelf: &mut Shelf<C>) -> Result<Delivered<
     ensures err { OnErr result (shelf.new ≡ shelf.old) }
 {
     history.facts();
-    let Some((_id, letter)) = history.assigned(shelf.number()) else {
+    let Some((_id, pending_message)) = history.assigned(shelf.number()) else {
         return Err(AllocError);
     };
-    let words = letter.words.as_slice();
-    let Ok(delivered) = shelf.deliver(letter.to, letter.entry, words) else {
+    let words = pending_message.words.as_slice();
+    let Ok(delivered) = shelf.deliver(pending_message.to, pending_message.entry, words) else {
         return Err(AllocError);
     };
     Ok(delivered)
@@ -134,7 +134,7 @@ fn add<C: Chare>(
     }
 }
 
-/// Delivers a message that constructs its receiver, from a blank of this edition. Where it is
+/// Delivers a message that constructs its receiver, from a blank of this kind version. Where it is
 /// refused, all is as before.
 fn deliver_new<C: Chare>(
     alloc: Global,
@@ -142,12 +142,12 @@ fn deliver_new<C: Chare>(
     shelf: &mut Shelf<C>,
     stock: &mut Stock<C>,
     id: MsgId,
-    edition: Edition,
+    kind_version: KindVersion,
 ) -> Result<(), Refusal>
     requires consistent { IsConsistentWorkplace (workplace_of history.old shelf.old stock.old) }
     requires can { first_refusal (checks (core_in history.old) plenty
         (core.Assign shelf.old.number id)) ≡ None }
-    requires wanted { blank_of_id (core_in history.old) (Some id) ≡ Some edition }
+    requires wanted { blank_of_id (core_in history.old) (Some id) ≡ Some kind_version }
     requires idle { shelf.old.phase ≡ phases.Idle }
     ensures ends { Ends (store_with history.old stock.old) shelf.old.number id result
         (store_with history.new stock.new) }
@@ -155,7 +155,7 @@ fn deliver_new<C: Chare>(
         (workplace_of history.new shelf.new stock.new) }
     ensures idle { shelf.new.phase ≡ phases.Idle }
 {
-    if let Err(refusal) = assign_tested(alloc, history, shelf, stock, id, Some(edition)) {
+    if let Err(refusal) = assign_tested(alloc, history, shelf, stock, id, Some(kind_version)) {
         return Err(refusal);
     }
     perform(history, shelf, stock)

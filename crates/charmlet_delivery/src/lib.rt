@@ -3,9 +3,9 @@
 
 mod delivery;
 mod parts;
-mod shelving;
+mod shelf_steps;
 
 pub use crate::delivery::deliver_on;
 pub use crate::parts::{assign, commit, finish, release};
-pub use crate::shelving::{assign_newcomer, release_shelf, settle_shelf};
+pub use crate::shelf_steps::{assign_newcomer, release_shelf, settle_shelf};
 pub use charmlet_history::History;

@@ -17,10 +17,10 @@ ghost use Rattle.charmlet_delivery.specs.Turns.{Turns};
 ghost use Rattle.charmlet_delivery.specs.UnderWay.{HasMade};
 ghost use Rattle.charmlet_delivery.specs.Workplace.{IsConsistentWorkplace, IsWithin, ShowsPart, done_or_refused, held_in, store_with, workplace_of};
 
-use crate::shelving::{assign_newcomer, release_shelf, settle_shelf};
+use crate::shelf_steps::{assign_newcomer, release_shelf, settle_shelf};
 use charmlet_chare::{Chare, Output};
 use charmlet_history::{History, RefusedCommit};
-use charmlet_model::{Edition, MsgId, Refusal};
+use charmlet_model::{KindVersion, MsgId, Refusal};
 use charmlet_shelf::Shelf;
 use charmlet_stock::Stock;
 use std::alloc::{AllocError, Global};
@@ -56,7 +56,7 @@ pub(crate) fn assign_tested<C: Chare>(
     shelf: &mut Shelf<C>,
     stock: &mut Stock<C>,
     id: MsgId,
-    wanted: Option<Edition>,
+    wanted: Option<KindVersion>,
 ) -> Result<(), Refusal>
     requires consistent { IsConsistentWorkplace (workplace_of history.old shelf.old stock.old) }
     requires can { first_refusal (checks (core_in history.old) plenty
@@ -87,13 +87,13 @@ pub(crate) fn assign_tested<C: Chare>(
 }
 
 /// Whether the stock has the blank, where one is wanted; else `NoBlank`.
-fn test_blank<C: Chare>(stock: &Stock<C>, wanted: Option<Edition>) -> Result<(), Refusal>
+fn test_blank<C: Chare>(stock: &Stock<C>, wanted: Option<KindVersion>) -> Result<(), Refusal>
     ensures { refusal_in result ≡ first_refusal (lacks_blank (blanks_in stock.now) wanted) }
 {
-    let Some(edition) = wanted else {
+    let Some(kind_version) = wanted else {
         return Ok(());
     };
-    let kind = edition.kind();
+    let kind = kind_version.kind();
     if stock.census().get(kind).in_stock == 0 {
         return Err(Refusal::NoBlank(kind));
     }
@@ -101,13 +101,13 @@ fn test_blank<C: Chare>(stock: &Stock<C>, wanted: Option<Edition>) -> Result<(),
 }
 
 /// Assigns a copy of the processor's message on the shelf, to its receiver, or to a newcomer if a
-/// blank of this edition is wanted. Where that fails, shelf and stock are as before.
+/// blank of this kind version is wanted. Where that fails, shelf and stock are as before.
 fn shelve<C: Chare>(
     alloc: Global,
     history: &History,
     shelf: &mut Shelf<C>,
     stock: &mut Stock<C>,
-    wanted: Option<Edition>,
+    wanted: Option<KindVersion>,
 ) -> Result<(), AllocError>
     requires part { ShowsPart history.now shelf.old }
     requires idle { shelf.old.phase ≡ phases.Idle }
@@ -127,22 +127,22 @@ fn shelve<C: Chare>(
     ensures keeping { keeping_of stock.new ≡ keeping_of stock.old }
 {
     history.facts();
-    let Some((id, letter)) = history.assigned(shelf.number()) else {
+    let Some((id, pending_message)) = history.assigned(shelf.number()) else {
         unreachable!()
     };
-    let Some(edition) = wanted else {
-        let words = letter.words.as_slice();
-        let assigned = shelf.assign_copy(id, letter.to, letter.entry, words);
+    let Some(kind_version) = wanted else {
+        let words = pending_message.words.as_slice();
+        let assigned = shelf.assign_copy(id, pending_message.to, pending_message.entry, words);
         if assigned.is_err() {
             return Err(AllocError);
         }
         return Ok(());
     };
-    let Ok(message) = letter.copy(alloc, id) else {
+    let Ok(message) = pending_message.copy(alloc, id) else {
         return Err(AllocError);
     };
     let counts = history.element(message.to);
-    if assign_newcomer(shelf, stock, edition, counts, message).is_err() {
+    if assign_newcomer(shelf, stock, kind_version, counts, message).is_err() {
         return Err(AllocError);
     }
     Ok(())

@@ -25,7 +25,8 @@ abbrev pub IsSettled : (Half → File) → Type 0
 IsSettled files = (half : Half) → files half ≡ clean (files half).now
 
 -- a crash at any moment since old leaves only what has P
-pub record LeavesOnly {D : Type 0} (moment : D → ℕ) (since : D → ℕ → CrashBytes → Type 0) (old new : D)
+pub record LeavesOnly {D : Type 0} (moment : D → ℕ) (since : D → ℕ → CrashBytes → Type 0)
+    (old new : D)
     (P : CrashBytes → Type 0) : Type 0 where
   pub later : moment old ≤ moment new
   pub each : (c : CrashBytes) → since new (moment old) c → P c

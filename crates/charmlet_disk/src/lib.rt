@@ -10,7 +10,7 @@ mod fuse_disk;
 pub mod laws;
 mod mem_disk;
 mod once_disk;
-mod through;
+mod synced;
 
 pub use crate::any_disk::AnyDisk;
 pub use crate::crash::CrashChoice;
@@ -19,4 +19,4 @@ pub use crate::file_disk::FileDisk;
 pub use crate::fuse_disk::FuseDisk;
 pub use crate::mem_disk::{Call, MemDisk};
 pub use crate::once_disk::OnceDisk;
-pub use crate::through::{sync_both, write_through};
+pub use crate::synced::{sync_both, write_and_sync};

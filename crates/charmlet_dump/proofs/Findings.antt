@@ -12,7 +12,7 @@ use Rattle.charmlet_halves.specs.Found.{Finds}
 use Rattle.charmlet_locate.specs.Locations.{is_processor_count}
 use Rattle.charmlet_reference.specs.Recovery.Views.{files}
 use Rattle.charmlet_reference.specs.Recovery.Written.{as_written_from, recovered_as_written}
-use Rattle.charmlet_dump.specs.declared.finding.Found.{Found}
+use Rattle.charmlet_dump.specs.declared.found.Found.{Found}
 use Rattle.charmlet_dump.specs.Answers.{Comes, IsAnswer}
 
 -- a half beside one that is shut

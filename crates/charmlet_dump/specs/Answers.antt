@@ -9,7 +9,7 @@ use Rattle.charmlet_locate.specs.Locations.{is_processor_count}
 use Rattle.charmlet_recovery.specs.Recovered as files
 use Rattle.charmlet_recovery.specs.Recovered.{Recovered}
 use Rattle.charmlet_reference.specs.Recovery.Written.{recovered_as_written}
-use Rattle.charmlet_dump.specs.declared.finding.Found.{Found}
+use Rattle.charmlet_dump.specs.declared.found.Found.{Found}
 
 -- what a read of each half gives
 abbrev pub read_of : (Half → File) → CrashBytes

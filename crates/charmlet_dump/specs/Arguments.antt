@@ -6,8 +6,8 @@ use Rattle.charmlet_model.specs.Texts.{Text}
 use Rattle.charmlet_dump.specs.declared.arguments.Asked as askings
 use Rattle.charmlet_dump.specs.declared.arguments.BadLine as lines
 use Rattle.charmlet_dump.specs.declared.arguments.Request as requests
-use Rattle.charmlet_dump.specs.declared.writing.Form.{Form}
-use Rattle.charmlet_dump.specs.declared.writing.Form.TheVariants.{Plain, Json}
+use Rattle.charmlet_dump.specs.declared.output.Form.{Form}
+use Rattle.charmlet_dump.specs.declared.output.Form.TheVariants.{Plain, Json}
 
 -- a dump of the store in this folder, on this number of processors, in this form
 pub record Request : Type 0 where

@@ -5,8 +5,8 @@ use Rattle.charmlet_model.specs.declared.refusal.Refusal.{Refusal}
 use Rattle.charmlet_model.specs.Texts.{Text}
 use Rattle.charmlet_dump.specs.declared.dump.DumpError.{DumpError}
 use Rattle.charmlet_dump.specs.declared.dump.DumpError.TheVariants as errors
-use Rattle.charmlet_dump.specs.declared.finding.Found.{Found}
-use Rattle.charmlet_dump.specs.declared.writing.Form.{Form}
+use Rattle.charmlet_dump.specs.declared.found.Found.{Found}
+use Rattle.charmlet_dump.specs.declared.output.Form.{Form}
 use Rattle.charmlet_dump.specs.Facts.{Fact, Refused, world_facts}
 use Rattle.charmlet_dump.specs.Lines.{lines_of}
 use Rattle.charmlet_dump.specs.Writing.{AppendsBeginning}

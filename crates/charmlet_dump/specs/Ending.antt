@@ -4,8 +4,8 @@ use Rattle.std.specs.Io.KnownBytes.{Appends}
 use Rattle.charmlet_model.specs.Texts.{Text}
 use Rattle.charmlet_dump.specs.declared.dump.DumpError.{DumpError}
 use Rattle.charmlet_dump.specs.declared.dump.DumpError.TheVariants as errors
-use Rattle.charmlet_dump.specs.declared.ending.Failure.{Failure}
-use Rattle.charmlet_dump.specs.declared.ending.Failure.TheVariants.{BadLine, NotDumped, CannotGoOn}
+use Rattle.charmlet_dump.specs.declared.exit.Failure.{Failure}
+use Rattle.charmlet_dump.specs.declared.exit.Failure.TheVariants.{BadLine, NotDumped, CannotGoOn}
 use Rattle.charmlet_dump.specs.Arguments.{bad_in}
 use Rattle.charmlet_dump.specs.Usage.{bad_text}
 

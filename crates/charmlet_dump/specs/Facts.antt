@@ -2,7 +2,7 @@
 use Rattle.std.specs.Prelude.{ℕ, ◌+◌, ◌==◌, if◌then◌else◌, List, [], ◌∷◌, ◌++◌, option_copied}
 use Rattle.std.specs.List.{flat_map}
 use Rattle.charmlet_model.specs.declared.client.ClientRow.{ClientRow}
-use Rattle.charmlet_model.specs.declared.edition.Edition.{Edition}
+use Rattle.charmlet_model.specs.declared.kind_version.KindVersion.{KindVersion}
 use Rattle.charmlet_model.specs.declared.kind.Kind.{Kind}
 use Rattle.charmlet_model.specs.declared.message.Message.{Message}
 use Rattle.charmlet_model.specs.declared.names.Elem.{Elem}
@@ -20,7 +20,7 @@ use Rattle.charmlet_dump.specs.Constructing.{all_kinds, constructions_in}
 -- its window and the reply, if there is one; why nothing is dumped
 pub data Fact : Type 0 where
   Store : (generation events : ℕ) → Fact
-  Array : ℕ → Edition → Fact
+  Array : ℕ → KindVersion → Fact
   Element : Elem → (home : ℕ) → Record → Fact
   Pending : Message → Fact
   Constructions : Kind → (count : ℕ) → Fact
@@ -31,7 +31,7 @@ pub data Fact : Type 0 where
 -- the fact of the code's value
 abbrev pub fact_in : lines.Fact → Fact
 fact_in (lines.TheVariants.Store generation events) = Store generation events
-fact_in (lines.TheVariants.Array array edition) = Array array edition
+fact_in (lines.TheVariants.Array array kind_version) = Array array kind_version
 fact_in (lines.TheVariants.Element elem home kept) = Element elem home kept.now
 fact_in (lines.TheVariants.Pending message) = Pending message.now
 fact_in (lines.TheVariants.Constructions kind count) = Constructions kind count
@@ -47,7 +47,7 @@ window_facts client below (item ∷ items) =
     Request client (below + 1) item ∷ window_facts client (below + 1) items
 
 -- an array
-abbrev pub array_facts : ℕ × Edition → List Fact
+abbrev pub array_facts : ℕ × KindVersion → List Fact
 array_facts e = Array e.0 e.1 ∷ []
 
 -- an element, on this number of processors

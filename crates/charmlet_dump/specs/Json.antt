@@ -10,7 +10,7 @@ use Rattle.charmlet_model.specs.declared.refusal.Refusal.{Refusal}
 use Rattle.charmlet_model.specs.declared.refusal.Refusal.TheVariants.{Damaged}
 use Rattle.charmlet_model.specs.declared.state.State.{State}
 use Rattle.charmlet_model.specs.declared.state.State.TheVariants.{FirstCounter, Counter, Ring, Account, Sum, Tree, Tape}
-use Rattle.charmlet_model.specs.Edition.{edition_kind, edition_version}
+use Rattle.charmlet_model.specs.KindVersion.{kind_of_version, number_of_version}
 use Rattle.charmlet_model.specs.Refusal.{refusal_number}
 use Rattle.charmlet_model.specs.Row.{Item}
 use Rattle.charmlet_model.specs.Texts.{Text, half_text, kind_text, refusal_text}
@@ -102,11 +102,11 @@ abbrev pub json_text : Fact → Text
 json_text (Store generation events) =
     codes "{\"store\":{\"generation\":" ++ decimal generation ++ codes ",\"events\":"
     ++ decimal events ++ codes "}}"
-json_text (Array array edition) =
+json_text (Array array kind_version) =
     codes "{\"array\":" ++ decimal array ++ codes ",\"kind\":\""
-    ++ kind_name (edition_kind edition) ++ codes "\",\"kind_number\":"
-    ++ kind_text (edition_kind edition) ++ codes ",\"version\":"
-    ++ decimal (edition_version edition) ++ codes "}"
+    ++ kind_name (kind_of_version kind_version) ++ codes "\",\"kind_number\":"
+    ++ kind_text (kind_of_version kind_version) ++ codes ",\"version\":"
+    ++ decimal (number_of_version kind_version) ++ codes "}"
 json_text (Element elem home kept) =
     codes "{\"element\":" ++ json_elem elem ++ codes ","
     ++ json_record home kept.state kept.sent kept.received ++ codes "}"

@@ -2,8 +2,8 @@
 use Rattle.std.specs.Prelude.{List, [], ◌∷◌, ◌++◌}
 use Rattle.std.specs.List.{flat_map}
 use Rattle.charmlet_model.specs.Texts.{Text}
-use Rattle.charmlet_dump.specs.declared.writing.Form.{Form}
-use Rattle.charmlet_dump.specs.declared.writing.Form.TheVariants as forms
+use Rattle.charmlet_dump.specs.declared.output.Form.{Form}
+use Rattle.charmlet_dump.specs.declared.output.Form.TheVariants as forms
 use Rattle.charmlet_dump.specs.Facts.{Fact}
 use Rattle.charmlet_dump.specs.Json.{json_text}
 use Rattle.charmlet_dump.specs.Plain.{plain_text}

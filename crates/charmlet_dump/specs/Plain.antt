@@ -7,7 +7,7 @@ use Rattle.charmlet_model.specs.declared.names.Elem.{Elem}
 use Rattle.charmlet_model.specs.declared.state.State.{State}
 use Rattle.charmlet_model.specs.declared.state.State.TheVariants.{FirstCounter, Counter, Ring, Account, Sum, Tree, Tape}
 use Rattle.charmlet_model.specs.declared.step.Answer.TheVariants as answers
-use Rattle.charmlet_model.specs.Edition.{edition_kind, edition_version}
+use Rattle.charmlet_model.specs.KindVersion.{kind_of_version, number_of_version}
 use Rattle.charmlet_model.specs.Row.{Item}
 use Rattle.charmlet_model.specs.Texts.{Text, answer_text, elem_text, id_text, kind_text, words_text}
 use Rattle.charmlet_dump.specs.Facts.{Fact, Store, Array, Element, Pending, Constructions, Client, Request, Refused}
@@ -56,10 +56,10 @@ plain_item (Some words) = codes "replied" ++ words_text words
 abbrev pub plain_text : Fact → Text
 plain_text (Store generation events) =
     codes "store generation " ++ decimal generation ++ codes " events " ++ decimal events
-plain_text (Array array edition) =
-    codes "array " ++ decimal array ++ codes " kind " ++ kind_text (edition_kind edition)
-    ++ codes " version " ++ decimal (edition_version edition) ++ codes " "
-    ++ kind_name (edition_kind edition)
+plain_text (Array array kind_version) =
+    codes "array " ++ decimal array ++ codes " kind " ++ kind_text (kind_of_version kind_version)
+    ++ codes " version " ++ decimal (number_of_version kind_version) ++ codes " "
+    ++ kind_name (kind_of_version kind_version)
 plain_text (Element elem home kept) = plain_element elem home kept.state kept.sent kept.received
 plain_text (Pending m) =
     codes "pending " ++ id_text m.id ++ codes " to " ++ elem_text m.to

@@ -3,7 +3,7 @@
 ghost use Rattle.std.specs.Prelude.{◌≡◌, map};
 ghost use Rattle.charmlet_dump.specs.Arguments.{arguments_of, asked_in, asked_next, asked_or_bad, awaiting, finished, next_number, number_of, request_or_bad, with_folder, with_json, with_number};
 
-use crate::writing::Form;
+use crate::output::Form;
 use std::convert::AsStr;
 use std::fmt;
 
@@ -17,7 +17,7 @@ may use the store meanwhile.
   --pes N  show each element at its home on N processors, 1 to 64; without it 1
   --json   write a JSON object in each line
 
-Lines, in this order, each sort rising and messages by birth:
+Lines, in this order, each sort rising and messages by seq_no:
   store generation G events E     the image is of generation G, and E events came back
   array A kind K version V NAME   there is an array A of objects of kind K, in version V
   element A.I pe P sent S received R NAME FIELD VALUE..

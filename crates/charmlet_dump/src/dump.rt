@@ -7,11 +7,11 @@ ghost use Rattle.charmlet_halves.specs.Answers.{is_no_failure};
 ghost use Rattle.charmlet_model.specs.declared.refusal.Refusal as refusals;
 ghost use Rattle.charmlet_dump.specs.Answers.{IsAnswer, IsRecovered, IsRefusal, read_of};
 ghost use Rattle.charmlet_dump.specs.Dump.{IsSaid};
-ghost use Rattle.charmlet_dump.specs.declared.finding.Found as findings;
+ghost use Rattle.charmlet_dump.specs.declared.found.Found as findings;
 
-use crate::dumping::write_world;
-use crate::finding::find;
-use crate::writing::{Form, write_refusal};
+use crate::found::find;
+use crate::output::{Form, write_refusal};
+use crate::world_lines::write_world;
 use charmlet_disk::Disk;
 use charmlet_model::Refusal;
 use std::alloc::Global;

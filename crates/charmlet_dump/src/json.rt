@@ -261,9 +261,12 @@ impl<'a> fmt::Display for JsonLine<'a> {
                 f,
                 "{{\"store\":{{\"generation\":{generation},\"events\":{events}}}}}"
             ),
-            Fact::Array { array, edition } => {
-                let kind = edition.kind();
-                let version = edition.version();
+            Fact::Array {
+                array,
+                kind_version,
+            } => {
+                let kind = kind_version.kind();
+                let version = kind_version.version();
                 let name = KindName(kind);
                 write!(
                     f,

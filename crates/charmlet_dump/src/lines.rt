@@ -1,6 +1,6 @@
 //! The facts of a dump, and the plain form of each.
 
-use charmlet_model::{Edition, Elem, Kind, Message, Record, Refusal, State, Words};
+use charmlet_model::{Elem, Kind, KindVersion, Message, Record, Refusal, State, Words};
 use std::fmt;
 
 /// Something that a dump says, in a line of its own.
@@ -14,7 +14,7 @@ pub enum Fact<'a> {
     /// An array, and the kind and the version of its elements.
     Array {
         array: u16,
-        edition: Edition,
+        kind_version: KindVersion,
     },
     /// What is kept of an element, and its home.
     Element {
@@ -117,9 +117,12 @@ impl<'a> fmt::Display for PlainLine<'a> {
             Fact::Store { generation, events } => {
                 write!(f, "store generation {generation} events {events}")
             }
-            Fact::Array { array, edition } => {
-                let kind = edition.kind();
-                let version = edition.version();
+            Fact::Array {
+                array,
+                kind_version,
+            } => {
+                let kind = kind_version.kind();
+                let version = kind_version.version();
                 let name = KindName(kind);
                 write!(f, "array {array} kind {kind} version {version} {name}")
             }

@@ -3,19 +3,19 @@
 
 mod arguments;
 mod cause;
-mod constructing;
+mod constructions;
 mod dump;
-mod dumping;
-mod ending;
-mod finding;
+mod exit;
+mod found;
 mod json;
 mod lines;
-mod writing;
+mod output;
+mod world_lines;
 
 use crate::arguments::{Request, arguments_of};
 use crate::cause::Cause;
 use crate::dump::{DumpError, dump_store};
-use crate::ending::{Failure, end_program};
+use crate::exit::{Failure, end_program};
 use charmlet_disk::FileDisk;
 use std::io::{BufWriter, Write};
 use std::process::ExitCode;

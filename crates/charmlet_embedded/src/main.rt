@@ -8,7 +8,7 @@ mod noisy;
 use anyhow::{Context, Result, bail};
 use charmlet_engine::{
     CONSTRUCT, Disk, Elem, Engine, FileDisk, Kind, Manifest, MemDisk, Passes, Request, Step,
-    manifest, stock_of,
+    manifest, stock_from_objects,
 };
 use noisy::{ADD, blanks};
 use std::thread::Threads;
@@ -48,7 +48,7 @@ fn live_twice<R: Threads + Sync, D: Disk>(rt: HostRuntime, threads: &R, disk: D)
     println!(rt; "request 2: {}", engine.status(&mut pass, 2)?)?;
     let mut disk = engine.into_disk();
     let wanted = manifest(alloc, &mut disk)?.wanted.of(Kind::Counter);
-    let Ok(stock) = stock_of(alloc, blanks(rt, wanted)?) else {
+    let Ok(stock) = stock_from_objects(alloc, blanks(rt, wanted)?) else {
         bail!("no memory");
     };
     let mut engine = Engine::restart(threads, alloc, disk, stock, 1)?;

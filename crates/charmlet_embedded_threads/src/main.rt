@@ -2,9 +2,9 @@
 #![tactic(auto)]
 
 use anyhow::{Context, Result, bail};
-use charmlet_serving::{
+use charmlet_service::{
     Answer, Ask, CONSTRUCT, Client, Counter, Elem, Kind, Manifest, MemDisk, Ran, Refusal, Told,
-    Words, manifest, serve_new, serve_restarted, stock_of,
+    Words, manifest, serve_new, serve_restarted, stock_from_objects,
 };
 use std::alloc::{AllocError, Global};
 
@@ -106,7 +106,7 @@ fn main(rt: HostRuntime) -> Result<()> {
     )?;
     let found = manifest(alloc, &mut disk)?;
     println!(rt; "generation {}", found.generation)?;
-    let Ok(stock) = stock_of(alloc, blanks(alloc, found.wanted.of(Kind::Counter))?) else {
+    let Ok(stock) = stock_from_objects(alloc, blanks(alloc, found.wanted.of(Kind::Counter))?) else {
         bail!("no memory");
     };
     tell(

@@ -7,7 +7,7 @@ use Rattle.charmlet_disk.specs.File.{MayLeave, CrashBytes}
 use Rattle.charmlet_halves.specs.declared.halves.Halves.{Halves}
 use Rattle.charmlet_halves.specs.Halves.{disk_of}
 use Rattle.charmlet_history.specs.Kept.{core_in}
-use Rattle.charmlet_persist.specs.Journal.Rest.{keeps_durable}
+use Rattle.charmlet_persist.specs.Writes.Rest.{keeps_durable}
 use Rattle.charmlet_store.specs.Store.{StoreShown}
 use Rattle.charmlet_engine.specs.Advances.{Advances}
 use Rattle.charmlet_engine.specs.Engine.{EngineShown, core_of}

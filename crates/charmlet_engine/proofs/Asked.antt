@@ -16,7 +16,7 @@ use Rattle.charmlet_disk.specs.File.{MayLeave, CrashBytes}
 use Rattle.charmlet_halves.specs.declared.halves.Halves.{Halves}
 use Rattle.charmlet_halves.specs.Halves.{disk_of}
 use Rattle.charmlet_history.specs.Kept.{Kept, core_in, told_or_refused}
-use Rattle.charmlet_persist.specs.Journal.Quiet.{Quiet}
+use Rattle.charmlet_persist.specs.Writes.Quiet.{Quiet}
 use Rattle.charmlet_store.specs.Store.{StoreShown, store_in, supplied_in}
 use Rattle.charmlet_engine.specs.Engine.{EngineShown, client_answer, core_of}
 use Rattle.charmlet_engine.specs.Outcomes.{is_no_fault}

@@ -3,7 +3,7 @@ use Rattle.std.proofs.Common.{◌≢◌, inl, inr, ⊎_elim, subst, sym, Result}
 use Rattle.charmlet_model.specs.declared.half.Half.TheVariants.{Zero, One}
 use Rattle.charmlet_model.specs.declared.refusal.Refusal.{Refusal}
 use Rattle.charmlet_model.specs.declared.refusal.Refusal.TheVariants.{Device}
-use Rattle.charmlet_model.specs.Edition.{AreNewest}
+use Rattle.charmlet_model.specs.KindVersion.{AreNewest}
 use Rattle.charmlet_model.specs.Fit.{IsFit}
 use Rattle.charmlet_model.specs.Sound.{new_world}
 use Rattle.charmlet_disk.specs.declared.disk.Disk.{Ghosts}
@@ -18,7 +18,7 @@ use Rattle.charmlet_recovery.proofs.Writing.{creations_are_stored}
 use Rattle.charmlet_halves.specs.Made.{AreClosed, LeavesNew}
 use Rattle.charmlet_halves.proofs.NewHalves.{if_err}
 use Rattle.charmlet_halves.proofs.Standing.{is_left}
-use Rattle.charmlet_persist.specs.Journal.NewStores.{NothingOrNewWorld}
+use Rattle.charmlet_persist.specs.Writes.NewStores.{NothingOrNewWorld}
 use Rattle.charmlet_engine.specs.Outcomes.{IsNothingOrNew}
 
 recovers : (kinds : Kinds) (o : CrashBytes) → NothingOrNewWorld kinds o → IsNothingOrNew kinds o

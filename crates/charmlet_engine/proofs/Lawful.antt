@@ -7,7 +7,7 @@ use Rattle.charmlet_disk.specs.File.{MayLeave, CrashBytes}
 use Rattle.charmlet_disk.proofs.Moments.{after_that, started, weaker}
 use Rattle.charmlet_halves.specs.declared.halves.Halves.{Halves}
 use Rattle.charmlet_halves.specs.Halves.{disk_of}
-use Rattle.charmlet_persist.specs.Journal.Rest.{HasOldOrSealed, IsKept, keeps_durable}
+use Rattle.charmlet_persist.specs.Writes.Rest.{HasOldOrSealed, IsKept, keeps_durable}
 use Rattle.charmlet_recovery.proofs.Outcomes.{kept_is_lawful}
 use Rattle.charmlet_engine.specs.Outcomes.{IsOldOrImage, Onward, is_lawful_now, is_lawful_since}
 use Rattle.charmlet_engine.proofs.Onward.{kept_onward, lawful_onward, old_or_image}

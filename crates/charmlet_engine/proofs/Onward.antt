@@ -8,15 +8,15 @@ use Rattle.charmlet_model.specs.declared.step.Step.{Step}
 use Rattle.charmlet_model.specs.declared.step.Answer.{Answer}
 use Rattle.charmlet_model.specs.Core.{Core, Flush, Checkpoint, Blanks, Stepped, Steps, durable_world, halted_core, next_core, present}
 use Rattle.charmlet_model.specs.World.{World}
-use Rattle.charmlet_persist.specs.Journal.Quiet.{Quiet}
+use Rattle.charmlet_persist.specs.Writes.Quiet.{Quiet}
 use Rattle.charmlet_recovery.specs.Outcomes.{IsLawful}
 use Rattle.charmlet_recovery.proofs.Outcomes.{kept_is_lawful, lawful_grows}
 use Rattle.charmlet_disk.specs.Disk.{faults_after}
 use Rattle.charmlet_disk.specs.File.{CrashBytes}
 use Rattle.charmlet_recovery.proofs.Stored.{stored_is_recovered}
-use Rattle.charmlet_persist.specs.Journal.Rest.{HasOldOrSealed, keeps_durable}
+use Rattle.charmlet_persist.specs.Writes.Rest.{HasOldOrSealed, keeps_durable}
 use Rattle.charmlet_delivery.proofs.Places.{stepped_core}
-use Rattle.charmlet_engine.specs.Outcomes.{AreFlushedAnyway, IsOldOrImage, Onward, ends_with_image, faults_through, is_image, is_lawful_since, is_no_fault, not_device}
+use Rattle.charmlet_engine.specs.Outcomes.{AreFlushedAnyway, IsOldOrImage, Onward, ends_with_image, faults_of_both_calls, is_image, is_lawful_since, is_no_fault, not_device}
 
 pub onward_self : (core : Core) → Onward core core
 onward_self core = record { more = []; grows = sym (append-nil core.history); opening = refl; before = refl; no_fewer = omega arith }
@@ -69,7 +69,7 @@ flushed_join (step ∷ steps) more [] others so rest = absurd so
 flushed_join (step ∷ steps) more (answer ∷ answers) others so rest = (so.0, flushed_join steps more answers others so.1 rest)
 
 -- one answer more
-pub faults_more : (answers : List Answer) (answer : Answer) (faults : ℕ) → faults_through (answers ++ answer ∷ []) faults ≡ faults_after (is_no_fault answer) (faults_through answers faults)
+pub faults_more : (answers : List Answer) (answer : Answer) (faults : ℕ) → faults_of_both_calls (answers ++ answer ∷ []) faults ≡ faults_after (is_no_fault answer) (faults_of_both_calls answers faults)
 faults_more [] answer faults = refl
 faults_more (first ∷ answers) answer faults = faults_more answers answer (faults_after (is_no_fault first) faults)
 

@@ -10,8 +10,8 @@ use Rattle.charmlet_model.specs.CoreLaws.{IsQuiet}
 use Rattle.charmlet_model.specs.Run.{Goes, StoreView}
 use Rattle.charmlet_model.proofs.DeviceLemmas.{only_writes_fail}
 use Rattle.charmlet_history.specs.Kept.{told_or_refused}
-use Rattle.charmlet_persist.specs.Journal.Quiet.{Quiet}
-use Rattle.charmlet_persist.proofs.JournalLemmas.Quietness.{quiet_after, quiet_step}
+use Rattle.charmlet_persist.specs.Writes.Quiet.{Quiet}
+use Rattle.charmlet_persist.proofs.WritesLemmas.Quietness.{quiet_after, quiet_step}
 use Rattle.charmlet_delivery.specs.UnderWay.{Ends}
 use Rattle.charmlet_engine.specs.Engine.{client_answer}
 use Rattle.charmlet_engine.specs.Outcomes.{is_no_fault, is_still, not_device}

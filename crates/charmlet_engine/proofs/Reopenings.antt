@@ -13,15 +13,15 @@ use Rattle.charmlet_halves.specs.Answers.{is_no_failure}
 use Rattle.charmlet_halves.specs.declared.halves.Halves.{Halves}
 use Rattle.charmlet_halves.specs.Halves.{disk_of, taken_half}
 use Rattle.charmlet_history.specs.Kept.{core_in}
-use Rattle.charmlet_persist.specs.Journal.Rest.{HasOldOrSealed}
+use Rattle.charmlet_persist.specs.Writes.Rest.{HasOldOrSealed}
 use Rattle.charmlet_locate.specs.Locations.{is_processor_count}
 use Rattle.charmlet_recovery.specs.Restarts.{image_end}
 use Rattle.charmlet_stock.specs.declared.stock.Stock.{Stock}
 use Rattle.charmlet_stock.specs.Stock.{blanks_in, supplied_to}
 use Rattle.charmlet_store.specs.Store.{blanks_of, supplied_in}
 use Rattle.charmlet_replay.specs.Unused.{IsUnused}
-use Rattle.charmlet_recover.specs.declared.restarting.NotRestarted.{NotRestarted}
-use Rattle.charmlet_recover.specs.declared.restarting.Recovered.{Recovered}
+use Rattle.charmlet_recover.specs.declared.restarted.NotRestarted.{NotRestarted}
+use Rattle.charmlet_recover.specs.declared.restarted.Recovered.{Recovered}
 use Rattle.charmlet_recover.specs.Restart as recovers
 use Rattle.charmlet_recover.specs.Restart.{AnswersBy, bytes_on}
 use Rattle.charmlet_engine.specs.Engine.{EngineShown, HasImage, core_of, supplied_of, view_of}

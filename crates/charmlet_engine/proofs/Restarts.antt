@@ -23,11 +23,11 @@ use Rattle.charmlet_stock.specs.declared.stock.Stock.{Stock}
 use Rattle.charmlet_stock.specs.Stock.{blanks_in, supplied_to}
 use Rattle.charmlet_halves.specs.declared.halves.Halves.{Halves}
 use Rattle.charmlet_halves.specs.Halves.{disk_of, taken_half}
-use Rattle.charmlet_persist.specs.Journal.Rest.{HasOldOrSealed}
+use Rattle.charmlet_persist.specs.Writes.Rest.{HasOldOrSealed}
 use Rattle.charmlet_store.specs.Store.{blanks_of}
 use Rattle.charmlet_replay.specs.Unused.{IsUnused}
-use Rattle.charmlet_recover.specs.declared.restarting.NotRestarted.{NotRestarted}
-use Rattle.charmlet_recover.specs.declared.restarting.Recovered.{Recovered}
+use Rattle.charmlet_recover.specs.declared.restarted.NotRestarted.{NotRestarted}
+use Rattle.charmlet_recover.specs.declared.restarted.Recovered.{Recovered}
 use Rattle.charmlet_recover.specs.Restart as recovers
 use Rattle.charmlet_recover.specs.Restart.{AnswersBy, IsSameStock, IsShortOfSome, OpensWithin, bytes_on, is_after_sync, is_lack, is_restart_refusal}
 use Rattle.charmlet_recover.proofs.Answered.{answers_so, has_cause}

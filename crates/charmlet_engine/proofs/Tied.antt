@@ -13,9 +13,9 @@ use Rattle.charmlet_disk.specs.declared.disk.Disk.{Ghosts}
 use Rattle.charmlet_halves.specs.declared.halves.Halves.{Halves}
 use Rattle.charmlet_halves.specs.Halves.{disk_of, is_halted}
 use Rattle.charmlet_history.specs.Kept.{Kept, core_in}
-use Rattle.charmlet_persist.specs.Journal.Quiet.{Quiet}
-use Rattle.charmlet_persist.specs.Journal.Rest.{Agrees, IsCurrent, IsKept}
-use Rattle.charmlet_persist.proofs.JournalLemmas.Quietness.{still_agrees, still_kept}
+use Rattle.charmlet_persist.specs.Writes.Quiet.{Quiet}
+use Rattle.charmlet_persist.specs.Writes.Rest.{Agrees, IsCurrent, IsKept}
+use Rattle.charmlet_persist.proofs.WritesLemmas.Quietness.{still_agrees, still_kept}
 use Rattle.charmlet_stock.specs.declared.stock.Stock.{Stock}
 use Rattle.charmlet_store.specs.Store.{StoreShown}
 use Rattle.charmlet_store.specs.Together as stores

@@ -10,7 +10,7 @@ use Rattle.charmlet_model.specs.World.{World}
 use Rattle.charmlet_model.specs.Core.{Core}
 use Rattle.charmlet_model.specs.Run.{StoreView}
 use Rattle.charmlet_disk.specs.declared.disk.Disk.{Ghosts}
-use Rattle.charmlet_halves.specs.declared.opening.Refused.{Refused}
+use Rattle.charmlet_halves.specs.declared.opened.Refused.{Refused}
 use Rattle.charmlet_history.specs.Kept.{core_in}
 use Rattle.charmlet_store.specs.Store.{StoreShown, store_in, supplied_in, world_in}
 use Rattle.charmlet_image.specs.Images.{spell_half}

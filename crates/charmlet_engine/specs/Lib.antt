@@ -11,7 +11,7 @@ pub mod Restarted
 pub mod Reopened
 pub mod Constructions
 pub use Rattle.charmlet_model.specs.Core
-pub use Rattle.charmlet_model.specs.Edition
+pub use Rattle.charmlet_model.specs.KindVersion
 pub use Rattle.charmlet_model.specs.Fit
 pub use Rattle.charmlet_model.specs.Run
 pub use Rattle.charmlet_model.specs.RunLaws
@@ -36,9 +36,9 @@ pub use Rattle.charmlet_history.specs.Kept
 pub use Rattle.charmlet_history.specs.Wanting
 pub use Rattle.charmlet_requests.specs.Handlers
 pub use Rattle.charmlet_requests.specs.Pass
-pub use Rattle.charmlet_persist.specs.Journal.NewStores
-pub use Rattle.charmlet_persist.specs.Journal.Quiet
-pub use Rattle.charmlet_persist.specs.Journal.Rest
+pub use Rattle.charmlet_persist.specs.Writes.NewStores
+pub use Rattle.charmlet_persist.specs.Writes.Quiet
+pub use Rattle.charmlet_persist.specs.Writes.Rest
 pub use Rattle.charmlet_migrate.specs.Moving
 pub use Rattle.charmlet_persist.specs.Snapshot.Showing
 pub use Rattle.charmlet_store.specs.Census
@@ -47,8 +47,8 @@ pub use Rattle.charmlet_store.specs.Look
 pub use Rattle.charmlet_store.specs.Store
 pub use Rattle.charmlet_replay.specs.Unused
 pub use Rattle.charmlet_recover.specs.Restart
-pub use Rattle.charmlet_recover.specs.declared.finding
+pub use Rattle.charmlet_recover.specs.declared.found
 pub use Rattle.charmlet_recover.specs.Found
 pub use Rattle.charmlet_recover.specs.Wanted
-pub use Rattle.charmlet_recover.specs.declared.restarting
+pub use Rattle.charmlet_recover.specs.declared.restarted
 pub use Rattle.charmlet_recover.specs.declared.wanted

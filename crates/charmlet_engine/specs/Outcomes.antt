@@ -87,7 +87,7 @@ ends_with_image (answer ∷ []) = is_image answer
 ends_with_image (answer ∷ next ∷ answers) = ends_with_image (next ∷ answers)
 
 -- how often the disk has failed after these answers: once more for each that says so
-abbrev pub faults_through : List Answer → ℕ → ℕ
-faults_through [] faults = faults
-faults_through (answer ∷ answers) faults =
-    faults_through answers (faults_after (is_no_fault answer) faults)
+abbrev pub faults_of_both_calls : List Answer → ℕ → ℕ
+faults_of_both_calls [] faults = faults
+faults_of_both_calls (answer ∷ answers) faults =
+    faults_of_both_calls answers (faults_after (is_no_fault answer) faults)

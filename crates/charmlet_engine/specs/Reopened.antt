@@ -13,7 +13,7 @@ use Rattle.charmlet_disk.specs.Calls.{AfterCall}
 use Rattle.charmlet_halves.specs.Answers.{is_no_failure}
 use Rattle.charmlet_halves.specs.Halves.{disk_of, taken_half}
 use Rattle.charmlet_history.specs.Kept.{core_in}
-use Rattle.charmlet_persist.specs.Journal.Rest.{GoesOn, IsCurrent, IsKept}
+use Rattle.charmlet_persist.specs.Writes.Rest.{GoesOn, IsCurrent, IsKept}
 use Rattle.charmlet_locate.specs.Locations.{is_processor_count}
 use Rattle.charmlet_recovery.specs.Outcomes.{IsLawful}
 use Rattle.charmlet_recovery.specs.Restarts.{engine_refusal, restart_refusal}
@@ -22,8 +22,8 @@ use Rattle.charmlet_stock.specs.ByKind.{for_all}
 use Rattle.charmlet_stock.specs.Stock.{blanks_in, supplied_to}
 use Rattle.charmlet_store.specs.Store.{StoreShown}
 use Rattle.charmlet_replay.specs.Unused.{IsUnused}
-use Rattle.charmlet_recover.specs.declared.restarting.NotRestarted.{NotRestarted}
-use Rattle.charmlet_recover.specs.declared.restarting.Recovered.{Recovered}
+use Rattle.charmlet_recover.specs.declared.restarted.NotRestarted.{NotRestarted}
+use Rattle.charmlet_recover.specs.declared.restarted.Recovered.{Recovered}
 use Rattle.charmlet_recover.specs.Restart as recovers
 use Rattle.charmlet_recover.specs.Restart.{AnswersBy, LeavesSynced, OpensWithin, bytes_on}
 use Rattle.charmlet_engine.specs.Engine.{EngineShown, core_of}

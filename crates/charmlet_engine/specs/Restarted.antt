@@ -25,7 +25,7 @@ use Rattle.charmlet_halves.specs.Halves.{disk_of, end_of, taken_half}
 use Rattle.charmlet_locate.specs.Locations.{is_processor_count}
 use Rattle.charmlet_stock.specs.declared.stock.Stock.{Stock}
 use Rattle.charmlet_stock.specs.Stock.{blanks_in}
-use Rattle.charmlet_recover.specs.declared.restarting.NotRestarted.{NotRestarted}
+use Rattle.charmlet_recover.specs.declared.restarted.NotRestarted.{NotRestarted}
 use Rattle.charmlet_recover.specs.Restart.{IsSameStock, IsShortOfSome, OpensWithin, bytes_on, is_after_sync, is_lack, is_restart_refusal}
 use Rattle.charmlet_engine.specs.Engine.{EngineShown, HasImage, core_of, supplied_of, view_of}
 use Rattle.charmlet_engine.specs.Outcomes.{is_lawful_now}
@@ -105,7 +105,8 @@ IsLackOrFull outcome refusal = (is_lack refusal ≡ true)
     ⊎ ((refusal ≡ refusals.ImageFull) × (wants_image outcome ≡ true))
 
 -- a restart after a crash comes to such a store, or is refused so
-abbrev pub AnswersAfterCrash : World → ℕ → List Event → ℕ → CrashBytes → Result Core Refusal → Type 0
+abbrev pub AnswersAfterCrash : World → ℕ → List Event → ℕ → CrashBytes → Result Core Refusal →
+    Type 0
 AnswersAfterCrash w before history durable outcome (Ok core) =
     OpensWithin w before history durable core
 AnswersAfterCrash w before history durable outcome (Err refusal) = IsLackOrFull outcome refusal

@@ -5,7 +5,7 @@ use Rattle.charmlet_halves.specs.declared.halves.Halves.{Halves}
 use Rattle.charmlet_halves.specs.Halves.{disk_of, end_of, taken_half}
 use Rattle.charmlet_history.specs.Kept.{core_in}
 use Rattle.charmlet_stock.specs.ByKind.{for_all}
-use Rattle.charmlet_persist.specs.Journal.Rest.{Agrees, IsCurrent, IsKept}
+use Rattle.charmlet_persist.specs.Writes.Rest.{Agrees, IsCurrent, IsKept}
 use Rattle.charmlet_store.specs.Store.{StoreShown}
 use Rattle.charmlet_engine.specs.Engine.{EngineShown}
 

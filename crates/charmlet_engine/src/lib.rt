@@ -1,26 +1,26 @@
 //! The engine: a store on the two files of a disk, which survives a crash at any moment.
 #![tactic(auto)]
 
-mod asking;
-mod closing;
-mod creating;
-mod delivering;
+mod closed;
+mod constructions;
+mod creation;
+mod deliveries;
 mod engine;
-mod going_on;
 mod laws;
+mod looks;
 mod memory;
 mod reopened;
-mod restarting;
-mod running;
-mod seen;
-mod wanting;
+mod requests;
+mod restarted;
+mod resumption;
+mod steps;
 
-pub use crate::closing::Closed;
-pub use crate::delivering::Deliveries;
+pub use crate::closed::Closed;
+pub use crate::deliveries::Deliveries;
 pub use crate::engine::Engine;
 pub use crate::laws::lives_are_remembered;
 pub use crate::reopened::Reopened;
-pub use charmlet_recover::{Found, NotRestarted, Wanted, lacking, manifest, stock_of};
+pub use charmlet_recover::{Found, NotRestarted, Wanted, lacking, manifest, stock_from_objects};
 // What a program names that owns an engine, so that it lists this crate alone.
 pub use charmlet_chare::{Chare, Outbox};
 pub use charmlet_disk::{DeviceFault, Disk, FileDisk, MemDisk};

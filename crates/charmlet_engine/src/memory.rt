@@ -4,7 +4,7 @@ ghost use Rattle.std.specs.Prelude.{◌≡◌, ◌≢◌, ◌⊎◌, None, false
 ghost use Rattle.charmlet_model.specs.declared.step.Step.TheVariants as steps;
 ghost use Rattle.charmlet_model.specs.Run.{Does};
 ghost use Rattle.charmlet_history.specs.Kept.{core_in};
-ghost use Rattle.charmlet_persist.specs.Journal.Quiet.{Quiet};
+ghost use Rattle.charmlet_persist.specs.Writes.Quiet.{Quiet};
 ghost use Rattle.charmlet_store.specs.Store.{store_in, supplied_in};
 ghost use Rattle.charmlet_engine.specs.Engine.{client_answer};
 ghost use Rattle.charmlet_engine.specs.Outcomes.{is_image, is_no_fault, is_still};

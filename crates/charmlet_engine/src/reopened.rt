@@ -12,9 +12,9 @@ ghost use Rattle.charmlet_engine.specs.Engine.{core_of};
 ghost use Rattle.charmlet_engine.specs.Restarted.{IsOpenedOn, core_or_refusal, disk_after};
 ghost use Rattle.charmlet_engine.specs.Reopened.{IsReopened, IsRestart, core_to_be, is_going_refusal};
 
+use crate::constructions::constructions_in;
 use crate::engine::Engine;
-use crate::going_on::go_on;
-use crate::wanting::constructions_in;
+use crate::resumption::resume;
 use charmlet_chare::Chare;
 use charmlet_disk::Disk;
 use charmlet_model::Refusal;
@@ -27,7 +27,7 @@ use std::thread::Threads;
 
 /// A store that came back from a disk and doesn't go on there yet: the first half of
 /// [`Engine::restart`], after which nothing is written. So whatever takes memory, or is picked by
-/// what the store is, may be made between this and [`Reopened::go_on`], and the files are as they
+/// what the store is, may be made between this and [`Reopened::resume`], and the files are as they
 /// were where that is refused. A contract sees what came back.
 #[derive(Drop)]
 pub struct Reopened<D: Disk, C: Chare> {
@@ -118,7 +118,7 @@ impl<D: Disk, C: Chare> Reopened<D, C> {
     /// `Memory`; `ImageFull` if the image's generation would be past 2^40 or its file past 2^31
     /// bytes; and `Device`. Each hands the disk and all blanks back, and at each but `Device` the
     /// disk is as it was.
-    pub fn go_on(self) -> Result<Engine<D, C>, NotRestarted<D, C>>
+    pub fn resume(self) -> Result<Engine<D, C>, NotRestarted<D, C>>
         ensures core { IfOk result (λ engine. core_of engine ≡ core_to_be self) }
         ensures opens { IfOk result (λ engine.
             IsOpenedOn (core_of engine).processors (core_of engine)) }
@@ -136,7 +136,7 @@ impl<D: Disk, C: Chare> Reopened<D, C> {
             halves,
             is_current,
         } = self.back;
-        go_on(store, halves, is_current)
+        resume(store, halves, is_current)
     }
 
     /// Gives the store up where memory is lacking for something else, as a restart that is refused

@@ -1,7 +1,7 @@
 -- How the program ends.
 use Rattle.std.specs.Prelude.{ℕ, Option, Some, None, Result, Ok, Err}
-use Rattle.charmlet_explain.specs.declared.ending.Failure.{Failure}
-use Rattle.charmlet_explain.specs.declared.ending.Failure.TheVariants.{BadLine, Unread, CannotGoOn}
+use Rattle.charmlet_explain.specs.declared.exit.Failure.{Failure}
+use Rattle.charmlet_explain.specs.declared.exit.Failure.TheVariants.{BadLine, Unread, CannotGoOn}
 
 -- 0 if no line is malformed, 1 if memory or the output failed, and otherwise 2
 abbrev pub exit_status : Result (Option ℕ) Failure → ℕ

@@ -1,6 +1,6 @@
 //! The command line: what its words ask for.
 
-use crate::ending::Failure;
+use crate::exit::Failure;
 use charmlet_script::{Purpose, Runner};
 use std::convert::AsStr;
 

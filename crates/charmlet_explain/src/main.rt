@@ -3,16 +3,16 @@
 #![tactic(auto)]
 
 mod arguments;
-mod ending;
-mod finding;
-mod telling;
+mod exit;
+mod malformed;
 mod text;
+mod told;
 
 use crate::arguments::request_of;
-use crate::ending::{Failure, end_program};
-use crate::finding::first_malformed;
-use crate::telling::told_of;
+use crate::exit::{Failure, end_program};
+use crate::malformed::first_malformed;
 use crate::text::{Unread, read_text};
+use crate::told::told_of;
 use std::io::Write;
 use std::process::ExitCode;
 use std::{env, io};

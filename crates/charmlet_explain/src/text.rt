@@ -1,6 +1,6 @@
 //! The text of a script, as it is read.
 
-use crate::ending::Failure;
+use crate::exit::Failure;
 use charmlet_script::MAX_LENGTH;
 use std::alloc::Global;
 use std::fs::{File, OpenFile};

@@ -10,8 +10,8 @@ use Rattle.charmlet_image.specs.declared.header.Header.{Header}
 use Rattle.charmlet_image.specs.Images.{Saved, spell_half}
 use Rattle.charmlet_image.specs.Halves.{Open, found, Taken, NothingHere, Takes, DamagedAt, taken, taken_half, IsSaved}
 use Rattle.charmlet_image.specs.Spelled.{Spells}
-use Rattle.charmlet_halves.specs.declared.finding.Contents.{Contents}
-use Rattle.charmlet_halves.specs.declared.finding.Surveyed.{Surveyed}
+use Rattle.charmlet_halves.specs.declared.surveyed.Contents.{Contents}
+use Rattle.charmlet_halves.specs.declared.surveyed.Surveyed.{Surveyed}
 use Rattle.charmlet_halves.specs.Bytes.{FirstGate}
 
 -- the bytes of one of two halves

@@ -2,9 +2,9 @@
 use Rattle.std.specs.Prelude.{◌≡◌, false, None, Result, Ok, Err}
 use Rattle.charmlet_model.specs.declared.refusal.Refusal.{Refusal}
 use Rattle.charmlet_disk.specs.declared.disk.Disk.{Ghosts}
-use Rattle.charmlet_halves.specs.declared.finding.Surveyed.{Surveyed}
-use Rattle.charmlet_halves.specs.declared.opening.Refused.{Refused}
-use Rattle.charmlet_halves.specs.declared.opening.Opened.{Opened}
+use Rattle.charmlet_halves.specs.declared.surveyed.Surveyed.{Surveyed}
+use Rattle.charmlet_halves.specs.declared.opened.Refused.{Refused}
+use Rattle.charmlet_halves.specs.declared.opened.Opened.{Opened}
 
 -- the disk afterwards, which is in the halves or was handed back
 abbrev pub disk_after : {D : Type 0} {G : Ghosts D} → Result (Opened D G) (Refused D) → D

@@ -2,17 +2,17 @@
 //! durable since.
 #![tactic(auto)]
 
-mod creating;
-mod finding;
+mod half_bytes;
 mod halves;
-mod opening;
-mod preparing;
-mod reading;
+mod new_store;
+mod opened;
+mod preparation;
+mod surveyed;
 mod taken;
-mod writing;
+mod writes;
 
-pub use crate::creating::test_closed;
-pub use crate::finding::{Contents, Surveyed, survey};
 pub use crate::halves::Halves;
-pub use crate::opening::{Opened, Refused};
+pub use crate::new_store::test_closed;
+pub use crate::opened::{Opened, Refused};
+pub use crate::surveyed::{Contents, Surveyed, survey};
 pub use charmlet_disk::sync_both;

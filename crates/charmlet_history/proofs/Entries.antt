@@ -15,7 +15,7 @@ use Rattle.charmlet_model.proofs.Deliveries.{apart_ids, apart_receivers, message
 use Rattle.charmlet_model.proofs.Fits.{IfSome-map, found-id}
 use Rattle.charmlet_model.proofs.Removals.{lookup-removed}
 use Rattle.charmlet_world.specs.output.Output.{Output}
-use Rattle.charmlet_record.specs.Backlog.{Batched, HasRoomFor}
+use Rattle.charmlet_record.specs.WalBuffer.{Batched, HasRoomFor}
 use Rattle.charmlet_world.specs.Seen.{element_at}
 use Rattle.charmlet_history.specs.Delivered.{advanced_by, delivered_in, with_receiver, with_room}
 use Rattle.charmlet_history.specs.Kept.{Kept, IsConsistent, core_in}
@@ -61,9 +61,9 @@ receivers_with_room k id all = λ q.
 -- ---- a delivery
 
 module _ (k : Kept) (consistent : IsConsistent k) (processor : ℕ) (id : MsgId) (has : lookup (is_at (nat_cmp processor)) k.assigned ≡ Some id) (m : Message) (is : message_among id k.pending ≡ Some m)
-    (output : Output) (backlog : Batched) where
+    (output : Output) (wal_buffer : Batched) where
   abbrev new : Kept
-  new = delivered_in k backlog processor m output
+  new = delivered_in k wal_buffer processor m output
 
   abbrev core : Core
   core = core_in k

@@ -10,7 +10,7 @@ pub mod Apart
 pub mod Assigning
 pub mod Shown
 pub mod Delivering
-pub mod Moves
+pub mod MovesLemmas
 pub mod Openings
 pub mod Rooms
 pub mod Unwritten

@@ -22,7 +22,7 @@ use Rattle.charmlet_model.proofs.OpenedLemmas.{opened_sound}
 use Rattle.charmlet_model.proofs.SoundLemmas.{sound_fit}
 use Rattle.charmlet_world.specs.declared.element.Element.{Element}
 use Rattle.charmlet_world.specs.Client.Client.{Rows, same_rows}
-use Rattle.charmlet_record.specs.Backlog.{Batched, IsBacklog}
+use Rattle.charmlet_record.specs.WalBuffer.{Batched, IsWalBuffer}
 use Rattle.charmlet_history.specs.Kept.{Kept, IsConsistent, core_in}
 use Rattle.charmlet_world.specs.Seen.{IsCountedBy, client_at, element_at, new_client, no_element, present_rows}
 use Rattle.charmlet_world.specs.Standing.{places_of, with_place}
@@ -77,7 +77,7 @@ elements_given processors w fit = all_made elem_cmp elem_total (opened_element p
 pub clients_given : (w : World) → IsFit w → with_clients [] w.clients ≡ opened_clients w.clients
 clients_given w fit = all_made nat_cmp nat_cmp_total opened_client w.clients fit.rising_clients
 
-module _ (processors : ℕ) (w : World) (before generation log_end : ℕ) (backlog : Batched) where
+module _ (processors : ℕ) (w : World) (before generation log_end : ℕ) (wal_buffer : Batched) where
   abbrev pub opened_kept : Kept
   opened_kept = record {
     opening = w;
@@ -91,7 +91,7 @@ module _ (processors : ℕ) (w : World) (before generation log_end : ℕ) (backl
     clients = opened_clients w.clients;
     events = [];
     durable = 0;
-    backlog = backlog;
+    wal_buffer = wal_buffer;
     assigned = [];
     promised = 0;
   }
@@ -100,7 +100,7 @@ module _ (processors : ℕ) (w : World) (before generation log_end : ℕ) (backl
   pub opened_core : core_in opened_kept ≡ opened processors w before generation log_end
   opened_core = λ i. record (opened processors w before generation log_end) { places = places_are_homes processors w.records i }
 
-  pub opened_consistent : IsFit w → 1 ≤ processors → processors ≤ 64 → before ≤ 2 ^ 40 → 1 ≤ generation → generation ≤ 2 ^ 40 → IsBacklog backlog [] → IsConsistent opened_kept
+  pub opened_consistent : IsFit w → 1 ≤ processors → processors ≤ 64 → before ≤ 2 ^ 40 → 1 ≤ generation → generation ≤ 2 ^ 40 → IsWalBuffer wal_buffer [] → IsConsistent opened_kept
   opened_consistent fit some few small_before some_generation few_generations empty = record {
     sound = subst IsSound (sym opened_core) (opened_sound processors w before generation log_end some few fit small_before some_generation few_generations);
     rising = subst (IsStrictlySortedBy elem_cmp) (sym (keys_of-made elem_cmp elem_total (opened_element processors) w.records)) fit.rising_records;
@@ -108,7 +108,7 @@ module _ (processors : ℕ) (w : World) (before generation log_end : ℕ) (backl
     pending = refl;
     clients = present_are w.clients;
     durable_rows = λ c. durable_are c w.clients;
-    backlog = empty;
+    wal_buffer = empty;
     promised = refl;
   }
 
@@ -116,10 +116,10 @@ module _ (processors : ℕ) (w : World) (before generation log_end : ℕ) (backl
 
 -- what is kept once all events count as before the opening world
 abbrev pub renewed_kept : Kept → Batched → Kept
-renewed_kept k backlog = record (all_durable k k.log_end backlog) { opening = present (core_in k); before = k.before + length k.events; events = []; durable = 0 }
+renewed_kept k wal_buffer = record (all_durable k k.log_end wal_buffer) { opening = present (core_in k); before = k.before + length k.events; events = []; durable = 0 }
 
-pub renewed_consistent : (k : Kept) (backlog : Batched) → IsConsistent k → IsBacklog backlog [] → IsConsistent (renewed_kept k backlog)
-renewed_consistent k backlog consistent empty =
+pub renewed_consistent : (k : Kept) (wal_buffer : Batched) → IsConsistent k → IsWalBuffer wal_buffer [] → IsConsistent (renewed_kept k wal_buffer)
+renewed_consistent k wal_buffer consistent empty =
     let core = core_in k in
     let w = present core in
     let sound = consistent.sound in
@@ -137,7 +137,7 @@ renewed_consistent k backlog consistent empty =
         rising_places = sound.rising_places;
         rising_assigned = sound.rising_assigned;
         placed = λ x. let p = sound.placed x in record { there = p.there; on_processor = p.on_processor };
-        assigned = λ processor. IfSome-map (IsAssigned core processor) (IsAssigned (core_in (renewed_kept k backlog)) processor) (assigned_to core processor)
+        assigned = λ processor. IfSome-map (IsAssigned core processor) (IsAssigned (core_in (renewed_kept k wal_buffer)) processor) (assigned_to core processor)
             (λ id a. record { on_processor = a.on_processor; can_be = a.can_be; receiver = a.receiver }) (sound.assigned processor);
       };
       rising = consistent.rising;
@@ -145,6 +145,6 @@ renewed_consistent k backlog consistent empty =
       pending = consistent.pending;
       clients = present-all k.clients new ∙ consistent.clients;
       durable_rows = rows_durable k consistent;
-      backlog = empty;
+      wal_buffer = empty;
       promised = consistent.promised;
     }

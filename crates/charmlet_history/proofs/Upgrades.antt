@@ -15,7 +15,7 @@ use Rattle.charmlet_model.specs.Sound.{IsAssigned}
 use Rattle.charmlet_model.specs.Upgrade.{up, up_record, up_world}
 use Rattle.charmlet_model.specs.World.{World, world, client_of, record_of, IsLegal}
 use Rattle.charmlet_model.proofs.Upgrades.{fit-up, record-up}
-use Rattle.charmlet_record.specs.Backlog.{IsBacklog}
+use Rattle.charmlet_record.specs.WalBuffer.{IsWalBuffer}
 use Rattle.charmlet_history.specs.Kept.{Kept, IsConsistent, core_in}
 
 -- it keeps the same, but for its opening world
@@ -82,6 +82,6 @@ module _ (k : Kept) (consistent : IsConsistent k) (new : k.events ≡ []) (unass
         pending = consistent.pending ∙ sym (ap (λ (u : World). u.pending) goes_on);
         clients = consistent.clients ∙ sym (ap (λ (u : World). u.clients) goes_on);
         durable_rows = λ c. consistent.durable_rows c ∙ sym (ap (λ (u : World). client_of u c) durable_goes_on);
-        backlog = subst (IsBacklog k.backlog) (sym unwritten_same) consistent.backlog;
+        wal_buffer = subst (IsWalBuffer k.wal_buffer) (sym unwritten_same) consistent.wal_buffer;
         promised = consistent.promised;
       }

@@ -18,7 +18,7 @@ pub use Rattle.charmlet_model.specs.Sound
 pub use Rattle.charmlet_model.specs.Told
 pub use Rattle.charmlet_model.specs.Upgrade
 pub use Rattle.charmlet_model.specs.World
-pub use Rattle.charmlet_record.specs.Backlog
+pub use Rattle.charmlet_record.specs.WalBuffer
 pub use Rattle.charmlet_record.specs.Limits
 pub use Rattle.charmlet_locate.specs.Locations
 pub use Rattle.charmlet_world.specs.Changed

@@ -1,16 +1,16 @@
 -- Blanks that pending messages want.
 use Rattle.std.specs.Prelude.{ℕ, ◌==◌, Bool, false, Option, Some, None, count_by}
-use Rattle.charmlet_model.specs.declared.edition.Edition.{Edition}
+use Rattle.charmlet_model.specs.declared.kind_version.KindVersion.{KindVersion}
 use Rattle.charmlet_model.specs.declared.kind.Kind.{Kind}
 use Rattle.charmlet_model.specs.declared.message.Message.{Message}
 use Rattle.charmlet_model.specs.Core.{Core, blank_for, present}
-use Rattle.charmlet_model.specs.Edition.{edition_kind}
+use Rattle.charmlet_model.specs.KindVersion.{kind_of_version}
 use Rattle.charmlet_model.specs.Kind.{kind_number}
 
--- a blank of this edition, if one is needed, is of this kind
-abbrev pub is_of_kind : Option Edition → Kind → Bool
+-- a blank of this kind version, if one is needed, is of this kind
+abbrev pub is_of_kind : Option KindVersion → Kind → Bool
 is_of_kind None kind = false
-is_of_kind (Some edition) kind = kind_number (edition_kind edition) == kind_number kind
+is_of_kind (Some kind_version) kind = kind_number (kind_of_version kind_version) == kind_number kind
 
 -- how many of the pending messages take a blank of this kind when they are delivered, each of which
 -- constructs an element that isn't there

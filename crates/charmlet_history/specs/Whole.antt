@@ -6,7 +6,7 @@ use Rattle.std.specs.Ordering.{nat_cmp}
 use Rattle.charmlet_model.specs.declared.names.MsgId.{MsgId}
 use Rattle.charmlet_model.specs.Names.{elem_cmp}
 use Rattle.charmlet_model.specs.World.{message_among}
-use Rattle.charmlet_record.specs.Backlog as backlogs
+use Rattle.charmlet_record.specs.WalBuffer as wal_buffers
 use Rattle.charmlet_world.specs.Standing.{risen}
 use Rattle.charmlet_history.specs.declared.history.History.TheInside.{Inside}
 use Rattle.charmlet_history.specs.Kept.{IsConsistent, Kept, roomless}
@@ -26,7 +26,7 @@ kept_of h = record {
   clients = h.present.clients;
   events = h.events.items;
   durable = h.events.durable;
-  backlog = roomless h.backlog;
+  wal_buffer = roomless h.wal_buffer;
   assigned = h.assigned.entries;
   promised = h.present.promised;
 }
@@ -44,7 +44,7 @@ HasReceivers k = (processor : ℕ) →
 -- there is room for the event of each assigned delivery, for its bytes, and for its receiver
 pub record HasRoom (h : Inside) : Type 0 where
   pub events : length h.assigned.entries ≤ h.events.room
-  pub bytes : backlogs.HasRoomFor h.backlog (length h.assigned.entries)
+  pub bytes : wal_buffers.HasRoomFor h.wal_buffer (length h.assigned.entries)
   pub receivers : HasReceivers (kept_of h)
 
 -- what is kept is consistent, and has that room

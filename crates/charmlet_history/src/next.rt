@@ -18,8 +18,8 @@ impl History {
         self.present.pending_count()
     }
 
-    /// The pending messages, in order of birth: the id of each, and what is kept under it. It takes
-    /// no memory.
+    /// The pending messages, in order of arrival: the id of each, and what is kept under it. It
+    /// takes no memory.
     pub fn messages(&self) -> Messages<'_>
         ensures { result ≡ (present (core_in self.now)).pending }
     {
@@ -65,7 +65,7 @@ impl History {
     pub fn due_on(&self, id: MsgId) -> Option<u16>
         ensures { result ≡ processor_for (core_in self.now) id }
     {
-        let letter = self.present.find(id)?;
-        Some(self.present.place_or_home(letter.to))
+        let pending_message = self.present.find(id)?;
+        Some(self.present.place_or_home(pending_message.to))
     }
 }

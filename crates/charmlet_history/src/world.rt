@@ -12,18 +12,18 @@ use std::marker::Model;
 /// A world that only contracts read. It has no bytes. The clauses of whoever keeps it tie it to a
 /// store.
 #[derive(Drop)]
-pub struct SeenWorld {
+pub struct GhostWorld {
     pub ghost world: { World },
 }
 
-impl Model for SeenWorld {
+impl Model for GhostWorld {
     ghost also_owns = { λ _. ftrue };
 }
 
 // It owns nothing, so threads may own and share it.
-unsafe impl Send for SeenWorld {}
+unsafe impl Send for GhostWorld {}
 
-unsafe impl Sync for SeenWorld {}
+unsafe impl Sync for GhostWorld {}
 
 /// What has a world, for contracts alone.
 pub trait HasWorld {
@@ -31,12 +31,12 @@ pub trait HasWorld {
     ghost world: { Self → World };
 }
 
-impl SeenWorld {
+impl GhostWorld {
     /// The world that something has. It does nothing at run time.
     pub fn of<W: HasWorld>(_owner: &W) -> Self
         ensures { result.world ≡ W.world _owner.now }
     {
-        SeenWorld {}
+        GhostWorld {}
     }
 }
 
@@ -46,7 +46,7 @@ impl HasWorld for Manifest {
 }
 
 /// A world in parts: its arrays, what is kept of each element and of each client in rising order,
-/// and the pending messages in order of birth.
+/// and the pending messages in order of arrival.
 #[derive(Debug, Drop)]
 pub struct WorldParts {
     pub manifest: Manifest,

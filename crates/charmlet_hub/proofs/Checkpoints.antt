@@ -20,8 +20,8 @@ use Rattle.charmlet_model.specs.Sound.{IsSound}
 use Rattle.charmlet_model.specs.World.{World, reaction_of}
 use Rattle.charmlet_delivery.proofs.Places.{stepped_core}
 use Rattle.charmlet_history.specs.Kept.{assigned_message}
-use Rattle.charmlet_persist.specs.FuzzyCheckpoint.Laws.{AreSettledOn}
-use Rattle.charmlet_persist.specs.FuzzyCheckpoint.Running.{AreAllSettled, IsRunning, IsShownBy, Run, with_delivery, with_images, with_message, with_reaction}
+use Rattle.charmlet_persist.specs.FuzzyCheckpoint.Laws.{AreCapturedOn}
+use Rattle.charmlet_persist.specs.FuzzyCheckpoint.Checkpoint.{AreAllCaptured, IsRunning, IsShownBy, Run, with_delivery, with_images, with_message, with_reaction}
 use Rattle.charmlet_persist.specs.FuzzyCheckpoint.Sealing.{PassesLimit}
 use Rattle.charmlet_persist.proofs.FuzzyCheckpointLemmas.Others.{assignments_keep, flushes_keep, halts_keep, images_keep, processors_are_all, releases_keep, requests_keep}
 use Rattle.charmlet_persist.proofs.FuzzyCheckpointLemmas.Shelves.{shelves_are_taken}
@@ -148,7 +148,7 @@ roomy_running : (core : Core) (run : Run) (room : ℕ) → IsRunning core run �
 roomy_running core run room is = record {
   after = is.after;
   within = is.within;
-  from = record { rising = is.from.rising; settled = is.from.settled; caught_up = is.from.caught_up; count = is.from.count };
+  from = record { rising = is.from.rising; captured = is.from.captured; caught_up = is.from.caught_up; count = is.from.count };
 }
 
 -- with room for as many as are assigned then
@@ -219,7 +219,7 @@ noted_keeps core next p (Some run) o' tokens same fewer noted is =
           record {
             last = t.last;
             begun = ap (λ (r : Run). r.begun) n.noted ∙ delivery_begun core p run ∙ t.begun;
-            handed_in = λ q less. subst (λ (c : Core). AreSettledOn c new q) (sym same) (n.settled q (t.handed_in q less));
+            handed_in = λ q less. subst (λ (c : Core). AreCapturedOn c new q) (sym same) (n.settled q (t.handed_in q less));
           };
     })
 
@@ -265,15 +265,15 @@ module _ (core : Core) (run : Run) (tokens : List (Option Token)) (k : ℕ) (t :
       let other = (is.token place token at).last in
       apart (omega arith)
 
-  module _ (images : List Image) (running : IsRunning core (record run { settled = with_images run.settled images })) (settled : AreSettledOn core (record run { settled = with_images run.settled images }) t.shelves) where
+  module _ (images : List Image) (running : IsRunning core (record run { captured = with_images run.captured images })) (settled : AreCapturedOn core (record run { captured = with_images run.captured images }) t.shelves) where
     abbrev more : Run
-    more = record run { settled = with_images run.settled images }
+    more = record run { captured = with_images run.captured images }
 
-    known : (p : ℕ) → p < t.shelves + 1 → AreSettledOn core more p
+    known : (p : ℕ) → p < t.shelves + 1 → AreCapturedOn core more p
     known p less =
         let within : p ≤ t.shelves = omega arith in
         elim (eq-or-lt_of_le within) [
-          | inl same ↦ subst (AreSettledOn core more) (sym same) settled
+          | inl same ↦ subst (AreCapturedOn core more) (sym same) settled
           | inr before ↦ λ x on. images_keep run images x ((is.token k t here).handed_in p before x on)
         ]
 
@@ -300,15 +300,15 @@ pub image_keeps : (core : Core) → IsSound core → (o o' : Option Run) (tokens
     ShowsOn number records core.places (present core) → AreImages records (keys_of records) images → o' ≡ with_images_if o images → IfSome o' (IsRunning core) → tokens' ≡ slice_set tokens k (Some (with_shelf t)) → IsCheckpointed core o' tokens'
 image_keeps core sound None o' tokens tokens' k t number records images is here same shows are taken running written = absurd (is k t here)
 image_keeps core sound (Some run) o' tokens tokens' k t number records images is here same shows are taken running written =
-    let more : Run = record run { settled = with_images run.settled images } in
+    let more : Run = record run { captured = with_images run.captured images } in
     let runs : IsRunning core more = subst (λ (o : Option Run). IfSome o (IsRunning core)) taken running in
-    let settled : AreSettledOn core more t.shelves = subst (AreSettledOn core more) same (shelves_are_taken core run number records images sound shows are).1 in
+    let settled : AreCapturedOn core more t.shelves = subst (AreCapturedOn core more) same (shelves_are_taken core run number records images sound shows are).1 in
     subst (λ (x : Option Run × List (Option Token)). IsCheckpointed core x.0 x.1) (λ i. (sym taken i, sym written i)) (hands_in core run tokens k t is here images runs settled)
 
 -- all of them are of what is there
 pub images_shown : (core : Core) → IsSound core → (number : ℕ) (records : List (Elem × Record)) (images : List Image) → ShowsOn number records core.places (present core) → AreImages records (keys_of records) images → All (IsShownBy (present core)) images
 images_shown core sound number records images shows are =
-    (shelves_are_taken core (record { begun = 0; settled = []; caught_up = []; count = 0; room = 0 }) number records images sound shows are).0
+    (shelves_are_taken core (record { begun = 0; captured = []; caught_up = []; count = 0; room = 0 }) number records images sound shows are).0
 
 -- its token is taken back
 pub ends : (core next : Core) (o : Option Run) (tokens : List (Option Token)) (k : ℕ) (t : Token) → IsCheckpointed core o tokens → slice_get tokens k ≡ Some (Some t) → IsCheckpointed next None (slice_set tokens k None)
@@ -319,7 +319,7 @@ ends core next (Some run) tokens k t is here = λ place token at. elim (set_or_o
 ]
 
 -- where all shelves were handed in, all is settled
-pub all_settled : (core : Core) → IsSound core → (o : Option Run) (tokens : List (Option Token)) (k : ℕ) (t : Token) → t.shelves ≡ core.processors → slice_get tokens k ≡ Some (Some t) → IsCheckpointed core o tokens → IfSome o (AreAllSettled core)
+pub all_settled : (core : Core) → IsSound core → (o : Option Run) (tokens : List (Option Token)) (k : ℕ) (t : Token) → t.shelves ≡ core.processors → slice_get tokens k ≡ Some (Some t) → IsCheckpointed core o tokens → IfSome o (AreAllCaptured core)
 all_settled core sound None tokens k t all here is = tt
 all_settled core sound (Some run) tokens k t all here is = processors_are_all core run sound (λ p x on.
     let on_processor : p < core.processors = subst (λ (o : Option ℕ). IfSome o (λ q. q < core.processors)) on (sound.placed x).on_processor in

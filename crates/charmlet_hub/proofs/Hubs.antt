@@ -103,7 +103,7 @@ hub_sealed old new was busy seats passes hub same was_sound sound = record {
 pub rebusied : {D : Type 0} (sequencer : SequencerShown D) (was busy : Bool) (seats : Seats) (passes : LentPasses) → IsHub (shown_by sequencer was seats passes) → IsHub (shown_by sequencer busy seats passes)
 rebusied sequencer was busy seats passes is = record { seats = is.seats; passes = is.passes; room = is.room }
 
--- a pass that is as it was leaves the book so
+-- a pass that is as it was leaves the authority so
 pub kept_same : (old new : LentPasses) (h g : HeldPass) → IsKept old new h g → g ≡ h → new ≡ old
 kept_same old new h g kept same =
     let held : new.held ≡ old.held = kept.has ∙ ap (λ (x : HeldPass). slice_set old.held kept.place (Some x)) same ∙ set-same old.held kept.place (Some h) kept.had in

@@ -23,7 +23,7 @@ use Rattle.charmlet_shelf.specs.declared.phase.Phase.{Phase}
 use Rattle.charmlet_shelf.specs.declared.phase.Phase.TheVariants as phases
 use Rattle.charmlet_delivery.specs.UnderWay.{IsUnderWay, due_in}
 use Rattle.charmlet_delivery.proofs.Places.{stepped_core}
-use Rattle.charmlet_sequencer.specs.Book.{IsDueOn}
+use Rattle.charmlet_sequencer.specs.Authority.{IsDueOn}
 use Rattle.charmlet_sequencer.specs.Shelf.{delivery_in}
 use Rattle.charmlet_hub.specs.Hub.{deliveries_in}
 

@@ -3,8 +3,8 @@ use Rattle.std.specs.Prelude.{◌≡◌, ℕ, ◌+◌, ◌<◌, ◌≤◌, Bool,
 use Rattle.charmlet_model.specs.declared.refusal.Refusal.{Refusal}
 use Rattle.charmlet_model.specs.declared.refusal.Refusal.TheVariants as refusals
 use Rattle.charmlet_model.specs.Core.{Commit, Core, next_core}
-use Rattle.charmlet_persist.specs.FuzzyCheckpoint.Laws.{AreSettledOn}
-use Rattle.charmlet_persist.specs.FuzzyCheckpoint.Running.{AreAllSettled, IsRunning, Run, with_delivery, with_images}
+use Rattle.charmlet_persist.specs.FuzzyCheckpoint.Laws.{AreCapturedOn}
+use Rattle.charmlet_persist.specs.FuzzyCheckpoint.Checkpoint.{AreAllCaptured, IsRunning, Run, with_delivery, with_images}
 use Rattle.charmlet_persist.specs.FuzzyCheckpoint.Sealing.{PassesLimit}
 use Rattle.charmlet_sequencer.specs.Checkpointing.{IsSealedCore}
 use Rattle.charmlet_shelf.specs.declared.image.Image.{Image}
@@ -18,10 +18,10 @@ pub record Token : Type 0 where
   pub begun : ℕ
   pub shelves : ℕ
 
--- the shelves of the first processors were handed in: what stands there is settled
+-- the shelves of the first processors were handed in: what stands there is captured
 abbrev pub AreHandedIn : Core → Run → ℕ → Type 0
 AreHandedIn core run shelves = (processor : ℕ) → processor < shelves →
-    AreSettledOn core run processor
+    AreCapturedOn core run processor
 
 -- A token that is out is the last that was given out, and knows when the checkpoint began and how
 -- many shelves were handed in.
@@ -56,13 +56,13 @@ abbrev pub roomier : ℕ → Option Run → Option Run
 roomier deliveries None = None
 roomier deliveries (Some run) = Some (record run { room = max run.room deliveries })
 
--- The processor's delivery is noted. Once it is committed, what was settled on a processor still
--- is.
+-- The processor's delivery is recorded. Once it is committed, what was captured on a processor
+-- still is.
 pub record NotesDelivery (core : Core) (processor : ℕ) (old new : Run) : Type 0 where
   pub noted : new ≡ with_delivery core processor old
   pub running : IsRunning (next_core core (Commit processor)) new
-  pub settled : (other : ℕ) → AreSettledOn core old other →
-      AreSettledOn (next_core core (Commit processor)) new other
+  pub settled : (other : ℕ) → AreCapturedOn core old other →
+      AreCapturedOn (next_core core (Commit processor)) new other
 
 -- the same, if a checkpoint runs
 abbrev pub IsNoted : Core → ℕ → Option Run → Option Run → Type 0
@@ -76,7 +76,7 @@ IsNoted core processor (Some old) new = (run : Run) × (new ≡ Some run)
 abbrev pub with_images_if : Option Run → List Image → Option Run
 with_images_if None images = None
 with_images_if (Some run) images = Some (record run {
-  settled = with_images run.settled images;
+  captured = with_images run.captured images;
 })
 
 -- ---- its beginning and its end
@@ -87,7 +87,7 @@ pub record IsTooLarge (core : Core) (begun : ℕ) : Type 0 where
   pub run : Run
   pub when : run.begun ≡ begun
   pub running : IsRunning core run
-  pub settled : AreAllSettled core run
+  pub settled : AreAllCaptured core run
   pub passes : PassesLimit core run
 
 -- the refusal isn't for the device

@@ -20,7 +20,7 @@ deliveries_in (Accept client number to entry words ∷ events) = deliveries_in e
 deliveries_in (Deliver id ∷ events) = id ∷ deliveries_in events
 
 -- The core, but for whether a checkpoint runs, and that beside it; the census of its stock, the
--- disk, and the books of seats and of passes.
+-- disk, and the tables of seats and of passes.
 pub record HubShown (D : Type 0) : Type 0 where
   pub core : Core
   pub busy : Bool
@@ -34,7 +34,7 @@ abbrev pub while_busy : Bool → StoreView → StoreView
 while_busy busy store = record store { core = record store.core { busy = busy } }
 
 module _ {D : Type 0} where
-  -- a sequencer with these books, while a checkpoint runs or none does
+  -- a sequencer with these authorities, while a checkpoint runs or none does
   abbrev pub shown_by : SequencerShown D → Bool → Seats → LentPasses → HubShown D
   shown_by sequencer busy seats passes = record {
     core = sequencer.core;
@@ -45,7 +45,7 @@ module _ {D : Type 0} where
     passes = passes;
   }
 
-  -- the hub without its books
+  -- the hub without its authorities
   abbrev pub sequencer_in : HubShown D → SequencerShown D
   sequencer_in hub = record { core = hub.core; census = hub.census; disk = hub.disk }
 

@@ -16,7 +16,7 @@ pub use Rattle.charmlet_halves.specs.Answers
 pub use Rattle.charmlet_halves.specs.Halves
 pub use Rattle.charmlet_history.specs.Kept
 pub use Rattle.charmlet_history.specs.Wanting
-pub use Rattle.charmlet_persist.specs.Journal.Rest
+pub use Rattle.charmlet_persist.specs.Writes.Rest
 pub use Rattle.charmlet_requests.specs.Pass
 pub use Rattle.charmlet_leases.specs.Passes.Passes
 pub use Rattle.charmlet_leases.specs.Seats.Seats
@@ -28,11 +28,11 @@ pub use Rattle.charmlet_store.specs.Store
 pub use Rattle.charmlet_sequencer.specs.Shelf
 pub use Rattle.charmlet_stock.specs.ByKind
 pub use Rattle.charmlet_delivery.specs.UnderWay
-pub use Rattle.charmlet_sequencer.specs.Book
+pub use Rattle.charmlet_sequencer.specs.Authority
 pub use Rattle.charmlet_sequencer.specs.Part
 pub use Rattle.charmlet_sequencer.specs.Relocating
 pub use Rattle.charmlet_shelf.specs.Image
 pub use Rattle.charmlet_persist.specs.FuzzyCheckpoint.Laws
-pub use Rattle.charmlet_persist.specs.FuzzyCheckpoint.Running
+pub use Rattle.charmlet_persist.specs.FuzzyCheckpoint.Checkpoint as FuzzyCheckpoint
 pub use Rattle.charmlet_persist.specs.FuzzyCheckpoint.Sealing as EndOfRunning
 pub use Rattle.charmlet_sequencer.specs.Checkpointing

@@ -8,9 +8,9 @@ ghost use Rattle.charmlet_disk.specs.Calls.{AfterCall};
 ghost use Rattle.charmlet_disk.specs.Disk.{LeavesOnly};
 ghost use Rattle.charmlet_halves.specs.Answers.{is_no_failure};
 ghost use Rattle.charmlet_history.specs.Kept.{core_in};
-ghost use Rattle.charmlet_persist.specs.Journal.Rest.{HasOldOrSealed, HasSealed};
+ghost use Rattle.charmlet_persist.specs.Writes.Rest.{HasOldOrSealed, HasSealed};
 ghost use Rattle.charmlet_leases.specs.Passes.Passes.{event_count};
-ghost use Rattle.charmlet_persist.specs.FuzzyCheckpoint.Running.{AreAllSettled, IsRunning, IsShownBy};
+ghost use Rattle.charmlet_persist.specs.FuzzyCheckpoint.Checkpoint.{AreAllCaptured, IsRunning, IsShownBy};
 ghost use Rattle.charmlet_persist.specs.FuzzyCheckpoint.Sealing.{PassesLimit};
 ghost use Rattle.charmlet_shelf.specs.Image.{AreImages};
 ghost use Rattle.charmlet_sequencer.specs.Checkpointing.{IsSealRefusal, IsSealedCore};
@@ -22,10 +22,10 @@ use crate::names::CheckpointsOf;
 use charmlet_chare::Chare;
 use charmlet_disk::Disk;
 use charmlet_history::History;
-use charmlet_locks::Share;
+use charmlet_locks::Fragment;
 use charmlet_model::Refusal;
-use charmlet_persist::Running;
-use charmlet_sequencer::{LockedShelf, RuntimeName, Sequencer};
+use charmlet_persist::FuzzyCheckpoint;
+use charmlet_sequencer::{ProcessorState, RuntimeName, Sequencer};
 use charmlet_shelf::Image;
 use std::alloc::AllocError;
 use std::marker::Model;
@@ -33,12 +33,12 @@ use std::marker::Model;
 /// How many events there were when a checkpoint began, those before the opening world among them,
 /// and how many shelves were handed in to it.
 #[derive(Debug, Drop)]
-pub struct SeenToken {
+pub struct GhostToken {
     pub(crate) begun: u64,
     pub(crate) shelves: u16,
 }
 
-impl Model for SeenToken {
+impl Model for GhostToken {
     ghost use Rattle.charmlet_hub.specs.Checkpoint.{Token};
 
     ghost Value = { Token };
@@ -52,7 +52,7 @@ impl Model for SeenToken {
 pub struct Checkpoint<B: RuntimeName> {
     begun: u64,
     shelves: u16,
-    share: Share<SeenToken, CheckpointsOf<B>>,
+    fragment: Fragment<GhostToken, CheckpointsOf<B>>,
 }
 
 impl<B: RuntimeName> Model for Checkpoint<B> {
@@ -63,7 +63,8 @@ impl<B: RuntimeName> Model for Checkpoint<B> {
 
     ghost view = { λ c. record { begun = c.begun; shelves = c.shelves } };
 
-    ghost invariant = { λ c. c.share.1 ≡ Some (record { begun = c.begun; shelves = c.shelves }) };
+    ghost invariant = { λ c. c.fragment.1
+        ≡ Some (record { begun = c.begun; shelves = c.shelves }) };
 }
 
 impl<B: RuntimeName> Checkpoint<B> {
@@ -84,8 +85,8 @@ pub struct NotSealed<B: RuntimeName> {
 impl<D: Disk, C: Chare, B: RuntimeName> Hub<D, C, B> {
     /// Begins a checkpoint that lets others work meanwhile: of moves and other checkpoints alone
     /// each is refused `Checkpointing` until it ends. There is room for all deliveries that are
-    /// assigned. Each element that isn't there and has a record is settled now. No shelf was handed
-    /// in yet. Nothing is written.
+    /// assigned. Each element that isn't there and has a record is captured now. No shelf was
+    /// handed in yet. Nothing is written.
     ///
     /// The refusal is the first that applies of `Halted`, `Checkpointing` where one runs already,
     /// and `Memory`. Then nothing changes.
@@ -108,16 +109,16 @@ impl<D: Disk, C: Chare, B: RuntimeName> Hub<D, C, B> {
         }
         self.sequencer.facts();
         let most = usize::from(self.processors);
-        let Ok(running) = Running::begin(self.alloc, self.sequencer.history(), most) else {
+        let Ok(running) = FuzzyCheckpoint::begin(self.alloc, self.sequencer.history(), most) else {
             return Err(Refusal::Memory);
         };
         self.running = Some(running);
         let begun = self.sequencer.history().event_count();
-        let share = self.tokens.issue(&SeenToken { begun, shelves: 0 });
+        let fragment = self.tokens.issue(&GhostToken { begun, shelves: 0 });
         Ok(Checkpoint {
             begun,
             shelves: 0,
-            share,
+            fragment,
         })
     }
 
@@ -128,7 +129,7 @@ impl<D: Disk, C: Chare, B: RuntimeName> Hub<D, C, B> {
     pub fn image(
         &mut self,
         checkpoint: &mut Checkpoint<B>,
-        locked: &mut LockedShelf<C, B>,
+        locked: &mut ProcessorState<C, B>,
         images: Vec<Image>,
     ) -> Result<(), AllocError>
         requires next { locked.old.number ≡ checkpoint.old.shelves }
@@ -143,14 +144,14 @@ impl<D: Disk, C: Chare, B: RuntimeName> Hub<D, C, B> {
     {
         self.sequencer.facts();
         self.sequencer.agree(locked);
-        self.tokens.agree(&mut checkpoint.share);
+        self.tokens.agree(&mut checkpoint.fragment);
         if take_images(&mut self.running, self.sequencer.history(), images).is_err() {
             return Err(AllocError);
         }
         let begun = checkpoint.begun;
         let shelves = checkpoint.shelves + 1;
         self.tokens
-            .change(&mut checkpoint.share, &SeenToken { begun, shelves });
+            .change(&mut checkpoint.fragment, &GhostToken { begun, shelves });
         checkpoint.shelves = shelves;
         Ok(())
     }
@@ -196,7 +197,7 @@ impl<D: Disk, C: Chare, B: RuntimeName> Hub<D, C, B> {
     {
         let mut checkpoint = checkpoint;
         self.sequencer.facts();
-        self.tokens.agree(&mut checkpoint.share);
+        self.tokens.agree(&mut checkpoint.fragment);
         let sealed = seal_running(&mut self.sequencer, &mut self.running);
         self.sequencer.facts();
         match sealed {
@@ -227,17 +228,17 @@ impl<D: Disk, C: Chare, B: RuntimeName> Hub<D, C, B> {
         let Checkpoint {
             begun: _,
             shelves: _,
-            share,
+            fragment,
         } = checkpoint;
-        self.tokens.take_back(share);
+        self.tokens.take_back(fragment);
         self.running = None;
     }
 }
 
-/// Settles the elements of a shelf in the checkpoint that runs. When out of memory, nothing
+/// Captures the elements of a shelf in the checkpoint that runs. When out of memory, nothing
 /// changes.
 fn take_images(
-    running: &mut Option<Running>,
+    running: &mut Option<FuzzyCheckpoint>,
     history: &History,
     images: Vec<Image>,
 ) -> Result<(), AllocError>
@@ -249,19 +250,19 @@ fn take_images(
     ensures running { IfSome running.new (IsRunning (core_in history.now)) }
 {
     match running {
-        Some(running) => running.take(history, images),
+        Some(running) => running.capture_shelf(history, images),
         None => unreachable!(),
     }
 }
 
-/// Ends the checkpoint that runs, in which all is settled, by the sequencer's part of it.
+/// Ends the checkpoint that runs, in which all is captured, by the sequencer's part of it.
 fn seal_running<D: Disk, C: Chare, B: RuntimeName>(
     sequencer: &mut Sequencer<D, C, B>,
-    running: &mut Option<Running>,
+    running: &mut Option<FuzzyCheckpoint>,
 ) -> Result<u64, Refusal>
     requires runs { is_some running.old ≡ true }
     requires running { IfSome running.old (IsRunning sequencer.old.core) }
-    requires settled { IfSome running.old (AreAllSettled sequencer.old.core) }
+    requires settled { IfSome running.old (AreAllCaptured sequencer.old.core) }
     ensures ok { IfOk result (λ generation. generation ≡ sequencer.old.core.generation + 1) }
     ensures within { OnOk result (sequencer.old.core.generation < 2 ^ 40) }
     ensures going { OnOk result (sequencer.old.core.halted ≡ false) }

@@ -17,30 +17,30 @@ ghost use Rattle.charmlet_leases.specs.Seats.Seats.{is_out as is_seat_out};
 ghost use Rattle.charmlet_stock.specs.ByKind.{at};
 ghost use Rattle.charmlet_delivery.specs.UnderWay.{due_in};
 ghost use Rattle.charmlet_delivery.specs.Workplace.{ShowsOn};
-ghost use Rattle.charmlet_sequencer.specs.Book.{IsBookIn, IsDueOn};
+ghost use Rattle.charmlet_sequencer.specs.Authority.{IsAuthorityIn, IsDueOn};
 ghost use Rattle.charmlet_sequencer.specs.Part.{Part};
 ghost use Rattle.charmlet_sequencer.specs.Sequencer.{IsOf, is_lawful, supplied_of};
 ghost use Rattle.charmlet_hub.specs.Hub.{IsHub, seat_refusal, sequencer_in, shown_by, store_in};
 
-use crate::checkpoint::SeenToken;
+use crate::checkpoint::GhostToken;
 use crate::names::{CheckpointsOf, PassesOf, SeatsOf};
 use charmlet_chare::Chare;
 use charmlet_disk::Disk;
 use charmlet_history::History;
-use charmlet_leases::{ClientPass, PassBook, Seat, SeatBook, SeenIds, SeenPass};
-use charmlet_locks::Book;
+use charmlet_leases::{ClientPass, GhostIds, GhostPass, PassTable, Seat, SeatTable};
+use charmlet_locks::Authority;
 use charmlet_model::{Kind, MsgId, Refusal};
-use charmlet_persist::Running;
+use charmlet_persist::FuzzyCheckpoint;
 use charmlet_ready_queue::Ticks;
-use charmlet_sequencer::{LockedShelf, RuntimeName, Sequencer};
+use charmlet_sequencer::{ProcessorState, RuntimeName, Sequencer};
 use charmlet_stock::{ByKind, Tally};
 use std::alloc::Global;
 use std::marker::Model;
 use std::sync::ledger::Ledger;
 
-/// What lies under the lock that orders all steps: a sequencer, the books of the seats and of the
+/// What lies under the lock that orders all steps: a sequencer, the tables of the seats and of the
 /// passes that are out, and the checkpoint that runs, if one does. A contract sees the core and
-/// whether a checkpoint runs, the census, the disk and both books.
+/// whether a checkpoint runs, the census, the disk and both authorities.
 ///
 /// Each call is one step of the core, or leaves it as it is. Each delivery of the history stands
 /// once among the ids that the seats hold and the hub's own, in each of these lists in the
@@ -52,14 +52,14 @@ use std::sync::ledger::Ledger;
 pub struct Hub<D: Disk, C: Chare, B: RuntimeName> {
     pub(crate) alloc: Global,
     pub(crate) sequencer: Sequencer<D, C, B>,
-    pub(crate) seats: SeatBook<SeatsOf<B>>,
-    pub(crate) passes: PassBook<PassesOf<B>>,
+    pub(crate) seats: SeatTable<SeatsOf<B>>,
+    pub(crate) passes: PassTable<PassesOf<B>>,
     /// How many processors there are.
     pub(crate) processors: u16,
     /// The checkpoint that runs.
-    pub(crate) running: Option<Running>,
+    pub(crate) running: Option<FuzzyCheckpoint>,
     /// What the tokens of checkpoints say.
-    pub(crate) tokens: Book<SeenToken, CheckpointsOf<B>>,
+    pub(crate) tokens: Authority<GhostToken, CheckpointsOf<B>>,
 }
 
 impl<D: Disk, C: Chare, B: RuntimeName> Model for Hub<D, C, B> {
@@ -81,8 +81,8 @@ impl<D: Disk, C: Chare, B: RuntimeName> Model for Hub<D, C, B> {
 #[derive(Drop)]
 pub(crate) struct HubParts<D: Disk, C: Chare, B: RuntimeName> {
     pub(crate) sequencer: Sequencer<D, C, B>,
-    pub(crate) seats: SeatBook<SeatsOf<B>>,
-    pub(crate) passes: PassBook<PassesOf<B>>,
+    pub(crate) seats: SeatTable<SeatsOf<B>>,
+    pub(crate) passes: PassTable<PassesOf<B>>,
 }
 
 // Written by hand, so that dropping all that a hub has is proved here, and not in each function
@@ -130,15 +130,15 @@ impl<D: Disk, C: Chare, B: RuntimeName> Hub<D, C, B> {
         }
     }
 
-    /// A hub over a sequencer in whose history nothing has happened, with new books of seats, of
+    /// A hub over a sequencer in whose history nothing has happened, with new tables of seats, of
     /// passes and of checkpoints: none is out, and none runs. It takes no memory.
     pub fn new(
         alloc: Global,
         sequencer: Sequencer<D, C, B>,
         processors: u16,
-        seats: Book<SeenIds, SeatsOf<B>>,
-        passes: Book<SeenPass, PassesOf<B>>,
-        tokens: Book<SeenToken, CheckpointsOf<B>>,
+        seats: Authority<GhostIds, SeatsOf<B>>,
+        passes: Authority<GhostPass, PassesOf<B>>,
+        tokens: Authority<GhostToken, CheckpointsOf<B>>,
     ) -> Self
         requires history { sequencer.core.history ≡ [] }
         requires assigned { sequencer.core.assigned ≡ [] }
@@ -156,8 +156,8 @@ impl<D: Disk, C: Chare, B: RuntimeName> Hub<D, C, B> {
         Hub {
             alloc,
             sequencer,
-            seats: SeatBook::new(alloc, seats),
-            passes: PassBook::new(alloc, passes),
+            seats: SeatTable::new(alloc, seats),
+            passes: PassTable::new(alloc, passes),
             processors,
             running: None,
             tokens,
@@ -175,8 +175,8 @@ impl<D: Disk, C: Chare, B: RuntimeName> Hub<D, C, B> {
         ensures of { IsOf B.opening B.before B.processors self.now.core }
         ensures later { B.generation ≤ self.now.core.generation }
         ensures sound { IsSound self.now.core }
-        ensures book { (parts : List (Option Part))
-            × IsBookIn self.now.core self.now.census parts }
+        ensures authority { (parts : List (Option Part))
+            × IsAuthorityIn self.now.core self.now.census parts }
         ensures lawful { D.honest self.now.disk → (outcome : CrashBytes) →
             MayLeave (D.file self.now.disk) outcome → is_lawful self.now.core outcome }
         ensures hub { IsHub self.now }
@@ -204,7 +204,7 @@ impl<D: Disk, C: Chare, B: RuntimeName> Hub<D, C, B> {
     /// Shows that the shelf is a processor's, that it has the records of the elements that stand
     /// there in the world after the history, and that what is under way there is what is assigned.
     /// Nothing is compared, and nothing changes.
-    pub fn agree(&mut self, locked: &mut LockedShelf<C, B>)
+    pub fn agree(&mut self, locked: &mut ProcessorState<C, B>)
         ensures on { locked.old.number < self.old.core.processors }
         ensures shows { ShowsOn locked.old.number locked.old.records self.old.core.places
             (present self.old.core) }

@@ -1,37 +1,37 @@
-//! Names of the books of one runtime.
+//! Names of the authorities of one runtime.
 
-use charmlet_leases::SeatBookName;
-use charmlet_locks::BookName;
+use charmlet_leases::SeatTableName;
+use charmlet_locks::AuthorityName;
 use charmlet_sequencer::RuntimeName;
 use std::marker::PhantomData;
 
-/// Names the book of a runtime's seats.
+/// Names the authority of a runtime's seats.
 pub struct SeatsOf<B> {
     runtime: PhantomData<B>,
 }
 
-impl<B: RuntimeName> BookName for SeatsOf<B> {
+impl<B: RuntimeName> AuthorityName for SeatsOf<B> {
     ghost table = { B.seats };
 }
 
-impl<B: RuntimeName> SeatBookName for SeatsOf<B> {
+impl<B: RuntimeName> SeatTableName for SeatsOf<B> {
     ghost processors = { B.processors };
 }
 
-/// Names the book of a runtime's passes.
+/// Names the authority of a runtime's passes.
 pub struct PassesOf<B> {
     runtime: PhantomData<B>,
 }
 
-impl<B: RuntimeName> BookName for PassesOf<B> {
+impl<B: RuntimeName> AuthorityName for PassesOf<B> {
     ghost table = { B.passes };
 }
 
-/// Names the book of the tokens of a runtime's checkpoints.
+/// Names the authority of the tokens of a runtime's checkpoints.
 pub struct CheckpointsOf<B> {
     runtime: PhantomData<B>,
 }
 
-impl<B: RuntimeName> BookName for CheckpointsOf<B> {
+impl<B: RuntimeName> AuthorityName for CheckpointsOf<B> {
     ghost table = { B.checkpoints };
 }

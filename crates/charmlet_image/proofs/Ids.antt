@@ -10,11 +10,11 @@ use Rattle.charmlet_model.specs.declared.names.MsgId.{MsgId}
 use Rattle.charmlet_model.specs.declared.message.Message.{Message}
 use Rattle.charmlet_model.specs.Names.{same_id, same_origin}
 use Rattle.charmlet_model.specs.contracts.names.MsgIdPartialEq.TheImpl.{eq-value}
-use Rattle.charmlet_record.specs.declared.placed.Placed.{Placed}
+use Rattle.charmlet_record.specs.declared.positioned.Positioned.{Positioned}
 use Rattle.charmlet_record.specs.Reading.{Kinds, then_read, ◌>>=◌, yield, read_elem, read_number, read_words, read_message_of}
 use Rattle.charmlet_record.proofs.Formats.{go_ok, ok_parts}
 use Rattle.charmlet_image.specs.Ids.{is_absent}
-use Rattle.charmlet_image.specs.Placed.{items_of}
+use Rattle.charmlet_image.specs.Positioned.{items_of}
 use Rattle.charmlet_image.specs.Reading.{is_fresh}
 
 -- the equality by which a table compares ids
@@ -49,14 +49,14 @@ not_or : (a b : Bool) → not (a || b) ≡ (not a && not b)
 not_or true b = refl
 not_or false b = refl
 
-absent_at : (placed : List (Placed Message)) (id : MsgId) → is_absent (map (λ p. p.item.id) placed) id ≡ is_fresh (items_of placed) id
+absent_at : (placed : List (Positioned Message)) (id : MsgId) → is_absent (map (λ p. p.item.id) placed) id ≡ is_fresh (items_of placed) id
 absent_at [] id = refl
 absent_at (p ∷ ps) id =
     not_or (same_id id p.item.id) (list_any (same_id id) (map (λ q. q.item.id) ps))
     ∙ λ i. not (turned id p.item.id i) && absent_at ps id i
 
 -- no message has an id where the table has not
-pub absent_is_fresh : (placed : List (Placed Message)) → is_absent (map (λ p. p.item.id) placed) ≡ is_fresh (items_of placed)
+pub absent_is_fresh : (placed : List (Positioned Message)) → is_absent (map (λ p. p.item.id) placed) ≡ is_fresh (items_of placed)
 absent_is_fresh placed = λ i id. absent_at placed id i
 
 -- the keys of a table to which an id went that it had not

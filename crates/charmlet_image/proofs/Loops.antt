@@ -21,7 +21,7 @@ unfolding read_after then_read
 after_ends Memory read before count i bytes total lt h so_far = tt
 after_ends (Damaged fault) read before count i bytes total lt h so_far =
     let k : count - i ≡ suc (count - (i + 1)) = omega arith in
-    let one : read_after read (count - i) before bytes ≡ Err fault.left = rw (k, h) refl in
+    let one : read_after read (count - i) before bytes ≡ Err fault.bytes_left = rw (k, h) refl in
     sym so_far ∙ one
 
 pub after_done : {X : Type 0} (read : List X → Reads X) (before : List X) (count i : ℕ) (bytes : List ℕ) (total : Result (List X × List ℕ) ℕ) →

@@ -9,11 +9,11 @@ pub mod Places
 pub mod FitImages
 pub mod Examples
 pub mod Counted
-pub mod Placed
+pub mod Positioned
 pub mod Views
 pub mod NewStores
 pub mod Spelled
-pub use Rattle.charmlet_model.specs.Edition
+pub use Rattle.charmlet_model.specs.KindVersion
 pub use Rattle.charmlet_model.specs.Names
 pub use Rattle.charmlet_model.specs.Packed
 pub use Rattle.charmlet_model.specs.Spelling

@@ -14,7 +14,7 @@ mod log;
 mod manifest;
 mod pending;
 mod sizes;
-mod writing;
+mod writers;
 
 pub use crate::entries::Entry;
 pub use crate::half::{Beginning, HalfView, OpenHalf, read_half, read_top, reread_half};
@@ -22,4 +22,4 @@ pub use crate::header::{HEADER_SIZE, Header, MAX_GENERATION, Mark};
 pub use crate::image::ImageView;
 pub use crate::log::{KnownLog, LogBatches, LogView};
 pub use crate::sizes::{arrays_size, client_size, entry_size};
-pub use crate::writing::{new_store, write_arrays, write_client, write_entry, write_header};
+pub use crate::writers::{new_store, write_arrays, write_client, write_entry, write_header};

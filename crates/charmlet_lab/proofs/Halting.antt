@@ -1,7 +1,7 @@
 -- What halts a store: a failure of the device, and nothing else.
 use Rattle.std.proofs.Common.{◌≡◌, inl, inr, ℕ, ◌==◌, ◌++◌, Bool, true, false, if◌then◌else◌, List, length, [], ◌∷◌, Option, Some, None, refl, sym, ap, subst, ◌∙◌}
 use Rattle.std.specs.Prelude.{not}
-use Rattle.charmlet_model.specs.declared.edition.Edition.{Edition}
+use Rattle.charmlet_model.specs.declared.kind_version.KindVersion.{KindVersion}
 use Rattle.charmlet_model.specs.declared.message.Message.{Message}
 use Rattle.charmlet_model.specs.declared.names.MsgId.{MsgId}
 use Rattle.charmlet_model.specs.declared.refusal.Refusal.{Refusal}
@@ -10,7 +10,7 @@ use Rattle.charmlet_model.specs.declared.step.Answer.{Answer}
 use Rattle.charmlet_model.specs.declared.step.Answer.TheVariants as answers
 use Rattle.charmlet_model.specs.declared.step.Step.{Step}
 use Rattle.charmlet_model.specs.declared.step.Step.TheVariants as steps
-use Rattle.charmlet_model.specs.World.{client_of, edition_of_array}
+use Rattle.charmlet_model.specs.World.{client_of, version_of_array}
 use Rattle.charmlet_model.specs.Told.{told}
 use Rattle.charmlet_model.specs.Core as core
 use Rattle.charmlet_model.specs.Core.{Core, CoreStep, CoreAnswer, Request, Status, Assign, Commit, Finish, Release, Move, Flush, Checkpoint, Tells, Counts, Done, Refuses, Blanks, Stepped, Check, When, MayLackMemory, MayFail, answer_of, assigned_to, away_checks, blank_for, checks, committed, durable_world, first_refusal, has_words, is_repeat, lacks_blank, message_checks, new_request_checks, next_core, pending_message, place_or_home, present, stepped_unless}
@@ -47,7 +47,7 @@ first_is_other (When false other ∷ more) refusal others is = first_is_other mo
 first_is_other (MayLackMemory ∷ more) refusal others is = first_is_other more refusal others is
 first_is_other (MayFail ∷ more) refusal others is = first_is_other more refusal others is
 
-blanks_others : (blanks : Blanks) (edition : Option Edition) → AreOthers (lacks_blank blanks edition ++ MayLackMemory ∷ [])
+blanks_others : (blanks : Blanks) (kind_version : Option KindVersion) → AreOthers (lacks_blank blanks kind_version ++ MayLackMemory ∷ [])
 blanks_others blanks None = tt
 blanks_others blanks (Some kind) = (refl, tt)
 
@@ -64,7 +64,7 @@ are_others core blanks (Commit processor) = (refl, tt)
 are_others core blanks (Finish processor) = tt
 are_others core blanks (Release processor) = tt
 are_others core blanks (Move x processor) =
-    (refl, (refl, (refl, (refl, either (place_or_home core x == processor) [] (away_checks core blanks x processor) tt (refl, blanks_others blanks (edition_of_array (present core) x.array))))))
+    (refl, (refl, (refl, (refl, either (place_or_home core x == processor) [] (away_checks core blanks x processor) tt (refl, blanks_others blanks (version_of_array (present core) x.array))))))
 are_others core blanks Flush = (refl, either (core.durable == length core.history) [] _ tt (refl, tt))
 are_others core blanks Checkpoint = (refl, (refl, (refl, (refl, tt))))
 

@@ -5,14 +5,14 @@ use Rattle.std.specs.Prelude.{unwrap_or}
 use Rattle.charmlet_model.specs.declared.kind.Kind.{Kind}
 use Rattle.charmlet_model.specs.Manifest.{manifest_of}
 use Rattle.charmlet_model.specs.Run.{StoreView}
-use Rattle.charmlet_persist.specs.Journal.NewStores.{new_core}
+use Rattle.charmlet_persist.specs.Writes.NewStores.{new_core}
 use Rattle.charmlet_requests.specs.declared.handlers.Handlers.{Handlers}
 use Rattle.charmlet_requests.specs.Handlers.{handler_of}
 use Rattle.charmlet_record.specs.Reading.{Kinds}
 use Rattle.charmlet_script.specs.declared.script.Line.{Line}
 use Rattle.charmlet_script.specs.Script.{Contents, pairs_of, processors_of}
-use Rattle.charmlet_lines.specs.Named.{Names, named_by}
-use Rattle.charmlet_lab.specs.Lines.{AreRun, DeliversNext, DeliversNone, Drains, Follows, opening_of}
+use Rattle.charmlet_script_output.specs.Named.{Names, named_by}
+use Rattle.charmlet_lab.specs.Lines.{AreRun, DeliversNext, DeliversNone, Drains, Follows, history_opening}
 
 -- ---- drains
 
@@ -49,7 +49,7 @@ run_by handlers script old new same = subst (λ (named : Names). AreRun named ol
 
 -- a new store has the script's processors and arrays, and nothing else
 pub opens : (script : Contents) (kinds : Kinds) (processors : ℕ) (store : StoreView) → manifest_of (pairs_of script.arrays) ≡ Some kinds → processors ≡ processors_of script →
-    store.core ≡ new_core processors kinds → ((kind : Kind) → store.blanks kind ≡ 0) → store ≡ opening_of script
+    store.core ≡ new_core processors kinds → ((kind : Kind) → store.blanks kind ≡ 0) → store ≡ history_opening script
 opens script kinds processors store is count core blanks = λ i. record {
   core = (core ∙ ap (λ n. new_core n kinds) count ∙ ap (λ k. new_core (processors_of script) k) (sym (ap (λ (found : Option Kinds). unwrap_or found []) is))) i;
   blanks = λ kind. blanks kind i;

@@ -4,7 +4,7 @@ use Rattle.std.proofs.Math.Seq.{take-append_seam, get_or-append_seam}
 use Rattle.std.proofs.lemmas.List.{length-append}
 use Rattle.charmlet_model.specs.declared.half.Half.TheVariants.{Zero}
 use Rattle.charmlet_model.specs.Core.{Core, present}
-use Rattle.charmlet_model.specs.Edition.{AreNewest}
+use Rattle.charmlet_model.specs.KindVersion.{AreNewest}
 use Rattle.charmlet_model.specs.Sound.{IsSound}
 use Rattle.charmlet_model.specs.World.{World}
 use Rattle.charmlet_model.proofs.SoundLemmas.{sound_fit}
@@ -15,8 +15,8 @@ use Rattle.charmlet_recovery.specs.Stores.{saved_of}
 use Rattle.charmlet_recovery.proofs.Saving.{files_of_histories_recover}
 use Rattle.charmlet_recovery.proofs.Writing.{images_have_size}
 use Rattle.charmlet_persist.specs.Snapshot.Showing.{IsImageOf, IsWithinLimits, event_count}
-use Rattle.charmlet_reference.specs.declared.recovery.recovering.Recovered.{Recovered}
-use Rattle.charmlet_reference.specs.declared.recovery.recovering.Recovered.TheVariants as plain
+use Rattle.charmlet_reference.specs.declared.recovery.recovered.Recovered.{Recovered}
+use Rattle.charmlet_reference.specs.declared.recovery.recovered.Recovered.TheVariants as plain
 use Rattle.charmlet_reference.specs.Recovery.Views.{files, seen}
 
 -- a text before a closed gate is spelled

@@ -6,7 +6,7 @@ use Rattle.charmlet_model.specs.declared.kind.Kind.{Kind}
 use Rattle.charmlet_model.specs.declared.refusal.Refusal.{Refusal}
 use Rattle.charmlet_model.specs.declared.refusal.Refusal.TheVariants as refusals
 use Rattle.charmlet_model.specs.Core.{Blanks, Core}
-use Rattle.charmlet_model.specs.Edition.{AreNewest}
+use Rattle.charmlet_model.specs.KindVersion.{AreNewest}
 use Rattle.charmlet_model.specs.World.{World}
 use Rattle.charmlet_model.proofs.Upgrades.{up_is_newest}
 use Rattle.charmlet_chare.specs.declared.chare.Chare as chares
@@ -23,7 +23,7 @@ use Rattle.charmlet_recovery.specs.Restarts.{engine_refusal}
 use Rattle.charmlet_recovery.proofs.Restarting.{least_short_is_found}
 use Rattle.charmlet_recovery.proofs.Saving.{newest-world, went_on}
 use Rattle.charmlet_stock.specs.declared.stock.Stock.{Stock}
-use Rattle.charmlet_engine.specs.restarting.NotRestarted.{NotRestarted}
+use Rattle.charmlet_engine.specs.restarted.NotRestarted.{NotRestarted}
 use Rattle.charmlet_engine.specs.Restart.{AnswersBy, bytes_on}
 use Rattle.charmlet_script.specs.Script.{Contents, processors_of}
 use Rattle.charmlet_engine.specs.Engine.{EngineShown, core_of, view_of, world_of}

@@ -23,7 +23,7 @@ use Rattle.charmlet_stock.specs.Stock.{blanks_in, supplied_to}
 use Rattle.charmlet_replay.specs.Unused.{IsUnused}
 use Rattle.charmlet_disk.specs.declared.disk.Disk as disks
 use Rattle.charmlet_disk.specs.File.{CrashBytes}
-use Rattle.charmlet_persist.specs.Journal.NewStores.{new_core}
+use Rattle.charmlet_persist.specs.Writes.NewStores.{new_core}
 use Rattle.charmlet_script.specs.Script.{Contents, blanks_of, pairs_of}
 use Rattle.charmlet_engine.specs.Outcomes.{Onward, is_lawful_now}
 use Rattle.charmlet_lab.specs.Rounds.{IsNotRun, arrays_of, needed_by}

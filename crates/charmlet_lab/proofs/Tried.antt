@@ -25,7 +25,7 @@ use Rattle.charmlet_locate.specs.Locations.{is_processor_count}
 use Rattle.charmlet_stock.specs.declared.stock.Stock.{Stock}
 use Rattle.charmlet_chare.specs.declared.chare.Chare as chares
 use Rattle.charmlet_disk.specs.File.{CrashBytes}
-use Rattle.charmlet_engine.specs.restarting.NotRestarted.{NotRestarted}
+use Rattle.charmlet_engine.specs.restarted.NotRestarted.{NotRestarted}
 use Rattle.charmlet_engine.specs.Restart.{AnswersBy}
 use Rattle.charmlet_engine.specs.Engine.{EngineShown, core_of}
 use Rattle.charmlet_engine.specs.Restarted.{IsFound, IsHandedBack, IsOpenedOn, core_or_refusal}

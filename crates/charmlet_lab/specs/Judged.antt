@@ -14,7 +14,7 @@ use Rattle.charmlet_persist.specs.Snapshot.Showing.{IsRefusal}
 use Rattle.charmlet_chare.specs.declared.chare.Chare as chares
 use Rattle.charmlet_disk.specs.File.{CrashBytes}
 use Rattle.charmlet_engine.specs.Engine.{EngineShown, supplied_of, view_of}
-use Rattle.charmlet_engine.specs.restarting.NotRestarted.{NotRestarted}
+use Rattle.charmlet_engine.specs.restarted.NotRestarted.{NotRestarted}
 
 -- how many events there are, including those before the opening world
 abbrev pub count_of : Core → ℕ

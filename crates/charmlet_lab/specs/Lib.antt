@@ -7,7 +7,7 @@ pub mod Rounds
 pub mod Same
 pub mod Trials
 pub use Rattle.charmlet_model.specs.Core
-pub use Rattle.charmlet_model.specs.Edition
+pub use Rattle.charmlet_model.specs.KindVersion
 pub use Rattle.charmlet_model.specs.Fit
 pub use Rattle.charmlet_model.specs.Names
 pub use Rattle.charmlet_model.specs.Shelves
@@ -29,4 +29,4 @@ pub use Rattle.charmlet_engine.specs.Advances
 pub use Rattle.charmlet_engine.specs.Engine
 pub use Rattle.charmlet_engine.specs.Restarted
 pub use Rattle.charmlet_script.specs.Script
-pub use Rattle.charmlet_lines.specs.Named
+pub use Rattle.charmlet_script_output.specs.Named

@@ -12,14 +12,14 @@ use Rattle.charmlet_model.specs.declared.step.Step.TheVariants as steps
 use Rattle.charmlet_model.specs.Core.{present}
 use Rattle.charmlet_model.specs.Run.{Does, IsDelivered, IsNotDelivered, StoreView}
 use Rattle.charmlet_history.specs.Kept.{next_in}
-use Rattle.charmlet_persist.specs.Journal.NewStores.{new_core}
+use Rattle.charmlet_persist.specs.Writes.NewStores.{new_core}
 use Rattle.charmlet_requests.specs.Handlers.{IsTarget}
 use Rattle.charmlet_script.specs.declared.script.Line.{Line}
 use Rattle.charmlet_script.specs.declared.script.Line.TheVariants.{Supply, Drain, State, Pending, Census}
 use Rattle.charmlet_script.specs.declared.script.Line.TheVariants as lines
 use Rattle.charmlet_script.specs.Script.{Contents, processors_of}
 use Rattle.charmlet_stock.specs.Stock.{part_of}
-use Rattle.charmlet_lines.specs.Named.{Names, named_by}
+use Rattle.charmlet_script_output.specs.Named.{Names, named_by}
 use Rattle.charmlet_lab.specs.declared.round.Round.{Round}
 use Rattle.charmlet_lab.specs.Rounds.{arrays_of}
 
@@ -76,8 +76,8 @@ AreRun named old (line ∷ lines) new =
     × AreRun named next lines new)
 
 -- before the first line: the script's processors and arrays, and nothing else
-abbrev pub opening_of : Contents → StoreView
-opening_of script = record {
+abbrev pub history_opening : Contents → StoreView
+history_opening script = record {
   core = new_core (processors_of script) (arrays_of script);
   blanks = λ _. 0;
 }
@@ -88,7 +88,7 @@ opening_of script = record {
 abbrev pub Leaves : Contents → (events : List Event) → (durable : Option ℕ) → (stopped : Bool) →
     Type 0
 Leaves script events (Some durable) stopped = (last : StoreView)
-    × AreRun (named_by script.handlers) (opening_of script) script.lines last
+    × AreRun (named_by script.handlers) (history_opening script) script.lines last
     × (events ≡ last.core.history) × (durable ≡ last.core.durable) × (stopped ≡ last.core.halted)
 Leaves script events None stopped = (events ≡ []) × (stopped ≡ true)
 

@@ -17,7 +17,7 @@ use Rattle.charmlet_disk.specs.File.{MayLeave, clean}
 use Rattle.charmlet_locate.specs.Locations.{is_processor_count}
 use Rattle.charmlet_recovery.specs.RestartLaws.{IsLeastShort}
 use Rattle.charmlet_recovery.specs.Restarts.{engine_refusal}
-use Rattle.charmlet_engine.specs.finding.Found as finding
+use Rattle.charmlet_engine.specs.found.Found as finding
 use Rattle.charmlet_engine.specs.Found.{IsFoundIn, IsRead}
 use Rattle.charmlet_engine.specs.Restart.{bytes_on}
 use Rattle.charmlet_engine.specs.Wanted.{blanks_in}

@@ -3,19 +3,19 @@
 #![tactic(auto)]
 
 mod disks;
-mod judging;
 mod line;
 mod round;
 mod same;
 mod supplier;
+mod trial;
 mod trials;
-mod trying;
-mod wanting;
+mod verdict;
+mod wanted;
 
 pub use crate::disks::LabDisk;
-pub use crate::judging::lab_bad;
 pub use crate::line::LabLine;
 pub use crate::round::{Round, lab_round};
 pub use crate::supplier::Supplier;
+pub use crate::trial::lab_outcome;
 pub use crate::trials::{Watch, try_crashes};
-pub use crate::trying::lab_outcome;
+pub use crate::verdict::lab_bad;

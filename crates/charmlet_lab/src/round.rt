@@ -17,13 +17,13 @@ ghost use Rattle.charmlet_lab.specs.Rounds.{HaltsByFailure, IsNotRun, IsRound, a
 
 use charmlet_chare::Chare;
 use charmlet_disk::Disk;
-use charmlet_engine::{Engine, lacking, stock_of};
+use charmlet_engine::{Engine, lacking, stock_from_objects};
 use charmlet_halves::Refused;
 use charmlet_history::Request;
-use charmlet_lines::{handlers_of, supplied_by};
 use charmlet_model::{Answer, Elem, Event, Kind, Refusal, Step, Words};
 use charmlet_requests::Handlers;
 use charmlet_script::{Line, Script};
+use charmlet_script_output::{handlers_of, supplied_by};
 use charmlet_stock::Stock;
 use std::alloc::{AllocError, Global};
 
@@ -72,7 +72,7 @@ pub fn lab_round<D: Disk, C: Chare>(
 {
     let manifest = script.manifest(alloc)?;
     let handlers = handlers_of(alloc, script.handlers())?;
-    let Ok(mut source) = stock_of(alloc, blanks) else {
+    let Ok(mut source) = stock_from_objects(alloc, blanks) else {
         return Err(Refusal::Memory);
     };
     if let Some(lack) = lacking(&source, &supplied_by(script)) {
@@ -237,7 +237,7 @@ fn supply<D: Disk, C: Chare>(
     ensures advances { Advances D.Disk engine.old engine.new }
     ensures counted { HaltsByFailure D.Disk engine.old engine.new }
 {
-    engine.draw(source, kind, count as usize)
+    engine.transfer_from(source, kind, count as usize)
 }
 
 /// Delivers the oldest message that can be delivered, up to `most` times, or up to a refusal. It

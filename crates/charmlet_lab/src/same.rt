@@ -8,7 +8,7 @@ ghost use Rattle.charmlet_model.specs.Fit.{IsFit};
 ghost use Rattle.charmlet_model.specs.Names.{elem_cmp};
 ghost use Rattle.charmlet_lab.specs.Same.{HasEntries};
 
-use charmlet_model::{ClientRow, Edition, Manifest, Message, Record, State, Window, Words};
+use charmlet_model::{ClientRow, KindVersion, Manifest, Message, Record, State, Window, Words};
 use charmlet_reference::PlainWorld;
 use std::alloc::{AllocError, Global};
 
@@ -38,11 +38,11 @@ fn is_same_manifest(alloc: Global, one: &Manifest, other: &Manifest) -> Result<b
     ensures { IfOk result (λ same. (same ≡ true) ↔ (one.now ≡ other.now)) }
 {
     let others = other.arrays(alloc)?;
-    if !has_editions(one, &others) {
+    if !has_kind_versions(one, &others) {
         return Ok(false);
     }
     let arrays = one.arrays(alloc)?;
-    Ok(has_editions(other, &arrays))
+    Ok(has_kind_versions(other, &arrays))
 }
 
 /// Whether two worlds have the same records.
@@ -64,11 +64,11 @@ fn are_same_rows(one: &PlainWorld, other: &PlainWorld) -> bool
 }
 
 /// Whether a manifest has each of these arrays, with its kind and version.
-fn has_editions(manifest: &Manifest, arrays: &[(u16, Edition)]) -> bool
+fn has_kind_versions(manifest: &Manifest, arrays: &[(u16, KindVersion)]) -> bool
     ensures { (result ≡ true) ↔ HasEntries nat_cmp manifest.now arrays.now }
 {
-    for (array, edition) in arrays {
-        if manifest.edition_of(*array) != Some(*edition) {
+    for (array, kind_version) in arrays {
+        if manifest.kind_version_of(*array) != Some(*kind_version) {
             return false;
         }
     }

@@ -7,7 +7,7 @@ use crate::disks::LabDisk;
 use crate::line::LabLine;
 use crate::round::Round;
 use crate::supplier::Supplier;
-use crate::wanting::wanted_on;
+use crate::wanted::wanted_on;
 use charmlet_disk::CrashChoice;
 use charmlet_model::Refusal;
 use charmlet_script::Script;

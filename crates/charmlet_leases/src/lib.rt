@@ -6,6 +6,6 @@ mod passes;
 mod seats;
 mod tickets;
 
-pub use crate::passes::{ClientPass, PassBook, PassesOut, SeenPass, steps_keep_passes};
-pub use crate::seats::{DeliveryIds, Seat, SeatBook, SeatBookName, SeatsOut, SeenIds};
+pub use crate::passes::{ClientPass, GhostPass, PassTable, PassesOut, steps_keep_passes};
+pub use crate::seats::{DeliveryIds, GhostIds, Seat, SeatTable, SeatTableName, SeatsOut};
 pub use crate::tickets::{CAPACITY, TicketQueue};

@@ -1,14 +1,14 @@
 //! Passes of clients over a history that many threads share.
 //!
-//! A pass holds what its client was told, and its client's accepts since it was lent. The book of
-//! passes has what each of them holds. So it is known without comparing, whatever others do with
+//! A pass holds what its client was told, and its client's accepts since it was lent. The table
+//! of passes has what each of them holds. So it is known without comparing, whatever others do with
 //! the history: what each client was told is true of the durable events, it is told no less than
 //! before, and its pass has exactly its accepts.
 
-mod book;
 mod laws;
 mod pass;
+mod table;
 
-pub use crate::passes::book::{PassBook, PassesOut};
 pub use crate::passes::laws::steps_keep_passes;
-pub use crate::passes::pass::{ClientPass, SeenPass};
+pub use crate::passes::pass::{ClientPass, GhostPass};
+pub use crate::passes::table::{PassTable, PassesOut};

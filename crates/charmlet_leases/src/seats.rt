@@ -1,14 +1,14 @@
 //! Seats of workers.
 //!
 //! A seat is the right to work for a processor, and holds the ids of the deliveries that were
-//! committed with it. The book of seats has what each of them holds, and a list of its own, of the
+//! committed with it. The table of seats has what each of them holds, and a list of its own, of the
 //! commits that were made without a seat. So it is known, without comparing, that these lists are
 //! all deliveries: each stands in one of them, in the order of the commits.
 
-mod book;
 mod ids;
 mod seat;
+mod table;
 
-pub use crate::seats::book::{SeatBook, SeatsOut};
 pub use crate::seats::ids::DeliveryIds;
-pub use crate::seats::seat::{Seat, SeatBookName, SeenIds};
+pub use crate::seats::seat::{GhostIds, Seat, SeatTableName};
+pub use crate::seats::table::{SeatTable, SeatsOut};

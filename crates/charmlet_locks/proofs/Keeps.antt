@@ -10,8 +10,8 @@ use lib.ListN.{get_elem?}
 use prog.Atomic.{either}
 use Rattle.atomic_table.specs.Table.{State, Me, Act, keeps, takes, gives, chain, step, stepped, opening, Allows, Enters, Valid, homes_after, carried_after, rest}
 use Rattle.atomic_table.proofs.Lists.{at_set, at_snoc, set_here, set_else, exchanged}
-use Rattle.charmlet_locks.specs.declared.rule.Seen.{Seen}
-use Rattle.charmlet_locks.specs.declared.rule.Seen.TheVariants.{Nothing, Vacant, Begun}
+use Rattle.charmlet_locks.specs.declared.rule.GhostPlaces.{GhostPlaces}
+use Rattle.charmlet_locks.specs.declared.rule.GhostPlaces.TheVariants.{Nothing, Vacant, Begun}
 use Rattle.charmlet_locks.specs.Locks.{AreInOrder}
 use Rattle.charmlet_locks.specs.Home.{word_of, first_words, Fits, vacancies, IsHome, HoldsFrom, IsKept, Takes, Sits, Begins, Stays, Gives}
 
@@ -29,17 +29,17 @@ taken_at (suc i) m a b = get_or-replicate m i 1 0 (omega arith)
 
 -- ---- what is seen of word 0
 
-fits_set : (words : List ℕ) (k n by : ℕ) (v : Seen) → Fits words by v → Fits (set words (word_of k) n) by v
+fits_set : (words : List ℕ) (k n by : ℕ) (v : GhostPlaces) → Fits words by v → Fits (set words (word_of k) n) by v
 fits_set words k n by Nothing f = tt
 fits_set words k n by Vacant f = (f.0, get_or-set_other words (word_of k) 0 n 0 (not_first k) ∙ f.1)
 fits_set words k n by Begun f = λ e. f (sym (get_or-set_other words (word_of k) 0 n 0 (not_first k)) ∙ e)
 
-all_seen : (words after : List ℕ) (views : List Seen) (id : ℕ) (w : Seen) → Fits after id w
-    → ((by : ℕ) (v : Seen) → by ≢ id → Fits words by v → Fits after by v)
-    → ((by : ℕ) (v : Seen) → get_elem? views by ≡ some v → Fits words by v)
-    → (by : ℕ) (v : Seen) → get_elem? (set views id w) by ≡ some v → Fits after by v
+all_seen : (words after : List ℕ) (views : List GhostPlaces) (id : ℕ) (w : GhostPlaces) → Fits after id w
+    → ((by : ℕ) (v : GhostPlaces) → by ≢ id → Fits words by v → Fits after by v)
+    → ((by : ℕ) (v : GhostPlaces) → get_elem? views by ≡ some v → Fits words by v)
+    → (by : ℕ) (v : GhostPlaces) → get_elem? (set views id w) by ≡ some v → Fits after by v
 all_seen words after views id w mine others before by v e =
-    ⊎_elim (λ (t : (by ≡ id) × (w ≡ v)). subst (λ (y : ℕ × Seen). Fits after y.0 y.1) (λ i. (sym t.0 i, t.1 i)) mine)
+    ⊎_elim (λ (t : (by ≡ id) × (w ≡ v)). subst (λ (y : ℕ × GhostPlaces). Fits after y.0 y.1) (λ i. (sym t.0 i, t.1 i)) mine)
     (λ (t : (by ≢ id) × (get_elem? views by ≡ some v)). others by v t.0 (before by v t.1))
     (at_set views id by w v e)
 
@@ -153,18 +153,18 @@ module _ {T : Type 0} (number : T → ℕ) where
       long : length (map {B = maybe.Option (Option T)} some (replicate {A = Option T} n None)) ≡ n
       long = length-map (replicate {A = Option T} n None) some ∙ length-replicate {A = Option T} n None
 
-      only : (by : ℕ) (v : Seen) → get_elem? (Vacant ∷ []) by ≡ some v → Fits (first_words n) by v
+      only : (by : ℕ) (v : GhostPlaces) → get_elem? (Vacant ∷ []) by ≡ some v → Fits (first_words n) by v
       only zero v e = subst (Fits (first_words n) 0) (some-injective _ _ e) (refl, refl)
       only (suc by) v e = absurd (some-ne-none v (sym e))
 
   -- no value is at home while all places are vacant
-  has_begun : (s : State (Option T) Seen) → IsKept number s → (k : ℕ) → k < length s.homes → get_or s.words (word_of k) 0 ≡ 0 → get_or s.words 0 0 ≢ 0
+  has_begun : (s : State (Option T) GhostPlaces) → IsKept number s → (k : ℕ) → k < length s.homes → get_or s.words (word_of k) 0 ≡ 0 → get_or s.words 0 0 ≢ 0
   has_begun s g k less free zeroed =
       let home = g.free k less free in
       let here : some (some (Some home.0)) ≡ some (some None) = sym home.1 ∙ g.vacant zeroed k less in
       absurd (cc)
 
-  pub sits : (slots i : ℕ) (v : Seen) → Enters (IsKept number) slots i (λ n w. Sits {T = T} (step slots i 0 0 none) (v, []) n (w, []))
+  pub sits : (slots i : ℕ) (v : GhostPlaces) → Enters (IsKept number) slots i (λ n w. Sits {T = T} (step slots i 0 0 none) (v, []) n (w, []))
   sits slots i v s g homes bound = (
     Nothing,
     record {
@@ -177,7 +177,7 @@ module _ {T : Type 0} (number : T → ℕ) where
   )
 
   -- a word that isn't free becomes one that isn't, or nothing changes
-  notes_word : (s : State (Option T) Seen) (id k n : ℕ) (v : Seen) → IsKept number s → k < length s.homes → get_elem? s.views id ≡ some v
+  notes_word : (s : State (Option T) GhostPlaces) (id k n : ℕ) (v : GhostPlaces) → IsKept number s → k < length s.homes → get_elem? s.views id ≡ some v
       → (n ≡ 0 → get_or s.words (word_of k) 0 ≡ 0)
       → IsKept number (record { words = set s.words (word_of k) n; homes = s.homes; views = set s.views id v })
   notes_word s id k n v g less at same = record {
@@ -190,7 +190,7 @@ module _ {T : Type 0} (number : T → ℕ) where
   }
 
   -- a value goes out, and its word is no longer 0
-  takes_word : (s : State (Option T) Seen) (id k n : ℕ) → IsKept number s → k < length s.homes → n ≢ 0 → get_or s.words (word_of k) 0 ≡ 0
+  takes_word : (s : State (Option T) GhostPlaces) (id k n : ℕ) → IsKept number s → k < length s.homes → n ≢ 0 → get_or s.words (word_of k) 0 ≡ 0
       → IsKept number (record { words = set s.words (word_of k) n; homes = set s.homes k none; views = set s.views id Begun })
   takes_word s id k n g less taken free =
       let begun = has_begun s g k less free in record {
@@ -205,7 +205,7 @@ module _ {T : Type 0} (number : T → ℕ) where
       }
 
   -- a value comes home, and its word becomes 0
-  gives_word : (s : State (Option T) Seen) (id k : ℕ) (x : T) → IsKept number s → k < length s.homes → get_elem? s.views id ≡ some Begun → number x ≡ k
+  gives_word : (s : State (Option T) GhostPlaces) (id k : ℕ) (x : T) → IsKept number s → k < length s.homes → get_elem? s.views id ≡ some Begun → number x ≡ k
       → IsKept number (record { words = set s.words (word_of k) 0; homes = set s.homes k (some (Some x)); views = set s.views id Begun })
   gives_word s id k x g less at named =
       let begun : get_or s.words 0 0 ≢ 0 = g.seen id Begun at in record {
@@ -221,8 +221,8 @@ module _ {T : Type 0} (number : T → ℕ) where
 
   -- the same as the table asks it
 
-  pub begins : (slots id a b : ℕ) (m : Me (Option T) Seen) → m ≡ (Vacant, []) → Allows (IsKept number) slots id m 0 (λ _. 1) (Begins (step slots 0 a b none) m)
-  begins slots id a b m e = subst (λ (x : Me (Option T) Seen). Allows (IsKept number) slots id x 0 (λ _. 1) (Begins (step slots 0 a b none) x)) (sym e) all
+  pub begins : (slots id a b : ℕ) (m : Me (Option T) GhostPlaces) → m ≡ (Vacant, []) → Allows (IsKept number) slots id m 0 (λ _. 1) (Begins (step slots 0 a b none) m)
+  begins slots id a b m e = subst (λ (x : Me (Option T) GhostPlaces). Allows (IsKept number) slots id x 0 (λ _. 1) (Begins (step slots 0 a b none) x)) (sym e) all
     where
       all : Allows (IsKept number) slots id (Vacant, []) 0 (λ _. 1) (Begins {T = T} (step slots 0 a b none) (Vacant, []))
       all s g wide at bound =
@@ -245,17 +245,17 @@ module _ {T : Type 0} (number : T → ℕ) where
             ap (λ c. (Begun, c)) (all_carried slots 0 ∙ ap (vacancies {T = T} 0) (omega arith)),
           )
         where
-          others : (by : ℕ) (v : Seen) → by ≢ id → Fits s.words by v → Fits (set s.words 0 1) by v
+          others : (by : ℕ) (v : GhostPlaces) → by ≢ id → Fits s.words by v → Fits (set s.words 0 1) by v
           others by Nothing ne f = tt
           others by Vacant ne f = absurd (ne (f.0 ∙ sym (g.seen id Vacant at).0))
           others by Begun ne f = λ e. absurd (omega (arith, get_or-set_same s.words 0 1 0 (omega (arith, g.sized))))
 
   -- what the step that takes the lock owes, where it leaves its word at n
-  Taken : State (Option T) Seen → (slots id k new : ℕ) → Me (Option T) Seen → ℕ → Type 0
-  Taken s slots id k new m n = (w : Seen) × (a : Act (Option T)) × Valid s.homes m.1 a × IsKept number (stepped s (word_of k) n id m.1 w a)
+  Taken : State (Option T) GhostPlaces → (slots id k new : ℕ) → Me (Option T) GhostPlaces → ℕ → Type 0
+  Taken s slots id k new m n = (w : GhostPlaces) × (a : Act (Option T)) × Valid s.homes m.1 a × IsKept number (stepped s (word_of k) n id m.1 w a)
       × Takes number (step slots (word_of k) 0 new none) m (get_or s.words (word_of k) 0) (w, carried_after m.1 a)
 
-  hit : (s : State (Option T) Seen) (slots id k new : ℕ) (m : Me (Option T) Seen) → IsKept number s → k < length s.homes → new ≢ 0 → get_or s.words (word_of k) 0 ≡ 0 → Taken s slots id k new m new
+  hit : (s : State (Option T) GhostPlaces) (slots id k new : ℕ) (m : Me (Option T) GhostPlaces) → IsKept number s → k < length s.homes → new ≢ 0 → get_or s.words (word_of k) 0 ≡ 0 → Taken s slots id k new m new
   unfolding Taken
   hit s slots id k new m g less taken free =
       let home = g.free k less free in (
@@ -269,22 +269,22 @@ module _ {T : Type 0} (number : T → ℕ) where
         ),
       )
 
-  miss : (s : State (Option T) Seen) (slots id k new : ℕ) (m : Me (Option T) Seen) → IsKept number s → k < length s.homes → get_elem? s.views id ≡ some m.0 → get_or s.words (word_of k) 0 ≢ 0 → Taken s slots id k new m (get_or s.words (word_of k) 0)
+  miss : (s : State (Option T) GhostPlaces) (slots id k new : ℕ) (m : Me (Option T) GhostPlaces) → IsKept number s → k < length s.homes → get_elem? s.views id ≡ some m.0 → get_or s.words (word_of k) 0 ≢ 0 → Taken s slots id k new m (get_or s.words (word_of k) 0)
   unfolding Taken
   miss s slots id k new m g less at busy = (m.0, keeps, tt, notes_word s id k (get_or s.words (word_of k) 0) m.0 g less at (λ e. e), (λ free. absurd (busy free), λ _. refl))
 
-  pub takes_place : (slots id k new : ℕ) (m : Me (Option T) Seen) → k < slots → new ≢ 0
+  pub takes_place : (slots id k new : ℕ) (m : Me (Option T) GhostPlaces) → k < slots → new ≢ 0
       → Allows (IsKept number) slots id m (word_of k) (λ n. either (eqb n 0) new n) (Takes number (step slots (word_of k) 0 new none) m)
   unfolding Taken
   takes_place slots id k new m less taken s g wide at bound = exchanged (get_or s.words (word_of k) 0) 0 new (Taken s slots id k new m) (hit s slots id k new m g (omega arith) taken) (miss s slots id k new m g (omega arith) at)
 
-  pub notes : (slots id k : ℕ) (m : Me (Option T) Seen) → k < slots
+  pub notes : (slots id k : ℕ) (m : Me (Option T) GhostPlaces) → k < slots
       → Allows (IsKept number) slots id m (word_of k) (λ n. either (eqb n 1) 2 n) (Stays (step slots (word_of k) 1 2 none) m)
   notes slots id k m less s g wide at bound = (m.0, keeps, tt, notes_word s id k (either (eqb (get_or s.words (word_of k) 0) 1) 2 (get_or s.words (word_of k) 0)) m.0 g (omega arith) at (exchanged (get_or s.words (word_of k) 0) 1 2 (λ n. n ≡ 0 → get_or s.words (word_of k) 0 ≡ 0) (λ _ e. absurd (omega arith)) (λ _ e. e)), refl)
 
-  pub gives_place : (slots id k a b : ℕ) (x : T) (more : List (ℕ × Option T)) (m : Me (Option T) Seen) → k < slots → number x ≡ k → m ≡ (Begun, (k, Some x) ∷ more)
+  pub gives_place : (slots id k a b : ℕ) (x : T) (more : List (ℕ × Option T)) (m : Me (Option T) GhostPlaces) → k < slots → number x ≡ k → m ≡ (Begun, (k, Some x) ∷ more)
       → Allows (IsKept number) slots id m (word_of k) (λ _. 0) (Gives (step slots (word_of k) a b none) m)
-  gives_place slots id k a b x more m less named e = subst (λ (y : Me (Option T) Seen). Allows (IsKept number) slots id y (word_of k) (λ _. 0) (Gives (step slots (word_of k) a b none) y)) (sym e) all
+  gives_place slots id k a b x more m less named e = subst (λ (y : Me (Option T) GhostPlaces). Allows (IsKept number) slots id y (word_of k) (λ _. 0) (Gives (step slots (word_of k) a b none) y)) (sym e) all
     where
       all : Allows (IsKept number) slots id (Begun, (k, Some x) ∷ more) (word_of k) (λ _. 0) (Gives (step slots (word_of k) a b none) (Begun, (k, Some x) ∷ more))
       all s g wide at bound = (Begun, gives, tt, gives_word s id k x g (omega arith) at named, refl)

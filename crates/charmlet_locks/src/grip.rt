@@ -3,7 +3,7 @@
 ghost use Rattle.std.specs.Prelude.{◌≡◌, ◌<◌, ◌^◌};
 ghost use Rattle.charmlet_locks.specs.Home.{HoldsPlace, word_of};
 
-use crate::rule::{AWAITED, FREE, Give, Numbering, Places, Seen, word_index};
+use crate::rule::{AWAITED, FREE, GhostPlaces, Give, Numbering, Places, word_index};
 use atomic_table::Seat;
 use std::marker::Model;
 
@@ -24,7 +24,7 @@ impl<'a, T: Drop, N: Numbering<T>> Drop for Held<'a, T, N> {
 /// The right to a place whose lock is taken. A contract sees the place, and its value.
 pub struct Grip<'a, T: Drop, N: Numbering<T>> {
     table: &'a Places<T, N>,
-    seat: Seat<Option<T>, Seen>,
+    seat: Seat<Option<T>, GhostPlaces>,
     place: usize,
 }
 
@@ -52,7 +52,11 @@ impl<'a, T: Drop, N: Numbering<T>> Grip<'a, T, N> {
     ghost use Rattle.charmlet_locks.specs.Locks.{gripped};
 
     /// The right to the place that the seat holds.
-    pub(crate) fn new(table: &'a Places<T, N>, seat: Seat<Option<T>, Seen>, place: usize) -> Self
+    pub(crate) fn new(
+        table: &'a Places<T, N>,
+        seat: Seat<Option<T>, GhostPlaces>,
+        place: usize,
+    ) -> Self
         requires table { (table.now.shared.table_id.words
             ≡ word_of table.now.shared.table_id.slots)
             × (place < table.now.shared.table_id.slots) × (place < 2 ^ 32) }

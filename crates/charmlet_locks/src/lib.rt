@@ -11,7 +11,7 @@ mod locks;
 mod room;
 mod rule;
 
-pub use crate::ghost_auth::{Book, BookName, GhostValue, Share, Unnamed};
+pub use crate::ghost_auth::{Authority, AuthorityName, Fragment, GhostValue, UnnamedAuthority};
 pub use crate::grip::{Grip, Held};
 pub use crate::locks::Locks;
 pub use crate::room::LockRoom;

@@ -4,12 +4,12 @@ ghost use Rattle.std.specs.Prelude.{◌≡◌, ◌-◌, ◌<◌, ◌≤◌, ◌^
 ghost use Rattle.std.specs.Vec.{vec_capacity};
 ghost use Rattle.charmlet_locks.specs.Home.{HoldsFrom, HoldsPlace, word_of};
 ghost use Rattle.charmlet_locks.specs.Locks.{AreInOrder, shown};
-ghost use Rattle.charmlet_locks.specs.declared.rule.Seen.TheVariants.{Begun, Nothing};
+ghost use Rattle.charmlet_locks.specs.declared.rule.GhostPlaces.TheVariants.{Begun, Nothing};
 
 use crate::grip::{Grip, Held};
 use crate::room::LockRoom;
 use crate::rule::{
-    AWAITED, FREE, Give, Note, Numbering, Places, Seen, Sit, TAKEN, Take, word_index,
+    AWAITED, FREE, GhostPlaces, Give, Note, Numbering, Places, Sit, TAKEN, Take, word_index,
 };
 use atomic_table::Seat;
 use std::hint;
@@ -114,7 +114,7 @@ impl<T: Drop, N: Numbering<T>> Locks<T, N> {
 }
 
 /// A new seat, which holds nothing.
-fn new_seat<T: Drop, N: Numbering<T>>(table: &Places<T, N>) -> Seat<Option<T>, Seen>
+fn new_seat<T: Drop, N: Numbering<T>>(table: &Places<T, N>) -> Seat<Option<T>, GhostPlaces>
     requires { table.now.shared.table_id.words ≡ word_of table.now.shared.table_id.slots }
     ensures seat { result.table_id ≡ table.now.shared.table_id }
     ensures holds { result.me ≡ (Nothing, []) }
@@ -125,7 +125,7 @@ fn new_seat<T: Drop, N: Numbering<T>>(table: &Places<T, N>) -> Seat<Option<T>, S
 /// Takes the lock of a place where it is free, and says whether it was.
 fn try_seize<T: Drop, N: Numbering<T>>(
     table: &Places<T, N>,
-    seat: &mut Seat<Option<T>, Seen>,
+    seat: &mut Seat<Option<T>, GhostPlaces>,
     place: usize,
 ) -> bool
     requires table { (table.now.shared.table_id.words ≡ word_of table.now.shared.table_id.slots)
@@ -146,7 +146,7 @@ fn try_seize<T: Drop, N: Numbering<T>>(
 fn seize<T: Drop, N: Numbering<T>, R: Wait>(
     table: &Places<T, N>,
     rt: &R,
-    seat: &mut Seat<Option<T>, Seen>,
+    seat: &mut Seat<Option<T>, GhostPlaces>,
     place: usize,
 )
     requires table { (table.now.shared.table_id.words ≡ word_of table.now.shared.table_id.slots)
@@ -169,7 +169,7 @@ fn seize<T: Drop, N: Numbering<T>, R: Wait>(
 fn wait_for<T: Drop, N: Numbering<T>, R: Wait>(
     table: &Places<T, N>,
     rt: &R,
-    seat: &mut Seat<Option<T>, Seen>,
+    seat: &mut Seat<Option<T>, GhostPlaces>,
     place: usize,
 )
     requires table { (table.now.shared.table_id.words ≡ word_of table.now.shared.table_id.slots)
@@ -197,7 +197,7 @@ fn wait_for<T: Drop, N: Numbering<T>, R: Wait>(
 /// Takes all locks where each of them is free, and says whether they were.
 fn seize_all<T: Drop, N: Numbering<T>>(
     table: &Places<T, N>,
-    seat: &mut Seat<Option<T>, Seen>,
+    seat: &mut Seat<Option<T>, GhostPlaces>,
     count: usize,
 ) -> bool
     requires table { (table.now.shared.table_id.words ≡ word_of count)
@@ -222,7 +222,7 @@ fn seize_all<T: Drop, N: Numbering<T>>(
 /// Gives back the places from the first one on, which the seat has taken.
 fn give_back<T: Drop, N: Numbering<T>>(
     table: &Places<T, N>,
-    seat: &mut Seat<Option<T>, Seen>,
+    seat: &mut Seat<Option<T>, GhostPlaces>,
     first: usize,
     count: usize,
 )

@@ -2,11 +2,11 @@
 
 ghost use Rattle.std.specs.Prelude.{◌≡◌, ◌+◌, ◌<◌, ◌^◌, IfOk};
 ghost use Rattle.charmlet_locks.specs.Home.{first_words, vacancies, word_of};
-ghost use Rattle.charmlet_locks.specs.declared.rule.Seen.TheVariants.{Begun};
+ghost use Rattle.charmlet_locks.specs.declared.rule.GhostPlaces.TheVariants.{Begun};
 ghost use Rattle.charmlet_locks.specs.Locks.{shown};
 
 use crate::locks::Locks;
-use crate::rule::{Begin, FREE, Give, Numbering, Places, Seen, TAKEN, word_index};
+use crate::rule::{Begin, FREE, GhostPlaces, Give, Numbering, Places, TAKEN, word_index};
 use atomic_table::{Seat, Table};
 use std::alloc::{AllocError, Global};
 use std::marker::Model;
@@ -22,7 +22,7 @@ const BEGUN: u64 = 1;
 #[derive(Drop)]
 pub struct LockRoom<T: Drop, N: Numbering<T>> {
     table: Places<T, N>,
-    seat: Seat<Option<T>, Seen>,
+    seat: Seat<Option<T>, GhostPlaces>,
     count: usize,
     filled: usize,
 }
@@ -31,7 +31,7 @@ impl<T: Drop, N: Numbering<T>> Model for LockRoom<T, N> {
     ghost use Rattle.std.specs.Prelude.{◌≡◌, ◌+◌, ◌<◌, ◌≤◌, ◌^◌, ◌-◌};
     ghost use Rattle.charmlet_locks.specs.Home.{vacancies, word_of};
     ghost use Rattle.charmlet_locks.specs.Locks.{RoomShown, shown};
-    ghost use Rattle.charmlet_locks.specs.declared.rule.Seen.TheVariants.{Begun};
+    ghost use Rattle.charmlet_locks.specs.declared.rule.GhostPlaces.TheVariants.{Begun};
 
     ghost Value = { RoomShown };
 
@@ -61,7 +61,7 @@ impl<T: Drop, N: Numbering<T>> LockRoom<T, N> {
     /// The same, of a table of whose places the seat holds all, without a value.
     pub(crate) fn vacant(
         table: Places<T, N>,
-        seat: Seat<Option<T>, Seen>,
+        seat: Seat<Option<T>, GhostPlaces>,
         count: usize,
     ) -> LockRoom<T, N>
         requires table { (table.shared.table_id.words ≡ word_of count)

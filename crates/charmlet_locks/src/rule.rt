@@ -15,7 +15,7 @@ pub trait Numbering<T> {
 }
 
 /// The words of the locks, and the values.
-pub(crate) type Places<T, N> = Table<Option<T>, Seen, (), AtHome<N>, Global>;
+pub(crate) type Places<T, N> = Table<Option<T>, GhostPlaces, (), AtHome<N>, Global>;
 
 /// The word of a free lock.
 pub(crate) const FREE: u64 = 0;
@@ -35,7 +35,7 @@ pub(crate) fn word_index(place: usize) -> usize
 }
 
 /// What a seat knows of the places. No value of this type is ever made.
-pub enum Seen {
+pub enum GhostPlaces {
     Nothing,
     /// All places are vacant.
     Vacant,
@@ -48,9 +48,9 @@ pub struct AtHome<N> {
     names: PhantomData<N>,
 }
 
-impl<T, N: Numbering<T>> TableRule<Option<T>, Seen, ()> for AtHome<N> {
+impl<T, N: Numbering<T>> TableRule<Option<T>, GhostPlaces, ()> for AtHome<N> {
     ghost use Rattle.charmlet_locks.specs.Home.{IsKept};
-    ghost use Rattle.charmlet_locks.specs.declared.rule.Seen.TheVariants.{Vacant};
+    ghost use Rattle.charmlet_locks.specs.declared.rule.GhostPlaces.TheVariants.{Vacant};
 
     ghost holds = { λ _ s. IsKept N.number s };
 
@@ -60,7 +60,7 @@ impl<T, N: Numbering<T>> TableRule<Option<T>, Seen, ()> for AtHome<N> {
 /// All places are taken, to be filled.
 pub(crate) struct Begin;
 
-impl<T> Play<Option<T>, Seen> for Begin {
+impl<T> Play<Option<T>, GhostPlaces> for Begin {
     ghost use Rattle.charmlet_locks.specs.Home.{Begins};
 
     ghost then = { Begins };
@@ -69,7 +69,7 @@ impl<T> Play<Option<T>, Seen> for Begin {
 /// A new seat.
 pub(crate) struct Sit;
 
-impl<T> Play<Option<T>, Seen> for Sit {
+impl<T> Play<Option<T>, GhostPlaces> for Sit {
     ghost use Rattle.charmlet_locks.specs.Home.{Sits};
 
     ghost then = { Sits };
@@ -80,7 +80,7 @@ pub(crate) struct Take<N> {
     names: PhantomData<N>,
 }
 
-impl<T, N: Numbering<T>> Play<Option<T>, Seen> for Take<N> {
+impl<T, N: Numbering<T>> Play<Option<T>, GhostPlaces> for Take<N> {
     ghost use Rattle.charmlet_locks.specs.Home.{Takes};
 
     ghost then = { Takes N.number };
@@ -89,7 +89,7 @@ impl<T, N: Numbering<T>> Play<Option<T>, Seen> for Take<N> {
 /// It is noted that somebody may wait.
 pub(crate) struct Note;
 
-impl<T> Play<Option<T>, Seen> for Note {
+impl<T> Play<Option<T>, GhostPlaces> for Note {
     ghost use Rattle.charmlet_locks.specs.Home.{Stays};
 
     ghost then = { Stays };
@@ -98,7 +98,7 @@ impl<T> Play<Option<T>, Seen> for Note {
 /// A value is given back.
 pub(crate) struct Give;
 
-impl<T> Play<Option<T>, Seen> for Give {
+impl<T> Play<Option<T>, GhostPlaces> for Give {
     ghost use Rattle.charmlet_locks.specs.Home.{Gives};
 
     ghost then = { Gives };

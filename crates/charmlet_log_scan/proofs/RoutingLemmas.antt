@@ -1,9 +1,9 @@
--- Lemmas on what a pass keeps.
+-- Lemmas on what a scan keeps.
 pub mod AsWritten
 pub mod Going
 pub mod Performed
 pub mod Suits
-pub mod Passing
+pub mod Scanning
 pub mod Following
 pub mod Committing
 pub mod WithWords

@@ -1,6 +1,6 @@
 -- The definitions that contracts cite.
 pub mod Parts
 pub mod Laws
-pub mod Dealing
+pub mod Dispatch
 pub mod Known
-pub mod DealingLaws
+pub mod DispatchLaws

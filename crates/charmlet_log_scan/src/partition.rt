@@ -1,4 +1,4 @@
-//! What several workers do of a recovery, each for its own elements: definitions, and their laws.
+//! What several replayers do of a recovery, each for its own elements: definitions, and their laws.
 
 pub mod laws;
 mod task;

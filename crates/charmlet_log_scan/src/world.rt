@@ -1,4 +1,4 @@
-//! What a pass over a log keeps of a world: what the present world keeps, but for what finds the
+//! What a scan over a log keeps of a world: what the present world keeps, but for what finds the
 //! messages that can be delivered.
 
 ghost use Rattle.std.specs.Prelude.{◌≡◌, [], IfOk, IfSome, IsSome, None, OnErr, OnOk, Some, length, option_copied, option_map, true};
@@ -14,23 +14,23 @@ ghost use Rattle.charmlet_world.specs.Seen.{element_at, present_rows};
 ghost use Rattle.charmlet_world.specs.Waiting.{message_of};
 ghost use Rattle.charmlet_log_scan.specs.World.Deliverable.{CanBeDelivered, delivered_to};
 
-mod advancing;
+mod advance;
 mod queue;
 mod rows;
 
-use crate::world::advancing::advance;
+use crate::world::advance::advance;
 use crate::world::queue::{make_room, push, push_sends, queue_of};
 use crate::world::rows::ClientRows;
 use charmlet_model::{ClientRow, Elem, MAX_SENDS, Manifest, Message, MsgId, Origin, Sends, Words};
-use charmlet_world::{Client, Element, Elements, Letter, Messages, Pending, Taken};
+use charmlet_world::{Client, Element, Elements, Messages, Pending, PendingMessage, Taken};
 use std::alloc::{AllocError, Global};
 use std::collections::BTreeMap;
 use std::marker::Model;
 
-/// What a pass over a log keeps of a world: the place and the counts of each element, the pending
-/// messages in order of birth, and the clients' rows. It doesn't find the messages that can be
+/// What a scan over a log keeps of a world: the place and the counts of each element, the pending
+/// messages in order of arrival, and the clients' rows. It doesn't find the messages that can be
 /// delivered, since a log names them. A contract sees what is seen of a present world.
-pub struct KeptWorld {
+pub struct ReplayWorld {
     manifest: Manifest,
     /// How many processors there are, 1 to 64. They count from 0.
     processors: u16,
@@ -39,7 +39,7 @@ pub struct KeptWorld {
     clients: ClientRows,
 }
 
-impl Model for KeptWorld {
+impl Model for ReplayWorld {
     ghost use Rattle.std.specs.Prelude.{◌≡◌, true};
     ghost use Rattle.charmlet_locate.specs.Locations.{is_processor_count};
     ghost use Rattle.charmlet_world.specs.Seen.{Seen};
@@ -60,9 +60,9 @@ impl Model for KeptWorld {
 
 // Written by hand, so that dropping all that it has is proved here, and not in each crate that
 // drops one.
-impl Drop for KeptWorld {
+impl Drop for ReplayWorld {
     fn drop(self) {
-        let KeptWorld {
+        let ReplayWorld {
             manifest,
             processors: _,
             elements,
@@ -76,7 +76,7 @@ impl Drop for KeptWorld {
     }
 }
 
-impl KeptWorld {
+impl ReplayWorld {
     /// A world with these arrays, this number of processors, and these elements, pending messages
     /// and clients. It fails only when out of memory.
     pub fn of(
@@ -101,7 +101,7 @@ impl KeptWorld {
         let elements = Elements::of_tree(alloc, elements)?;
         let pending = queue_of(alloc, pending)?;
         let clients = ClientRows::of_tree(alloc, clients)?;
-        Ok(KeptWorld {
+        Ok(ReplayWorld {
             manifest,
             processors,
             elements,
@@ -110,7 +110,7 @@ impl KeptWorld {
         })
     }
 
-    /// The edition of each array.
+    /// The kind version of each array.
     pub fn manifest(&self) -> &Manifest
         ensures { result.now ≡ self.now.manifest }
     {
@@ -132,7 +132,7 @@ impl KeptWorld {
         self.pending.len()
     }
 
-    /// The pending messages, in order of birth. It takes no memory.
+    /// The pending messages, in order of arrival. It takes no memory.
     pub fn messages(&self) -> Messages<'_>
         ensures { result ≡ self.now.pending }
     {
@@ -140,8 +140,8 @@ impl KeptWorld {
     }
 
     /// What is kept of the pending message of this id.
-    pub fn find(&self, id: MsgId) -> Option<&Letter>
-        ensures { option_map (λ letter. message_of id letter.now) result
+    pub fn find(&self, id: MsgId) -> Option<&PendingMessage>
+        ensures { option_map (λ pending_message. message_of id pending_message.now) result
             ≡ message_among id self.now.pending }
     {
         self.pending.find(id)
@@ -233,7 +233,7 @@ impl KeptWorld {
             unreachable!()
         };
         // A log mostly delivers the oldest message.
-        self.pending.expect_oldest();
+        self.pending.hint_head();
         let Taken { message, .. } = taken;
         let sends = sends.into_vec();
         let count = sends.len() as u64;

@@ -22,7 +22,7 @@ use Rattle.charmlet_migrate.specs.Moving.{records_on}
 use Rattle.charmlet_migrate.proofs.EachShelf.{records_at}
 use Rattle.charmlet_log_scan.specs.Partition.Parts.{is_of_worker, part}
 use Rattle.charmlet_replay.specs.Home.{AreHome}
-use Rattle.charmlet_merge.specs.Joined.{worker_at_home}
+use Rattle.charmlet_merge.specs.Combined.{worker_at_home}
 
 -- where each shelf has what two others have, all of them do
 pub sum-three : (f : View → ℕ) (xs ys zs : List View) → length xs ≡ length zs → length ys ≡ length zs → ((p : ℕ) (d : View) → p < length zs → f (get_or zs p d) ≡ f (get_or xs p d) + f (get_or ys p d)) →
@@ -65,7 +65,7 @@ other-part mine x (e ∷ es) other =
           ] refl
     ] refl
 
--- a worker has nothing on the shelves of others' processors
+-- a replayer has nothing on the shelves of others' processors
 pub none-there : (n workers v : ℕ) (records : List (Elem × Record)) (shelves : List View) → AreHome n (part (is_of_worker (worker_at_home n workers) v) records) shelves →
     (p : ℕ) (d : View) → p < length shelves → (p % workers == v) ≡ false → (get_or shelves p d).records ≡ []
 none-there n workers v records shelves are p d within apart =

@@ -1,4 +1,4 @@
--- Maps of workers that are merged, one after the other.
+-- Maps of replayers that are merged, one after the other.
 use Rattle.std.proofs.Common.{◌≡◌, ◌≢◌, ℕ, zero, suc, ◌<◌, ◌≤◌, ◌==◌, Bool, true, false, cond, List, [], ◌∷◌, length, drop, refl, sym, ap, subst, ◌∙◌, arith}
 use Rattle.std.specs.Prelude.{Option, Some, None, nat_lt, slice_get}
 use Rattle.std.specs.List.{AllByRecursion}
@@ -18,8 +18,8 @@ use Rattle.charmlet_history.specs.Opened.{opened_element, opened_elements}
 use Rattle.charmlet_world.specs.declared.element.Element.{Element}
 use Rattle.charmlet_world.specs.Made.{as_it_is, with_made}
 use Rattle.charmlet_log_scan.specs.Partition.Parts.{is_of_worker, part}
-use Rattle.charmlet_replay_workers.specs.declared.worker.lot.Lot.{Lot}
-use Rattle.charmlet_replay_workers.proofs.WorkerLemmas.Merged.{merged-are-opened}
+use Rattle.charmlet_replayers.specs.declared.replayer.replayer.Replayer.{Replayer}
+use Rattle.charmlet_replayers.proofs.ReplayerLemmas.Merged.{merged-are-opened}
 use Rattle.charmlet_merge.specs.Merged.{ArePartsOn}
 
 -- ---- one map that is added
@@ -61,7 +61,7 @@ keys-opened : (n : ℕ) (es : List (Elem × Record)) → keys_of (opened_element
 keys-opened n [] = refl
 keys-opened n (e ∷ es) = ap (λ ks. e.0 ∷ ks) (keys-opened n es)
 
--- an element of another worker isn't in the part
+-- an element of another replayer isn't in the part
 not-mine : (n : ℕ) (mine : Elem → Bool) (x : Elem) (es : List (Elem × Record)) → mine x ≡ false → lookup (is_at (elem_cmp x)) (opened_elements n (part mine es)) ≡ None
 not-mine n mine x [] other = refl
 not-mine n mine x (e ∷ es) other =
@@ -75,68 +75,68 @@ not-mine n mine x (e ∷ es) other =
     ] refl
 
 module _ {C : Type 0} {G : Ghosts C} where
-  -- what the worker with this number keeps
-  abbrev pub map_at : List (Lot C G) → ℕ → List (Elem × Element)
+  -- what the replayer with this number keeps
+  abbrev pub map_at : List (Replayer C G) → ℕ → List (Elem × Element)
   map_at [] v = []
-  map_at (lot ∷ lots) zero = lot.restored.elements.entries
-  map_at (lot ∷ lots) (suc v) = map_at lots v
+  map_at (replayer ∷ replayers) zero = replayer.restored.elements.entries
+  map_at (replayer ∷ replayers) (suc v) = map_at replayers v
 
-  abbrev pub merged : List (Elem × Element) → List (Lot C G) → List (Elem × Element)
+  abbrev pub merged : List (Elem × Element) → List (Replayer C G) → List (Elem × Element)
   merged es [] = es
-  merged es (lot ∷ lots) = merged (with_made elem_cmp as_it_is es lot.restored.elements.entries) lots
+  merged es (replayer ∷ replayers) = merged (with_made elem_cmp as_it_is es replayer.restored.elements.entries) replayers
 
-  rising-merged : (lots : List (Lot C G)) (es : List (Elem × Element)) → IsStrictlySortedBy elem_cmp (keys_of es) → IsStrictlySortedBy elem_cmp (keys_of (merged es lots))
+  rising-merged : (replayers : List (Replayer C G)) (es : List (Elem × Element)) → IsStrictlySortedBy elem_cmp (keys_of es) → IsStrictlySortedBy elem_cmp (keys_of (merged es replayers))
   rising-merged [] es rising = rising
-  rising-merged (lot ∷ lots) es rising = rising-merged lots (with_made elem_cmp as_it_is es lot.restored.elements.entries) (rising-made lot.restored.elements.entries es rising)
+  rising-merged (replayer ∷ replayers) es rising = rising-merged replayers (with_made elem_cmp as_it_is es replayer.restored.elements.entries) (rising-made replayer.restored.elements.entries es rising)
 
-  at-some : (lots : List (Lot C G)) (v : ℕ) → v < length lots → (lot : Lot C G) × (slice_get lots v ≡ Some lot) × (map_at lots v ≡ lot.restored.elements.entries)
+  at-some : (replayers : List (Replayer C G)) (v : ℕ) → v < length replayers → (replayer : Replayer C G) × (slice_get replayers v ≡ Some replayer) × (map_at replayers v ≡ replayer.restored.elements.entries)
   at-some [] v within = absurd (omega (arith, within))
-  at-some (lot ∷ lots) zero within = (lot, refl, refl)
-  at-some (lot ∷ lots) (suc v) within = at-some lots v (omega (arith, within))
+  at-some (replayer ∷ replayers) zero within = (replayer, refl, refl)
+  at-some (replayer ∷ replayers) (suc v) within = at-some replayers v (omega (arith, within))
 
-  at-none : (lots : List (Lot C G)) (v : ℕ) → length lots ≤ v → map_at lots v ≡ []
+  at-none : (replayers : List (Replayer C G)) (v : ℕ) → length replayers ≤ v → map_at replayers v ≡ []
   at-none [] v past = refl
-  at-none (lot ∷ lots) zero past = absurd (omega (arith, past))
-  at-none (lot ∷ lots) (suc v) past = at-none lots v (omega (arith, past))
+  at-none (replayer ∷ replayers) zero past = absurd (omega (arith, past))
+  at-none (replayer ∷ replayers) (suc v) past = at-none replayers v (omega (arith, past))
 
-  -- each rises, and only the worker's own has the element
+  -- each rises, and only the replayer's own has the element
   module _ (x : Elem) where
-    found-past : (lots : List (Lot C G)) (es : List (Elem × Element)) → ((v : ℕ) → IsStrictlySortedBy elem_cmp (keys_of (map_at lots v))) → ((v : ℕ) → lookup (is_at (elem_cmp x)) (map_at lots v) ≡ None) →
-        lookup (is_at (elem_cmp x)) (merged es lots) ≡ lookup (is_at (elem_cmp x)) es
+    found-past : (replayers : List (Replayer C G)) (es : List (Elem × Element)) → ((v : ℕ) → IsStrictlySortedBy elem_cmp (keys_of (map_at replayers v))) → ((v : ℕ) → lookup (is_at (elem_cmp x)) (map_at replayers v) ≡ None) →
+        lookup (is_at (elem_cmp x)) (merged es replayers) ≡ lookup (is_at (elem_cmp x)) es
     found-past [] es rise nowhere = refl
-    found-past (lot ∷ lots) es rise nowhere =
-        found-past lots (with_made elem_cmp as_it_is es lot.restored.elements.entries) (λ v. rise (suc v)) (λ v. nowhere (suc v))
-        ∙ lookup-made x lot.restored.elements.entries es (rise 0)
+    found-past (replayer ∷ replayers) es rise nowhere =
+        found-past replayers (with_made elem_cmp as_it_is es replayer.restored.elements.entries) (λ v. rise (suc v)) (λ v. nowhere (suc v))
+        ∙ lookup-made x replayer.restored.elements.entries es (rise 0)
         ∙ ap (λ o. or_found o (lookup (is_at (elem_cmp x)) es)) (nowhere 0)
 
-    found-in : (lots : List (Lot C G)) (es : List (Elem × Element)) (w : ℕ) → ((v : ℕ) → IsStrictlySortedBy elem_cmp (keys_of (map_at lots v))) → ((v : ℕ) → v ≢ w → lookup (is_at (elem_cmp x)) (map_at lots v) ≡ None) →
-        lookup (is_at (elem_cmp x)) es ≡ None → lookup (is_at (elem_cmp x)) (merged es lots) ≡ lookup (is_at (elem_cmp x)) (map_at lots w)
+    found-in : (replayers : List (Replayer C G)) (es : List (Elem × Element)) (w : ℕ) → ((v : ℕ) → IsStrictlySortedBy elem_cmp (keys_of (map_at replayers v))) → ((v : ℕ) → v ≢ w → lookup (is_at (elem_cmp x)) (map_at replayers v) ≡ None) →
+        lookup (is_at (elem_cmp x)) es ≡ None → lookup (is_at (elem_cmp x)) (merged es replayers) ≡ lookup (is_at (elem_cmp x)) (map_at replayers w)
     found-in [] es w rise others none = none
-    found-in (lot ∷ lots) es zero rise others none =
-        found-past lots (with_made elem_cmp as_it_is es lot.restored.elements.entries) (λ v. rise (suc v)) (λ v. others (suc v) (λ same. let never : ⊥ = omega (arith, same) in never))
-        ∙ lookup-made x lot.restored.elements.entries es (rise 0)
-        ∙ ap (or_found (lookup (is_at (elem_cmp x)) lot.restored.elements.entries)) none
-        ∙ or_nothing (lookup (is_at (elem_cmp x)) lot.restored.elements.entries)
+    found-in (replayer ∷ replayers) es zero rise others none =
+        found-past replayers (with_made elem_cmp as_it_is es replayer.restored.elements.entries) (λ v. rise (suc v)) (λ v. others (suc v) (λ same. let never : ⊥ = omega (arith, same) in never))
+        ∙ lookup-made x replayer.restored.elements.entries es (rise 0)
+        ∙ ap (or_found (lookup (is_at (elem_cmp x)) replayer.restored.elements.entries)) none
+        ∙ or_nothing (lookup (is_at (elem_cmp x)) replayer.restored.elements.entries)
       where
         or_nothing : (o : Option Element) → or_found o None ≡ o
         or_nothing None = refl
         or_nothing (Some e) = refl
-    found-in (lot ∷ lots) es (suc w) rise others none =
-        found-in lots (with_made elem_cmp as_it_is es lot.restored.elements.entries) w (λ v. rise (suc v)) (λ v apart. others (suc v) (λ same. apart (omega (arith, same))))
-        (lookup-made x lot.restored.elements.entries es (rise 0)
+    found-in (replayer ∷ replayers) es (suc w) rise others none =
+        found-in replayers (with_made elem_cmp as_it_is es replayer.restored.elements.entries) w (λ v. rise (suc v)) (λ v apart. others (suc v) (λ same. apart (omega (arith, same))))
+        (lookup-made x replayer.restored.elements.entries es (rise 0)
         ∙ ap (λ o. or_found o (lookup (is_at (elem_cmp x)) es)) (others 0 (λ same. let never : ⊥ = omega (arith, same) in never)) ∙ none)
 
-  module _ (worker : Elem → ℕ) (n : ℕ) (records : List (Elem × Record)) (lots : List (Lot C G)) (are : ArePartsOn worker n records lots) where
-    part-rising : (v : ℕ) → v < length lots → IsStrictlySortedBy elem_cmp (keys_of (part (is_of_worker worker v) records))
-    part-rising v within = let at = at-some lots v within in (are.parts v at.0 at.1).rising
+  module _ (worker : Elem → ℕ) (n : ℕ) (records : List (Elem × Record)) (replayers : List (Replayer C G)) (are : ArePartsOn worker n records replayers) where
+    part-rising : (v : ℕ) → v < length replayers → IsStrictlySortedBy elem_cmp (keys_of (part (is_of_worker worker v) records))
+    part-rising v within = let at = at-some replayers v within in (are.parts v at.0 at.1).rising
 
-    -- each map is that of its part, and behind the last worker there is none
-    one-map : (v : ℕ) → v < length lots → map_at lots v ≡ opened_elements n (part (is_of_worker worker v) records)
+    -- each map is that of its part, and behind the last replayer there is none
+    one-map : (v : ℕ) → v < length replayers → map_at replayers v ≡ opened_elements n (part (is_of_worker worker v) records)
     one-map v within =
-        let at = at-some lots v within in
+        let at = at-some replayers v within in
         at.2 ∙ (are.parts v at.0 at.1).elements ∙ ap (λ m. opened_elements m (part (is_of_worker worker v) records)) (are.on v at.0 at.1)
 
-    no-part : (v : ℕ) (es : List (Elem × Record)) → length lots ≤ v → part (is_of_worker worker v) es ≡ []
+    no-part : (v : ℕ) (es : List (Elem × Record)) → length replayers ≤ v → part (is_of_worker worker v) es ≡ []
     no-part v [] past = refl
     no-part v (e ∷ es) past =
         let less = are.within e.0 in
@@ -145,30 +145,30 @@ module _ {C : Type 0} {G : Ghosts C} where
           | false ↦ λ _. no-part v es past
         ] refl
 
-    each-map : (v : ℕ) → map_at lots v ≡ opened_elements n (part (is_of_worker worker v) records)
+    each-map : (v : ℕ) → map_at replayers v ≡ opened_elements n (part (is_of_worker worker v) records)
     each-map v =
-        elim (nat_lt v (length lots)) as (λ b. nat_lt v (length lots) ≡ b → map_at lots v ≡ opened_elements n (part (is_of_worker worker v) records)) [
-          | true ↦ λ less. one-map v (ltb-true v (length lots) less)
+        elim (nat_lt v (length replayers)) as (λ b. nat_lt v (length replayers) ≡ b → map_at replayers v ≡ opened_elements n (part (is_of_worker worker v) records)) [
+          | true ↦ λ less. one-map v (ltb-true v (length replayers) less)
           | false ↦ λ past.
-              let over = ltb-false v (length lots) past in
-              at-none lots v over ∙ ap (opened_elements n) (sym (no-part v records over))
+              let over = ltb-false v (length replayers) past in
+              at-none replayers v over ∙ ap (opened_elements n) (sym (no-part v records over))
         ] refl
 
-    each-rises : (v : ℕ) → IsStrictlySortedBy elem_cmp (keys_of (map_at lots v))
+    each-rises : (v : ℕ) → IsStrictlySortedBy elem_cmp (keys_of (map_at replayers v))
     unfolding IsStrictlySortedBy
     each-rises v =
-        elim (nat_lt v (length lots)) as (λ b. nat_lt v (length lots) ≡ b → IsStrictlySortedBy elem_cmp (keys_of (map_at lots v))) [
+        elim (nat_lt v (length replayers)) as (λ b. nat_lt v (length replayers) ≡ b → IsStrictlySortedBy elem_cmp (keys_of (map_at replayers v))) [
           | true ↦ λ less.
-              let within = ltb-true v (length lots) less in
+              let within = ltb-true v (length replayers) less in
               subst (IsStrictlySortedBy elem_cmp) (sym (ap keys_of (one-map v within) ∙ keys-opened n (part (is_of_worker worker v) records))) (part-rising v within)
-          | false ↦ λ past. subst (λ es. IsStrictlySortedBy elem_cmp (keys_of es)) (sym (at-none lots v (ltb-false v (length lots) past))) tt
+          | false ↦ λ past. subst (λ es. IsStrictlySortedBy elem_cmp (keys_of es)) (sym (at-none replayers v (ltb-false v (length replayers) past))) tt
         ] refl
 
-    pub merged-is : merged [] lots ≡ opened_elements n records
+    pub merged-is : merged [] replayers ≡ opened_elements n records
     unfolding IsStrictlySortedBy
     merged-is =
-        merged-are-opened n records worker (map_at lots) (merged [] lots) are.rising (rising-merged lots [] tt) each-map
-        (λ x. found-in x lots [] (worker x) each-rises
+        merged-are-opened n records worker (map_at replayers) (merged [] replayers) are.rising (rising-merged replayers [] tt) each-map
+        (λ x. found-in x replayers [] (worker x) each-rises
         (λ v apart. ap (lookup (is_at (elem_cmp x))) (each-map v)
         ∙ not-mine n (is_of_worker worker v) x records
         (elim (worker x == v) as (λ b. (worker x == v) ≡ b → b ≡ false) [ true ↦ λ same. absurd (apart (sym (eqb-true (worker x) v same))) | false ↦ λ _. refl ] refl))

@@ -1,4 +1,4 @@
--- What workers have who have done all tasks.
+-- What replayers have who have done all tasks.
 pub mod AllDone
 -- What a half gives.
 pub mod Repeated

@@ -1,7 +1,7 @@
 -- The definitions that contracts cite.
 pub mod Taken
-pub mod Joined
+pub mod Combined
 pub mod Merged
 pub mod Rows
 pub mod Store
-pub use Rattle.charmlet_replay_workers.specs.declared.worker.lot
+pub use Rattle.charmlet_replayers.specs.declared.replayer.replayer

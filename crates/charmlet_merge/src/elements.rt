@@ -1,4 +1,4 @@
-//! What is kept of the elements of all workers.
+//! What is kept of the elements of all replayers.
 
 ghost use Rattle.std.specs.Prelude.{◌≡◌, ℕ, List, IfOk, OnOk};
 ghost use Rattle.charmlet_model.specs.declared.names.Elem as names;
@@ -10,24 +10,24 @@ ghost use Rattle.charmlet_merge.specs.Merged.{ArePartsOn};
 
 use charmlet_chare::Chare;
 use charmlet_model::Elem;
-use charmlet_replay_workers::Lot;
+use charmlet_replayers::Replayer;
 use charmlet_world::Element;
 use std::alloc::{AllocError, Global};
 use std::collections::BTreeMap;
 
-/// A copy of what all workers keep of their elements: what a history keeps of a world with all their
-/// records, whichever worker has an element. It fails only when out of memory.
+/// A copy of what all replayers keep of their elements: what a history keeps of a world with all
+/// their records, whichever replayer has an element. It fails only when out of memory.
 pub fn elements_of<C: Chare>(
     alloc: Global,
-    lots: &[Lot<C>],
+    replayers: &[Replayer<C>],
 ) -> Result<BTreeMap<Elem, Element>, AllocError>
     ensures { (worker : names.Elem → ℕ) (processors : ℕ) (records : List (names.Elem × Record)) →
-        ArePartsOn worker processors records lots.now →
+        ArePartsOn worker processors records replayers.now →
         IfOk result (λ elements. elements.entries ≡ opened_elements processors records) }
 {
     let mut elements = BTreeMap::new(alloc);
-    for lot in lots {
-        add_all(&mut elements, &lot.restored.elements)?;
+    for replayer in replayers {
+        add_all(&mut elements, &replayer.restored.elements)?;
     }
     Ok(elements)
 }

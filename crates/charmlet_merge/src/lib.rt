@@ -1,20 +1,21 @@
-//! Joining: what several workers have, each of its own elements, becomes one store.
+//! The end of a parallel restart: several replayers, each with its own elements,
+//! become one store, or all their objects become blanks again.
 #![tactic(auto)]
 
+mod combined;
 mod elements;
-mod joining;
-mod opening;
+mod history;
 mod reclaim;
-mod reopening;
+mod reopened;
 mod rows;
 mod shelves;
 mod store;
 
+pub use crate::combined::{Combined, merge_replayers};
 pub use crate::elements::elements_of;
-pub use crate::joining::{Joined, join_lots};
-pub use crate::reclaim::dismiss_lots;
-pub use crate::reopening::reopen;
+pub use crate::reclaim::reclaim_objects;
+pub use crate::reopened::reopen;
 pub use crate::rows::fill_rows;
 pub use crate::store::laws::reopened_is_repeated;
-pub use crate::store::{Unjoined, go_on, join};
-pub use charmlet_replay_workers::Lot;
+pub use crate::store::{NotBuilt, build_store, upgrade_store};
+pub use charmlet_replayers::Replayer;

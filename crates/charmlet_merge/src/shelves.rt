@@ -1,4 +1,4 @@
-//! Shelves that are taken from a worker.
+//! Shelves that are taken from a replayer.
 
 ghost use Rattle.std.specs.Prelude.{◌≡◌, ◌<◌, length, if◌then◌else◌, slice_set};
 ghost use Rattle.charmlet_merge.specs.Taken.{HaveTaken};
@@ -6,8 +6,8 @@ ghost use Rattle.charmlet_merge.specs.Taken.{HaveTaken};
 use charmlet_chare::Chare;
 use charmlet_shelf::Shelf;
 
-/// Puts the shelves of a worker's processors, of so many workers, into their places, and drops its
-/// other ones.
+/// Puts the shelves of a replayer's processors, of so many replayers, into their places, and drops
+/// its other ones.
 pub(crate) fn take_shelves<C: Chare>(
     shelves: &mut Vec<Shelf<C>>,
     theirs: Vec<Shelf<C>>,

@@ -1,10 +1,10 @@
-//! Reopening: a half that several workers brought back becomes a store, which goes on in the newest
+//! A half that several replayers brought back becomes a store, which goes on in the newest
 //! versions of its kinds.
 
-mod going_on;
-mod joined;
+mod built;
+mod history;
 pub mod laws;
-mod opening;
+mod upgrade;
 
-pub use crate::store::going_on::go_on;
-pub use crate::store::joined::{Unjoined, join};
+pub use crate::store::built::{NotBuilt, build_store};
+pub use crate::store::upgrade::upgrade_store;

@@ -3,13 +3,13 @@ use Rattle.std.proofs.Common.{◌≡◌, ℕ, Bool, true, cond, sym, ap, ◌∙�
 use Rattle.std.specs.Prelude.{Option, Some, None, is_some}
 use Rattle.std.specs.BTreeMap.{is_at}
 use Rattle.std.specs.Map.{lookup, remove_entry}
-use Rattle.charmlet_model.specs.declared.edition.Edition.{Edition}
+use Rattle.charmlet_model.specs.declared.kind_version.KindVersion.{KindVersion}
 use Rattle.charmlet_model.specs.declared.names.Elem.{Elem}
 use Rattle.charmlet_model.specs.declared.refusal.Refusal.TheVariants as refusals
 use Rattle.charmlet_model.specs.declared.state.Record.{Record}
 use Rattle.charmlet_model.specs.declared.state.State.{State}
 use Rattle.charmlet_model.specs.Names.{elem_cmp}
-use Rattle.charmlet_model.specs.Reaction.{edition_of}
+use Rattle.charmlet_model.specs.Reaction.{kind_version_of}
 use Rattle.charmlet_model.proofs.Maps.{elem_total, lookup-insert_entry, tied_elem}
 use Rattle.charmlet_shelf.specs.Shelf.{View, is_idle, refusal_at}
 use Rattle.charmlet_shelf.proofs.Records.{Rising, put_and_taken}
@@ -33,14 +33,14 @@ module _ (x : Elem) (source destination next : View) (placed : PlacesCopy x sour
       ∙ ap (λ (b : Bool). if b then (if is_some (on next) then None else Some refusals.Absent) else Some refusals.Uncommitted) idle
       ∙ ap (λ (o : Option Record). if is_some o then None else Some refusals.Absent) copy_stands
 
-  -- its object is of the blank's edition
-  pub copy_edition : (edition : Edition) → IsHereAs edition (on source) → (s : State) (sent received : ℕ) → on next ≡ Some (record { state = Some s; sent = sent; received = received }) → edition_of s ≡ edition
-  copy_edition edition here s sent received there =
+  -- its object is of the blank's kind version
+  pub copy_kind_version : (kind_version : KindVersion) → IsHereAs kind_version (on source) → (s : State) (sent received : ℕ) → on next ≡ Some (record { state = Some s; sent = sent; received = received }) → kind_version_of s ≡ kind_version
+  copy_kind_version kind_version here s sent received there =
       let same : Some here.0 ≡ Some (record { state = Some s; sent = sent; received = received }) = sym here.2 ∙ placed.1 ∙ sym copy_stands ∙ there in
       let record_is : here.0 ≡ record { state = Some s; sent = sent; received = received } = cc in
       let state : Some here.1 ≡ Some s = sym here.3 ∙ ap (λ (r : Record). r.state) record_is in
       let own : here.1 ≡ s = cc in
-      ap edition_of (sym own) ∙ here.5
+      ap kind_version_of (sym own) ∙ here.5
 
   -- and without it the shelf is as it was
   pub copy_leaves : Rising destination.records → on destination ≡ None → (last : View) → last ≡ record next { records = remove_entry (is_at (elem_cmp x)) next.records } → last ≡ destination

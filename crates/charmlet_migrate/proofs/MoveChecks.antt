@@ -3,12 +3,12 @@ use Rattle.std.proofs.Common.{◌≡◌, ℕ, ◌<◌, ◌==◌, Bool, true, fal
 use Rattle.std.specs.Prelude.{Option, Some, None, is_some}
 use Rattle.std.specs.BTreeMap.{insert_entry}
 use Rattle.charmlet_model.specs.declared.names.Elem.{Elem}
-use Rattle.charmlet_model.specs.declared.edition.Edition.{Edition}
-use Rattle.charmlet_model.specs.Edition.{edition_kind}
+use Rattle.charmlet_model.specs.declared.kind_version.KindVersion.{KindVersion}
+use Rattle.charmlet_model.specs.KindVersion.{kind_of_version}
 use Rattle.charmlet_model.specs.declared.refusal.Refusal.{Refusal}
 use Rattle.charmlet_model.specs.declared.refusal.Refusal.TheVariants as refusals
 use Rattle.charmlet_model.specs.Names.{elem_cmp}
-use Rattle.charmlet_model.specs.World.{edition_of_array}
+use Rattle.charmlet_model.specs.World.{version_of_array}
 use Rattle.charmlet_model.specs.Core.{Core, present, Blanks, Check, When, MayLackMemory, CoreStep, Move, Done, Refuses, checks, away_checks, lacks_blank, assigned_to, first_refusal, may_lack_memory, next_core, with_taken, is_present, is_processor, place_or_home}
 use Rattle.charmlet_model.specs.Run.{StoreView, Goes}
 use Rattle.charmlet_delivery.specs.Kept.{plenty}
@@ -17,19 +17,19 @@ use Rattle.std.proofs.lemmas.Bool.{ne_eqb}
 
 -- ---- the blank
 
-abbrev rest : Blanks → Option Edition → List Check
+abbrev rest : Blanks → Option KindVersion → List Check
 rest blanks wanted = lacks_blank blanks wanted ++ MayLackMemory ∷ []
 
-rest_passes : (blanks : Blanks) (kind : Edition) → 0 < blanks (edition_kind kind) → first_refusal (rest blanks (Some kind)) ≡ None
-rest_passes blanks kind has = ap (λ b. first_refusal (When b (refusals.NoBlank (edition_kind kind)) ∷ MayLackMemory ∷ [])) (ne_eqb (blanks (edition_kind kind)) 0 (λ none. omega arith))
+rest_passes : (blanks : Blanks) (kind : KindVersion) → 0 < blanks (kind_of_version kind) → first_refusal (rest blanks (Some kind)) ≡ None
+rest_passes blanks kind has = ap (λ b. first_refusal (When b (refusals.NoBlank (kind_of_version kind)) ∷ MayLackMemory ∷ [])) (ne_eqb (blanks (kind_of_version kind)) 0 (λ none. omega arith))
 
-rest_may_lack : (blanks : Blanks) (kind : Edition) → 0 < blanks (edition_kind kind) → may_lack_memory (rest blanks (Some kind)) ≡ true
-rest_may_lack blanks kind has = ap (λ b. may_lack_memory (When b (refusals.NoBlank (edition_kind kind)) ∷ MayLackMemory ∷ [])) (ne_eqb (blanks (edition_kind kind)) 0 (λ none. omega arith))
+rest_may_lack : (blanks : Blanks) (kind : KindVersion) → 0 < blanks (kind_of_version kind) → may_lack_memory (rest blanks (Some kind)) ≡ true
+rest_may_lack blanks kind has = ap (λ b. may_lack_memory (When b (refusals.NoBlank (kind_of_version kind)) ∷ MayLackMemory ∷ [])) (ne_eqb (blanks (kind_of_version kind)) 0 (λ none. omega arith))
 
-rest_lacks : (blanks : Blanks) (kind : Edition) → blanks (edition_kind kind) ≡ 0 → first_refusal (rest blanks (Some kind)) ≡ Some (refusals.NoBlank (edition_kind kind))
-rest_lacks blanks kind none = ap (λ n. first_refusal (When (n == 0) (refusals.NoBlank (edition_kind kind)) ∷ MayLackMemory ∷ [])) none
+rest_lacks : (blanks : Blanks) (kind : KindVersion) → blanks (kind_of_version kind) ≡ 0 → first_refusal (rest blanks (Some kind)) ≡ Some (refusals.NoBlank (kind_of_version kind))
+rest_lacks blanks kind none = ap (λ n. first_refusal (When (n == 0) (refusals.NoBlank (kind_of_version kind)) ∷ MayLackMemory ∷ [])) none
 
-plenty_passes : (wanted : Option Edition) → first_refusal (rest plenty wanted) ≡ None
+plenty_passes : (wanted : Option KindVersion) → first_refusal (rest plenty wanted) ≡ None
 plenty_passes None = refl
 plenty_passes (Some kind) = rest_passes plenty kind (omega arith)
 
@@ -44,8 +44,8 @@ module _ (core : Core) (x : Elem) (processor : ℕ) where
   stays = place_or_home core x == processor
 
   -- the kind of the blank that is wanted for a move elsewhere
-  abbrev wanted : Option Edition
-  wanted = edition_of_array (present core) x.array
+  abbrev wanted : Option KindVersion
+  wanted = version_of_array (present core) x.array
 
   abbrev start : List Check
   start =
@@ -84,7 +84,7 @@ module _ (core : Core) (x : Elem) (processor : ℕ) where
         (ap (λ b. record { core = cond b core (record core { places = insert_entry elem_cmp core.places x processor }); blanks = cond b blanks (with_taken wanted blanks) }) here)
         (is_done core blanks step refl (passes_there stays here can))
 
-    module _ (kind : Edition) where
+    module _ (kind : KindVersion) where
       passes_front : first_refusal (order false plenty) ≡ None → first_refusal front ≡ None
       passes_front h = none_in_front front (rest plenty wanted) h
 
@@ -93,18 +93,18 @@ module _ (core : Core) (x : Elem) (processor : ℕ) where
       later true is h o of then = absurd (let never : ⊥ = cc in never)
       later false is h o of then = none_of_both front (rest blanks wanted) (passes_front h) ∙ ap (λ k. first_refusal (rest blanks k)) of ∙ then
 
-      may_lack : (here : Bool) → here ≡ false → first_refusal (order here plenty) ≡ None → wanted ≡ Some kind → 0 < blanks (edition_kind kind) → may_lack_memory (order here blanks) ≡ true
+      may_lack : (here : Bool) → here ≡ false → first_refusal (order here plenty) ≡ None → wanted ≡ Some kind → 0 < blanks (kind_of_version kind) → may_lack_memory (order here blanks) ≡ true
       may_lack true is h of has = absurd (let never : ⊥ = cc in never)
       may_lack false is h of has = memory_after front (rest blanks wanted) (passes_front h) (ap (λ k. may_lack_memory (rest blanks k)) of ∙ rest_may_lack blanks kind has)
 
       module _ (elsewhere : stays ≡ false) (of : wanted ≡ Some kind) where
-        pub lacks_blank_for : blanks (edition_kind kind) ≡ 0 → Goes store step (Refuses (refusals.NoBlank (edition_kind kind))) store
-        lacks_blank_for none = is_refused core blanks step refl (refusals.NoBlank (edition_kind kind)) (later stays elsewhere can (Some (refusals.NoBlank (edition_kind kind))) of (rest_lacks blanks kind none))
+        pub lacks_blank_for : blanks (kind_of_version kind) ≡ 0 → Goes store step (Refuses (refusals.NoBlank (kind_of_version kind))) store
+        lacks_blank_for none = is_refused core blanks step refl (refusals.NoBlank (kind_of_version kind)) (later stays elsewhere can (Some (refusals.NoBlank (kind_of_version kind))) of (rest_lacks blanks kind none))
 
-        pub lacks_memory_for : 0 < blanks (edition_kind kind) → Goes store step (Refuses refusals.Memory) store
+        pub lacks_memory_for : 0 < blanks (kind_of_version kind) → Goes store step (Refuses refusals.Memory) store
         lacks_memory_for has = lacks_memory core blanks step refl (may_lack stays elsewhere can of has)
 
-        pub goes_away : 0 < blanks (edition_kind kind) → Goes store step Done (record { core = next_core core step; blanks = with_taken (Some kind) blanks })
+        pub goes_away : 0 < blanks (kind_of_version kind) → Goes store step Done (record { core = next_core core step; blanks = with_taken (Some kind) blanks })
         goes_away has =
             subst (λ (b : Blanks). Goes store step Done (record { core = next_core core step; blanks = b }))
             (ap (λ b. cond b blanks (with_taken wanted blanks)) elsewhere ∙ ap (λ k. with_taken k blanks) of)

@@ -9,7 +9,7 @@ ghost use Rattle.charmlet_stock.specs.Stock.{keeping_of, supplied_to};
 ghost use Rattle.charmlet_delivery.specs.Workplace.{done_or_refused, store_with};
 ghost use Rattle.charmlet_migrate.specs.StoreParts.{FitTogether};
 
-use crate::moving::move_between;
+use crate::moves::move_between;
 use charmlet_chare::Chare;
 use charmlet_delivery::History;
 use charmlet_model::{Elem, Refusal};

@@ -1,4 +1,4 @@
--- Lemmas on how workers bring an image back.
+-- Lemmas on how replayers bring an image back.
 pub mod Wanted
 pub mod Own
 pub mod Keeping

@@ -1,6 +1,6 @@
--- Lemmas on what several workers make of a half.
+-- Lemmas on what several replayers make of a half.
 pub mod Redone
 pub mod Sharing
 pub mod Repeating
 pub mod ImageLemmas
-pub mod RoundsLemmas
+pub mod LogLemmas

@@ -1,4 +1,4 @@
--- A half that several workers brought back, round by round.
+-- A half that several replayers brought back, round by round.
 use Rattle.std.proofs.Common.{◌≡◌, ℕ, ◌+◌, ◌-◌, ◌<◌, ◌≤◌, ◌^◌, ◌%◌, suc, List, [], ◌∷◌, length, drop, get_or, refl, sym, ap, subst, ◌∙◌, arith, mod-lt}
 use Rattle.std.specs.Prelude.{None, Some, IsOk, slice_get}
 use Rattle.std.specs.List.{All, AllByRecursion, flat_map}
@@ -10,7 +10,7 @@ use Rattle.charmlet_model.specs.declared.names.Elem.{Elem}
 use Rattle.charmlet_model.specs.Core.{Blanks, home}
 use Rattle.charmlet_model.specs.Fit.{IsFit}
 use Rattle.charmlet_model.specs.World.{IsEvent}
-use Rattle.charmlet_record.specs.declared.placed.Placed.{Placed}
+use Rattle.charmlet_record.specs.declared.positioned.Positioned.{Positioned}
 use Rattle.charmlet_record.specs.Places.{log_places}
 use Rattle.charmlet_record.specs.Reading.{Kinds, read_log}
 use Rattle.charmlet_record.specs.Written.{IsLogged}
@@ -19,14 +19,14 @@ use Rattle.charmlet_model.specs.Spelling.{spell_log}
 use Rattle.charmlet_image.specs.declared.half.OpenHalf.{OpenHalf}
 use Rattle.charmlet_image.specs.Images.{Image, Saved, spell_image}
 use Rattle.charmlet_image.proofs.LogViews.{log_ends}
-use Rattle.charmlet_image.specs.Placed.{items_of}
+use Rattle.charmlet_image.specs.Positioned.{items_of}
 use Rattle.charmlet_image.specs.Views.{ArePacked, image_said}
 use Rattle.charmlet_recovery.specs.Bases.{base, events_of, recovered_world}
 use Rattle.charmlet_recovery.specs.Blanks.{made, wanted}
 use Rattle.charmlet_recovery.specs.Faults.{InEvents, catch_up_tests, event_tests, first_failure, first_fault, pending_tests, place_in_catch_up, place_in_events, place_in_pending}
 use Rattle.charmlet_recovery.specs.Recovered.{upgraded}
 use Rattle.charmlet_recovery.proofs.FirstFaults.{places}
-use Rattle.charmlet_recovery.specs.Replays.{IsBeginning, LogPass, pass_after}
+use Rattle.charmlet_recovery.specs.Replays.{IsBeginning, LogScan, scan_after}
 use Rattle.charmlet_recovery.specs.RestartLaws.{IsEnough}
 use Rattle.charmlet_recovery.specs.Restarts.{wanted_of}
 use Rattle.charmlet_recovery.proofs.Good.{image-good, log-events}
@@ -35,10 +35,10 @@ use Rattle.charmlet_chare.specs.declared.chare.Chare.{Ghosts}
 use Rattle.charmlet_world.specs.Seen.{Seen, present_rows}
 use Rattle.charmlet_log_scan.specs.Partition.Parts.{Falls}
 use Rattle.charmlet_log_scan.proofs.PartitionLemmas.Falling.{catch-ups-fall}
-use Rattle.charmlet_replay_workers.specs.Replies.Filled.{AreButForReplies}
-use Rattle.charmlet_replay_workers.proofs.RepliesLemmas.Kept.{keeps-others}
-use Rattle.charmlet_log_scan.specs.Routing.Kept.{IsAsPass, IsSomeWorld}
-use Rattle.charmlet_log_scan.proofs.RoutingLemmas.Following.{follows_begins, is_pass, pass_of}
+use Rattle.charmlet_replayers.specs.Replies.Filled.{AreButForReplies}
+use Rattle.charmlet_replayers.proofs.RepliesLemmas.Kept.{keeps-others}
+use Rattle.charmlet_log_scan.specs.Routing.Kept.{IsAsScan, IsSomeWorld}
+use Rattle.charmlet_log_scan.proofs.RoutingLemmas.Following.{follows_begins, is_scan, scan_of}
 use Rattle.charmlet_replay.specs.Places.{IsFirstFault, events_in, places_in}
 use Rattle.charmlet_replay.specs.Lists.{HasBlanksFor}
 use Rattle.charmlet_replay.specs.Replayed.{HasBlanksForImage, IsFaultAt, IsOpenIn}
@@ -46,14 +46,14 @@ use Rattle.charmlet_replay.proofs.Offsets.{event_at}
 use Rattle.charmlet_replay.proofs.Faulty.{events_faulty, no_fault, offset_at}
 use Rattle.charmlet_replay.proofs.OpenHalves.{few_before, good_events, image_good, log_is, means_are, read_is, saved}
 use Rattle.charmlet_replay.proofs.Whole.{base_is_fit, log_has_blanks}
-use Rattle.charmlet_parallel_replay.specs.lot.Lot.{Lot}
+use Rattle.charmlet_parallel_replay.specs.replayer.Replayer.{Replayer}
 use Rattle.charmlet_parallel_replay.specs.Tasks.{HasNoTask, HaveReplies}
 use Rattle.charmlet_parallel_replay.specs.Workers.{AreParts}
-use Rattle.charmlet_replay_workers.specs.Dispatch.Sharing.{worker_of}
-use Rattle.charmlet_replay_workers.proofs.DispatchLemmas.One.{shows_follows}
-use Rattle.charmlet_parallel_replay.specs.Rounds.LogRound.{HasRedone, IsReadyForLog}
-use Rattle.charmlet_parallel_replay.proofs.RoundsLemmas.LogPlaces.{items_are}
-use Rattle.charmlet_parallel_replay.specs.Image.Recalled.{IsRecalled}
+use Rattle.charmlet_replayers.specs.Dispatch.Sharing.{worker_of}
+use Rattle.charmlet_replayers.proofs.DispatchLemmas.One.{shows_follows}
+use Rattle.charmlet_parallel_replay.specs.Log.LogRound.{HasRedone, IsReadyForLog}
+use Rattle.charmlet_parallel_replay.proofs.LogLemmas.LogPlaces.{items_are}
+use Rattle.charmlet_parallel_replay.specs.Image.ImageRestored.{IsImageRestored}
 use Rattle.charmlet_parallel_replay.specs.Redone.{IsRedone}
 
 empty_log : length (spell_log []) ≡ 0
@@ -70,7 +70,7 @@ module _ (bytes : List ℕ) (s : Saved) (half : OpenHalf) (is : IsOpenIn bytes s
   abbrev log : List Logged
   log = events_in half.image.manifest half.log.rest.now
 
-  abbrev placed : List (Placed Logged)
+  abbrev placed : List (Positioned Logged)
   placed = places_in (read_log half.image.manifest half.log.rest.now)
 
   same_items : items_of placed ≡ log
@@ -98,7 +98,7 @@ module _ (bytes : List ℕ) (s : Saved) (half : OpenHalf) (is : IsOpenIn bytes s
   typed : AllByRecursion IsEvent (events_of log)
   typed = log-events half.image.manifest log (good_events bytes s half is)
 
-  module _ {C : Type 0} {G : Ghosts C} (processors : ℕ) (given left : Blanks) (olds lots : List (Lot C G)) (some : 0 < length olds) (count : length lots ≡ length olds) (k : Seen) (back : IsRecalled (worker_of processors (length olds)) image processors given left k lots) where
+  module _ {C : Type 0} {G : Ghosts C} (processors : ℕ) (given left : Blanks) (olds replayers : List (Replayer C G)) (some : 0 < length olds) (count : length replayers ≡ length olds) (k : Seen) (back : IsImageRestored (worker_of processors (length olds)) image processors given left k replayers) where
     abbrev worker : Elem → ℕ
     worker = worker_of processors (length olds)
 
@@ -108,19 +108,19 @@ module _ (bytes : List ℕ) (s : Saved) (half : OpenHalf) (is : IsOpenIn bytes s
     pub some_world : IsSomeWorld k
     some_world = (base image, fit, back.shows)
 
-    worker_is : worker_of k.processors (length lots) ≡ worker
+    worker_is : worker_of k.processors (length replayers) ≡ worker
     worker_is = λ i. worker_of (back.on i) (count i)
 
     -- ---- what the third round wants
 
-    pub idle : All HasNoTask lots
-    idle v d less = (back.caught_up.rest v (get_or lots v d) (slice_get-get_or lots v d less)).tasks
+    pub idle : All HasNoTask replayers
+    idle v d less = (back.caught_up.rest v (get_or replayers v d) (slice_get-get_or replayers v d less)).tasks
 
-    pub ready : IsReadyForLog (base image) k lots
+    pub ready : IsReadyForLog (base image) k replayers
     ready = record {
       fit = fit;
       follows = shows_follows k (base image) back.shows;
-      parts = subst (λ (w : Elem → ℕ). AreParts w (base image).records lots) (sym worker_is) back.caught_up.parts;
+      parts = subst (λ (w : Elem → ℕ). AreParts w (base image).records replayers) (sym worker_is) back.caught_up.parts;
     }
 
     -- where there are enough blanks for the half, there are for its log
@@ -145,38 +145,38 @@ module _ (bytes : List ℕ) (s : Saved) (half : OpenHalf) (is : IsOpenIn bytes s
       pub fault_kept : (n : ℕ) → IsFirstFault (event_tests (base image) before (events_in kinds rest)) (places_in (read_log kinds rest)) n → IsFirstFault (event_tests (base image) before log) placed n
       fault_kept n h = subst (λ ks. IsFirstFault (event_tests (base image) before (events_in ks rest)) (places_in (read_log ks rest)) n) same h
 
-      pub redone_kept : (next : Seen) (after : Blanks) (news : List (Lot C G)) → HasRedone (base image) before (events_in kinds rest) k next left after lots news → HasRedone (base image) before log k next left after lots news
-      redone_kept next after news h = subst (λ ks. HasRedone (base image) before (events_in ks rest) k next left after lots news) same h
+      pub redone_kept : (next : Seen) (after : Blanks) (news : List (Replayer C G)) → HasRedone (base image) before (events_in kinds rest) k next left after replayers news → HasRedone (base image) before log k next left after replayers news
+      redone_kept next after news h = subst (λ ks. HasRedone (base image) before (events_in ks rest) k next left after replayers news) same h
 
-      pub replies_kept : (worker : Elem → ℕ) (news : List (Lot C G)) (pass : LogPass) → HaveReplies worker (base image) pass (places_in (read_log kinds rest)) news → HaveReplies worker (base image) pass placed news
-      replies_kept worker news pass h = subst (λ ks. HaveReplies worker (base image) pass (places_in (read_log ks rest)) news) same h
+      pub replies_kept : (worker : Elem → ℕ) (news : List (Replayer C G)) (scan : LogScan) → HaveReplies worker (base image) scan (places_in (read_log kinds rest)) news → HaveReplies worker (base image) scan placed news
+      replies_kept worker news scan h = subst (λ ks. HaveReplies worker (base image) scan (places_in (read_log ks rest)) news) same h
 
     -- ---- and what comes of it
 
-    module _ (next : Seen) (after : Blanks) (news : List (Lot C G)) (many : length news ≡ length lots) (on : next.processors ≡ k.processors) (done : HasRedone (base image) before log k next left after lots news)
-        (replies : (pass : LogPass) → IsAsPass k pass → HaveReplies (worker_of k.processors (length lots)) (base image) pass placed news) where
-      abbrev pass : LogPass
-      pass = pass_of k
+    module _ (next : Seen) (after : Blanks) (news : List (Replayer C G)) (many : length news ≡ length replayers) (on : next.processors ≡ k.processors) (done : HasRedone (base image) before log k next left after replayers news)
+        (replies : (scan : LogScan) → IsAsScan k scan → HaveReplies (worker_of k.processors (length replayers)) (base image) scan placed news) where
+      abbrev scan : LogScan
+      scan = scan_of k
 
-      begin : IsBeginning (base image) pass
+      begin : IsBeginning (base image) scan
       begin = follows_begins k (base image) (shows_follows k (base image) back.shows)
 
       news_count : length news ≡ length olds
       news_count = many ∙ count
 
-      worker_then : worker_of next.processors (length news) ≡ worker_of k.processors (length lots)
+      worker_then : worker_of next.processors (length news) ≡ worker_of k.processors (length replayers)
       worker_then = λ i. worker_of (on i) (many i)
 
-      rows : present_rows next.clients ≡ (pass_after (record pass { clients = (base image).clients }) log).clients
-      rows = (done.rows (record pass { clients = (base image).clients }) (record { pending = (is_pass k).pending; sent = (is_pass k).sent; clients = back.shows.clients })).clients
+      rows : present_rows next.clients ≡ (scan_after (record scan { clients = (base image).clients }) log).clients
+      rows = (done.rows (record scan { clients = (base image).clients }) (record { pending = (is_scan k).pending; sent = (is_scan k).sent; clients = back.shows.clients })).clients
 
       others : AreButForReplies (base image) (events_of log) (present_rows next.clients)
-      others = subst (AreButForReplies (base image) (events_of log)) (sym rows) (keeps-others (base image) before pass log fit typed begin done.happen)
+      others = subst (AreButForReplies (base image) (events_of log)) (sym rows) (keeps-others (base image) before scan log fit typed begin done.happen)
 
       pub is_redone : IsRedone image before placed processors given after next news
       is_redone = record {
         faultless = ap (first_fault image before) same_items ∙ no_fault image before log back.caught_up.pass back.was_sent done.happen;
-        pass = pass;
+        scan = scan;
         done = record {
           fill = record {
             fit = fit;
@@ -185,7 +185,7 @@ module _ (bytes : List ℕ) (s : Saved) (half : OpenHalf) (is : IsOpenIn bytes s
             begin = begin;
             happen = ap (λ ls. first_failure (event_tests (base image) before ls)) same_items ∙ done.happen;
             within = λ x. subst (λ n. home x next.processors % n < n) (sym news_count) (mod-lt (home x next.processors) some);
-            replies = subst (λ (w : Elem → ℕ). HaveReplies w (base image) pass placed news) (sym worker_then) (replies pass (is_pass k));
+            replies = subst (λ (w : Elem → ℕ). HaveReplies w (base image) scan placed news) (sym worker_then) (replies scan (is_scan k));
             others = subst (λ ls. AreButForReplies (base image) (events_of ls) (present_rows next.clients)) (sym same_items) others;
           };
           last = refl;
@@ -194,8 +194,8 @@ module _ (bytes : List ℕ) (s : Saved) (half : OpenHalf) (is : IsOpenIn bytes s
         on = on ∙ back.on;
         parts = subst (λ ls. AreParts (worker_of processors (length news)) (recovered_world image ls).records news) (sym same_items)
             (subst (λ (w : Elem → ℕ). AreParts w (recovered_world image log).records news) (λ i. worker_of (back.on i) (sym many i)) done.parts);
-        there = λ v lot at. let old = was v lot at in done.on v old.0 lot old.1 at ∙ (back.caught_up.rest v old.0 old.1).on;
-        spare = λ v lot at kind. let old = was v lot at in done.spare v old.0 lot old.1 at kind ∙ (back.caught_up.rest v old.0 old.1).spare kind;
+        there = λ v replayer at. let old = was v replayer at in done.on v old.0 replayer old.1 at ∙ (back.caught_up.rest v old.0 old.1).on;
+        spare = λ v replayer at kind. let old = was v replayer at in done.spare v old.0 replayer old.1 at kind ∙ (back.caught_up.rest v old.0 old.1).spare kind;
         taken = λ kind.
             let one = done.blanks kind in
             let all = back.caught_up.taken kind in
@@ -203,8 +203,8 @@ module _ (bytes : List ℕ) (s : Saved) (half : OpenHalf) (is : IsOpenIn bytes s
             subst (λ ls. after kind + made image ls kind ≡ given kind) (sym same_items) sum;
       }
         where
-          was : (v : ℕ) (lot : Lot C G) → slice_get news v ≡ Some lot → (old : Lot C G) × (slice_get lots v ≡ Some old)
-          was v lot at = (get_or lots v lot, slice_get-get_or lots v lot (let less = slice_get_within news v lot at in omega (arith, less, many)))
+          was : (v : ℕ) (replayer : Replayer C G) → slice_get news v ≡ Some replayer → (old : Replayer C G) × (slice_get replayers v ≡ Some old)
+          was v replayer at = (get_or replayers v replayer, slice_get-get_or replayers v replayer (let less = slice_get_within news v replayer at in omega (arith, less, many)))
 
   -- ---- faults
 

@@ -3,4 +3,4 @@ pub mod Keeping
 pub mod Counts
 pub mod Given
 pub mod Filled
-pub mod Recalled
+pub mod ImageRestored

@@ -1,11 +1,11 @@
-//! Parallel replay: several workers bring a half back, in as many threads as can be started, and it
-//! becomes the store that a replay by one gives.
+//! Parallel replay: several replayers bring a half back, in as many threads as can be started, and
+//! it becomes the store that a replay by one gives.
 #![tactic(auto)]
 
+mod half;
 mod image;
-mod redoing;
-mod replaying;
-mod rounds;
+mod log;
+mod repeated;
 
-pub use crate::replaying::{NotRepeated, replay_by};
-pub use crate::rounds::Unfinished;
+pub use crate::log::ReplayError;
+pub use crate::repeated::{NotRepeated, replay_by};

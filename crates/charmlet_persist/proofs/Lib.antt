@@ -1,3 +1,3 @@
-pub mod JournalLemmas
+pub mod WritesLemmas
 pub mod SnapshotLemmas
 pub mod FuzzyCheckpointLemmas

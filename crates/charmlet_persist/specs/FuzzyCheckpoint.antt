@@ -1,4 +1,4 @@
 -- The definitions that contracts cite.
-pub mod Running
+pub mod Checkpoint
 pub mod Laws
 pub mod Sealing

@@ -1,13 +1,13 @@
 -- The definitions that contracts cite.
-pub mod Journal
+pub mod Writes
 pub mod Snapshot
 pub mod FuzzyCheckpoint
 pub use Rattle.charmlet_model.specs.Core
-pub use Rattle.charmlet_model.specs.Edition
+pub use Rattle.charmlet_model.specs.KindVersion
 pub use Rattle.charmlet_model.specs.Fit
 pub use Rattle.charmlet_model.specs.Sound
 pub use Rattle.charmlet_model.specs.World
-pub use Rattle.charmlet_record.specs.Backlog
+pub use Rattle.charmlet_record.specs.WalBuffer
 pub use Rattle.charmlet_image.specs.Images
 pub use Rattle.charmlet_image.specs.NewStores as ImageNewStores
 pub use Rattle.charmlet_image.specs.Spelled

@@ -2,13 +2,13 @@
 //! at its end.
 
 mod beginning;
-mod delivering;
+mod captured_element;
+mod checkpoint;
+mod deliveries;
+mod encoded;
 mod entries;
 pub mod laws;
-mod running;
-mod sealing;
-mod settled;
-mod taking;
+mod shelves;
 
-pub use crate::fuzzy_checkpoint::running::Running;
-pub use crate::fuzzy_checkpoint::settled::Settled;
+pub use crate::fuzzy_checkpoint::captured_element::CapturedElement;
+pub use crate::fuzzy_checkpoint::checkpoint::FuzzyCheckpoint;

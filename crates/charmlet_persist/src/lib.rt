@@ -2,10 +2,10 @@
 #![tactic(auto)]
 
 mod fuzzy_checkpoint;
-mod journal;
 mod snapshot;
+mod writes;
 
-pub use crate::fuzzy_checkpoint::Running;
-pub use crate::fuzzy_checkpoint::laws::{others_keep_running, settled_stays, shelves_are_taken};
-pub use crate::journal::{Created, create, flush, seal};
+pub use crate::fuzzy_checkpoint::FuzzyCheckpoint;
+pub use crate::fuzzy_checkpoint::laws::{captured_stays, others_keep_running, shelves_are_taken};
 pub use crate::snapshot::{checkpoint, image_of};
+pub use crate::writes::{Created, create, flush, seal};

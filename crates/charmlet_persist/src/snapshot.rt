@@ -5,9 +5,9 @@ mod clients;
 mod image;
 mod pending;
 mod records;
-mod taking;
+mod whole_checkpoint;
 
 pub use crate::snapshot::clients::append_clients;
 pub use crate::snapshot::image::{append_arrays, count_of, fill_header, image_of};
 pub use crate::snapshot::pending::append_pending;
-pub use crate::snapshot::taking::checkpoint;
+pub use crate::snapshot::whole_checkpoint::checkpoint;

@@ -6,7 +6,7 @@ ghost use Rattle.charmlet_sequencer.specs.Sequencer.{IsOf};
 
 use crate::Probe;
 use charmlet_sequencer::RuntimeName;
-use charmlet_testing::{Books, HubMachine, ProbeStore, Stop};
+use charmlet_testing::{Authorities, ExitReason, HubMachine, ProbeStore};
 use std::io::Write;
 use std::marker::Brand;
 use std::sync::Wait;
@@ -17,11 +17,11 @@ pub(crate) fn live_on_hub<W: Write, R: Threads + Wait + Sync>(
     rt: &R,
     probe: &mut Probe<'_, W>,
     store: ProbeStore,
-) -> Result<(), Stop> {
-    let Ok(books) = Books::new(probe.alloc) else {
-        return Err(Stop::CannotGoOn);
+) -> Result<(), ExitReason> {
+    let Ok(authorities) = Authorities::new(probe.alloc) else {
+        return Err(ExitReason::CannotGoOn);
     };
-    live_as::<Brand, W, R>(rt, probe, store, books)
+    live_as::<Brand, W, R>(rt, probe, store, authorities)
 }
 
 /// The same, under this name.
@@ -29,21 +29,21 @@ fn live_as<B: RuntimeName, W: Write, R: Threads + Wait + Sync>(
     rt: &R,
     probe: &mut Probe<'_, W>,
     store: ProbeStore,
-    books: Books,
-) -> Result<(), Stop>
+    authorities: Authorities,
+) -> Result<(), ExitReason>
     requires named { IsOf B.opening B.before B.processors store }
     requires generation { B.generation ≡ store.generation }
-    requires parts { table_of books.parts ≡ B.table }
-    requires seats { table_of books.seats ≡ B.seats }
-    requires passes { table_of books.passes ≡ B.passes }
-    requires checkpoints { table_of books.checkpoints ≡ B.checkpoints }
+    requires parts { table_of authorities.parts ≡ B.table }
+    requires seats { table_of authorities.seats ≡ B.seats }
+    requires passes { table_of authorities.passes ≡ B.passes }
+    requires checkpoints { table_of authorities.checkpoints ≡ B.checkpoints }
     requires honest { B.honest → ⊥ }
 {
-    match HubMachine::<B>::open(probe.alloc, store, books) {
+    match HubMachine::<B>::open(probe.alloc, store, authorities) {
         Ok(machine) => {
             let mut store = Some(machine);
             probe.live(rt, &mut store)
         }
-        Err(_) => Err(Stop::CannotGoOn),
+        Err(_) => Err(ExitReason::CannotGoOn),
     }
 }

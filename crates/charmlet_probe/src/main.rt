@@ -11,7 +11,7 @@ use crate::hubs::live_on_hub;
 use crate::lines::run_line;
 use crate::script::Script;
 use charmlet_testing::{
-    Bench, EngineMachine, Failed, Failure, Machine, Stop, end_program, open_script,
+    Bench, EngineMachine, ExitReason, Failed, Failure, Machine, end_program, open_script,
 };
 use std::alloc::{AllocError, Global};
 use std::io::Write;
@@ -24,7 +24,7 @@ use std::{env, io};
 const ROOM: usize = 8_192;
 
 /// The lines of the probe in a file.
-fn script_in(rt: HostRuntime, path: &str) -> Result<Script, Stop> {
+fn script_in(rt: HostRuntime, path: &str) -> Result<Script, ExitReason> {
     let text = io::read_to_string(rt.alloc(), open_script(&rt, path)?)?;
     Ok(Script::of(rt.alloc(), text.as_str())?)
 }
@@ -52,13 +52,13 @@ impl<W: Write> Probe<'_, W> {
         &mut self,
         rt: &R,
         store: &mut Option<M>,
-    ) -> Result<(), Stop> {
+    ) -> Result<(), ExitReason> {
         let mut out = output(self.alloc)?;
         let text = self.script.take();
         match run_line(rt, self.alloc, &mut self.bench, store, text, &mut out) {
             Ok(()) => Ok(self.writer.write_all(&out)?),
-            Err(Failed::Malformed) => Err(Stop::MalformedLine(self.script.taken() as u64)),
-            Err(_) => Err(Stop::CannotGoOn),
+            Err(Failed::Malformed) => Err(ExitReason::MalformedLine(self.script.taken() as u64)),
+            Err(_) => Err(ExitReason::CannotGoOn),
         }
     }
 
@@ -67,7 +67,7 @@ impl<W: Write> Probe<'_, W> {
         &mut self,
         rt: &R,
         store: &mut Option<M>,
-    ) -> Result<(), Stop> {
+    ) -> Result<(), ExitReason> {
         for _ in 0..self.script.left() {
             if store.is_none() {
                 break;
@@ -79,10 +79,14 @@ impl<W: Write> Probe<'_, W> {
 
     /// Runs the next line, where there is no store, and then those of the store that it makes, if
     /// it makes one.
-    fn go_on<R: Threads + Wait + Sync>(&mut self, rt: &R, is_over_hubs: bool) -> Result<(), Stop> {
+    fn go_on<R: Threads + Wait + Sync>(
+        &mut self,
+        rt: &R,
+        is_over_hubs: bool,
+    ) -> Result<(), ExitReason> {
         let mut none: Option<EngineMachine> = None;
         self.print_line(rt, &mut none)?;
-        match self.bench.take_born() {
+        match self.bench.take_seq() {
             Some(store) if is_over_hubs => live_on_hub(rt, self, store),
             Some(store) => {
                 let mut machine = Some(EngineMachine::new(self.alloc, store));
@@ -93,7 +97,11 @@ impl<W: Write> Probe<'_, W> {
     }
 
     /// Runs each line, and prints what it answers before the next one is run.
-    fn run<R: Threads + Wait + Sync>(&mut self, rt: &R, is_over_hubs: bool) -> Result<(), Stop> {
+    fn run<R: Threads + Wait + Sync>(
+        &mut self,
+        rt: &R,
+        is_over_hubs: bool,
+    ) -> Result<(), ExitReason> {
         for _ in 0..self.script.left() {
             if self.script.left() == 0 {
                 break;
@@ -105,12 +113,12 @@ impl<W: Write> Probe<'_, W> {
 }
 
 /// Runs the probe in a file.
-fn run_probe<R: Threads + Wait + Sync>(rt: HostRuntime, wait: &R) -> Result<(), Stop> {
+fn run_probe<R: Threads + Wait + Sync>(rt: HostRuntime, wait: &R) -> Result<(), ExitReason> {
     let words: Vec<String> = env::args(&rt)?.collect(rt.alloc())?;
     let is_over_hubs = words.len() == 3 && words[1].as_str() == "--hub";
     let script = match words.last() {
         Some(path) => script_in(rt, path.as_str())?,
-        None => return Err(Stop::UnreadableScript),
+        None => return Err(ExitReason::UnreadableScript),
     };
     let mut writer = io::writer(&rt);
     let mut probe = Probe {

@@ -1,2 +1,2 @@
-pub mod BirthsLemmas
+pub mod SeqNosLemmas
 pub mod IndexLemmas

@@ -1,3 +1,3 @@
 -- The definitions that contracts cite.
-pub mod Births
+pub mod SeqNos
 pub mod Index

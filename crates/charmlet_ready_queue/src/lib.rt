@@ -1,8 +1,8 @@
-//! The messages that wait for delivery, by processor, in the order of their births.
+//! The messages that wait for delivery, by processor, in the order of their sequence numbers.
 #![tactic(auto)]
 
-mod births;
 mod index;
+mod seq_nos;
 
-pub use crate::births::{Births, Ticks};
-pub use crate::index::{Call, Chain, Index, Place, Stand};
+pub use crate::index::{Call, Chain, Index, QueuePlace, Readiness};
+pub use crate::seq_nos::{SeqNos, Ticks};

@@ -134,7 +134,7 @@ module _ (given : Blanks) (half : Half) (s : Saved) where
     by_records = ap (λ (lack : Option (Kind × ℕ)). short_refusal lack (fault_refusal half s (meaning_of s))) (no_short (least_short given (wanted_of s)) enough)
 
     -- where a record has one, or memory is refused
-    pub fault_answers : (X : Type 0) (size : ℕ) (why : ReadError) (refusal : Refusal) → FaultIs half size why refusal → ((fault : Fault) → why ≡ Damaged fault → IsFaultAt s (size - fault.left)) →
+    pub fault_answers : (X : Type 0) (size : ℕ) (why : ReadError) (refusal : Refusal) → FaultIs half size why refusal → ((fault : Fault) → why ≡ Damaged fault → IsFaultAt s (size - fault.bytes_left)) →
         AnswersBy {X = X} (taken_refusal given (Takes half s)) (Err refusal)
     fault_answers X size Memory refusal is at = subst (λ (r : Refusal). AnswersBy {X = X} (taken_refusal given (Takes half s)) (Err r)) (sym is) tt
     fault_answers X size (Damaged fault) refusal is at =

@@ -10,7 +10,7 @@ use Rattle.std.specs.Map.{lookup}
 use Rattle.charmlet_model.specs.declared.names.Elem.{Elem}
 use Rattle.charmlet_model.specs.declared.kind.Kind.{Kind}
 use Rattle.charmlet_model.specs.declared.state.Record.{Record}
-use Rattle.charmlet_model.specs.declared.logged.CaughtUp.{CaughtUp}
+use Rattle.charmlet_model.specs.declared.logged.CatchUpEntry.{CatchUpEntry}
 use Rattle.charmlet_model.specs.declared.logged.Effect.TheVariants.{Constructed}
 use Rattle.charmlet_model.specs.Names.{elem_cmp}
 use Rattle.charmlet_model.specs.World.{record_at, no_record}
@@ -66,7 +66,7 @@ counts_of_records (e ∷ es) x =
       | false ↦ counts_of_records es x
     ]
 
-counted_alike : (counts others : List (Elem × Record)) (d : CaughtUp) → SameCounts counts others → SameCounts (with_count counts d) (with_count others d)
+counted_alike : (counts others : List (Elem × Record)) (d : CatchUpEntry) → SameCounts counts others → SameCounts (with_count counts d) (with_count others d)
 counted_alike counts others d same x =
     let r = record_with (max (record_at counts d.message.to).received d.received) in
     let s = record_with (max (record_at others d.message.to).received d.received) in
@@ -77,7 +77,7 @@ counted_alike counts others d same x =
 
 module _ (manifest : Kinds) (kind : Kind) where
   -- by the same counts it needs the same
-  pub same_catch_up : (counts others : List (Elem × Record)) (ds : List CaughtUp) → SameCounts counts others → wanted_by_catch_up manifest kind counts ds ≡ wanted_by_catch_up manifest kind others ds
+  pub same_catch_up : (counts others : List (Elem × Record)) (ds : List CatchUpEntry) → SameCounts counts others → wanted_by_catch_up manifest kind counts ds ≡ wanted_by_catch_up manifest kind others ds
   same_catch_up counts others [] same = refl
   same_catch_up counts others (d ∷ ds) same =
       let here = ap (λ n. one_if (not (nat_le d.received n) && same_effect d.effect Constructed && array_is manifest kind d.message.to.array)) (same d.message.to) in
@@ -89,7 +89,7 @@ module _ (manifest : Kinds) (kind : Kind) where
   at_most_one false = omega arith
 
   -- no catch-up list needs more blanks than it has deliveries
-  pub few_of_catch_up : (counts : List (Elem × Record)) (ds : List CaughtUp) → wanted_by_catch_up manifest kind counts ds ≤ length ds
+  pub few_of_catch_up : (counts : List (Elem × Record)) (ds : List CatchUpEntry) → wanted_by_catch_up manifest kind counts ds ≤ length ds
   few_of_catch_up counts [] = omega arith
   few_of_catch_up counts (d ∷ ds) =
       let here = at_most_one (not (is_skipped (record_at counts d.message.to) d) && same_effect d.effect Constructed && array_is manifest kind d.message.to.array) in

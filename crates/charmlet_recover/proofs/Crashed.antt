@@ -15,7 +15,7 @@ use Rattle.charmlet_recovery.specs.Recovered as files
 use Rattle.charmlet_recovery.specs.Recovered.{recovered}
 use Rattle.charmlet_recovery.specs.Restarts.{restart_refusal, wanted_of}
 use Rattle.charmlet_recovery.proofs.LawfulRestarts.{lawful_lacks_blanks_alone}
-use Rattle.charmlet_recover.specs.declared.restarting.Recovered.{Recovered}
+use Rattle.charmlet_recover.specs.declared.restarted.Recovered.{Recovered}
 use Rattle.charmlet_recover.specs.Restart.{AnswersAfterCrash, AnswersBy, OpensWithin, core_of, is_lack}
 use Rattle.charmlet_recover.proofs.Answered.{has_cause, lack_refusal}
 

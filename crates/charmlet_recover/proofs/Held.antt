@@ -7,7 +7,7 @@ use Rattle.charmlet_model.specs.declared.state.Record.{Record}
 use Rattle.charmlet_model.specs.Unpacked.{state_at}
 use Rattle.charmlet_record.specs.Reading.{Kinds}
 use Rattle.charmlet_image.specs.declared.entries.Entry.{Entry}
-use Rattle.charmlet_image.specs.Reading.{edition_in}
+use Rattle.charmlet_image.specs.Reading.{kind_version_in}
 use Rattle.charmlet_image.specs.Views.{entry_said}
 use Rattle.charmlet_recovery.specs.Blanks.{array_is, one_if, wanted_by_records}
 
@@ -22,7 +22,7 @@ few_of_records manifest kind (e ∷ es) = omega (arith, at_most_one (is_some e.1
 
 -- an entry has an object where its record has a state
 pub still_some : (manifest : Kinds) (e : Entry) → is_some e.packed ≡ is_some (entry_said manifest e).1.state
-still_some manifest e = elim e.packed as (λ o. is_some o ≡ is_some (option_map (λ packed. state_at (edition_in manifest e.element.array) packed.now) o)) [
+still_some manifest e = elim e.packed as (λ o. is_some o ≡ is_some (option_map (λ packed. state_at (kind_version_in manifest e.element.array) packed.now) o)) [
   | None ↦ refl
   | Some packed ↦ refl
 ]

@@ -19,14 +19,14 @@ use Rattle.charmlet_disk.specs.declared.disk.Disk.{Ghosts}
 use Rattle.charmlet_disk.specs.Calls.{ReadsSame}
 use Rattle.charmlet_disk.specs.File.{File}
 use Rattle.charmlet_halves.specs.declared.halves.Halves.{Halves}
-use Rattle.charmlet_halves.specs.declared.opening.Opened.{Opened}
-use Rattle.charmlet_halves.specs.declared.finding.Surveyed.{Surveyed}
+use Rattle.charmlet_halves.specs.declared.opened.Opened.{Opened}
+use Rattle.charmlet_halves.specs.declared.surveyed.Surveyed.{Surveyed}
 use Rattle.charmlet_halves.specs.Found.{Finds, Says}
 use Rattle.charmlet_halves.proofs.Begun.{bytes_by}
 use Rattle.charmlet_halves.specs.Opened.{OpensAs}
 use Rattle.charmlet_halves.specs.Halves.{disk_of, is_halted, taken_half, text_of}
-use Rattle.charmlet_persist.specs.Journal.Rest.{GoesOn, IsKept, Rests}
-use Rattle.charmlet_persist.proofs.JournalLemmas.Resting.{rest_stores}
+use Rattle.charmlet_persist.specs.Writes.Rest.{GoesOn, IsKept, Rests}
+use Rattle.charmlet_persist.proofs.WritesLemmas.Resting.{rest_stores}
 use Rattle.charmlet_recover.specs.Restart.{bytes_on}
 
 -- ---- the other half is superseded

@@ -12,4 +12,4 @@ pub mod Answered
 pub mod Left
 pub mod Crashed
 pub mod Stocks
-pub mod Restarted
+pub mod RestartedLemmas

@@ -9,7 +9,7 @@ use Rattle.charmlet_recovery.specs.Recovered.{log_of}
 use Rattle.charmlet_recovery.specs.Restarts.{wanted_of}
 use Rattle.charmlet_halves.specs.Found.{Refuses}
 use Rattle.charmlet_recover.specs.Wanted.{blanks_in}
-use Rattle.charmlet_recover.specs.declared.finding.Found.{Found}
+use Rattle.charmlet_recover.specs.declared.found.Found.{Found}
 
 -- what is found of a half is what it says: its header's generation and events, the events of its
 -- log, its arrays, and the blanks of each kind that a restart of it needs

@@ -12,7 +12,7 @@ pub use Rattle.charmlet_model.specs.World
 pub use Rattle.charmlet_record.specs.Reading
 pub use Rattle.charmlet_image.specs.Halves as ImageHalves
 pub use Rattle.charmlet_image.specs.Images
-pub use Rattle.charmlet_image.specs.Placed
+pub use Rattle.charmlet_image.specs.Positioned
 pub use Rattle.charmlet_image.specs.Views
 pub use Rattle.charmlet_recovery.specs.Bases
 pub use Rattle.charmlet_recovery.specs.Blanks
@@ -30,7 +30,7 @@ pub use Rattle.charmlet_halves.specs.Opened
 pub use Rattle.charmlet_stock.specs.ByKind
 pub use Rattle.charmlet_stock.specs.Stock
 pub use Rattle.charmlet_locate.specs.Locations
-pub use Rattle.charmlet_persist.specs.Journal.Rest
+pub use Rattle.charmlet_persist.specs.Writes.Rest
 pub use Rattle.charmlet_store.specs.Store
 pub use Rattle.charmlet_replay.specs.Replayed
 pub use Rattle.charmlet_replay.specs.Unused

@@ -23,16 +23,16 @@ use Rattle.charmlet_recovery.specs.Restarts.{wanted_of}
 use Rattle.charmlet_halves.specs.Halves.{disk_of, taken_half}
 use Rattle.charmlet_history.specs.Kept.{core_in}
 use Rattle.charmlet_locate.specs.Locations.{is_processor_count}
-use Rattle.charmlet_persist.specs.Journal.Rest.{GoesOn, IsCurrent, IsKept}
+use Rattle.charmlet_persist.specs.Writes.Rest.{GoesOn, IsCurrent, IsKept}
 use Rattle.charmlet_stock.specs.ByKind.{for_all}
 use Rattle.charmlet_stock.specs.declared.stock.Stock.{Stock}
 use Rattle.charmlet_stock.specs.Stock.{blanks_in, census_of, keeping_of}
 use Rattle.charmlet_record.specs.declared.reader.ReadError.{ReadError}
 use Rattle.charmlet_record.specs.declared.reader.ReadError.TheVariants.{Damaged, Memory}
-use Rattle.charmlet_replay.specs.declared.replaying.Replayed.{Replayed}
-use Rattle.charmlet_recover.specs.declared.replaying.NotReopened.{NotReopened}
-use Rattle.charmlet_recover.specs.declared.restarting.Recovered.{Recovered}
-use Rattle.charmlet_recover.specs.declared.restarting.NotRestarted.{NotRestarted}
+use Rattle.charmlet_replay.specs.declared.replayed.Replayed.{Replayed}
+use Rattle.charmlet_recover.specs.declared.half_replay.NotReopened.{NotReopened}
+use Rattle.charmlet_recover.specs.declared.restarted.Recovered.{Recovered}
+use Rattle.charmlet_recover.specs.declared.restarted.NotRestarted.{NotRestarted}
 use Rattle.charmlet_store.specs.Store.{blanks_of, supplied_in}
 
 -- ---- what is handed in, and back
@@ -200,7 +200,8 @@ reopened_or_refused (Err refused) = Err refused.refusal
 -- offset
 abbrev pub FaultIs : Half → ℕ → ReadError → Refusal → Type 0
 FaultIs half size Memory refusal = refusal ≡ refusals.Memory
-FaultIs half size (Damaged fault) refusal = refusal ≡ refusals.Damaged half (size - fault.left)
+FaultIs half size (Damaged fault) refusal = refusal
+    ≡ refusals.Damaged half (size - fault.bytes_left)
 
 -- ---- the promises of a restart
 

@@ -12,7 +12,7 @@ use std::alloc::Global;
 
 /// A stock of these blanks, of which none was used yet, so that a restart can take it. Where memory
 /// is refused, or there are more than 2^64-1 of a kind, it hands all of them back.
-pub fn stock_of<C: Chare>(alloc: Global, blanks: Vec<C>) -> Result<Stock<C>, Vec<C>>
+pub fn stock_from_objects<C: Chare>(alloc: Global, blanks: Vec<C>) -> Result<Stock<C>, Vec<C>>
     ensures unused { IfOk result (λ stock. IsUnused stock) }
     ensures supplied { IfOk result (λ stock. (kind : Kind) →
         supplied_to stock kind ≡ count_of C.state blanks.items kind) }

@@ -12,17 +12,17 @@ ghost use Rattle.charmlet_recover.specs.Wanted.{blanks_in};
 
 use crate::wanted::Wanted;
 use charmlet_image::Entry;
-use charmlet_model::{Edition, Elem, Manifest};
+use charmlet_model::{Elem, KindVersion, Manifest};
 use std::alloc::{AllocError, Global};
 use std::collections::BTreeMap;
 
-/// The edition of the object that an entry has, if it has one.
-fn edition_held(manifest: &Manifest, entry: &Entry<'_>) -> Option<Edition>
+/// The kind version of the object that an entry has, if it has one.
+fn kind_version_held(manifest: &Manifest, entry: &Entry<'_>) -> Option<KindVersion>
     ensures { (kind : Kind) → is_of kind result ≡ (is_some entry.now.packed
         && array_is manifest.now kind entry.now.element.array) }
 {
     if entry.packed.is_some() {
-        manifest.edition_of(entry.element.array)
+        manifest.kind_version_of(entry.element.array)
     } else {
         None
     }
@@ -35,7 +35,7 @@ pub(crate) fn count_entries(manifest: &Manifest, entries: &[Entry<'_>]) -> Wante
 {
     let mut wanted = Wanted::none();
     for entry in entries {
-        wanted.count(edition_held(manifest, entry));
+        wanted.count(kind_version_held(manifest, entry));
     }
     wanted
 }

@@ -3,21 +3,21 @@
 #![tactic(auto)]
 
 mod blanks;
-mod catching_up;
+mod catch_up;
 mod entries;
-mod finding;
+mod found;
 mod half;
+mod half_replay;
 mod lack;
 mod logged;
-mod reopening;
-mod replaying;
-mod restarting;
+mod readable;
+mod restarted;
 mod settled;
 mod wanted;
 
-pub use crate::blanks::stock_of;
-pub use crate::finding::{Found, manifest};
+pub use crate::blanks::stock_from_objects;
+pub use crate::found::{Found, manifest};
 pub use crate::lack::lacking;
-pub use crate::reopening::replayable_half;
-pub use crate::restarting::{NotRestarted, Recovered, restart, restart_by};
+pub use crate::readable::replayable_half;
+pub use crate::restarted::{NotRestarted, Recovered, restart, restart_by};
 pub use crate::wanted::Wanted;

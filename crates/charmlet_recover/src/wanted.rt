@@ -1,6 +1,6 @@
 //! How many blank objects are wanted, by kind.
 
-use charmlet_model::{Edition, Kind};
+use charmlet_model::{Kind, KindVersion};
 
 /// How many blank objects of each kind are needed.
 #[derive(Clone, Copy, Debug, PartialEq, Eq)]
@@ -48,14 +48,14 @@ impl Wanted {
         }
     }
 
-    /// Counts one blank more of the edition's kind, if there is one.
-    pub(crate) fn count(&mut self, made: Option<Edition>)
+    /// Counts one blank more of the kind version's kind, if there is one.
+    pub(crate) fn count(&mut self, made: Option<KindVersion>)
         requires { (kind : Kind) → blanks_in self.old kind + one_if (is_of kind made) < 2 ^ 64 }
         ensures { (kind : Kind) → blanks_in self.new kind ≡ blanks_in self.old kind
             + one_if (is_of kind made) }
     {
         match made {
-            Some(edition) => self.count_one(edition.kind()),
+            Some(kind_version) => self.count_one(kind_version.kind()),
             None => {}
         }
     }

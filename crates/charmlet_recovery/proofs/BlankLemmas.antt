@@ -18,7 +18,7 @@ use Rattle.charmlet_recovery.proofs.Faultless.{AllPass}
 use Rattle.charmlet_recovery.proofs.Sound.{exact-effect}
 use Rattle.charmlet_model.specs.declared.logged.Effect.{Effect}
 use Rattle.charmlet_model.specs.declared.logged.Effect.TheVariants.{Constructed}
-use Rattle.charmlet_model.specs.declared.logged.CaughtUp.{CaughtUp}
+use Rattle.charmlet_model.specs.declared.logged.CatchUpEntry.{CatchUpEntry}
 use Rattle.charmlet_recovery.specs.Bases.{reaction, records_after, redelivered}
 use Rattle.charmlet_model.specs.Logging.{effect_between}
 use Rattle.charmlet_recovery.specs.Faults.{same_effect, has_effect, is_caught_up, is_next_delivery, catch_up_tests}
@@ -46,7 +46,7 @@ count-stays counts entries y x r same h =
     ] refl
 
 module _ (manifest : Kinds) (kind : Kind) where
-  outcome-step : (counts entries : List (Elem × Record)) (d : CaughtUp) (o : Option Reaction) → (d.received == (record_at entries d.message.to).received + 1) ≡ true → has_effect (record_at entries d.message.to) o d.effect ≡ true → SameCounts counts entries →
+  outcome-step : (counts entries : List (Elem × Record)) (d : CatchUpEntry) (o : Option Reaction) → (d.received == (record_at entries d.message.to).received + 1) ≡ true → has_effect (record_at entries d.message.to) o d.effect ≡ true → SameCounts counts entries →
       SameCounts (with_count counts d) (records_after entries d.message.to (record_at entries d.message.to) o)
   outcome-step counts entries d None count effect h = absurd (let no : ⊥ = cc in no)
   outcome-step counts entries d (Some o) count effect h = λ x.
@@ -54,7 +54,7 @@ module _ (manifest : Kinds) (kind : Kind) where
       let same = h d.message.to in
       count-step counts entries d.message.to x _ (advanced (record_at entries d.message.to) o) (omega arith) h
 
-  pub counts-step : (counts entries : List (Elem × Record)) (d : CaughtUp) → is_caught_up manifest (record_at entries d.message.to) d ≡ true → SameCounts counts entries → SameCounts (with_count counts d) (redelivered manifest entries d)
+  pub counts-step : (counts entries : List (Elem × Record)) (d : CatchUpEntry) → is_caught_up manifest (record_at entries d.message.to) d ≡ true → SameCounts counts entries → SameCounts (with_count counts d) (redelivered manifest entries d)
   counts-step counts entries d fits h =
       let r = record_at entries d.message.to in
       elim (nat_le d.received r.received) as (λ b. nat_le d.received r.received ≡ b → (b || is_next_delivery manifest r d) ≡ true → SameCounts (with_count counts d) (cond b entries (records_after entries d.message.to r (reaction manifest r d.message)))) [
@@ -66,7 +66,7 @@ module _ (manifest : Kinds) (kind : Kind) where
   effect-is r None effect h = absurd (let no : ⊥ = cc in no)
   effect-is r (Some o) effect h = ap (λ e. same_effect e Constructed) (sym (exact-effect (effect_between r.state o.state) effect h))
 
-  same-wanted : (r : Record) (d : CaughtUp) → is_caught_up manifest r d ≡ true →
+  same-wanted : (r : Record) (d : CatchUpEntry) → is_caught_up manifest r d ≡ true →
       (not (nat_le d.received r.received) && same_effect d.effect Constructed && array_is manifest kind d.message.to.array)
       ≡ (not (nat_le d.received r.received) && constructs r (reaction manifest r d.message) && array_is manifest kind d.message.to.array)
   same-wanted r d fits =
@@ -76,11 +76,11 @@ module _ (manifest : Kinds) (kind : Kind) where
         | false ↦ λ next. ap (λ b. (true && b) && array_is manifest kind d.message.to.array) (effect-is r (reaction manifest r d.message) d.effect (both_parts _ _ next).1)
       ] fits
 
-  pub catch-up-made : (counts entries : List (Elem × Record)) (ds : List CaughtUp) → AllPass (catch_up_tests manifest entries ds) → SameCounts counts entries →
+  pub catch-up-made : (counts entries : List (Elem × Record)) (ds : List CatchUpEntry) → AllPass (catch_up_tests manifest entries ds) → SameCounts counts entries →
       wanted_by_catch_up manifest kind counts ds ≡ made_by_catch_up manifest kind entries ds
-  catch-up-made counts entries [] pass h = refl
-  catch-up-made counts entries (d ∷ ds) pass h =
+  catch-up-made counts entries [] scan h = refl
+  catch-up-made counts entries (d ∷ ds) scan h =
       let here = ap (λ n. one_if (not (nat_le d.received n) && same_effect d.effect Constructed && array_is manifest kind d.message.to.array)) (h d.message.to)
-      ∙ ap one_if (same-wanted (record_at entries d.message.to) d pass.0) in
-      let rest = catch-up-made (with_count counts d) (redelivered manifest entries d) ds pass.1 (counts-step counts entries d pass.0 h) in
+      ∙ ap one_if (same-wanted (record_at entries d.message.to) d scan.0) in
+      let rest = catch-up-made (with_count counts d) (redelivered manifest entries d) ds scan.1 (counts-step counts entries d scan.0 h) in
       λ i. here i + rest i

@@ -12,7 +12,7 @@ use Rattle.charmlet_recovery.proofs.Sound.{all-pass}
 use Rattle.charmlet_recovery.proofs.BlankLemmas.{catch-up-made}
 use Rattle.charmlet_recovery.proofs.BlankLogs.{blanks-made}
 use Rattle.charmlet_model.specs.declared.logged.Effect.TheVariants.{Constructed}
-use Rattle.charmlet_model.specs.declared.logged.CaughtUp.{CaughtUp}
+use Rattle.charmlet_model.specs.declared.logged.CatchUpEntry.{CatchUpEntry}
 use Rattle.charmlet_model.specs.declared.logged.Logged.{Logged}
 use Rattle.charmlet_model.specs.declared.logged.Logged.TheVariants.{Accept, Deliver}
 use Rattle.charmlet_image.specs.Images.{Image}
@@ -23,7 +23,7 @@ use Rattle.charmlet_recovery.specs.Blanks.{array_is, array_of, sender_array, one
 
 -- ---- what the first records want is no more than what all want
 
-catch-up-more : (manifest : Kinds) (kind : Kind) (i : ℕ) (counts : List (Elem × Record)) (ds : List CaughtUp) →
+catch-up-more : (manifest : Kinds) (kind : Kind) (i : ℕ) (counts : List (Elem × Record)) (ds : List CatchUpEntry) →
     wanted_by_catch_up manifest kind counts (take i ds) ≤ wanted_by_catch_up manifest kind counts ds
 catch-up-more manifest kind zero counts ds = omega arith
 catch-up-more manifest kind (suc i) counts [] = omega arith

@@ -11,7 +11,7 @@ use Rattle.charmlet_model.specs.Own.{advanced_if}
 use Rattle.charmlet_model.specs.World.{record_at, advanced}
 use Rattle.charmlet_model.proofs.Maps.{same_from_test, same_elem-is}
 use Rattle.charmlet_recovery.proofs.Moments.{advanced-here, advanced-elsewhere}
-use Rattle.charmlet_model.specs.declared.logged.CaughtUp.{CaughtUp}
+use Rattle.charmlet_model.specs.declared.logged.CatchUpEntry.{CatchUpEntry}
 use Rattle.charmlet_recovery.specs.Bases.{reaction, records_after, redelivered, redelivered_all}
 use Rattle.charmlet_recovery.specs.Replays.{caught_own, deliveries_to}
 
@@ -27,7 +27,7 @@ elsewhere entries y x true o apart = refl
 elsewhere entries y x false None apart = refl
 elsewhere entries y x false (Some o) apart = advanced-elsewhere entries y (advanced (record_at entries y) o) x apart
 
-one : (manifest : Kinds) (entries : List (Elem × Record)) (d : CaughtUp) (rest : List CaughtUp) (x : Elem) →
+one : (manifest : Kinds) (entries : List (Elem × Record)) (d : CatchUpEntry) (rest : List CatchUpEntry) (x : Elem) →
     caught_own manifest (record_at (redelivered manifest entries d) x) rest ≡ caught_own manifest (record_at entries x) (cond (same_elem x d.message.to) (d ∷ rest) rest)
 one manifest entries d rest x =
     let y = d.message.to in
@@ -40,6 +40,6 @@ one manifest entries d rest x =
       | false ↦ λ apart. ap (λ r. caught_own manifest r rest) (elsewhere entries y x late o (sym (same_elem-is x y) ∙ apart))
     ] refl
 
-pub caught_up-own : (manifest : Kinds) (entries : List (Elem × Record)) (ds : List CaughtUp) (x : Elem) → record_at (redelivered_all manifest entries ds) x ≡ caught_own manifest (record_at entries x) (deliveries_to x ds)
+pub caught_up-own : (manifest : Kinds) (entries : List (Elem × Record)) (ds : List CatchUpEntry) (x : Elem) → record_at (redelivered_all manifest entries ds) x ≡ caught_own manifest (record_at entries x) (deliveries_to x ds)
 caught_up-own manifest entries [] x = refl
 caught_up-own manifest entries (d ∷ ds) x = caught_up-own manifest (redelivered manifest entries d) ds x ∙ one manifest entries d (deliveries_to x ds) x

@@ -7,7 +7,7 @@ use Rattle.charmlet_model.specs.declared.message.Message.{Message}
 use Rattle.charmlet_model.specs.declared.state.Record.{Record}
 use Rattle.charmlet_model.specs.World.{World, world, after, record_at}
 use Rattle.charmlet_recovery.proofs.Values.{tests-grow}
-use Rattle.charmlet_model.specs.declared.logged.CaughtUp.{CaughtUp}
+use Rattle.charmlet_model.specs.declared.logged.CatchUpEntry.{CatchUpEntry}
 use Rattle.charmlet_model.specs.declared.logged.Logged.{Logged}
 use Rattle.charmlet_image.specs.Images.{Image}
 use Rattle.charmlet_recovery.specs.Bases.{base, redelivered, events_of, recovered_world}
@@ -46,7 +46,7 @@ failure-stays (false ∷ tests) more i h = h
 
 -- ---- the tests of the first records are the first tests
 
-catch-up-take : (manifest : Kinds) (entries : List (Elem × Record)) (i : ℕ) (ds : List CaughtUp) → catch_up_tests manifest entries (take i ds) ≡ take i (catch_up_tests manifest entries ds)
+catch-up-take : (manifest : Kinds) (entries : List (Elem × Record)) (i : ℕ) (ds : List CatchUpEntry) → catch_up_tests manifest entries (take i ds) ≡ take i (catch_up_tests manifest entries ds)
 catch-up-take manifest entries zero ds = refl
 catch-up-take manifest entries (suc i) [] = refl
 catch-up-take manifest entries (suc i) (d ∷ ds) = ap (λ ts. is_caught_up manifest (record_at entries d.message.to) d ∷ ts) (catch-up-take manifest (redelivered manifest entries d) i ds)
@@ -61,7 +61,7 @@ events-take w before zero log = refl
 events-take w before (suc i) [] = refl
 events-take w before (suc i) (l ∷ log) = ap (λ ts. happens w before l ∷ ts) (events-take (after w (event_of l)) (before + 1) i log)
 
-catch-up-length : (manifest : Kinds) (entries : List (Elem × Record)) (ds : List CaughtUp) → length (catch_up_tests manifest entries ds) ≡ length ds
+catch-up-length : (manifest : Kinds) (entries : List (Elem × Record)) (ds : List CatchUpEntry) → length (catch_up_tests manifest entries ds) ≡ length ds
 catch-up-length manifest entries [] = refl
 catch-up-length manifest entries (d ∷ ds) = ap suc (catch-up-length manifest (redelivered manifest entries d) ds)
 

@@ -15,11 +15,11 @@ use Rattle.charmlet_model.specs.Names.{elem_cmp}
 use Rattle.charmlet_model.specs.Packed.{IsWord}
 use Rattle.charmlet_model.specs.Fit.{AreWords, AreDistinct, IsElem, IsOrigin, IsRecord, IsRow, IsKept}
 use Rattle.charmlet_model.specs.World.{row_of, record_at}
-use Rattle.charmlet_model.specs.declared.logged.CaughtUp.{CaughtUp}
+use Rattle.charmlet_model.specs.declared.logged.CatchUpEntry.{CatchUpEntry}
 use Rattle.charmlet_image.specs.Images.{Image}
 
 -- a message whose fields are of their types
-pub record IsLetter (manifest : Kinds) (m : Message) : Type 0 where
+pub record IsPendingMessage (manifest : Kinds) (m : Message) : Type 0 where
   pub origin : IsOrigin manifest m.id.origin
   pub number : 0 < m.id.number
   pub small_number : IsWord m.id.number
@@ -28,8 +28,8 @@ pub record IsLetter (manifest : Kinds) (m : Message) : Type 0 where
   pub words : AreWords 512 m.words
 
 -- a delivery of the catch-up list
-pub record IsCatchUp (manifest : Kinds) (d : CaughtUp) : Type 0 where
-  pub message : IsLetter manifest d.message
+pub record IsCatchUp (manifest : Kinds) (d : CatchUpEntry) : Type 0 where
+  pub message : IsPendingMessage manifest d.message
   pub count : IsWord d.received
 
 -- a send that is written
@@ -60,7 +60,7 @@ pub record IsGoodImage (image : Image) : Type 0 where
   pub no_empty_row : All (λ (row : ClientRow). 0 < length row.window) (values_of image.clients)
   pub clients : (c : ℕ) → IsRow (row_of image.clients c)
   pub distinct : AreDistinct image.pending
-  pub pending : AllByRecursion (IsLetter image.manifest) image.pending
+  pub pending : AllByRecursion (IsPendingMessage image.manifest) image.pending
   pub rising_elements : IsStrictlySortedBy elem_cmp (keys_of image.records)
   pub known_elements : All (IsElem image.manifest) (keys_of image.records)
   pub no_empty_record : All IsKept (values_of image.records)

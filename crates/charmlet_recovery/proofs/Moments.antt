@@ -21,7 +21,7 @@ use Rattle.charmlet_model.specs.Names.{elem_cmp}
 use Rattle.charmlet_model.specs.World.{World, world, after, performed, delivered, reaction_of, message_among, record_at, record_of, advanced}
 use Rattle.charmlet_model.proofs.Maps.{elem_total, elem_exact, rising-insert_entry}
 use Rattle.charmlet_model.proofs.Histories.{record_at-insert, manifest-after}
-use Rattle.charmlet_model.specs.declared.logged.CaughtUp.{CaughtUp}
+use Rattle.charmlet_model.specs.declared.logged.CatchUpEntry.{CatchUpEntry}
 use Rattle.charmlet_recovery.specs.Bases.{reaction, records_after, redelivered, redelivered_all}
 use Rattle.charmlet_recovery.specs.Moments.{noted, noted_if, noted_at, deliveries, moment}
 use Rattle.charmlet_model.specs.Logging.{effect_between}
@@ -73,7 +73,7 @@ module _ (w : World) (m : Message) (o : Reaction) (es : List Event) (entries : L
   abbrev next : World
   next = performed w m (Some o)
 
-  abbrev d : CaughtUp
+  abbrev d : CatchUpEntry
   d = record { message = m; received = (record_of w m.to).received + 1; effect = effect_between (record_of w m.to).state o.state }
 
   -- a delivery changes no other element's entry
@@ -137,7 +137,7 @@ pub step-event : (w : World) (e : Event) (es : List Event) (entries : List (Elem
 step-event w (events.Accept client number to entry words) es entries h x = nearer w (events.Accept client number to entry words) es x (record_at entries x) refl (h x)
 step-event w (events.Deliver id) es entries h x = step-message w (message_among id w.pending) (events.Deliver id) es entries refl h x
 
-pub caught_up-append : (manifest : Kinds) (entries : List (Elem × Record)) (ds more : List CaughtUp) →
+pub caught_up-append : (manifest : Kinds) (entries : List (Elem × Record)) (ds more : List CatchUpEntry) →
     redelivered_all manifest entries (ds ++ more) ≡ redelivered_all manifest (redelivered_all manifest entries ds) more
 caught_up-append manifest entries [] more = refl
 caught_up-append manifest entries (d ∷ ds) more = caught_up-append manifest (redelivered manifest entries d) ds more
@@ -165,7 +165,7 @@ no_empty-entries_after : (entries : List (Elem × Record)) (x : Elem) (r : Recor
 no_empty-entries_after entries x r None h = h
 no_empty-entries_after entries x r (Some o) h = All-values-insert_entry elem_cmp x (advanced r o) IsKept entries h (inr (omega arith))
 
-pub rising-caught_up : (manifest : Kinds) (entries : List (Elem × Record)) (ds : List CaughtUp) → IsStrictlySortedBy elem_cmp (keys_of entries) → IsStrictlySortedBy elem_cmp (keys_of (redelivered_all manifest entries ds))
+pub rising-caught_up : (manifest : Kinds) (entries : List (Elem × Record)) (ds : List CatchUpEntry) → IsStrictlySortedBy elem_cmp (keys_of entries) → IsStrictlySortedBy elem_cmp (keys_of (redelivered_all manifest entries ds))
 rising-caught_up manifest entries [] h = h
 rising-caught_up manifest entries (d ∷ ds) h =
     rising-caught_up manifest (redelivered manifest entries d) ds
@@ -174,7 +174,7 @@ rising-caught_up manifest entries (d ∷ ds) h =
       | false ↦ rising-entries_after entries d.message.to (record_at entries d.message.to) (reaction manifest (record_at entries d.message.to) d.message) h
     ])
 
-pub no_empty-caught_up : (manifest : Kinds) (entries : List (Elem × Record)) (ds : List CaughtUp) → All IsKept (values_of entries) → All IsKept (values_of (redelivered_all manifest entries ds))
+pub no_empty-caught_up : (manifest : Kinds) (entries : List (Elem × Record)) (ds : List CatchUpEntry) → All IsKept (values_of entries) → All IsKept (values_of (redelivered_all manifest entries ds))
 no_empty-caught_up manifest entries [] h = h
 no_empty-caught_up manifest entries (d ∷ ds) h =
     no_empty-caught_up manifest (redelivered manifest entries d) ds

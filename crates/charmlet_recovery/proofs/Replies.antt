@@ -20,7 +20,7 @@ use Rattle.charmlet_model.specs.Row.{Item, below, in_window, item_place, item_of
 use Rattle.charmlet_model.specs.Fit.{IsFit, IsRow, IsMessage, WasSent}
 use Rattle.charmlet_model.specs.World.{World, world, after, can, can_all, answered, row_of, client_of, IsEvent}
 use Rattle.charmlet_model.proofs.Maps.{both_parts}
-use Rattle.charmlet_model.proofs.Births.{next_number}
+use Rattle.charmlet_model.proofs.SeqNos.{next_number}
 use Rattle.charmlet_model.proofs.Fits.{found, fit-after}
 use Rattle.charmlet_model.proofs.Histories.{row_of-insert}
 use Rattle.charmlet_model.proofs.Windows.{inside-parts, inside-true, awaited-parts, below-with_reply}

@@ -1,4 +1,4 @@
--- Record by record: the next one passes, or is the first fault.
+-- Record by record: the next one scans, or is the first fault.
 use Rattle.charmlet_record.specs.Reading.{Kinds}
 use Rattle.std.proofs.Common.{◌≡◌, ℕ, suc, ◌+◌, Bool, true, false, List, [], ◌∷◌, ◌++◌, length, refl, ap, ◌∙◌}
 use Rattle.std.specs.Prelude.{Some, None, option_map}
@@ -9,7 +9,7 @@ use Rattle.charmlet_model.specs.World.{World, after, record_at}
 use Rattle.charmlet_recovery.proofs.Faultless.{AllPass, none-failed, tests-append}
 use Rattle.charmlet_recovery.proofs.Sound.{all-pass, passed-all}
 use Rattle.charmlet_recovery.proofs.Values.{tests-grow}
-use Rattle.charmlet_model.specs.declared.logged.CaughtUp.{CaughtUp}
+use Rattle.charmlet_model.specs.declared.logged.CatchUpEntry.{CatchUpEntry}
 use Rattle.charmlet_model.specs.declared.logged.Logged.{Logged}
 use Rattle.charmlet_image.specs.Images.{Image}
 use Rattle.charmlet_recovery.specs.Bases.{base, redelivered, redelivered_all, recovered_world}
@@ -33,7 +33,7 @@ one-fails (t ∷ tests) b later h is = ap (λ s. first_failure (s ∷ (tests ++ 
 faulty-from : (image : Image) (before : ℕ) (log : List Logged) (fault : Place) → first_fault image before log ≡ Some fault → meaning image before log ≡ Faulty fault
 faulty-from image before log fault is = ap (λ o. unless_faulty o (recovered_world image log) (before + length log)) is
 
-catch-up-length : (manifest : Kinds) (entries : List (Elem × Record)) (ds : List CaughtUp) → length (catch_up_tests manifest entries ds) ≡ length ds
+catch-up-length : (manifest : Kinds) (entries : List (Elem × Record)) (ds : List CatchUpEntry) → length (catch_up_tests manifest entries ds) ≡ length ds
 catch-up-length manifest entries [] = refl
 catch-up-length manifest entries (d ∷ ds) = ap suc (catch-up-length manifest (redelivered manifest entries d) ds)
 
@@ -47,7 +47,7 @@ events-length w before (l ∷ log) = ap suc (events-length (after w (event_of l)
 
 -- ---- the catch-up list
 
-pub catch-up-on : (image : Image) (before : ℕ) (log : List Logged) (earlier later : List CaughtUp) (d : CaughtUp) → image.caught_up ≡ earlier ++ d ∷ later →
+pub catch-up-on : (image : Image) (before : ℕ) (log : List Logged) (earlier later : List CatchUpEntry) (d : CatchUpEntry) → image.caught_up ≡ earlier ++ d ∷ later →
     first_failure (catch_up_tests image.manifest image.records earlier) ≡ None →
     (is_caught_up image.manifest (record_at (redelivered_all image.manifest image.records earlier) d.message.to) d ≡ true →
     first_failure (catch_up_tests image.manifest image.records (earlier ++ d ∷ [])) ≡ None)
@@ -58,7 +58,7 @@ catch-up-on image before log earlier later d is none =
     let here = is_caught_up image.manifest (record_at (redelivered_all image.manifest image.records earlier) d.message.to) d in
     let second = first_failure (pending_tests (base image) image.pending) in
     let third = first_failure (event_tests (base image) before log) in (
-      λ passes. ap first_failure (tests-append image.manifest image.records earlier (d ∷ [])) ∙ one-passes tests here none passes,
+      λ scans. ap first_failure (tests-append image.manifest image.records earlier (d ∷ [])) ∙ one-passes tests here none scans,
       λ fails.
           let first : first_failure (catch_up_tests image.manifest image.records image.caught_up) ≡ Some (length earlier) =
           ap (λ ds. first_failure (catch_up_tests image.manifest image.records ds)) is
@@ -83,7 +83,7 @@ pending-on image before log earlier later m is caught none =
     let tests = pending_tests w earlier in
     let here = was_sent w m.id.origin m.id.number in
     let third = first_failure (event_tests w before log) in (
-      λ passes. ap first_failure (pending-append w earlier (m ∷ [])) ∙ one-passes tests here none passes,
+      λ scans. ap first_failure (pending-append w earlier (m ∷ [])) ∙ one-passes tests here none scans,
       λ fails.
           let second : first_failure (pending_tests w image.pending) ≡ Some (length earlier) =
           ap (λ ms. first_failure (pending_tests w ms)) is
@@ -100,20 +100,20 @@ pub events-on : (image : Image) (before : ℕ) (earlier later : List Logged) (l 
     × (happens (recovered_world image earlier) (before + length earlier) l ≡ false → meaning image before (earlier ++ l ∷ later) ≡ Faulty (InEvents (length earlier)))
 events-on image before earlier later l none =
     let w : World = base image in
-    let pass = passed-all image before earlier none in
-    let caught = none-failed (catch_up_tests image.manifest image.records image.caught_up) pass.catch_up in
-    let sent = none-failed (pending_tests w image.pending) pass.pending in
+    let scan = passed-all image before earlier none in
+    let caught = none-failed (catch_up_tests image.manifest image.records image.caught_up) scan.catch_up in
+    let sent = none-failed (pending_tests w image.pending) scan.pending in
     let tests = event_tests w before earlier in
     let v : World = recovered_world image earlier in
     let n = before + length earlier in (
-      λ passes.
+      λ scans.
           let third : first_failure (event_tests w before (earlier ++ l ∷ [])) ≡ None =
-          ap first_failure (tests-grow w before earlier (l ∷ [])) ∙ one-passes tests (happens v n l) (none-failed tests pass.events) passes in
+          ap first_failure (tests-grow w before earlier (l ∷ [])) ∙ one-passes tests (happens v n l) (none-failed tests scan.events) scans in
           λ i. place_in_catch_up (caught i) (place_in_pending (sent i) (place_in_events (third i))),
       λ fails.
           let third : first_failure (event_tests w before (earlier ++ l ∷ later)) ≡ Some (length earlier) =
           ap first_failure (tests-grow w before earlier (l ∷ later))
-          ∙ one-fails tests (happens v n l) (event_tests (after v (event_of l)) (n + 1) later) pass.events fails
+          ∙ one-fails tests (happens v n l) (event_tests (after v (event_of l)) (n + 1) later) scan.events fails
           ∙ ap Some (events-length w before earlier) in
           faulty-from image before (earlier ++ l ∷ later) (InEvents (length earlier)) (λ i. place_in_catch_up (caught i) (place_in_pending (sent i) (place_in_events (third i)))),
     )

@@ -9,7 +9,7 @@ use Rattle.charmlet_model.specs.declared.state.Record.{Record}
 use Rattle.charmlet_model.specs.declared.event.Event.{Event}
 use Rattle.charmlet_model.specs.declared.reaction.Reaction.{Reaction}
 use Rattle.charmlet_model.specs.declared.logged.Logged.{Logged}
-use Rattle.charmlet_model.specs.declared.logged.CaughtUp.{CaughtUp}
+use Rattle.charmlet_model.specs.declared.logged.CatchUpEntry.{CatchUpEntry}
 use Rattle.charmlet_model.specs.Names.{elem_cmp}
 use Rattle.charmlet_model.specs.Reaction.{react}
 use Rattle.charmlet_model.specs.World.{World, world, record_at, advanced}
@@ -30,18 +30,18 @@ records_after records x r None = records
 records_after records x r (Some o) = insert_entry elem_cmp records x (advanced r o)
 
 -- the receiver's record has the delivery already
-abbrev pub is_skipped : Record → CaughtUp → Bool
+abbrev pub is_skipped : Record → CatchUpEntry → Bool
 is_skipped r d = nat_le d.received r.received
 
 -- a delivery that the receiver's record already has is skipped, and any other one is made again
-abbrev pub redelivered : Kinds → List (Elem × Record) → CaughtUp → List (Elem × Record)
+abbrev pub redelivered : Kinds → List (Elem × Record) → CatchUpEntry → List (Elem × Record)
 redelivered manifest records d =
     if is_skipped (record_at records d.message.to) d then records
     else records_after records d.message.to (record_at records d.message.to)
     (reaction manifest (record_at records d.message.to) d.message)
 
 -- the records after the deliveries of a catch-up list, in order
-abbrev pub redelivered_all : Kinds → List (Elem × Record) → List CaughtUp → List (Elem × Record)
+abbrev pub redelivered_all : Kinds → List (Elem × Record) → List CatchUpEntry → List (Elem × Record)
 redelivered_all manifest records [] = records
 redelivered_all manifest records (d ∷ ds) =
     redelivered_all manifest (redelivered manifest records d) ds

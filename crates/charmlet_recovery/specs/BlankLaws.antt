@@ -6,7 +6,7 @@ use Rattle.charmlet_model.specs.declared.names.MsgId.{MsgId}
 use Rattle.charmlet_model.specs.declared.message.Message.{Message}
 use Rattle.charmlet_model.specs.declared.message.Outgoing.{Outgoing}
 use Rattle.charmlet_model.specs.declared.logged.Effect.TheVariants.{Constructed}
-use Rattle.charmlet_model.specs.declared.logged.CaughtUp.{CaughtUp}
+use Rattle.charmlet_model.specs.declared.logged.CatchUpEntry.{CatchUpEntry}
 use Rattle.charmlet_model.specs.declared.logged.Logged.{Logged}
 use Rattle.charmlet_model.specs.declared.logged.Logged.TheVariants.{Deliver}
 use Rattle.charmlet_model.specs.World.{record_at, message_among}
@@ -42,7 +42,8 @@ BlanksSuffice = (mark : Mark) (image : Image) (before : ℕ) (log : List Logged)
 -- proves faulty.
 abbrev pub BlanksSufficeNext : Type 0
 BlanksSufficeNext = (mark : Mark) (image : Image) (before : ℕ) (kind : Kind) →
-    ((earlier later : List CaughtUp) (d : CaughtUp) (log : List Logged) → image.caught_up ≡ earlier
+    ((earlier later : List CatchUpEntry) (d : CatchUpEntry) (log : List Logged) → image.caught_up
+    ≡ earlier
     ++ d ∷ later →
     first_failure (catch_up_tests image.manifest image.records earlier) ≡ None →
     is_skipped (record_at (redelivered_all image.manifest image.records earlier) d.message.to) d

@@ -1,7 +1,7 @@
 -- The laws of faults, by which records are tested one after the other.
 use Rattle.std.specs.Prelude.{◌≡◌, ℕ, ◌+◌, ◌<◌, List, [], ◌∷◌, ◌++◌, length, take, true, false, Some, None}
 use Rattle.charmlet_model.specs.declared.message.Message.{Message}
-use Rattle.charmlet_model.specs.declared.logged.CaughtUp.{CaughtUp}
+use Rattle.charmlet_model.specs.declared.logged.CatchUpEntry.{CatchUpEntry}
 use Rattle.charmlet_model.specs.declared.logged.Logged.{Logged}
 use Rattle.charmlet_model.specs.World.{record_at}
 use Rattle.charmlet_image.specs.Images.{Image}
@@ -29,11 +29,11 @@ abbrev pub FaultsStay : Type 0
 FaultsStay = (image : Image) (before : ℕ) (log more : List Logged) (place : Place) →
     meaning image before log ≡ Faulty place → meaning image before (log ++ more) ≡ Faulty place
 
--- A reader of the catch-up list goes on past a record that passes, and one that doesn't is the
+-- A reader of the catch-up list goes on past a record that scans, and one that doesn't is the
 -- first fault.
 abbrev pub CatchUpGoesOn : Type 0
-CatchUpGoesOn = (image : Image) (before : ℕ) (log : List Logged) (earlier later : List CaughtUp)
-    (d : CaughtUp) → image.caught_up ≡ earlier ++ d ∷ later →
+CatchUpGoesOn = (image : Image) (before : ℕ) (log : List Logged) (earlier later : List CatchUpEntry)
+    (d : CatchUpEntry) → image.caught_up ≡ earlier ++ d ∷ later →
     first_failure (catch_up_tests image.manifest image.records earlier) ≡ None →
     (is_caught_up image.manifest (record_at (redelivered_all image.manifest image.records earlier)
     d.message.to) d ≡ true →

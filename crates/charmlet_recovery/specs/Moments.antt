@@ -8,7 +8,7 @@ use Rattle.charmlet_model.specs.declared.message.Message.{Message}
 use Rattle.charmlet_model.specs.declared.event.Event.{Event}
 use Rattle.charmlet_model.specs.declared.event.Event.TheVariants as events
 use Rattle.charmlet_model.specs.declared.reaction.Reaction.{Reaction}
-use Rattle.charmlet_model.specs.declared.logged.CaughtUp.{CaughtUp}
+use Rattle.charmlet_model.specs.declared.logged.CatchUpEntry.{CatchUpEntry}
 use Rattle.charmlet_model.specs.Names.{elem_cmp}
 use Rattle.charmlet_model.specs.Fit.{IsKept}
 use Rattle.charmlet_model.specs.World.{World, world, after, record_at, record_of, reaction_of, message_among}
@@ -16,7 +16,7 @@ use Rattle.charmlet_model.specs.Logging.{effect_between}
 use Rattle.charmlet_image.specs.Images.{Image}
 
 -- what a catch-up list keeps of a message and of what its receiver made of it
-abbrev pub noted : World → Message → Option Reaction → List CaughtUp
+abbrev pub noted : World → Message → Option Reaction → List CatchUpEntry
 noted w m None = []
 noted w m (Some o) = record {
   message = m;
@@ -25,17 +25,17 @@ noted w m (Some o) = record {
 } ∷ []
 
 -- the same for the message that a delivery finds
-abbrev pub noted_if : World → Option Message → List CaughtUp
+abbrev pub noted_if : World → Option Message → List CatchUpEntry
 noted_if w None = []
 noted_if w (Some m) = noted w m (reaction_of w m)
 
 -- what a catch-up list keeps of an event
-abbrev pub noted_at : World → Event → List CaughtUp
+abbrev pub noted_at : World → Event → List CatchUpEntry
 noted_at w (events.Deliver id) = noted_if w (message_among id w.pending)
 noted_at w (events.Accept client number to entry words) = []
 
 -- the deliveries of a history, as a catch-up list has them
-abbrev pub deliveries : World → List Event → List CaughtUp
+abbrev pub deliveries : World → List Event → List CatchUpEntry
 deliveries w [] = []
 deliveries w (e ∷ es) = noted_at w e ++ deliveries (after w e) es
 

@@ -6,7 +6,7 @@ use Rattle.std.specs.Ordering.{nat_cmp}
 use Rattle.charmlet_model.specs.declared.names.Elem.{Elem}
 use Rattle.charmlet_model.specs.declared.state.Record.{Record}
 use Rattle.charmlet_model.specs.declared.event.Event.{Event}
-use Rattle.charmlet_model.specs.declared.logged.CaughtUp.{CaughtUp}
+use Rattle.charmlet_model.specs.declared.logged.CatchUpEntry.{CatchUpEntry}
 use Rattle.charmlet_model.specs.declared.logged.Logged.{Logged}
 use Rattle.charmlet_model.specs.Row.{reply_to}
 use Rattle.charmlet_model.specs.World.{client_of, World, world, record_at, IsLegal}
@@ -16,7 +16,7 @@ use Rattle.charmlet_model.specs.Logging.{logged_all}
 use Rattle.charmlet_record.specs.Reading.{Kinds}
 use Rattle.charmlet_recovery.specs.Bases.{redelivered_all}
 use Rattle.charmlet_recovery.specs.Faults.{is_caught_up, first_failure, event_tests}
-use Rattle.charmlet_recovery.specs.Replays.{or_else, last_reply, reply_if, LogPass, IsBeginning, listed, replayed, AreReceivers, replay_tests, replay_records, passes, pass_after, fits_own, message_of, caught_own, deliveries_to}
+use Rattle.charmlet_recovery.specs.Replays.{or_else, last_reply, reply_if, LogScan, IsBeginning, listed, replayed, AreReceivers, replay_tests, replay_records, scans, scan_after, fits_own, message_of, caught_own, deliveries_to}
 
 -- the records of a history are those that each element's own messages give, in whatever order the
 -- elements are taken
@@ -25,64 +25,66 @@ ListsGiveRecords = (w : World) (before : ℕ) (history : List Event) (xs : List 
     IsLegal w before history → AreReceivers w history xs →
     replayed w history w.records xs ≡ (world w history).records
 
--- a pass over the log of a history, which runs no entry method, gives each element the messages
+-- a scan over the log of a history, which runs no entry method, gives each element the messages
 -- that the history delivers to it
 abbrev pub ListsNeedNoEntries : Type 0
-ListsNeedNoEntries = (w : World) (before : ℕ) (history : List Event) (pass : LogPass) (x : Elem) →
-    IsFit w → IsLegal w before history → IsBeginning w pass →
-    listed x pass (logged_all w history) ≡ own x w history
+ListsNeedNoEntries = (w : World) (before : ℕ) (history : List Event) (scan : LogScan) (x : Elem) →
+    IsFit w → IsLegal w before history → IsBeginning w scan →
+    listed x scan (logged_all w history) ≡ own x w history
 
--- such a pass ends with the pending messages, the counts of sent messages and the clients' rows of
+-- such a scan ends with the pending messages, the counts of sent messages and the clients' rows of
 -- the world, but for the replies' words
-abbrev pub PassesEndAsWorlds : Type 0
-PassesEndAsWorlds = (w : World) (before : ℕ) (history : List Event) (pass : LogPass) → IsFit w →
-    IsLegal w before history → IsBeginning w pass →
-    IsBeginning (world w history) (pass_after pass (logged_all w history))
+abbrev pub ScansEndAsWorlds : Type 0
+ScansEndAsWorlds = (w : World) (before : ℕ) (history : List Event) (scan : LogScan) → IsFit w →
+    IsLegal w before history → IsBeginning w scan →
+    IsBeginning (world w history) (scan_after scan (logged_all w history))
 
--- In any log, the first record that the pass or its receiver's worker finds wrong is the first one
+-- In any log, the first record that the scan or its receiver's worker finds wrong is the first one
 -- that can't happen as it is written.
 abbrev pub ReplayFindsFirstFault : Type 0
-ReplayFindsFirstFault = (w : World) (before : ℕ) (pass : LogPass) (log : List Logged) →
-    IsBeginning w pass →
-    first_failure (replay_tests w.manifest pass w.records before log)
+ReplayFindsFirstFault = (w : World) (before : ℕ) (scan : LogScan) (log : List Logged) →
+    IsBeginning w scan →
+    first_failure (replay_tests w.manifest scan w.records before log)
     ≡ first_failure (event_tests w before log)
 
 -- In any log, the record of an element that a replay comes to is what the messages listed for the
 -- element make of it.
 abbrev pub ReplayedRecordsAreOwn : Type 0
-ReplayedRecordsAreOwn = (manifest : Kinds) (pass : LogPass) (records : List (Elem × Record))
+ReplayedRecordsAreOwn = (manifest : Kinds) (scan : LogScan) (records : List (Elem × Record))
     (log : List Logged) (x : Elem) →
-    record_at (replay_records manifest pass records log) x
+    record_at (replay_records manifest scan records log) x
     ≡ received (lookup (is_at (nat_cmp x.array)) manifest) x (record_at records x)
-    (listed x pass log)
+    (listed x scan log)
 
--- In any log, the test of a place is that of the pass, and that of its receiver's worker by its own
+-- In any log, the test of a place is that of the scan, and that of its receiver's worker by its own
 -- list up to there.
 abbrev pub TestsAreOwn : Type 0
-TestsAreOwn = (manifest : Kinds) (pass : LogPass) (records : List (Elem × Record)) (before : ℕ)
+TestsAreOwn = (manifest : Kinds) (scan : LogScan) (records : List (Elem × Record)) (before : ℕ)
     (earlier : List Logged) (l : Logged) (later : List Logged) →
-    slice_index_or (replay_tests manifest pass records before (earlier ++ l ∷ later))
+    slice_index_or (replay_tests manifest scan records before (earlier ++ l ∷ later))
     (length earlier) true
-    ≡ (passes manifest (pass_after pass earlier) (before + length earlier) l
-    && fits_own manifest pass records earlier (message_of (pass_after pass earlier) l) l)
+    ≡ (scans manifest (scan_after scan earlier) (before + length earlier) l
+    && fits_own manifest scan records earlier (message_of (scan_after scan earlier) l) l)
 
 -- the record to which a catch-up list brings an element depends on the element's own deliveries
 -- alone
 abbrev pub CatchUpIsOwn : Type 0
-CatchUpIsOwn = (manifest : Kinds) (records : List (Elem × Record)) (ds : List CaughtUp) (x : Elem) →
+CatchUpIsOwn = (manifest : Kinds) (records : List (Elem × Record)) (ds : List CatchUpEntry)
+    (x : Elem) →
     record_at (redelivered_all manifest records ds) x ≡ caught_own manifest (record_at records x)
     (deliveries_to x ds)
 
 -- so the test of a place of the list is that of its receiver's worker, by the receiver's own
 -- deliveries up to there
 abbrev pub CatchUpTestsAreOwn : Type 0
-CatchUpTestsAreOwn = (manifest : Kinds) (records : List (Elem × Record)) (earlier : List CaughtUp)
-    (d : CaughtUp) →
+CatchUpTestsAreOwn = (manifest : Kinds) (records : List (Elem × Record))
+    (earlier : List CatchUpEntry)
+    (d : CatchUpEntry) →
     is_caught_up manifest (record_at (redelivered_all manifest records earlier) d.message.to) d
     ≡ is_caught_up manifest (caught_own manifest (record_at records d.message.to)
     (deliveries_to d.message.to earlier)) d
 
--- A reply that a client's window has in the end, as such a pass knows, has the words of the last
+-- A reply that a client's window has in the end, as such a scan knows, has the words of the last
 -- one to this request, or else those that it had.
 abbrev pub RepliesAreLast : Type 0
 RepliesAreLast = (w : World) (before : ℕ) (history : List Event) (client number : ℕ) → IsFit w →

@@ -6,7 +6,7 @@ ghost use Rattle.charmlet_recovery.specs.WritingLaws.{BatchesLengthen, BatchesSt
 ghost use Rattle.charmlet_recovery.specs.RestartLaws.{FaultsStandThere, FoundLacksBlanksAlone, LeastShortIsFound, OffsetsRise, RestartsAreRefusedForCause, RestartsAreTaken};
 ghost use Rattle.charmlet_recovery.specs.FaultLaws.{CatchUpGoesOn, EventsGoOn, FaultsArePlaces, FaultsStay, PendingGoesOn, RoundsEnd};
 ghost use Rattle.charmlet_recovery.specs.BlankLaws.{BlanksAreThoseMade, BlanksSuffice, BlanksSufficeNext};
-ghost use Rattle.charmlet_recovery.specs.ReplayLaws.{CatchUpIsOwn, CatchUpTestsAreOwn, ListsGiveRecords, ListsNeedNoEntries, PassesEndAsWorlds, ReplayFindsFirstFault, ReplayedRecordsAreOwn, RepliesAreLast, TestsAreOwn};
+ghost use Rattle.charmlet_recovery.specs.ReplayLaws.{CatchUpIsOwn, CatchUpTestsAreOwn, ListsGiveRecords, ListsNeedNoEntries, ScansEndAsWorlds, ReplayFindsFirstFault, ReplayedRecordsAreOwn, RepliesAreLast, TestsAreOwn};
 
 /// An image of a fit world and the log of a legal history come to the world after it. Events that
 /// are appended to a log are in it too, whatever image and log came before.
@@ -38,7 +38,7 @@ pub fn faults_are_places()
     ensures stay { FaultsStay }
 {}
 
-/// Record by record: the next one passes, or it is the first fault.
+/// Record by record: the next one scans, or it is the first fault.
 pub fn records_are_tested_in_order()
     ensures catch_up { CatchUpGoesOn }
     ensures pending { PendingGoesOn }
@@ -54,17 +54,17 @@ pub fn blanks_are_those_made()
     ensures next { BlanksSufficeNext }
 {}
 
-/// The messages of each element alone give the records of a history. A pass over the log, which
+/// The messages of each element alone give the records of a history. A scan over the log, which
 /// runs no entry method, gives these messages, and ends with everything else in the world except
 /// the words of replies. Those are the words of the last reply to each request.
 pub fn lists_give_records()
     ensures records { ListsGiveRecords }
     ensures lists { ListsNeedNoEntries }
-    ensures pass { PassesEndAsWorlds }
+    ensures scan { ScansEndAsWorlds }
     ensures replies { RepliesAreLast }
 {}
 
-/// In any log, the tests of such a pass and of each receiver find the first fault, and each
+/// In any log, the tests of such a scan and of each receiver find the first fault, and each
 /// receiver's tests and record depend on its own messages alone.
 pub fn replay_finds_first_fault()
     ensures first { ReplayFindsFirstFault }

@@ -13,7 +13,7 @@ pub use Rattle.charmlet_model.specs.Logging
 pub use Rattle.charmlet_record.specs.Reading
 pub use Rattle.charmlet_image.specs.Halves
 pub use Rattle.charmlet_image.specs.Images
-pub use Rattle.charmlet_image.specs.Placed
+pub use Rattle.charmlet_image.specs.Positioned
 pub use Rattle.charmlet_image.specs.Views as ImageViews
 pub use Rattle.charmlet_recovery.specs.Bases
 pub use Rattle.charmlet_recovery.specs.Faults

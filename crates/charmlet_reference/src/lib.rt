@@ -6,7 +6,7 @@
 mod kind_table;
 mod packed;
 mod recovery;
-mod upgrading;
+mod upgraded;
 mod world;
 
 pub use crate::kind_table::react;

@@ -6,8 +6,8 @@ mod catching_up;
 mod events;
 mod parts;
 mod pending;
-mod recovering;
-mod replaying;
+mod recovered;
+mod replayed;
 
-pub use crate::recovery::recovering::{Recovered, recover, recover_as_written};
-pub use crate::recovery::replaying::{Meaning, Place, replay};
+pub use crate::recovery::recovered::{Recovered, recover, recover_as_written};
+pub use crate::recovery::replayed::{Meaning, Place, replay};

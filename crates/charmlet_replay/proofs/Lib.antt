@@ -21,5 +21,5 @@ pub mod Reopened
 pub mod Waits
 pub mod Upgrades
 pub use Rattle.charmlet_store.proofs.EachShelf
-pub use Rattle.charmlet_restoring.proofs.Redelivered
-pub use Rattle.charmlet_restoring.proofs.Tests
+pub use Rattle.charmlet_shard.proofs.Redelivered
+pub use Rattle.charmlet_shard.proofs.Tests

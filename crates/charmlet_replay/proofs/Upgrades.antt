@@ -5,7 +5,7 @@ use Rattle.charmlet_model.specs.declared.names.Elem.{Elem}
 use Rattle.charmlet_model.specs.declared.state.State.{State}
 use Rattle.charmlet_model.specs.declared.state.Record.{Record}
 use Rattle.charmlet_model.specs.Core.{Blanks, Core, home}
-use Rattle.charmlet_model.specs.Edition.{are_newest}
+use Rattle.charmlet_model.specs.KindVersion.{are_newest}
 use Rattle.charmlet_model.specs.Sound.{homes, opened}
 use Rattle.charmlet_model.specs.Upgrade.{up, up_records, up_world}
 use Rattle.charmlet_model.specs.World.{World}

@@ -7,7 +7,7 @@ pub mod Images
 pub mod Unused
 pub mod Replayed
 pub use Rattle.charmlet_model.specs.Core
-pub use Rattle.charmlet_model.specs.Edition
+pub use Rattle.charmlet_model.specs.KindVersion
 pub use Rattle.charmlet_model.specs.Fit
 pub use Rattle.charmlet_model.specs.Logging
 pub use Rattle.charmlet_model.specs.Names
@@ -18,13 +18,13 @@ pub use Rattle.charmlet_model.specs.Sound
 pub use Rattle.charmlet_model.specs.Spelling
 pub use Rattle.charmlet_model.specs.Unpacked
 pub use Rattle.charmlet_model.specs.World
-pub use Rattle.charmlet_record.specs.Backlog
+pub use Rattle.charmlet_record.specs.WalBuffer
 pub use Rattle.charmlet_record.specs.Lawful
 pub use Rattle.charmlet_record.specs.Limits
 pub use Rattle.charmlet_record.specs.Reading as RecordReading
 pub use Rattle.charmlet_record.specs.Written as RecordWritten
 pub use Rattle.charmlet_image.specs.Images as ImageImages
-pub use Rattle.charmlet_image.specs.Placed
+pub use Rattle.charmlet_image.specs.Positioned
 pub use Rattle.charmlet_image.specs.Reading as ImageReading
 pub use Rattle.charmlet_image.specs.Views
 pub use Rattle.charmlet_image.specs.Written as ImageWritten
@@ -33,7 +33,7 @@ pub use Rattle.charmlet_recovery.specs.Blanks
 pub use Rattle.charmlet_recovery.specs.Faults
 pub use Rattle.charmlet_recovery.specs.Restarts
 pub use Rattle.charmlet_shelf.specs.Due
-pub use Rattle.charmlet_shelf.specs.Outcome
+pub use Rattle.charmlet_shelf.specs.PerformedDelivery
 pub use Rattle.charmlet_shelf.specs.Shelf
 pub use Rattle.charmlet_stock.specs.ByKind
 pub use Rattle.charmlet_stock.specs.Pile
@@ -47,7 +47,7 @@ pub use Rattle.charmlet_store.specs.StoreParts
 pub use Rattle.charmlet_delivery.specs.Workplace
 pub use Rattle.charmlet_store.specs.Store
 pub use Rattle.charmlet_world.specs.declared.element
-pub use Rattle.charmlet_restoring.specs.Home
-pub use Rattle.charmlet_restoring.specs.Places
-pub use Rattle.charmlet_restoring.specs.Restored
-pub use Rattle.charmlet_restoring.specs.declared.restored
+pub use Rattle.charmlet_shard.specs.Home
+pub use Rattle.charmlet_shard.specs.Places
+pub use Rattle.charmlet_shard.specs.RestoredShard
+pub use Rattle.charmlet_shard.specs.declared.restored_shard

@@ -2,20 +2,20 @@
 #![tactic(auto)]
 
 mod beginning;
-mod comparing;
-mod dismissing;
+mod comparison;
 mod events;
 mod log;
-mod opening;
+mod not_replayed;
+mod opened_store;
 mod pending;
-mod reopening;
-mod replaying;
+mod reclaimed;
+mod replayed;
 mod waiting;
 
 pub use crate::beginning::begin;
-pub use crate::dismissing::clear_shelf;
-pub use crate::opening::open_store;
-pub use crate::reopening::{NotReplayed, take_back};
-pub use crate::replaying::{Replayed, replay};
+pub use crate::not_replayed::{NotReplayed, take_back};
+pub use crate::opened_store::open_store;
+pub use crate::reclaimed::clear_shelf;
+pub use crate::replayed::{Replayed, replay};
 pub use crate::waiting::{Waiting, waiting_of};
-pub use charmlet_restoring::Restored;
+pub use charmlet_shard::RestoredShard;

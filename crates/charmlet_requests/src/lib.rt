@@ -1,16 +1,16 @@
 //! Clients' passes, which are never told less than before, and names of handlers.
 #![tactic(auto)]
 
-mod asking;
-mod calling;
+mod asked;
+mod calls;
 mod handlers;
-mod knowing;
+mod knowledge;
 mod laws;
 mod pass;
 mod passes;
 
-pub use crate::asking::{request, status};
-pub use crate::calling::{call, target};
+pub use crate::asked::{request, status};
+pub use crate::calls::{call, target};
 pub use crate::handlers::{Handler, Handlers};
 pub use crate::laws::{accepts_are_numbered, told_rises};
 pub use crate::pass::ClientPass;

@@ -1,6 +1,6 @@
 //! Clients' passes.
 
-use crate::knowing::hear;
+use crate::knowledge::hear;
 use charmlet_model::{ClientRow, Told};
 use std::alloc::{AllocError, Global};
 use std::marker::Model;

@@ -2,7 +2,7 @@
 pub mod Told
 pub mod Reopening
 pub use Rattle.charmlet_model.specs.Core
-pub use Rattle.charmlet_model.specs.Edition
+pub use Rattle.charmlet_model.specs.KindVersion
 pub use Rattle.charmlet_model.specs.Sound
 pub use Rattle.charmlet_model.specs.World
 pub use Rattle.charmlet_recovery.specs.Outcomes as RecoveryOutcomes
@@ -13,7 +13,7 @@ pub use Rattle.charmlet_halves.specs.Answers
 pub use Rattle.charmlet_halves.specs.Made
 pub use Rattle.charmlet_stock.specs.Stock
 pub use Rattle.charmlet_locate.specs.Locations
-pub use Rattle.charmlet_persist.specs.Journal.NewStores
+pub use Rattle.charmlet_persist.specs.Writes.NewStores
 pub use Rattle.charmlet_replay.specs.Unused
 pub use Rattle.charmlet_engine.specs.Restart
 pub use Rattle.charmlet_locks.specs.GhostAuth.Naming
@@ -28,4 +28,4 @@ pub use Rattle.charmlet_engine.specs.Reopened
 pub use Rattle.charmlet_engine.specs.Together
 pub use Rattle.charmlet_engine.specs.Constructions
 pub use Rattle.charmlet_engine.specs.wanted
-pub use Rattle.charmlet_engine.specs.restarting
+pub use Rattle.charmlet_engine.specs.restarted

@@ -4,7 +4,7 @@ use Rattle.charmlet_model.specs.Core.{Core}
 use Rattle.charmlet_chare.specs.declared.chare.Chare as chares
 use Rattle.charmlet_disk.specs.declared.disk.Disk as disks
 use Rattle.charmlet_stock.specs.declared.stock.Stock.{Stock}
-use Rattle.charmlet_engine.specs.restarting.NotRestarted.{NotRestarted}
+use Rattle.charmlet_engine.specs.restarted.NotRestarted.{NotRestarted}
 use Rattle.charmlet_engine.specs.Engine.{EngineShown, core_of}
 use Rattle.charmlet_engine.specs.Reopened.{IsRestart}
 use Rattle.charmlet_workers.specs.Runtime.{RuntimeShown, shown_of}

@@ -1,16 +1,16 @@
 //! Runtimes with threads that are made anew, or that come back from a disk.
 //!
 //! Both begin as an engine's store does, and then go on under locks. The call that makes a
-//! runtime's books picks its name: for a new store before the store is made, and for one that comes
-//! back once it was read, and before anything is written.
+//! runtime's authorities picks its name: for a new store before the store is made, and for one that
+//! comes back once it was read, and before anything is written.
 #![tactic(auto)]
 
-mod creating;
+mod builder;
+mod creation;
 mod laws;
-mod reopening;
-mod unnamed;
+mod reopened_store;
 
+pub use crate::builder::RuntimeBuilder;
 pub use crate::laws::passes_are_runs;
-pub use crate::reopening::open_reopened;
-pub use crate::unnamed::UnnamedRuntime;
-pub use charmlet_engine::{NotRestarted, Reopened, Wanted, stock_of};
+pub use crate::reopened_store::open_reopened;
+pub use charmlet_engine::{NotRestarted, Reopened, Wanted, stock_from_objects};

@@ -11,9 +11,9 @@ use Rattle.std.specs.Map.{lookup}
 use Rattle.std.specs.BTreeMap.{insert_entry, is_at}
 use Rattle.charmlet_model.specs.declared.kind.Kind.{Kind}
 use Rattle.charmlet_model.specs.declared.kind.Kind.TheVariants.{Counter, Ring, Account, Sum, Tree, Tape}
-use Rattle.charmlet_model.specs.declared.edition.Edition.{Edition}
+use Rattle.charmlet_model.specs.declared.kind_version.KindVersion.{KindVersion}
 use Rattle.charmlet_model.specs.Kind.{kind_number}
-use Rattle.charmlet_model.specs.Edition.{newest_of, numbered_edition}
+use Rattle.charmlet_model.specs.KindVersion.{newest_of, numbered_version}
 use Rattle.charmlet_model.specs.Manifest.{manifest_of, with_array as with_entry, with_pairs}
 use Rattle.charmlet_model.proofs.Maps.{lookup-insert_entry}
 use Rattle.charmlet_model.proofs.ManifestLemmas.{manifest-bounded, with_pairs-at}
@@ -28,7 +28,7 @@ use Rattle.charmlet_script.specs.Line.{◌>>=◌, is_empty, item_of}
 use Rattle.charmlet_script.specs.Reading.{has_array, is_array, is_array_line, may_add, may_declare, may_follow, with_array, with_handler, with_item, with_line, with_lines, with_processors}
 
 -- a kind's number names its newest version
-numbered-number : (kind : Kind) → Some (newest_of kind) ≡ numbered_edition (kind_number kind)
+numbered-number : (kind : Kind) → Some (newest_of kind) ≡ numbered_version (kind_number kind)
 numbered-number Counter = refl
 numbered-number Ring = refl
 numbered-number Account = refl
@@ -37,28 +37,28 @@ numbered-number Tree = refl
 numbered-number Tape = refl
 
 -- one step of `with_pairs`, and what follows it
-then-append : (pairs : List (ℕ × ℕ)) (last : ℕ × ℕ) (more : Option (List (ℕ × Edition)))
-    → ((entries : List (ℕ × Edition)) → with_pairs entries (pairs ++ last ∷ []) ≡ option_and_then (λ more. with_pairs more (last ∷ [])) (with_pairs entries pairs))
+then-append : (pairs : List (ℕ × ℕ)) (last : ℕ × ℕ) (more : Option (List (ℕ × KindVersion)))
+    → ((entries : List (ℕ × KindVersion)) → with_pairs entries (pairs ++ last ∷ []) ≡ option_and_then (λ more. with_pairs more (last ∷ [])) (with_pairs entries pairs))
     → option_and_then (λ more. with_pairs more (pairs ++ last ∷ [])) more ≡ option_and_then (λ more. with_pairs more (last ∷ [])) (option_and_then (λ more. with_pairs more pairs) more)
 then-append pairs last None rest = refl
 then-append pairs last (Some entries) rest = rest entries
 
-known-append : (entries : List (ℕ × Edition)) (array : ℕ) (pairs : List (ℕ × ℕ)) (last : ℕ × ℕ) (edition : Option Edition)
-    → ((entries : List (ℕ × Edition)) → with_pairs entries (pairs ++ last ∷ []) ≡ option_and_then (λ more. with_pairs more (last ∷ [])) (with_pairs entries pairs))
-    → option_and_then (λ edition. option_and_then (λ more. with_pairs more (pairs ++ last ∷ [])) (with_entry entries array edition)) edition
-    ≡ option_and_then (λ more. with_pairs more (last ∷ [])) (option_and_then (λ edition. option_and_then (λ more. with_pairs more pairs) (with_entry entries array edition)) edition)
+known-append : (entries : List (ℕ × KindVersion)) (array : ℕ) (pairs : List (ℕ × ℕ)) (last : ℕ × ℕ) (kind_version : Option KindVersion)
+    → ((entries : List (ℕ × KindVersion)) → with_pairs entries (pairs ++ last ∷ []) ≡ option_and_then (λ more. with_pairs more (last ∷ [])) (with_pairs entries pairs))
+    → option_and_then (λ kind_version. option_and_then (λ more. with_pairs more (pairs ++ last ∷ [])) (with_entry entries array kind_version)) kind_version
+    ≡ option_and_then (λ more. with_pairs more (last ∷ [])) (option_and_then (λ kind_version. option_and_then (λ more. with_pairs more pairs) (with_entry entries array kind_version)) kind_version)
 known-append entries array pairs last None rest = refl
-known-append entries array pairs last (Some edition) rest = then-append pairs last (with_entry entries array edition) rest
+known-append entries array pairs last (Some kind_version) rest = then-append pairs last (with_entry entries array kind_version) rest
 
 -- one more pair comes after the others
-with_pairs-append : (entries : List (ℕ × Edition)) (pairs : List (ℕ × ℕ)) (last : ℕ × ℕ) →
+with_pairs-append : (entries : List (ℕ × KindVersion)) (pairs : List (ℕ × ℕ)) (last : ℕ × ℕ) →
     with_pairs entries (pairs ++ last ∷ []) ≡ option_and_then (λ more. with_pairs more (last ∷ [])) (with_pairs entries pairs)
 with_pairs-append entries [] last = refl
 with_pairs-append entries (pair ∷ pairs) last =
-    known-append entries pair.0 pairs last (numbered_edition pair.1) (λ entries. with_pairs-append entries pairs last)
+    known-append entries pair.0 pairs last (numbered_version pair.1) (λ entries. with_pairs-append entries pairs last)
 
 -- the entries that the arrays make, which have just these arrays
-pub record AreEntries (arrays : List ArrayLine) (entries : List (ℕ × Edition)) : Type 0 where
+pub record AreEntries (arrays : List ArrayLine) (entries : List (ℕ × KindVersion)) : Type 0 where
   pub made : with_pairs [] (pairs_of arrays) ≡ Some entries
   pub same : (array : ℕ) → is_some (lookup (is_at (nat_cmp array)) entries) ≡ has_array array arrays
 
@@ -72,7 +72,7 @@ found-or false x None = refl
 found-or false x (Some y) = refl
 
 -- an array that has no line yet adds an entry
-one_more : (arrays : List ArrayLine) (entries : List (ℕ × Edition)) (line : ArrayLine) → AreEntries arrays entries → has_array line.array arrays ≡ false
+one_more : (arrays : List ArrayLine) (entries : List (ℕ × KindVersion)) (line : ArrayLine) → AreEntries arrays entries → has_array line.array arrays ≡ false
     → AreEntries (arrays ++ line ∷ []) (insert_entry nat_cmp entries line.array (newest_of line.kind))
 one_more arrays entries line so_far new = record {
   made =
@@ -92,7 +92,7 @@ one_more arrays entries line so_far new = record {
 }
 
 -- at least one array and at most 64 make a manifest
-pub manifest-is : (arrays : List ArrayLine) (entries : List (ℕ × Edition)) → AreEntries arrays entries → 1 ≤ length arrays → length arrays ≤ 64
+pub manifest-is : (arrays : List ArrayLine) (entries : List (ℕ × KindVersion)) → AreEntries arrays entries → 1 ≤ length arrays → length arrays ≤ 64
     → is_some (manifest_of (pairs_of arrays)) ≡ true
 manifest-is arrays entries h some few =
     let count : length (pairs_of arrays) ≡ length arrays = length-map arrays (λ line. (line.array, kind_number line.kind)) in
@@ -102,7 +102,7 @@ manifest-is arrays entries h some few =
 
 -- the arrays so far make entries, and are at most 64
 pub record IsDeclared (script : Contents) : Type 0 where
-  pub entries : List (ℕ × Edition)
+  pub entries : List (ℕ × KindVersion)
   pub are : AreEntries script.arrays entries
   pub few : length script.arrays ≤ 64
 

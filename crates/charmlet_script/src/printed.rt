@@ -34,7 +34,7 @@ pub struct Standing {
     pub packed: String,
 }
 
-/// What a `pending` line answers: the ids of the pending messages, in order of birth.
+/// What a `pending` line answers: the ids of the pending messages, in order of arrival.
 #[derive(Clone, Copy, Debug)]
 pub struct PendingIds<'a>(pub &'a [MsgId]);
 

@@ -252,8 +252,8 @@ fn read_text<R: Read>(alloc: Global, reader: &mut R) -> Result<Vec<u8>, io::Erro
     Ok(text)
 }
 
-/// The text of a script, as its readers take it: of what was read, the first 1,048,576 bytes; and if
-/// there are more, one byte that no line may hold.
+/// The text of a script, as its readers take it: of what was read, the first 1,048,576 bytes; and
+/// if there are more, one byte that no line may hold.
 #[derive(Drop)]
 pub struct ScriptText {
     bytes: Vec<u8>,

@@ -1,7 +1,7 @@
 //! Why a line of a script is malformed, and what may be wrong in a script that is well formed.
 //!
-//! The readers of `charmlet_script` say which line is the first malformed one, and no more. Here
-//! stands the one table of a script's lines in words, and the reasons that are told of it.
+//! The readers of scripts say which line is the first malformed one, and no more. Here stands the
+//! one table of a script's lines in words, and the reasons that are told of it.
 
 mod calls;
 mod explanation;

@@ -120,7 +120,7 @@ impl Model for Script {
 
 impl Script {
     ghost use Rattle.std.specs.Prelude.{◌≡◌, IfOk, Some};
-    ghost use Rattle.charmlet_model.specs.Edition.{AreNewest};
+    ghost use Rattle.charmlet_model.specs.KindVersion.{AreNewest};
     ghost use Rattle.charmlet_model.specs.Fit.{IsFit};
     ghost use Rattle.charmlet_model.specs.Manifest.{manifest_of};
     ghost use Rattle.charmlet_model.specs.Sound.{new_world};

@@ -25,8 +25,8 @@ use Rattle.charmlet_halves.specs.declared.halves.Halves.{Halves}
 use Rattle.charmlet_halves.specs.Halves.{disk_of}
 use Rattle.charmlet_history.specs.declared.history.History.{History}
 use Rattle.charmlet_history.specs.Kept.{core_in, counts_or_refused, plenty, told_or_refused}
-use Rattle.charmlet_persist.specs.Journal.Quiet.{Quiet}
-use Rattle.charmlet_persist.proofs.JournalLemmas.Quietness.{quiet_step, still_agrees, still_kept}
+use Rattle.charmlet_persist.specs.Writes.Quiet.{Quiet}
+use Rattle.charmlet_persist.proofs.WritesLemmas.Quietness.{quiet_step, still_agrees, still_kept}
 use Rattle.charmlet_shelf.specs.Count.{objects_on}
 use Rattle.charmlet_shelf.specs.Shelf.{View}
 use Rattle.charmlet_stock.specs.declared.by_kind.ByKind.{ByKind}
@@ -40,11 +40,11 @@ use Rattle.charmlet_delivery.specs.Workplace.{IsConsistentWorkplace, done_or_ref
 use Rattle.charmlet_delivery.specs.Leaves.{Leaves}
 use Rattle.charmlet_delivery.proofs.Leaving.{step_leaves}
 use Rattle.charmlet_delivery.proofs.Places.{stepped_core}
-use Rattle.charmlet_sequencer.specs.Book.{IsBookOf}
+use Rattle.charmlet_sequencer.specs.Authority.{IsAuthorityOf}
 use Rattle.charmlet_sequencer.specs.Sequencer.{HasOpened, KeepsObjects}
 use Rattle.charmlet_sequencer.specs.Part.{Part, part_on}
 use Rattle.charmlet_sequencer.specs.Together.{AreTied, shown_by}
-use Rattle.charmlet_sequencer.proofs.Books.{book_again, book_still, ready}
+use Rattle.charmlet_sequencer.proofs.Authorities.{authority_again, authority_still, ready}
 
 -- ---- one census
 
@@ -65,9 +65,9 @@ one_census a b each = λ i. record {
 
 module _ {D C : Type 0} {G : disks.Ghosts D} {H : chares.Ghosts C} (history next : History) (stock after : Stock C H) (parts : List (Option Part)) (halves : Halves D G) (tied : AreTied history stock parts halves) where
   -- a step that writes nothing
-  pub tied_again : (written : List (Option Part)) → IsSound (core_in history) → Quiet (core_in history) (core_in next) → keeping_of after ≡ keeping_of stock → IsBookOf next after written → AreTied next after written halves
-  tied_again written sound quiet keeping book = record {
-    book = book;
+  pub tied_again : (written : List (Option Part)) → IsSound (core_in history) → Quiet (core_in history) (core_in next) → keeping_of after ≡ keeping_of stock → IsAuthorityOf next after written → AreTied next after written halves
+  tied_again written sound quiet keeping authority = record {
+    authority = authority;
     dropping = keeping ∙ tied.dropping;
     agrees = still_agrees {G = G} (core_in history) (core_in next) quiet halves tied.agrees;
     keeps = λ honest. still_kept {G = G} (core_in history) (core_in next) quiet sound.durable halves (tied.keeps honest);
@@ -87,24 +87,24 @@ opened_again opening before processors generation core next opened quiet same = 
 -- ---- a sequencer and a shelf that is lent to it
 
 module _ {D C : Type 0} {G : disks.Ghosts D} {H : chares.Ghosts C} (opening : World) (before processors generation : ℕ) (history : History) (stock : Stock C H) (parts : List (Option Part)) (halves : Halves D G)
-    (its : HasOpened opening before processors generation (core_in history) × AreTied history stock parts halves) (shelf : View) (share : ℕ × Option Part) (share_is : share ≡ (shelf.number, Some (part_on shelf))) (agrees : slice_get parts share.0 ≡ Some share.1) where
+    (its : HasOpened opening before processors generation (core_in history) × AreTied history stock parts halves) (shelf : View) (fragment : ℕ × Option Part) (fragment_is : fragment ≡ (shelf.number, Some (part_on shelf))) (agrees : slice_get parts fragment.0 ≡ Some fragment.1) where
   there : slice_get parts shelf.number ≡ Some (Some (part_on shelf))
-  there = subst (λ (s : ℕ × Option Part). slice_get parts s.0 ≡ Some s.1) share_is agrees
+  there = subst (λ (s : ℕ × Option Part). slice_get parts s.0 ≡ Some s.1) fragment_is agrees
 
   -- a part of a delivery may be done there
   pub at_work : IsConsistentWorkplace (workplace_of history shelf stock)
-  at_work = ready history stock parts its.1.book shelf there
+  at_work = ready history stock parts its.1.authority shelf there
 
   module _ (next : History) (last : View) (after : Stock C H) (turns : Turns (workplace_of history shelf stock) (workplace_of next last after)) where
     -- and then the sequencer is one again
     pub sequencer_again : (step : CoreStep) (answer : CoreAnswer) → IsQuiet step → Goes (store_with history stock) step answer (store_with next after) → IsSound (core_in history) → IsSound (core_in next) →
-        (parts' : List (Option Part)) → parts' ≡ slice_set parts share.0 (Some (part_on last)) → HasOpened opening before processors generation (core_in next) × AreTied {G = G} next after parts' halves
+        (parts' : List (Option Part)) → parts' ≡ slice_set parts fragment.0 (Some (part_on last)) → HasOpened opening before processors generation (core_in next) × AreTied {G = G} next after parts' halves
     sequencer_again step answer quiet goes was sound parts' is =
         let is_quiet : Quiet (core_in history) (core_in next) = quiet_step (core_in history) (blanks_in stock) step (record { answer = answer; core = core_in next; blanks = blanks_in after }) quiet goes in
-        let here : parts' ≡ slice_set parts shelf.number (Some (part_on last)) = is ∙ ap (λ (s : ℕ × Option Part). slice_set parts s.0 (Some (part_on last))) share_is in (
+        let here : parts' ≡ slice_set parts shelf.number (Some (part_on last)) = is ∙ ap (λ (s : ℕ × Option Part). slice_set parts s.0 (Some (part_on last))) fragment_is in (
           opened_again opening before processors generation (core_in history) (core_in next) its.0 is_quiet turns.processors,
           tied_again history next stock after parts halves its.1 parts' was is_quiet turns.keeping
-              (subst (IsBookOf next after) (sym here) (book_again history stock parts its.1.book shelf there next last after sound turns)),
+              (subst (IsAuthorityOf next after) (sym here) (authority_again history stock parts its.1.authority shelf there next last after sound turns)),
         )
 
     -- no object is lost or made
@@ -134,7 +134,7 @@ pub request_generation : (core : Core) (client number : ℕ) (to : Elem) (entry 
 request_generation core client number to entry words =
     elim (is_repeat core client number) as (λ b. (if b then core else record core { history = core.history ++ Accept client number to entry words ∷ [] }).generation ≡ core.generation) [ true ↦ refl | false ↦ refl ]
 
-module _ {C : Type 0} {H : chares.Ghosts C} (history next : History) (stock : Stock C H) (parts : List (Option Part)) (book : IsBookOf history stock parts) (sound : IsSound (core_in next)) (opening : World) (before processors generation : ℕ)
+module _ {C : Type 0} {H : chares.Ghosts C} (history next : History) (stock : Stock C H) (parts : List (Option Part)) (authority : IsAuthorityOf history stock parts) (sound : IsSound (core_in next)) (opening : World) (before processors generation : ℕ)
     (opened : HasOpened opening before processors generation (core_in history)) (answer : CoreAnswer) where
   abbrev last : Stepped
   last = record { answer = answer; core = core_in next; blanks = plenty }
@@ -144,8 +144,8 @@ module _ {C : Type 0} {H : chares.Ghosts C} (history next : History) (stock : St
     leaves : (q : ℕ) → Leaves q (core_in history) (core_in next)
     leaves q = step_leaves q (core_in history) plenty step (each q) last steps
 
-    pub other_book : IsBookOf next stock parts
-    other_book = book_still history next stock parts book sound leaves
+    pub other_authority : IsAuthorityOf next stock parts
+    other_authority = authority_still history next stock parts authority sound leaves
 
     pub other_opened : (next_core (core_in history) step).generation ≡ (core_in history).generation → HasOpened opening before processors generation (core_in next)
     other_opened kept = record {
@@ -183,30 +183,30 @@ told_holds core next blanks step client number (Err refusal) asks steps = tt
 -- ---- blanks that are supplied
 
 module _ {C E : Type 0} {H : chares.Ghosts C} (history : History) (stock after : Stock C H) (parts : List (Option Part)) (state : C → State) (objects : List C) where
-  pub supplied_book : (Q : E → Type 0) (result : Result (Unit {0}) E) → IsBookOf history stock parts →
-      OnOk result ((kind : Kind) → tally_in after kind ≡ supplied_more (tally_in stock kind) (count_of state objects kind)) → IfErr result (λ back. Q back × (census_of after ≡ census_of stock)) → IsBookOf history after parts
-  supplied_book Q (Ok x) book more none = record {
-    count = book.count;
-    shows = book.shows;
-    dues = book.dues;
+  pub supplied_authority : (Q : E → Type 0) (result : Result (Unit {0}) E) → IsAuthorityOf history stock parts →
+      OnOk result ((kind : Kind) → tally_in after kind ≡ supplied_more (tally_in stock kind) (count_of state objects kind)) → IfErr result (λ back. Q back × (census_of after ≡ census_of stock)) → IsAuthorityOf history after parts
+  supplied_authority Q (Ok x) authority more none = record {
+    count = authority.count;
+    shows = authority.shows;
+    dues = authority.dues;
     census = λ kind.
         let t = more kind in
         let supplied = ap (λ (t : Tally). t.supplied) t in
         let left = ap (λ (t : Tally). t.in_stock) t in
         let gone = ap (λ (t : Tally). t.retired) t in
-        let old = book.census kind in
+        let old = authority.census kind in
         omega arith;
   }
-  supplied_book Q (Err back) book more none = record {
-    count = book.count;
-    shows = book.shows;
-    dues = book.dues;
+  supplied_authority Q (Err back) authority more none = record {
+    count = authority.count;
+    shows = authority.shows;
+    dues = authority.dues;
     census = λ kind.
         let t : tally_in after kind ≡ tally_in stock kind = ap (λ (v : ByKind Tally). at v kind) none.1 in
         let supplied = ap (λ (t : Tally). t.supplied) t in
         let left = ap (λ (t : Tally). t.in_stock) t in
         let gone = ap (λ (t : Tally). t.retired) t in
-        let old = book.census kind in
+        let old = authority.census kind in
         omega arith;
   }
 

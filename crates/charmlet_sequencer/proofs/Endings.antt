@@ -23,23 +23,23 @@ use Rattle.charmlet_history.specs.declared.history.History.{History}
 use Rattle.charmlet_stock.specs.declared.stock.Stock.{Stock}
 use Rattle.charmlet_migrate.specs.StoreParts.{FitTogether}
 use Rattle.charmlet_delivery.specs.UnderWay.{due_in}
-use Rattle.charmlet_sequencer.specs.Book.{IsBookOf, IsDueOn, objects_in_all, part_at, part_in, records_in}
+use Rattle.charmlet_sequencer.specs.Authority.{IsAuthorityOf, IsDueOn, objects_in_all, part_at, part_in, records_in}
 use Rattle.charmlet_sequencer.specs.Part.{Part, objects_in, part_on}
-use Rattle.charmlet_sequencer.proofs.Books.{objects_are}
+use Rattle.charmlet_sequencer.proofs.Authorities.{objects_are}
 
--- the shelf is back in the place of its processor, idle, and shows what the book had of it
+-- the shelf is back in the place of its processor, idle, and shows what the authority had of it
 pub record IsBack (n : ℕ) (part : Option Part) (shelf : View) : Type 0 where
   pub number_is : shelf.number ≡ n
   pub part_is : part ≡ Some (part_on shelf)
   pub idle : shelf.phase ≡ Idle
 
--- from the n-th on each part that the book had is either still there, or its shelf is back
+-- from the n-th on each part that the authority had is either still there, or its shelf is back
 abbrev pub AreBack : ℕ → List (Option Part) → List (Option Part) → List View → Type 0
 AreBack n [] [] [] = Unit {0}
 AreBack n (o ∷ os) (b ∷ bs) (s ∷ ss) = ((b ≡ o) ⊎ ((b ≡ None) × IsBack n o s)) × AreBack (suc n) os bs ss
 AreBack n _ _ _ = ⊥
 
--- how many parts are still in the book
+-- how many parts are still in the authority
 abbrev pub left_in : List (Option Part) → ℕ
 left_in [] = 0
 left_in (None ∷ bs) = left_in bs
@@ -146,16 +146,16 @@ back_number n (o ∷ os) [] p d b less = absurd b
 back_number n (o ∷ os) (s ∷ ss) zero d b less = let at = b.0.number_is in omega arith
 back_number n (o ∷ os) (s ∷ ss) (suc p) d b less = let rest = back_number (suc n) os ss p d b.1 (omega arith) in omega arith
 
-pub closed_fits : {C : Type 0} {G : Ghosts C} (history : History) (shelves : List View) (stock : Stock C G) (parts : List (Option Part)) → IsBookOf history stock parts → AllBack 0 parts shelves → FitTogether history shelves stock
-closed_fits history shelves stock parts book back =
+pub closed_fits : {C : Type 0} {G : Ghosts C} (history : History) (shelves : List View) (stock : Stock C G) (parts : List (Option Part)) → IsAuthorityOf history stock parts → AllBack 0 parts shelves → FitTogether history shelves stock
+closed_fits history shelves stock parts authority back =
     let places = (core_in history).places in
     let w = present (core_in history) in
     record {
-      count = back_length 0 parts shelves back ∙ book.count;
+      count = back_length 0 parts shelves back ∙ authority.count;
       numbers = λ p d less. let at = back_number 0 parts shelves p d back less in omega arith;
       idle = All-from_recursion IsIdle shelves (back_idle 0 parts shelves back);
-      objects = subst (λ rows. Shows rows places w) (sym (back_rows 0 parts shelves back)) book.shows;
-      census = λ kind. book.census kind ∙ ap (λ n. n + blanks_in stock kind + (tally_in stock kind).retired) (sym (back_objects 0 parts shelves kind back));
+      objects = subst (λ rows. Shows rows places w) (sym (back_rows 0 parts shelves back)) authority.shows;
+      census = λ kind. authority.census kind ∙ ap (λ n. n + blanks_in stock kind + (tally_in stock kind).retired) (sym (back_objects 0 parts shelves kind back));
     }
 
 -- ---- nothing is assigned then
@@ -172,11 +172,11 @@ none_past : (core : Core) (p : ℕ) → core.processors ≤ p → (o : Option Ms
 none_past core p past None assigned = refl
 none_past core p past (Some id) assigned = absurd (let on = assigned.on_processor in omega arith)
 
-pub back_unassigned : {C : Type 0} {G : Ghosts C} (history : History) (shelves : List View) (stock : Stock C G) (parts : List (Option Part)) → IsSound (core_in history) → IsBookOf history stock parts → AllBack 0 parts shelves → (core_in history).assigned ≡ []
-back_unassigned history shelves stock parts sound book back =
+pub back_unassigned : {C : Type 0} {G : Ghosts C} (history : History) (shelves : List View) (stock : Stock C G) (parts : List (Option Part)) → IsSound (core_in history) → IsAuthorityOf history stock parts → AllBack 0 parts shelves → (core_in history).assigned ≡ []
+back_unassigned history shelves stock parts sound authority back =
     let core = core_in history in
     nil_from_lookup (eq_by_cmp_equiv nat_cmp_total) core.assigned (λ p. elim (cases_lt p core.processors) [
-      | inl on ↦ (let less : p < length parts = omega (arith, book.count, on) in subst (IsDueOn core p) (back_due 0 parts shelves p back less) (book.dues p less))
+      | inl on ↦ (let less : p < length parts = omega (arith, authority.count, on) in subst (IsDueOn core p) (back_due 0 parts shelves p back less) (authority.dues p less))
       | inr past ↦ none_past core p past (assigned_to core p) (sound.assigned p)
     ])
 

@@ -1,7 +1,7 @@
-pub mod Books
+pub mod Authorities
 pub mod Shelves
 pub mod Calls
-pub mod Moves
+pub mod MovesLemmas
 pub mod Relocations
 pub mod Endings
 pub mod Agreeing

@@ -5,13 +5,13 @@ use Rattle.std.specs.BTreeMap.{is_at}
 use Rattle.std.specs.Cmp.{nat_eq_equiv}
 use Rattle.std.specs.Map.{lookup}
 use Rattle.std.proofs.lemmas.Bool.{lt-ltb, ne_eqb}
-use Rattle.charmlet_model.specs.declared.edition.Edition.{Edition}
+use Rattle.charmlet_model.specs.declared.kind_version.KindVersion.{KindVersion}
 use Rattle.charmlet_model.specs.declared.names.Elem.{Elem}
 use Rattle.charmlet_model.specs.declared.refusal.Refusal.{Refusal}
 use Rattle.charmlet_model.specs.declared.refusal.Refusal.TheVariants as refusals
 use Rattle.charmlet_model.specs.declared.state.Record.{Record}
 use Rattle.charmlet_model.specs.Names.{elem_cmp}
-use Rattle.charmlet_model.specs.World.{World, edition_of_array, record_of}
+use Rattle.charmlet_model.specs.World.{World, version_of_array, record_of}
 use Rattle.charmlet_model.specs.Core.{Blanks, Core, CoreStep, Done, MayLackMemory, Move, Refuses, Stepped, Steps, When, assigned_to, away_checks, checks, first_refusal, home, is_present, is_processor, lacks_blank, next_core, place_of, place_or_home, present, stepped_unless}
 use Rattle.charmlet_model.specs.Run.{Goes}
 use Rattle.charmlet_model.specs.Sound.{IsSound}
@@ -24,8 +24,8 @@ use Rattle.charmlet_halves.specs.declared.halves.Halves.{Halves}
 use Rattle.charmlet_halves.specs.Halves.{disk_of}
 use Rattle.charmlet_history.specs.declared.history.History.{History}
 use Rattle.charmlet_history.specs.Kept.{blank_of_move, core_in, plenty}
-use Rattle.charmlet_persist.specs.Journal.Quiet.{Quiet}
-use Rattle.charmlet_persist.proofs.JournalLemmas.Quietness.{quiet_step}
+use Rattle.charmlet_persist.specs.Writes.Quiet.{Quiet}
+use Rattle.charmlet_persist.proofs.WritesLemmas.Quietness.{quiet_step}
 use Rattle.charmlet_shelf.specs.Shelf.{View}
 use Rattle.charmlet_shelf.specs.declared.phase.Phase.TheVariants.{Idle}
 use Rattle.charmlet_stock.specs.declared.stock.Stock.{Stock}
@@ -38,21 +38,21 @@ use Rattle.charmlet_migrate.proofs.Carried.{stands}
 use Rattle.charmlet_migrate.proofs.MoveChecks.{stays_there}
 use Rattle.charmlet_migrate.proofs.Others.{LeavesOthers, move_leaves}
 use Rattle.charmlet_migrate.proofs.Moved.{both_set}
-use Rattle.charmlet_sequencer.specs.Book.{IsBookOf}
+use Rattle.charmlet_sequencer.specs.Authority.{IsAuthorityOf}
 use Rattle.charmlet_sequencer.specs.Relocating.{Carries, IsAway, StaysOrLeaves}
 use Rattle.charmlet_sequencer.specs.Part.{Part, part_on}
 use Rattle.charmlet_sequencer.specs.Sequencer.{HasOpened}
 use Rattle.charmlet_sequencer.specs.Together.{AreTied, shown_by}
 use Rattle.charmlet_sequencer.proofs.Calls.{opened_again, tied_again}
-use Rattle.charmlet_sequencer.proofs.Moves.{book_moved, shelf_of_book}
+use Rattle.charmlet_sequencer.proofs.MovesLemmas.{authority_moved, shelf_of_authority}
 
 -- ---- before a shelf is lent
 
 -- from an element's place, only an assigned message keeps it where blanks are plenty
-late_away : (busy : Bool) (wanted : Option Edition) (refusal : Refusal) → first_refusal (When busy refusals.Uncommitted ∷ (lacks_blank plenty wanted ++ MayLackMemory ∷ [])) ≡ Some refusal → refusal ≡ refusals.Uncommitted
+late_away : (busy : Bool) (wanted : Option KindVersion) (refusal : Refusal) → first_refusal (When busy refusals.Uncommitted ∷ (lacks_blank plenty wanted ++ MayLackMemory ∷ [])) ≡ Some refusal → refusal ≡ refusals.Uncommitted
 late_away true wanted refusal is = cc
 late_away false None refusal is = absurd (let never : ⊥ = cc in never)
-late_away false (Some edition) refusal is = absurd (let never : ⊥ = cc in never)
+late_away false (Some kind_version) refusal is = absurd (let never : ⊥ = cc in never)
 
 module _ (core : Core) (x : Elem) (q : ℕ) (sound : IsSound core) where
   abbrev stays_on : Bool
@@ -98,7 +98,7 @@ module _ (core : Core) (x : Elem) (q : ℕ) (sound : IsSound core) where
     pub not_refused : core.halted ≡ false → core.busy ≡ false → (refusal : Refusal) → first_refusal (checks core plenty (Move x q)) ≡ Some refusal → refusal ≡ refusals.Uncommitted
     not_refused going free refusal is =
         let here : is_present core x ≡ true = sym (sound.placed x).there ∙ ap is_some away.stands in
-        late_away (is_some (assigned_to core (place_or_home core x)) || is_some (assigned_to core q)) (edition_of_array (present core) x.array) refusal
+        late_away (is_some (assigned_to core (place_or_home core x)) || is_some (assigned_to core q)) (version_of_array (present core) x.array) refusal
         (sym (λ i. first_refusal (When (going i) refusals.Halted ∷ When (free i) refusals.Checkpointing ∷ When (not (lt-ltb q core.processors away.there i)) refusals.BadPes ∷ When (not (here i)) refusals.Absent ∷ cond (elsewhere_then i) [] (away_checks core plenty x q))) ∙ is)
 
 -- ---- a move that is done
@@ -119,7 +119,7 @@ done_steps core blanks step next s answer = elim s.1 [
     unless (Some refusal) same = absurd (let no : ⊥ = let done_is : Done ≡ Refuses refusal = sym answer ∙ ap (λ (n : Stepped). n.answer) same in cc in no)
 
 -- what isn't refused isn't so where blanks are plenty
-with_plenty : (halted busy nowhere absent here assigned : Bool) (blanks : Blanks) (wanted : Option Edition) →
+with_plenty : (halted busy nowhere absent here assigned : Bool) (blanks : Blanks) (wanted : Option KindVersion) →
     first_refusal (When halted refusals.Halted ∷ When busy refusals.Checkpointing ∷ When nowhere refusals.BadPes ∷ When absent refusals.Absent ∷ cond here [] (When assigned refusals.Uncommitted ∷ (lacks_blank blanks wanted ++ MayLackMemory ∷ []))) ≡ None →
     first_refusal (When halted refusals.Halted ∷ When busy refusals.Checkpointing ∷ When nowhere refusals.BadPes ∷ When absent refusals.Absent ∷ cond here [] (When assigned refusals.Uncommitted ∷ (lacks_blank plenty wanted ++ MayLackMemory ∷ []))) ≡ None
 with_plenty true busy nowhere absent here assigned blanks wanted can = absurd (let never : ⊥ = cc in never)
@@ -129,7 +129,7 @@ with_plenty false false false true here assigned blanks wanted can = absurd (let
 with_plenty false false false false true assigned blanks wanted can = refl
 with_plenty false false false false false true blanks wanted can = absurd (let never : ⊥ = cc in never)
 with_plenty false false false false false false blanks None can = refl
-with_plenty false false false false false false blanks (Some edition) can = refl
+with_plenty false false false false false false blanks (Some kind_version) can = refl
 
 -- two shelves that show the same have the same records
 same_records : (p : ℕ) (places : List (Elem × ℕ)) (w : World) (a b : List (Elem × Record)) → ShowsOn p a places w → ShowsOn p b places w → a ≡ b
@@ -159,7 +159,7 @@ module _ {C : Type 0} {G : chares.Ghosts C} (history next : History) (stock afte
       sound = sound;
       place = place;
       apart = apart;
-      can = with_plenty core.halted core.busy (not (is_processor core q)) (not (is_present core x)) (place_or_home core x == q) (is_some (assigned_to core (place_or_home core x)) || is_some (assigned_to core q)) (blanks_in stock) (edition_of_array (present core) x.array) was_done.0;
+      can = with_plenty core.halted core.busy (not (is_processor core q)) (not (is_present core x)) (place_or_home core x == q) (is_some (assigned_to core (place_or_home core x)) || is_some (assigned_to core q)) (blanks_in stock) (version_of_array (present core) x.array) was_done.0;
     }
 
     abbrev its_record : Record
@@ -196,17 +196,17 @@ module _ {C : Type 0} {G : chares.Ghosts C} (history next : History) (stock afte
 -- ---- the sequencer, and two shelves that are lent to it
 
 module _ {D C : Type 0} {G : disks.Ghosts D} {H : chares.Ghosts C} (opening : World) (before processors generation : ℕ) (history : History) (stock : Stock C H) (parts : List (Option Part)) (halves : Halves D G)
-    (its : HasOpened opening before processors generation (core_in history) × AreTied history stock parts halves) (shelf : View) (share : ℕ × Option Part) (share_is : share ≡ (shelf.number, Some (part_on shelf))) (agrees : slice_get parts share.0 ≡ Some share.1) where
-  pub share_there : slice_get parts shelf.number ≡ Some (Some (part_on shelf))
-  share_there = subst (λ (s : ℕ × Option Part). slice_get parts s.0 ≡ Some s.1) share_is agrees
+    (its : HasOpened opening before processors generation (core_in history) × AreTied history stock parts halves) (shelf : View) (fragment : ℕ × Option Part) (fragment_is : fragment ≡ (shelf.number, Some (part_on shelf))) (agrees : slice_get parts fragment.0 ≡ Some fragment.1) where
+  pub fragment_there : slice_get parts shelf.number ≡ Some (Some (part_on shelf))
+  fragment_there = subst (λ (s : ℕ × Option Part). slice_get parts s.0 ≡ Some s.1) fragment_is agrees
 
   -- a shelf is one of the history's
   pub lent_shelf : IsShelfOf history shelf
-  lent_shelf = shelf_of_book history stock parts its.1.book shelf share_there
+  lent_shelf = shelf_of_authority history stock parts its.1.authority shelf fragment_there
 
 module _ {D C T : Type 0} {G : disks.Ghosts D} {H : chares.Ghosts C} (opening : World) (before processors generation : ℕ) (history : History) (stock : Stock C H) (parts : List (Option Part)) (halves : Halves D G)
-    (its : HasOpened opening before processors generation (core_in history) × AreTied history stock parts halves) (from to : View) (share other : ℕ × Option Part) (share_is : share ≡ (from.number, Some (part_on from))) (other_is : other ≡ (to.number, Some (part_on to)))
-    (agrees : slice_get parts share.0 ≡ Some share.1) (also : slice_get parts other.0 ≡ Some other.1)
+    (its : HasOpened opening before processors generation (core_in history) × AreTied history stock parts halves) (from to : View) (fragment other : ℕ × Option Part) (fragment_is : fragment ≡ (from.number, Some (part_on from))) (other_is : other ≡ (to.number, Some (part_on to)))
+    (agrees : slice_get parts fragment.0 ≡ Some fragment.1) (also : slice_get parts other.0 ≡ Some other.1)
     (next : History) (after : Stock C H) (x : Elem) (result : Result T Refusal) (goes : Goes (store_with history stock) (Move x to.number) (done_or_refused result) (store_with next after)) where
   abbrev last : Stepped
   last = record { answer = done_or_refused result; core = core_in next; blanks = blanks_in after }
@@ -214,15 +214,15 @@ module _ {D C T : Type 0} {G : disks.Ghosts D} {H : chares.Ghosts C} (opening : 
   -- the sequencer is one again
   module _ (place : place_of (core_in history) x ≡ Some from.number) (apart : from.number ≡ to.number → ⊥) (was : IsSound (core_in history)) (sound : IsSound (core_in next)) (left come : View) (here : IsShelfOf next left) (there : IsShelfOf next come)
       (left_is : left ≡ record from { records = left.records }) (come_is : come ≡ record to { records = come.records }) (held : held_in_both left come after ≡ held_in_both from to stock) (supplied : supplied_to after ≡ supplied_to stock) (keeping : keeping_of after ≡ keeping_of stock) where
-    pub sequencer_moved : (parts' : List (Option Part)) → parts' ≡ both_set parts share.0 other.0 (Some (part_on left)) (Some (part_on come)) → HasOpened opening before processors generation (core_in next) × AreTied {G = G} next after parts' halves
+    pub sequencer_moved : (parts' : List (Option Part)) → parts' ≡ both_set parts fragment.0 other.0 (Some (part_on left)) (Some (part_on come)) → HasOpened opening before processors generation (core_in next) × AreTied {G = G} next after parts' halves
     sequencer_moved parts' is =
         let is_quiet : Quiet (core_in history) (core_in next) = quiet_step (core_in history) (blanks_in stock) (Move x to.number) last tt goes in
         let leaves : LeavesOthers from.number to.number (core_in history) (core_in next) = move_leaves (core_in history) (blanks_in stock) x from.number to.number place last goes in
-        let written : parts' ≡ both_set parts from.number to.number (Some (part_on left)) (Some (part_on come)) = is ∙ (λ i. both_set parts (share_is i).0 (other_is i).0 (Some (part_on left)) (Some (part_on come))) in (
+        let written : parts' ≡ both_set parts from.number to.number (Some (part_on left)) (Some (part_on come)) = is ∙ (λ i. both_set parts (fragment_is i).0 (other_is i).0 (Some (part_on left)) (Some (part_on come))) in (
           opened_again opening before processors generation (core_in history) (core_in next) its.0 is_quiet leaves.processors,
           tied_again history next stock after parts halves its.1 parts' was is_quiet keeping
-              (subst (IsBookOf next after) (sym written)
-              (book_moved history stock parts its.1.book from to (share_there opening before processors generation history stock parts halves its from share share_is agrees) (share_there opening before processors generation history stock parts halves its to other other_is also) apart
+              (subst (IsAuthorityOf next after) (sym written)
+              (authority_moved history stock parts its.1.authority from to (fragment_there opening before processors generation history stock parts halves its from fragment fragment_is agrees) (fragment_there opening before processors generation history stock parts halves its to other other_is also) apart
               next after x place (done_or_refused result) goes sound left come here there left_is come_is held supplied)),
         )
 

@@ -1,4 +1,4 @@
--- The book of a store that came back.
+-- The authority of a store that came back.
 use Rattle.std.proofs.Common.{◌≡◌, ℕ, zero, suc, ◌+◌, ◌<◌, List, [], ◌∷◌, ◌++◌, length, map, get_or, refl, ap, sym, ◌∙◌, arith, subst}
 use Rattle.std.proofs.Math.Seq.{get_or-append_seam}
 use Rattle.std.proofs.lemmas.List.{append_assoc, append-nil, length-map, map-append, nil_from_length}
@@ -24,11 +24,11 @@ use Rattle.charmlet_stock.specs.Stock.{blanks_in, tally_in}
 use Rattle.charmlet_migrate.specs.Moving.{IsIdle, objects_among, records_on}
 use Rattle.charmlet_delivery.specs.UnderWay.{due_in}
 use Rattle.charmlet_migrate.specs.StoreParts.{AreNumbered, FitTogether}
-use Rattle.charmlet_sequencer.specs.Book.{IsBookOf, IsDueOn, objects_in_all, part_at, part_in, records_in}
+use Rattle.charmlet_sequencer.specs.Authority.{IsAuthorityOf, IsDueOn, objects_in_all, part_at, part_in, records_in}
 use Rattle.charmlet_sequencer.specs.Opened.{AreShelvesOf}
 use Rattle.charmlet_sequencer.specs.Part.{Part, objects_in, part_on}
 use Rattle.charmlet_sequencer.specs.Together.{shown_by}
-use Rattle.charmlet_sequencer.proofs.Books.{objects_are}
+use Rattle.charmlet_sequencer.proofs.Authorities.{objects_are}
 
 -- the part of each shelf
 abbrev pub parts_of : List View → List (Option Part)
@@ -76,7 +76,7 @@ module _ (before : List View) (shelf : View) (after all : List View) (is : befor
   pub idle_at : All IsIdle all → IsIdle shelf
   idle_at idle = subst IsIdle here (All-get_or IsIdle all (length before) shelf within idle)
 
--- ---- what the book has of all of them
+-- ---- what the authority has of all of them
 
 pub rows_are : (shelves : List View) → records_on shelves ≡ records_in (parts_of shelves)
 rows_are [] = refl
@@ -96,8 +96,8 @@ no_dues [] p idle = refl
 no_dues (s ∷ ss) zero idle = ap due_in idle.0
 no_dues (s ∷ ss) (suc p) idle = no_dues ss p idle.1
 
-pub store_book : {C : Type 0} {G : Ghosts C} (history : History) (shelves : List View) (stock : Stock C G) → FitTogether history shelves stock → (core_in history).assigned ≡ [] → IsBookOf history stock (parts_of shelves)
-store_book history shelves stock fits none =
+pub store_authority : {C : Type 0} {G : Ghosts C} (history : History) (shelves : List View) (stock : Stock C G) → FitTogether history shelves stock → (core_in history).assigned ≡ [] → IsAuthorityOf history stock (parts_of shelves)
+store_authority history shelves stock fits none =
     let core = core_in history in
     record {
       count = length-map shelves (λ (shelf : View). Some (part_on shelf)) ∙ fits.count;

@@ -13,7 +13,7 @@ use Rattle.charmlet_halves.specs.declared.halves.Halves.{Halves}
 use Rattle.charmlet_halves.specs.Halves.{disk_of, is_halted}
 use Rattle.charmlet_history.specs.declared.history.History.{History}
 use Rattle.charmlet_history.specs.Kept.{IsAssignedOutput, IsConsistent, core_in, sealed_at}
-use Rattle.charmlet_persist.specs.Journal.Rest.{Agrees, IsCurrent}
+use Rattle.charmlet_persist.specs.Writes.Rest.{Agrees, IsCurrent}
 use Rattle.charmlet_shelf.specs.declared.phase.Phase.{Phase}
 use Rattle.charmlet_shelf.specs.declared.phase.Phase.TheVariants as phases
 use Rattle.charmlet_stock.specs.declared.stock.Stock.{Stock}
@@ -21,10 +21,10 @@ use Rattle.charmlet_delivery.specs.Leaves.{Leaves}
 use Rattle.charmlet_delivery.specs.UnderWay.{HasMade, due_in}
 use Rattle.charmlet_delivery.proofs.Delivering.{assigned_output}
 use Rattle.charmlet_delivery.proofs.Leaving.{same_leaves}
-use Rattle.charmlet_persist.specs.FuzzyCheckpoint.Laws.{AreSettledOn}
-use Rattle.charmlet_persist.specs.FuzzyCheckpoint.Running.{IsRunning, Run, with_delivery}
+use Rattle.charmlet_persist.specs.FuzzyCheckpoint.Laws.{AreCapturedOn}
+use Rattle.charmlet_persist.specs.FuzzyCheckpoint.Checkpoint.{IsRunning, Run, with_delivery}
 use Rattle.charmlet_persist.proofs.FuzzyCheckpointLemmas.Others.{deliveries_keep, deliveries_keep_running}
-use Rattle.charmlet_sequencer.specs.Book.{IsDueOn}
+use Rattle.charmlet_sequencer.specs.Authority.{IsDueOn}
 use Rattle.charmlet_sequencer.specs.Checkpointing.{IsSealedCore}
 use Rattle.charmlet_sequencer.specs.Sequencer.{HasOpened}
 use Rattle.charmlet_sequencer.specs.Shelf.{HasOutput, is_done}
@@ -51,9 +51,9 @@ pub noted_running : (core : Core) (p : ℕ) (run new : Run) (output : Output) �
 noted_running core p run new output running outcome noted = subst (IsRunning (next_core core (Commit p))) (sym noted) (deliveries_keep_running core run p output running outcome)
 
 pub noted_settled : (core : Core) → IsSound core → (p : ℕ) (run new : Run) (output : Output) → IsRunning core run → IsAssignedOutput core p output → new ≡ with_delivery core p run →
-    (q : ℕ) → AreSettledOn core run q → AreSettledOn (next_core core (Commit p)) new q
+    (q : ℕ) → AreCapturedOn core run q → AreCapturedOn (next_core core (Commit p)) new q
 noted_settled core sound p run new output running outcome noted q settled =
-    subst (λ (r : Run). AreSettledOn (next_core core (Commit p)) r q) (sym noted) (deliveries_keep core run p q output sound running outcome settled)
+    subst (λ (r : Run). AreCapturedOn (next_core core (Commit p)) r q) (sym noted) (deliveries_keep core run p q output sound running outcome settled)
 
 -- ---- an image is made durable, or isn't
 

@@ -1,7 +1,7 @@
 -- The definitions that contracts cite.
 pub mod Part
 pub mod Shelf
-pub mod Book
+pub mod Authority
 pub mod Sequencer
 pub mod Relocating
 pub mod Together
@@ -27,8 +27,8 @@ pub use Rattle.charmlet_shelf.specs.Shelf as OneShelf
 pub use Rattle.charmlet_stock.specs.ByKind
 pub use Rattle.charmlet_stock.specs.Stock
 pub use Rattle.charmlet_history.specs.Kept
-pub use Rattle.charmlet_persist.specs.Journal.NewStores
-pub use Rattle.charmlet_persist.specs.Journal.Rest
+pub use Rattle.charmlet_persist.specs.Writes.NewStores
+pub use Rattle.charmlet_persist.specs.Writes.Rest
 pub use Rattle.charmlet_persist.specs.Snapshot.Imaging
 pub use Rattle.charmlet_migrate.specs.Copying
 pub use Rattle.charmlet_migrate.specs.Moving
@@ -39,5 +39,5 @@ pub use Rattle.charmlet_delivery.specs.Workplace
 pub use Rattle.charmlet_requests.specs.Pass
 pub use Rattle.charmlet_leases.specs.Passes.Passes
 pub use Rattle.charmlet_persist.specs.FuzzyCheckpoint.Laws
-pub use Rattle.charmlet_persist.specs.FuzzyCheckpoint.Running
+pub use Rattle.charmlet_persist.specs.FuzzyCheckpoint.Checkpoint
 pub use Rattle.charmlet_persist.specs.FuzzyCheckpoint.Sealing as EndOfRunning

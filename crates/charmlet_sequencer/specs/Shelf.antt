@@ -7,7 +7,7 @@ use Rattle.charmlet_shelf.specs.Due.{Due, reaction_in, record_after}
 use Rattle.charmlet_shelf.specs.declared.phase.Phase.{Phase}
 use Rattle.charmlet_shelf.specs.declared.phase.Phase.TheVariants.{Idle, Assigned, Done}
 use Rattle.charmlet_delivery.specs.UnderWay.{HasMade}
-use Rattle.charmlet_sequencer.specs.declared.shelf.SentBy.{SentBy}
+use Rattle.charmlet_sequencer.specs.declared.processor_state.SentBy.{SentBy}
 
 -- An assigned message can be reacted to. Once its receiver has reacted, this is what it sent and
 -- replied.

@@ -9,18 +9,18 @@ use Rattle.charmlet_history.specs.Kept.{core_in}
 use Rattle.charmlet_stock.specs.declared.stock.Stock.{Stock}
 use Rattle.charmlet_stock.specs.ByKind.{for_all}
 use Rattle.charmlet_stock.specs.Stock.{census_of, keeping_of}
-use Rattle.charmlet_persist.specs.Journal.Rest.{Agrees, IsCurrent, IsKept}
-use Rattle.charmlet_sequencer.specs.Book.{IsBookOf}
+use Rattle.charmlet_persist.specs.Writes.Rest.{Agrees, IsCurrent, IsKept}
+use Rattle.charmlet_sequencer.specs.Authority.{IsAuthorityOf}
 use Rattle.charmlet_sequencer.specs.Sequencer.{SequencerShown}
 use Rattle.charmlet_sequencer.specs.Part.{Part}
 
 module _ {D C : Type 0} {G : disks.Ghosts D} {H : chares.Ghosts C} where
-  -- The book is that of the history and the stock; the stock drops what is retired; the halves go
-  -- on where the history does; and on an honest disk each crash keeps what is durable, and events
-  -- may be appended unless the store is halted.
+  -- The authority is that of the history and the stock; the stock drops what is retired; the halves
+  -- go on where the history does; and on an honest disk each crash keeps what is durable, and
+  -- events may be appended unless the store is halted.
   pub record AreTied (history : History) (stock : Stock C H) (parts : List (Option Part))
       (halves : Halves D G) : Type 0 where
-    pub book : IsBookOf history stock parts
+    pub authority : IsAuthorityOf history stock parts
     pub dropping : keeping_of stock ≡ for_all false
     pub agrees : Agrees (core_in history) halves
     pub keeps : G.honest (disk_of halves) → IsKept (core_in history) halves

@@ -1,23 +1,23 @@
 //! What types under different locks have to agree on.
 
-use charmlet_locks::BookName;
+use charmlet_locks::AuthorityName;
 use std::marker::Brand;
 
-/// Names one runtime: its books, of shelves, of seats, of passes and of checkpoints, and the store
-/// with which it opened. The call that opens it picks them, and all types that lie under its locks
-/// are generic in the name. As a book's name it is that of the book of shelves.
-pub trait RuntimeName: BookName {
+/// Names one runtime: its authorities, of shelves, of seats, of passes and of checkpoints, and the
+/// store with which it opened. The call that opens it picks them, and all types that lie under its
+/// locks are generic in the name. As an authority's name it is that of the authority of shelves.
+pub trait RuntimeName: AuthorityName {
     ghost use Rattle.std.specs.Prelude.{ℕ};
     ghost use Rattle.atomic_table.specs.Seated.{TableId};
     ghost use Rattle.charmlet_model.specs.World.{World};
 
-    /// The table of the book of seats.
+    /// The table of the authority of seats.
     ghost seats: { TableId };
 
-    /// The table of the book of passes.
+    /// The table of the authority of passes.
     ghost passes: { TableId };
 
-    /// The table of the book of the tokens of checkpoints.
+    /// The table of the authority of the tokens of checkpoints.
     ghost checkpoints: { TableId };
 
     /// The world with which the store opened.

@@ -4,16 +4,16 @@ ghost use Rattle.std.specs.Prelude.{◌≡◌, Some, slice_get, slice_set};
 ghost use Rattle.charmlet_sequencer.specs.Part.{part_on};
 
 use charmlet_chare::Chare;
-use charmlet_locks::{Book, BookName, GhostValue, Share};
+use charmlet_locks::{Authority, AuthorityName, Fragment, GhostValue};
 use charmlet_shelf::Shelf;
 use std::marker::{Brand, Model};
 
 /// What the sequencer has of a shelf, as only contracts see it: the one value that code makes is
 /// that of a shelf on which nothing stands.
 #[derive(Drop)]
-pub struct SeenPart;
+pub struct GhostPart;
 
-impl Model for SeenPart {
+impl Model for GhostPart {
     ghost use Rattle.charmlet_sequencer.specs.Part.{Part, no_part};
 
     ghost Value = { Part };
@@ -21,36 +21,36 @@ impl Model for SeenPart {
     ghost view = { λ _. no_part };
 }
 
-impl GhostValue<SeenPart> for Brand {
+impl GhostValue<GhostPart> for Brand {
     ghost use Rattle.charmlet_sequencer.specs.Part.{no_part};
 
     ghost value = { no_part };
 }
 
-/// Writes what stands on the shelf, and the delivery that is under way there, into the book and the
-/// shelf's share, which had the same before.
-pub(crate) fn write<C: Chare, B: BookName>(
-    parts: &mut Book<SeenPart, B>,
-    share: &mut Share<SeenPart, B>,
+/// Writes what stands on the shelf, and the delivery that is under way there, into the authority
+/// and the shelf's fragment, which had the same before.
+pub(crate) fn write<C: Chare, B: AuthorityName>(
+    parts: &mut Authority<GhostPart, B>,
+    fragment: &mut Fragment<GhostPart, B>,
     shelf: &Shelf<C>,
 )
-    ensures agrees { slice_get parts.old share.old.0 ≡ Some share.old.1 }
-    ensures parts { parts.new ≡ slice_set parts.old share.old.0 (Some (part_on shelf.now)) }
-    ensures share { share.new ≡ (share.old.0, Some (part_on shelf.now)) }
+    ensures agrees { slice_get parts.old fragment.old.0 ≡ Some fragment.old.1 }
+    ensures parts { parts.new ≡ slice_set parts.old fragment.old.0 (Some (part_on shelf.now)) }
+    ensures fragment { fragment.new ≡ (fragment.old.0, Some (part_on shelf.now)) }
 {
-    write_part::<Brand, C, B>(parts, share, shelf)
+    write_part::<Brand, C, B>(parts, fragment, shelf)
 }
 
 /// The same, where `N` names it.
-fn write_part<N: GhostValue<SeenPart>, C: Chare, B: BookName>(
-    parts: &mut Book<SeenPart, B>,
-    share: &mut Share<SeenPart, B>,
+fn write_part<N: GhostValue<GhostPart>, C: Chare, B: AuthorityName>(
+    parts: &mut Authority<GhostPart, B>,
+    fragment: &mut Fragment<GhostPart, B>,
     _shelf: &Shelf<C>,
 )
     requires { N.value ≡ part_on _shelf.now }
-    ensures agrees { slice_get parts.old share.old.0 ≡ Some share.old.1 }
-    ensures parts { parts.new ≡ slice_set parts.old share.old.0 (Some (part_on _shelf.now)) }
-    ensures share { share.new ≡ (share.old.0, Some (part_on _shelf.now)) }
+    ensures agrees { slice_get parts.old fragment.old.0 ≡ Some fragment.old.1 }
+    ensures parts { parts.new ≡ slice_set parts.old fragment.old.0 (Some (part_on _shelf.now)) }
+    ensures fragment { fragment.new ≡ (fragment.old.0, Some (part_on _shelf.now)) }
 {
-    parts.change_to::<N>(share);
+    parts.change_to::<N>(fragment);
 }

@@ -13,27 +13,27 @@ ghost use Rattle.charmlet_disk.specs.Disk.{LeavesOnly};
 ghost use Rattle.charmlet_disk.specs.File.{CrashBytes, MayLeave};
 ghost use Rattle.charmlet_halves.specs.Answers.{is_no_failure};
 ghost use Rattle.charmlet_history.specs.Kept.{core_in, counts_or_refused, oldest_on_in};
-ghost use Rattle.charmlet_persist.specs.Journal.Rest.{HasOldOrSealed};
+ghost use Rattle.charmlet_persist.specs.Writes.Rest.{HasOldOrSealed};
 ghost use Rattle.charmlet_shelf.specs.Shelf.{is_assigned, settled};
 ghost use Rattle.charmlet_stock.specs.ByKind.{at};
 ghost use Rattle.charmlet_shelf.specs.declared.phase.Phase.TheVariants as phases;
 ghost use Rattle.charmlet_delivery.specs.UnderWay.{due_in};
 ghost use Rattle.charmlet_delivery.specs.Workplace.{done_or_refused};
-ghost use Rattle.charmlet_sequencer.specs.Book.{IsBookIn, IsDueOn};
+ghost use Rattle.charmlet_sequencer.specs.Authority.{IsAuthorityIn, IsDueOn};
 ghost use Rattle.charmlet_sequencer.specs.Part.{Part};
 ghost use Rattle.charmlet_sequencer.specs.Sequencer.{IsOf, KeepsObjects, is_lawful, store_of, supplied_of};
 ghost use Rattle.charmlet_sequencer.specs.Shelf.{is_done};
 ghost use Rattle.charmlet_sequencer.specs.Together.{AreTied, shown_by};
 
 use crate::names::RuntimeName;
-use crate::part::{SeenPart, write};
-use crate::shelf::LockedShelf;
+use crate::part::{GhostPart, write};
+use crate::processor_state::ProcessorState;
 use charmlet_chare::Chare;
 use charmlet_delivery::{assign, commit, finish, release};
 use charmlet_disk::Disk;
 use charmlet_halves::Halves;
 use charmlet_history::History;
-use charmlet_locks::Book;
+use charmlet_locks::Authority;
 use charmlet_model::{MsgId, Refusal};
 use charmlet_persist::flush;
 use charmlet_ready_queue::Ticks;
@@ -42,8 +42,8 @@ use std::alloc::Global;
 use std::marker::Model;
 use std::sync::ledger::Ledger;
 
-/// What orders all steps: a history, the halves of a disk, the stock, and the book of what stands
-/// on each shelf. A contract sees the core, the census and the disk.
+/// What orders all steps: a history, the halves of a disk, the stock, and the authority of what
+/// stands on each shelf. A contract sees the core, the census and the disk.
 ///
 /// Each call is one step of the core, or leaves it as it is. The history is legal. Of each kind,
 /// what was supplied is on the shelves, in the stock, or retired. A shelf that is lent to a call
@@ -56,7 +56,7 @@ pub struct Sequencer<D: Disk, C: Chare, B: RuntimeName> {
     pub(crate) halves: Halves<D>,
     pub(crate) stock: Stock<C>,
     /// What stands on the shelf of each processor, and what is assigned there.
-    pub(crate) parts: Book<SeenPart, B>,
+    pub(crate) parts: Authority<GhostPart, B>,
 }
 
 impl<D: Disk, C: Chare, B: RuntimeName> Model for Sequencer<D, C, B> {
@@ -79,7 +79,7 @@ pub(crate) struct SequencerParts<D: Disk, C: Chare, B: RuntimeName> {
     pub(crate) history: History,
     pub(crate) halves: Halves<D>,
     pub(crate) stock: Stock<C>,
-    pub(crate) parts: Book<SeenPart, B>,
+    pub(crate) parts: Authority<GhostPart, B>,
 }
 
 // Written by hand, so that dropping all that a sequencer has is proved here, and not in each
@@ -134,8 +134,8 @@ impl<D: Disk, C: Chare, B: RuntimeName> Sequencer<D, C, B> {
         ensures of { IsOf B.opening B.before B.processors self.now.core }
         ensures later { B.generation ≤ self.now.core.generation }
         ensures sound { IsSound self.now.core }
-        ensures book { (parts : List (Option Part))
-            × IsBookIn self.now.core self.now.census parts }
+        ensures authority { (parts : List (Option Part))
+            × IsAuthorityIn self.now.core self.now.census parts }
         ensures lawful { D.honest self.now.disk → (outcome : CrashBytes) →
             MayLeave (D.file self.now.disk) outcome → is_lawful self.now.core outcome }
         ensures stored { D.honest self.now.disk → self.now.core.halted ≡ false →
@@ -195,7 +195,7 @@ impl<D: Disk, C: Chare, B: RuntimeName> Sequencer<D, C, B> {
     ///
     /// The refusal is the first that applies of `Halted`, `BadPes`, `Uncommitted`, `NoMessage`,
     /// `Absent`, `Elsewhere`, `HistoryFull`, `NoBlank` and `Memory`. Then all is as before.
-    pub fn assign(&mut self, locked: &mut LockedShelf<C, B>, id: MsgId) -> Result<(), Refusal>
+    pub fn assign(&mut self, locked: &mut ProcessorState<C, B>, id: MsgId) -> Result<(), Refusal>
         ensures goes { Goes (store_of self.old) (core.Assign locked.old.number id)
             (done_or_refused result) (store_of self.new) }
         ensures ok { OnOk result (is_assigned locked.new.phase ≡ true) }
@@ -206,7 +206,7 @@ impl<D: Disk, C: Chare, B: RuntimeName> Sequencer<D, C, B> {
         ensures err { OnErr result ((self.new ≡ self.old) × (locked.new ≡ locked.old)) }
     {
         self.history.facts();
-        self.parts.agree(&mut locked.share);
+        self.parts.agree(&mut locked.fragment);
         let assigned = assign(
             self.alloc,
             &mut self.history,
@@ -215,14 +215,14 @@ impl<D: Disk, C: Chare, B: RuntimeName> Sequencer<D, C, B> {
             id,
         );
         self.history.facts();
-        write(&mut self.parts, &mut locked.share, &locked.shelf);
+        write(&mut self.parts, &mut locked.fragment, &locked.shelf);
         assigned
     }
 
     /// Adds the delivery that the receiver on the shelf has made to the history. An object that it
     /// destroyed is retired. It takes no memory. The only refusal is `Halted`: then all is as
     /// before, and the delivery can still be [finished](Self::finish).
-    pub fn commit(&mut self, locked: &mut LockedShelf<C, B>) -> Result<(), Refusal>
+    pub fn commit(&mut self, locked: &mut ProcessorState<C, B>) -> Result<(), Refusal>
         requires { is_done locked.old.phase ≡ true }
         ensures goes { Goes (store_of self.old) (core.Commit locked.old.number)
             (done_or_refused result) (store_of self.new) }
@@ -234,7 +234,7 @@ impl<D: Disk, C: Chare, B: RuntimeName> Sequencer<D, C, B> {
         ensures runs { self.old.core.halted ≡ false → IsOk result }
     {
         self.history.facts();
-        self.parts.agree(&mut locked.share);
+        self.parts.agree(&mut locked.fragment);
         let Some(output) = locked.output.take() else {
             unreachable!()
         };
@@ -245,7 +245,7 @@ impl<D: Disk, C: Chare, B: RuntimeName> Sequencer<D, C, B> {
             output,
         );
         self.history.facts();
-        write(&mut self.parts, &mut locked.share, &locked.shelf);
+        write(&mut self.parts, &mut locked.fragment, &locked.shelf);
         if let Err(refused) = committed {
             locked.output = Some(refused.output);
             return Err(refused.refusal);
@@ -256,7 +256,7 @@ impl<D: Disk, C: Chare, B: RuntimeName> Sequencer<D, C, B> {
     /// Adds the delivery as [`commit`](Self::commit) does, also where the store is halted: so an
     /// object that has reacted already can be counted, and the store be taken apart. It takes no
     /// memory.
-    pub fn finish(&mut self, locked: &mut LockedShelf<C, B>)
+    pub fn finish(&mut self, locked: &mut ProcessorState<C, B>)
         requires { is_done locked.old.phase ≡ true }
         ensures goes { Goes (store_of self.old) (core.Finish locked.old.number) Done
             (store_of self.new) }
@@ -265,7 +265,7 @@ impl<D: Disk, C: Chare, B: RuntimeName> Sequencer<D, C, B> {
         ensures disk { self.new.disk ≡ self.old.disk }
     {
         self.history.facts();
-        self.parts.agree(&mut locked.share);
+        self.parts.agree(&mut locked.fragment);
         let Some(output) = locked.output.take() else {
             unreachable!()
         };
@@ -276,12 +276,12 @@ impl<D: Disk, C: Chare, B: RuntimeName> Sequencer<D, C, B> {
             output,
         );
         self.history.facts();
-        write(&mut self.parts, &mut locked.share, &locked.shelf);
+        write(&mut self.parts, &mut locked.fragment, &locked.shelf);
     }
 
     /// Takes the assignment back: the message is pending again, and the blank of a construction is
     /// back in the stock. It takes no memory.
-    pub fn release(&mut self, locked: &mut LockedShelf<C, B>)
+    pub fn release(&mut self, locked: &mut ProcessorState<C, B>)
         requires { is_assigned locked.old.phase ≡ true }
         ensures goes { Goes (store_of self.old) (core.Release locked.old.number) Done
             (store_of self.new) }
@@ -290,10 +290,10 @@ impl<D: Disk, C: Chare, B: RuntimeName> Sequencer<D, C, B> {
         ensures disk { self.new.disk ≡ self.old.disk }
     {
         self.history.facts();
-        self.parts.agree(&mut locked.share);
+        self.parts.agree(&mut locked.fragment);
         release(&mut self.history, &mut locked.shelf, &mut self.stock);
         self.history.facts();
-        write(&mut self.parts, &mut locked.share, &locked.shelf);
+        write(&mut self.parts, &mut locked.fragment, &locked.shelf);
     }
 
     /// Makes all events durable, and answers how many there are, those before the opening world

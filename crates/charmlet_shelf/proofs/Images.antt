@@ -13,7 +13,7 @@ use Rattle.charmlet_model.specs.Names.{elem_cmp, same_elem}
 use Rattle.charmlet_model.specs.Shelves.{record_in, records_of}
 use Rattle.charmlet_model.proofs.Fits.{AllByRecursion-map}
 use Rattle.charmlet_model.proofs.Maps.{absent, elem_total, length-insert_entry, tied_elem}
-use Rattle.charmlet_model.specs.Reaction.{edition_of}
+use Rattle.charmlet_model.specs.Reaction.{kind_version_of}
 use Rattle.charmlet_shelf.specs.Due.{Due, record_after}
 use Rattle.charmlet_shelf.specs.Image.{AreImages, HasImage, IsImage, IsImageIf, IsImageIn}
 use Rattle.charmlet_shelf.specs.Risen.{risen}
@@ -180,7 +180,7 @@ module _ {C : Type 0} (state : C → State) where
     receiver_still due o old is new shows =
         let state_is : state new.object ≡ state old.object = (λ i. unwrap_or (shows i).state (state old.object)) in
         record {
-          edition = ap edition_of state_is ∙ is.edition;
+          kind_version = ap kind_version_of state_is ∙ is.kind_version;
           before = is.before;
           state = become old new state_is o is.state;
           sent = ap (λ (r : Record). r.sent) shows ∙ is.sent;

@@ -1,6 +1,6 @@
 -- The definitions that contracts cite.
 pub mod Due
-pub mod Outcome
+pub mod PerformedDelivery
 pub mod Shelf
 pub mod Receiving
 pub mod Image

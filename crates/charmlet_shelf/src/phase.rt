@@ -1,7 +1,7 @@
 //! What a shelf is doing.
 
 use crate::delivery::Delivery;
-use crate::outcome::Outcome;
+use crate::performed_delivery::PerformedDelivery;
 
 /// What a shelf is doing.
 #[derive(Drop)]
@@ -11,5 +11,5 @@ pub enum Phase {
     /// A message is assigned, and its receiver has not reacted yet.
     Assigned(Delivery),
     /// The receiver has reacted, and the delivery isn't settled yet.
-    Done(Outcome),
+    Done(PerformedDelivery),
 }

@@ -9,7 +9,7 @@ use Rattle.std.specs.Map.{lookup, keys_of, values_of}
 use Rattle.std.proofs.lemmas.List.Elements.{All-from_recursion}
 use Rattle.std.proofs.lemmas.Map.Views.{tells_apart}
 use Rattle.charmlet_model.specs.declared.names.Elem.{Elem}
-use Rattle.charmlet_model.specs.declared.edition.Edition.{Edition}
+use Rattle.charmlet_model.specs.declared.kind_version.KindVersion.{KindVersion}
 use Rattle.charmlet_model.specs.declared.state.Record.{Record}
 use Rattle.charmlet_model.specs.declared.client.ClientRow.{ClientRow}
 use Rattle.charmlet_model.specs.Names.{elem_cmp}
@@ -17,18 +17,18 @@ use Rattle.charmlet_model.specs.World.{no_record, record_at, row_of}
 use Rattle.charmlet_model.specs.Row.{no_client}
 use Rattle.charmlet_model.specs.Fit.{IsElem, IsRecord, IsKept, IsRow, IsFit}
 use Rattle.charmlet_model.proofs.Maps.{elem_exact}
-use Rattle.charmlet_state_tests.specs.Opening.{array_editions, records, clients, opening_world}
+use Rattle.charmlet_state_tests.specs.Opening.{array_versions, records, clients, opening_world}
 
-abbrev edition_in : List (ℕ × Edition) → ℕ → Option Edition
-edition_in arrays array = lookup (is_at (nat_cmp array)) arrays
+abbrev kind_version_in : List (ℕ × KindVersion) → ℕ → Option KindVersion
+kind_version_in arrays array = lookup (is_at (nat_cmp array)) arrays
 
 -- what is true of each record that is kept is true of each element's
-any_record : (arrays : List (ℕ × Edition)) (es : List (Elem × Record)) → AllByRecursion (λ (e : Elem × Record). IsRecord (edition_in arrays e.0.array) e.1) es →
-    (x : Elem) → IsRecord (edition_in arrays x.array) (record_at es x)
+any_record : (arrays : List (ℕ × KindVersion)) (es : List (Elem × Record)) → AllByRecursion (λ (e : Elem × Record). IsRecord (kind_version_in arrays e.0.array) e.1) es →
+    (x : Elem) → IsRecord (kind_version_in arrays x.array) (record_at es x)
 any_record arrays [] h x = record { state = tt; sent = omega arith; received = omega arith }
 any_record arrays (e ∷ es) h x =
-    elim (eq_by_cmp elem_cmp x e.0) as (λ b. eq_by_cmp elem_cmp x e.0 ≡ b → IsRecord (edition_in arrays x.array) (unwrap_or (cond b (Some e.1) (lookup (is_at (elem_cmp x)) es)) no_record)) [
-      | true ↦ λ same. subst (λ (y : Elem). IsRecord (edition_in arrays y.array) e.1) (sym (tells_apart elem_exact x e.0 same)) h.0
+    elim (eq_by_cmp elem_cmp x e.0) as (λ b. eq_by_cmp elem_cmp x e.0 ≡ b → IsRecord (kind_version_in arrays x.array) (unwrap_or (cond b (Some e.1) (lookup (is_at (elem_cmp x)) es)) no_record)) [
+      | true ↦ λ same. subst (λ (y : Elem). IsRecord (kind_version_in arrays y.array) e.1) (sym (tells_apart elem_exact x e.0 same)) h.0
       | false ↦ λ _. any_record arrays es h.1 x
     ] refl
 
@@ -41,7 +41,7 @@ any_row (e ∷ es) h c =
       | false ↦ any_row es h.1 c
     ]
 
-arrays_rise : IsStrictlySortedBy nat_cmp (keys_of array_editions)
+arrays_rise : IsStrictlySortedBy nat_cmp (keys_of array_versions)
 unfolding IsStrictlySortedBy
 arrays_rise = ((refl, tt), (tt, tt))
 
@@ -53,7 +53,7 @@ clients_rise : IsStrictlySortedBy nat_cmp (keys_of clients)
 unfolding IsStrictlySortedBy
 clients_rise = ((refl, tt), (tt, tt))
 
-known : (index : ℕ) → index < 2 ^ 64 → IsElem array_editions (record { array = 0; index = index })
+known : (index : ℕ) → index < 2 ^ 64 → IsElem array_versions (record { array = 0; index = index })
 known index small = record { array = refl; index = small }
 
 pub opening_fit : IsFit opening_world
@@ -61,9 +61,9 @@ opening_fit = record {
   rising_arrays = arrays_rise;
   rising_records = records_rise;
   rising_clients = clients_rise;
-  small_arrays = All-from_recursion (λ (array : ℕ). array < 2 ^ 16) (keys_of array_editions) (omega arith, (omega arith, tt));
+  small_arrays = All-from_recursion (λ (array : ℕ). array < 2 ^ 16) (keys_of array_versions) (omega arith, (omega arith, tt));
   small_clients = All-from_recursion (λ (client : ℕ). client < 2 ^ 32) (keys_of clients) (omega arith, (omega arith, tt));
-  known_records = All-from_recursion (IsElem array_editions) (keys_of records) (known 0 (omega arith), (known 1 (omega arith), (known 5 (omega arith), tt)));
+  known_records = All-from_recursion (IsElem array_versions) (keys_of records) (known 0 (omega arith), (known 1 (omega arith), (known 5 (omega arith), tt)));
   some_arrays = omega arith;
   few_arrays = omega arith;
   few_clients = omega arith;
@@ -77,7 +77,7 @@ opening_fit = record {
       (record { origin = omega arith; sent = refl; to = known 5 (omega arith); entry = omega arith; words = (omega arith, tt) }, tt),
     ),
   );
-  records = any_record array_editions records (
+  records = any_record array_versions records (
     record { state = (refl, (omega arith, omega arith)); sent = omega arith; received = omega arith },
     (
       record { state = tt; sent = omega arith; received = omega arith },

@@ -4,13 +4,13 @@ use Rattle.std.specs.Prelude.{Option, Some, None, IfSome, is_some, ◌==◌, opt
 use Rattle.charmlet_model.specs.declared.names.Elem.{Elem}
 use Rattle.charmlet_model.specs.declared.names.MsgId.{MsgId}
 use Rattle.charmlet_model.specs.declared.message.Message.{Message}
-use Rattle.charmlet_model.specs.declared.edition.Edition.TheVariants as editions
+use Rattle.charmlet_model.specs.declared.kind_version.KindVersion.TheVariants as kind_versions
 use Rattle.charmlet_model.specs.declared.state.State.{State}
 use Rattle.charmlet_model.specs.declared.state.State.TheVariants.{FirstCounter, Counter, Ring, Account, Sum, Tree, Tape}
 use Rattle.charmlet_model.specs.declared.reaction.Reaction.{Reaction}
-use Rattle.charmlet_model.specs.Reaction.{edition_of, react, stays}
+use Rattle.charmlet_model.specs.Reaction.{kind_version_of, react, stays}
 use Rattle.charmlet_model.specs.Packed.{IsState}
-use Rattle.charmlet_model.specs.World.{can_deliver, edition_of_array, record_of, reaction_of}
+use Rattle.charmlet_model.specs.World.{can_deliver, version_of_array, record_of, reaction_of}
 use Rattle.charmlet_model.specs.Core.{Core, present, assigned_to, pending_message}
 use Rattle.charmlet_model.specs.Sound.{IsSound, IsAssigned}
 use Rattle.charmlet_model.proofs.Maps.{both_parts}
@@ -22,7 +22,7 @@ use Rattle.charmlet_history.specs.Kept.{IsAssignedOutput, assigned_message}
 abbrev IsPlain : Option Reaction → Type 0
 IsPlain reaction = (r : Reaction) × (reaction ≡ Some r) × (empty_output ≡ output_of r)
 
-counter_stays : (s : State) → edition_of s ≡ editions.Counter → (me : Elem) (words : List ℕ) → IsPlain (react editions.Counter me (Some s) 4 words)
+counter_stays : (s : State) → kind_version_of s ≡ kind_versions.Counter → (me : Elem) (words : List ℕ) → IsPlain (react kind_versions.Counter me (Some s) 4 words)
 counter_stays (FirstCounter n) is me words = absurd (let no : ⊥ = cc in no)
 counter_stays (Counter n peak) is me words = (stays (Counter n peak), refl, refl)
 counter_stays (Ring next seen) is me words = absurd (let no : ⊥ = cc in no)
@@ -31,12 +31,12 @@ counter_stays (Sum want got total up) is me words = absurd (let no : ⊥ = cc in
 counter_stays (Tree depth) is me words = absurd (let no : ⊥ = cc in no)
 counter_stays (Tape items) is me words = absurd (let no : ⊥ = cc in no)
 
-there_stays : (s : Option State) → is_some s ≡ true → IfSome s (λ s. (Some editions.Counter ≡ Some (edition_of s)) × IsState s) → (me : Elem) (words : List ℕ) →
-    IsPlain (react editions.Counter me s 4 words)
+there_stays : (s : Option State) → is_some s ≡ true → IfSome s (λ s. (Some kind_versions.Counter ≡ Some (kind_version_of s)) × IsState s) → (me : Elem) (words : List ℕ) →
+    IsPlain (react kind_versions.Counter me s 4 words)
 there_stays None is h me words = absurd (let no : ⊥ = cc in no)
-there_stays (Some s) is h me words = let same = h.0 in counter_stays s (let edition : edition_of s ≡ editions.Counter = cc in edition) me words
+there_stays (Some s) is h me words = let same = h.0 in counter_stays s (let kind_version : kind_version_of s ≡ kind_versions.Counter = cc in kind_version) me words
 
-module _ (core : Core) (sound : IsSound core) (processor : ℕ) (m : Message) (entry : m.entry ≡ 4) (edition : edition_of_array (present core) m.to.array ≡ Some editions.Counter) where
+module _ (core : Core) (sound : IsSound core) (processor : ℕ) (m : Message) (entry : m.entry ≡ 4) (kind_version : version_of_array (present core) m.to.array ≡ Some kind_versions.Counter) where
   -- the receiver of what is assigned is there
   is_there : (id : MsgId) → pending_message core id ≡ Some m → IsAssigned core processor id → is_some (record_of (present core) m.to).state ≡ true
   is_there id is assigned =
@@ -52,10 +52,10 @@ module _ (core : Core) (sound : IsSound core) (processor : ℕ) (m : Message) (e
   reacts : is_some (record_of (present core) m.to).state ≡ true → IsPlain (reaction_of (present core) m)
   reacts there =
       let here = (sound_fit core sound).records m.to in
-      subst (λ k. IsPlain (option_and_then (λ any. react any m.to (record_of (present core) m.to).state m.entry m.words) k)) (sym edition)
-      (subst (λ e. IsPlain (react editions.Counter m.to (record_of (present core) m.to).state e m.words)) (sym entry)
+      subst (λ k. IsPlain (option_and_then (λ any. react any m.to (record_of (present core) m.to).state m.entry m.words) k)) (sym kind_version)
+      (subst (λ e. IsPlain (react kind_versions.Counter m.to (record_of (present core) m.to).state e m.words)) (sym entry)
       (there_stays (record_of (present core) m.to).state there
-      (subst (λ k. IfSome (record_of (present core) m.to).state (λ s. (k ≡ Some (edition_of s)) × IsState s)) edition here.state)
+      (subst (λ k. IfSome (record_of (present core) m.to).state (λ s. (k ≡ Some (kind_version_of s)) × IsState s)) kind_version here.state)
       m.to m.words))
 
   found_plain : (o : Option MsgId) → IfSome o (IsAssigned core processor) → option_and_then (pending_message core) o ≡ Some m → IsPlain (reaction_of (present core) m)

@@ -4,15 +4,15 @@ use Rattle.charmlet_model.specs.declared.names.Elem.{Elem}
 use Rattle.charmlet_model.specs.declared.names.Origin.{Origin}
 use Rattle.charmlet_model.specs.declared.names.Origin.TheVariants.{Client, Element}
 use Rattle.charmlet_model.specs.declared.message.Message.{Message}
-use Rattle.charmlet_model.specs.declared.edition.Edition.{Edition}
-use Rattle.charmlet_model.specs.declared.edition.Edition.TheVariants as editions
+use Rattle.charmlet_model.specs.declared.kind_version.KindVersion.{KindVersion}
+use Rattle.charmlet_model.specs.declared.kind_version.KindVersion.TheVariants as kind_versions
 use Rattle.charmlet_model.specs.declared.state.Record.{Record}
 use Rattle.charmlet_model.specs.declared.state.State.TheVariants.{Counter}
 use Rattle.charmlet_model.specs.declared.client.ClientRow.{ClientRow}
 use Rattle.charmlet_model.specs.World.{World}
 
-abbrev pub array_editions : List (ℕ × Edition)
-array_editions = (0, editions.Counter) ∷ (1, editions.Tree) ∷ []
+abbrev pub array_versions : List (ℕ × KindVersion)
+array_versions = (0, kind_versions.Counter) ∷ (1, kind_versions.Tree) ∷ []
 
 -- an element of the counters
 abbrev pub counter_at : ℕ → Elem
@@ -54,7 +54,7 @@ clients =
 
 abbrev pub opening_world : World
 opening_world = record {
-  manifest = array_editions;
+  manifest = array_versions;
   records = records;
   pending = pending;
   clients = clients;

@@ -4,8 +4,8 @@ pub mod Pile
 pub mod Retired
 pub mod Sorted
 pub mod Stock
-pub mod Pouring
-pub use Rattle.charmlet_model.specs.Edition
+pub mod Absorption
+pub use Rattle.charmlet_model.specs.KindVersion
 pub use Rattle.charmlet_model.specs.Kind
 pub use Rattle.charmlet_model.specs.Reaction
 pub use Rattle.charmlet_model.specs.Shelves

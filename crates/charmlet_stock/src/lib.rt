@@ -2,12 +2,12 @@
 //! were retired.
 #![tactic(auto)]
 
+mod absorption;
 mod by_kind;
 mod pile;
-mod pouring;
 mod stock;
 
+pub use crate::absorption::absorb;
 pub use crate::by_kind::ByKind;
 pub use crate::pile::Tally;
-pub use crate::pouring::pour;
 pub use crate::stock::{Stock, count_of};

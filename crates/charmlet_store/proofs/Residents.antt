@@ -22,7 +22,7 @@ use Rattle.charmlet_model.proofs.ShelfCounts.{shelves_count}
 use Rattle.charmlet_model.proofs.SoundLemmas.{sound_fit}
 use Rattle.charmlet_chare.specs.declared.chare.Chare.{Ghosts}
 use Rattle.charmlet_history.specs.Kept.{IsConsistent, core_in}
-use Rattle.charmlet_shelf.proofs.Counts.{by_shown}
+use Rattle.charmlet_shelf.proofs.CountsLemmas.{by_shown}
 use Rattle.charmlet_stock.specs.Stock.{blanks_in, supplied_to, tally_in}
 use Rattle.charmlet_migrate.specs.Moving.{objects_among}
 use Rattle.charmlet_store.specs.declared.store.Store.TheInside.{Inside}

@@ -15,7 +15,7 @@ use Rattle.std.proofs.lemmas.List.Sums.{get_or-le-sum_by, sum_by-cons, sum_by-se
 use Rattle.std.proofs.lemmas.Map.Views.{exact_unsigned_eq}
 use Rattle.charmlet_model.specs.declared.names.Elem.{Elem}
 use Rattle.charmlet_model.specs.declared.kind.Kind.{Kind}
-use Rattle.charmlet_model.specs.declared.edition.Edition.{Edition}
+use Rattle.charmlet_model.specs.declared.kind_version.KindVersion.{KindVersion}
 use Rattle.charmlet_model.specs.declared.state.Record.{Record}
 use Rattle.charmlet_model.specs.Names.{elem_cmp}
 use Rattle.charmlet_model.specs.World.{World, record_of}
@@ -182,7 +182,7 @@ bare_objects kind (shelf ∷ more) bare =
     sum_by-cons (λ (v : View). objects_on v kind) shelf more ∙ (λ i. here i + bare_objects kind more bare.1 i)
 
 -- its shelves show the new world
-bare_shows : (shelves : List View) (processors : ℕ) (manifest : List (ℕ × Edition)) (log_end : ℕ) → AllByRecursion IsBare shelves → (core : Core) → core ≡ opened processors (new_world manifest) 0 1 log_end → Shows (records_on shelves) core.places (present core)
+bare_shows : (shelves : List View) (processors : ℕ) (manifest : List (ℕ × KindVersion)) (log_end : ℕ) → AllByRecursion IsBare shelves → (core : Core) → core ≡ opened processors (new_world manifest) 0 1 log_end → Shows (records_on shelves) core.places (present core)
 bare_shows shelves processors manifest log_end bare core opens =
     subst (λ (core : Core). Shows (records_on shelves) core.places (present core)) (sym opens) (record {
       rising = bare_rising shelves bare;

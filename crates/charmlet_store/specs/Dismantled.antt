@@ -12,7 +12,7 @@ use Rattle.charmlet_chare.specs.declared.chare.Chare.{Ghosts}
 use Rattle.charmlet_shelf.specs.Shelf.{View}
 use Rattle.charmlet_stock.specs.Stock.{blanks_in, supplied_to, tally_in}
 use Rattle.charmlet_migrate.specs.Copying.{shelf_at, with_records}
-use Rattle.charmlet_store.specs.declared.dismantling.Dismantled.{Dismantled}
+use Rattle.charmlet_store.specs.declared.dismantled.Dismantled.{Dismantled}
 
 -- of each kind, what was supplied is among the residents, in the stock, or retired
 abbrev pub IsCountedIn : {C : Type 0} {G : Ghosts C} → (C → State) → Dismantled C G → Type 0

@@ -1,7 +1,7 @@
 -- What is seen of a store.
 use Rattle.std.specs.Prelude.{◌≡◌, ℕ, ◌<◌, Bool, List, get_or, length}
 use Rattle.charmlet_model.specs.declared.kind.Kind.{Kind}
-use Rattle.charmlet_model.specs.declared.edition.Edition.{Edition}
+use Rattle.charmlet_model.specs.declared.kind_version.KindVersion.{KindVersion}
 use Rattle.charmlet_model.specs.World.{World}
 use Rattle.charmlet_model.specs.Core.{Core, present}
 use Rattle.charmlet_model.specs.Run.{StoreView}
@@ -22,7 +22,7 @@ pub record StoreShown : Type 0 where
 
 -- nothing has happened in the store, and nothing came before its opening world
 pub record IsNew (core : Core) : Type 0 where
-  pub manifest : List (ℕ × Edition)
+  pub manifest : List (ℕ × KindVersion)
   pub log_end : ℕ
   pub is : core ≡ opened core.processors (new_world manifest) 0 1 log_end
 

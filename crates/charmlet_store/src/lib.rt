@@ -2,12 +2,12 @@
 #![tactic(auto)]
 
 mod census;
-mod dismantling;
+mod dismantled;
 mod look;
 mod store;
-mod upgrading;
+mod upgraded;
 
 pub use crate::census::Census;
-pub use crate::dismantling::Dismantled;
+pub use crate::dismantled::Dismantled;
 pub use crate::look::{Look, Standing};
 pub use crate::store::{Store, StoreParts, empty_shelves};

@@ -36,7 +36,7 @@ impl<C: Chare> Store<C> {
         self.history.pending_count()
     }
 
-    /// The ids of the pending messages, in order of birth.
+    /// The ids of the pending messages, in order of arrival.
     pub fn pending(&self) -> Result<Vec<MsgId>, AllocError>
         ensures { IfOk result (λ ids. ids.items ≡ map (λ m. m.id) (world_in self.now).pending) }
     {

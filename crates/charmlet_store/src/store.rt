@@ -20,7 +20,7 @@ ghost use Rattle.charmlet_store.specs.Together.{shown_by};
 ghost use Rattle.charmlet_store.specs.Store.{AreEmpty, IsNew, store_in, supplied_in, world_in};
 ghost use Rattle.charmlet_migrate.specs.UnderWay.{Ends};
 
-use crate::dismantling::{Dismantled, lift_all};
+use crate::dismantled::{Dismantled, lift_all};
 use charmlet_chare::Chare;
 use charmlet_history::{History, Request};
 use charmlet_migrate::{deliver_on, move_among};
@@ -138,7 +138,7 @@ impl<C: Chare> Store<C> {
 
     /// Draws so many blanks of a kind into the stock from another one, which has them. Where memory
     /// is refused, both are as before.
-    pub fn draw(
+    pub fn transfer_from(
         &mut self,
         source: &mut Stock<C>,
         kind: Kind,
@@ -160,7 +160,7 @@ impl<C: Chare> Store<C> {
         ensures keeping { self.new.keeping ≡ self.old.keeping }
         ensures source_keeping { keeping_of source.new ≡ keeping_of source.old }
     {
-        self.stock.draw(source, kind, count)
+        self.stock.transfer_from(source, kind, count)
     }
 
     /// From now on the stock drops what is retired, and first what it kept. It takes no memory.

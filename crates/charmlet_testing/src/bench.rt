@@ -20,7 +20,7 @@ pub struct Bench {
     /// The disk, where it is free.
     pub(crate) disk: Option<ProbeDisk>,
     /// The store that was just made, or came back, until it is taken.
-    pub(crate) born: Option<ProbeStore>,
+    pub(crate) seq: Option<ProbeStore>,
     pub(crate) switches: Arc<Switches>,
     pub(crate) tally: Arc<Tally>,
     /// How many blanks of which kinds are laid by for the next restart.
@@ -50,7 +50,7 @@ impl Drop for Bench {
             header,
             handlers,
             disk,
-            born,
+            seq,
             switches,
             tally,
             laid,
@@ -61,7 +61,7 @@ impl Drop for Bench {
         drop(header);
         drop(handlers);
         drop(disk);
-        drop(born);
+        drop(seq);
         drop(switches);
         drop(tally);
         drop(laid);
@@ -81,7 +81,7 @@ impl Bench {
             header: String::new(alloc),
             handlers: Handlers::new(alloc),
             disk: Some(disk),
-            born: None,
+            seq: None,
             switches,
             tally,
             laid: Vec::new(alloc),
@@ -129,8 +129,8 @@ impl Bench {
     }
 
     /// Takes the store that was just made or came back, if there is one.
-    pub fn take_born(&mut self) -> Option<ProbeStore> {
-        self.born.take()
+    pub fn take_seq(&mut self) -> Option<ProbeStore> {
+        self.seq.take()
     }
 
     /// A new disk takes the place of what is there.

@@ -7,4 +7,4 @@ mod hub_machine;
 mod places;
 mod running;
 
-pub use crate::hub::hub_machine::{Books, HubMachine};
+pub use crate::hub::hub_machine::{Authorities, HubMachine};

@@ -21,7 +21,7 @@ pub use crate::bench::Bench;
 pub use crate::clients::{give, lend, pass};
 pub use crate::disk::{ProbeDisk, Switches};
 pub use crate::files::open_script;
-pub use crate::hub::{Books, HubMachine};
+pub use crate::hub::{Authorities, HubMachine};
 pub use crate::hubs::{checkpoint, held, lend_seat, turn};
 pub use crate::objects::{Object, Tally, blanks};
 pub use crate::saying::say;
@@ -29,4 +29,4 @@ pub use crate::shows::{image, look, next};
 pub use crate::store::{
     Blanks, EngineMachine, Failed, Machine, ProbeStore, Running, Turn, Without, wanted_objects,
 };
-pub use charmlet_cli::{Failure, Stop, end_program};
+pub use charmlet_cli::{ExitReason, Failure, end_program};

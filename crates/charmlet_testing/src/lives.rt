@@ -38,7 +38,7 @@ impl Bench {
         };
         match ProbeStore::create(self.alloc, disk, manifest, script.processors()) {
             Ok(store) => {
-                self.born = Some(store);
+                self.seq = Some(store);
                 self.header.clear();
                 Ok(())
             }
@@ -133,7 +133,7 @@ impl Bench {
         };
         match ProbeStore::restart(rt, self.alloc, disk, blanks, processors) {
             Ok(store) => {
-                self.born = Some(store);
+                self.seq = Some(store);
                 Ok(())
             }
             Err(
@@ -153,7 +153,7 @@ impl Bench {
 
     /// Prints that the store came back.
     fn say_restarted(&self, processors: u16, out: &mut Vec<u8>) -> Result<(), Failed> {
-        let Some(store) = &self.born else {
+        let Some(store) = &self.seq else {
             return Err(Failed::Lacks("store"));
         };
         let line = RestartedLine {

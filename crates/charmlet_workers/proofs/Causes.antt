@@ -10,7 +10,7 @@ use Rattle.std.specs.Map.{lookup}
 use Rattle.std.specs.Ordering.{nat_cmp}
 use Rattle.std.specs.Prelude.{IfErr, IfSome, if◌then◌else◌, is_none, is_some, nat_le, nat_lt, not, option_map, unwrap_or}
 use Rattle.charmlet_model.specs.declared.client.ClientRow.{ClientRow}
-use Rattle.charmlet_model.specs.declared.edition.Edition.{Edition}
+use Rattle.charmlet_model.specs.declared.kind_version.KindVersion.{KindVersion}
 use Rattle.charmlet_model.specs.declared.names.Elem.{Elem}
 use Rattle.charmlet_model.specs.declared.names.MsgId.{MsgId}
 use Rattle.charmlet_model.specs.declared.refusal.Refusal.{Refusal}
@@ -18,12 +18,12 @@ use Rattle.charmlet_model.specs.declared.refusal.Refusal.TheVariants as refusals
 use Rattle.charmlet_model.specs.declared.told.Told.{Told}
 use Rattle.charmlet_model.specs.Core as core
 use Rattle.charmlet_model.specs.Core.{Blanks, Core, MayLackMemory, assigned_to, away_checks, home, is_present, is_processor, is_repeat, move_checks, new_request_checks, place_of, place_or_home, present, request_checks}
-use Rattle.charmlet_model.specs.Edition.{edition_kind}
+use Rattle.charmlet_model.specs.KindVersion.{kind_of_version}
 use Rattle.charmlet_model.specs.Reaction.{greatest}
 use Rattle.charmlet_model.specs.Row.{below, follows_last, in_window, no_client}
 use Rattle.charmlet_model.specs.Run.{Goes, StoreView}
 use Rattle.charmlet_model.specs.Sound.{IsSound}
-use Rattle.charmlet_model.specs.World.{World, client_of, edition_of_array}
+use Rattle.charmlet_model.specs.World.{World, client_of, version_of_array}
 use Rattle.charmlet_model.proofs.CanLemmas.{not_not}
 use Rattle.charmlet_model.proofs.Maps.{both_parts}
 use Rattle.charmlet_model.proofs.SoundLemmas.{sound_fit}
@@ -71,9 +71,9 @@ no_next row number turn same = elim (nat_le number greatest) as (λ b. nat_le nu
 next : (row : ClientRow) (number : ℕ) → not (follows_last row number) ≡ false → number ≡ row.last + 1
 next row number turn = exact_unsigned_eq number (row.last + 1) (both_parts (number == row.last + 1) (nat_le number greatest) (not_not (follows_last row number) turn)).0
 
-no_edition : (o : Option Edition) → is_none o ≡ true → o ≡ None
-no_edition None none = refl
-no_edition (Some edition) none = let never : ⊥ = cc in absurd never
+no_kind_version : (o : Option KindVersion) → is_none o ≡ true → o ≡ None
+no_kind_version None none = refl
+no_kind_version (Some kind_version) none = let never : ⊥ = cc in absurd never
 
 not_there : (b : Bool) → not b ≡ true → b ≡ false
 not_there true isnt = let never : ⊥ = cc in absurd never
@@ -141,7 +141,7 @@ module _ (k : Core) (sound : IsSound k) (opening : World) (same : k.opening ≡ 
             let follows = is_next turn in (
               λ waits. (follows, (let many = full_window (length row.window) _ waits in let numbered = ((sound_fit k sound).clients client).numbered in omega (arith, many, numbered, by_pass))),
               λ _. (
-                λ none. (follows, subst (λ (m : List (ℕ × Edition)). lookup (is_at (nat_cmp request.to.array)) m ≡ None) arrays (no_edition (edition_of_array w request.to.array) none)),
+                λ none. (follows, subst (λ (m : List (ℕ × KindVersion)). lookup (is_at (nat_cmp request.to.array)) m ≡ None) arrays (no_kind_version (version_of_array w request.to.array) none)),
                 λ _. (
                   λ long. (follows, grind (arith, nat_tests)),
                   λ _. (λ full. (follows, sym by_pass ∙ no_room (lookup (is_at (nat_cmp client)) w.clients) _ full), λ _. (λ _. follows, λ _. (tt, tt))),
@@ -165,7 +165,7 @@ request_caused hub next opening held request (Err refusal) sound same current go
 -- a move is `Uncommitted` only where a message is assigned and the element has to leave
 module _ (P : Refusal → Type 0) (memory : P refusals.Memory) (halted : P refusals.Halted) (busy : P refusals.Checkpointing) (absent : P refusals.Absent) where
   move_fit : (k : Core) (blanks : Blanks) (x : Elem) (processor : ℕ) → (is_processor k processor ≡ false → P refusals.BadPes) →
-      ((edition : Edition) → edition_of_array (present k) x.array ≡ Some edition → P (refusals.NoBlank (edition_kind edition))) →
+      ((kind_version : KindVersion) → version_of_array (present k) x.array ≡ Some kind_version → P (refusals.NoBlank (kind_of_version kind_version))) →
       (k.halted ≡ false → k.busy ≡ false → is_processor k processor ≡ true → is_present k x ≡ true → (place_or_home k x == processor) ≡ false →
       (is_some (assigned_to k (place_or_home k x)) || is_some (assigned_to k processor)) ≡ true → ⊥) → Fit P (move_checks k blanks x processor)
   move_fit k blanks x processor bad blank none = (
@@ -180,7 +180,7 @@ module _ (P : Refusal → Type 0) (memory : P refusals.Memory) (halted : P refus
             | true ↦ λ _. tt
             | false ↦ λ away. (
               λ assigned. absurd (none going free (not_not (is_processor k processor) there) (not_not (is_present k x) stands) away assigned),
-              λ _. blank_fit P blanks (edition_of_array (present k) x.array) blank memory,
+              λ _. blank_fit P blanks (version_of_array (present k) x.array) blank memory,
             )
           ] refl,
         ),
@@ -203,10 +203,10 @@ away_from k x processor (Some place) is there within on away = (
 
 module _ {D : Type 0} (hub : HubShown D) (shown : RuntimeShown) (opening : hub.core.opening ≡ shown.opening) where
   -- a blank of the array's kind
-  own_kind : (x : Elem) (edition : Edition) → edition_of_array (present hub.core) x.array ≡ Some edition → option_map edition_kind (edition_of_array shown.opening x.array) ≡ Some (edition_kind edition)
-  own_kind x edition is =
+  own_kind : (x : Elem) (kind_version : KindVersion) → version_of_array (present hub.core) x.array ≡ Some kind_version → option_map kind_of_version (version_of_array shown.opening x.array) ≡ Some (kind_of_version kind_version)
+  own_kind x kind_version is =
       let arrays : (present hub.core).manifest ≡ shown.opening.manifest = kept_arrays hub.core.opening hub.core.history ∙ ap (λ (w : World). w.manifest) opening in
-      ap (λ (m : List (ℕ × Edition)). option_map edition_kind (lookup (is_at (nat_cmp x.array)) m)) (sym arrays) ∙ ap (option_map edition_kind) is
+      ap (λ (m : List (ℕ × KindVersion)). option_map kind_of_version (lookup (is_at (nat_cmp x.array)) m)) (sym arrays) ∙ ap (option_map kind_of_version) is
 
   -- a move that is refused where it is asked for, or there it is found where the element stands
   pub source_caused : (x : Elem) (processor : ℕ) (r : Result (Option ℕ) Refusal) → hub.core.processors ≡ shown.processors → IsSound hub.core → IfErr r (λ refusal. Goes (store_in hub) (core.Move x processor) (core.Refuses refusal) (store_in hub)) →

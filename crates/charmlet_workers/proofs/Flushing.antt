@@ -76,19 +76,19 @@ still_there (x ∷ xs) (suc place) zero h g k at same got = got
 still_there (x ∷ xs) (suc place) (suc n) h g k at same got = still_there xs place n h g k at same got
 
 -- one that a flush tells nothing more stands there still
-told_there : (count : ℕ) (book : LentPasses) (passes : List HeldPass) (last : LentPasses) → TellAll count book passes last → (n : ℕ) (k : HeldPass) → with_flush count k ≡ k → slice_get book.held n ≡ Some (Some k) → slice_get last.held n ≡ Some (Some k)
-told_there count book [] last told n k once got = subst (λ (b : LentPasses). slice_get b.held n ≡ Some (Some k)) (sym told) got
-told_there count book (held ∷ rest) last told n k once got =
+told_there : (count : ℕ) (authority : LentPasses) (passes : List HeldPass) (last : LentPasses) → TellAll count authority passes last → (n : ℕ) (k : HeldPass) → with_flush count k ≡ k → slice_get authority.held n ≡ Some (Some k) → slice_get last.held n ≡ Some (Some k)
+told_there count authority [] last told n k once got = subst (λ (b : LentPasses). slice_get b.held n ≡ Some (Some k)) (sym told) got
+told_there count authority (held ∷ rest) last told n k once got =
     let kept = told.1 in
-    let here = still_there book.held kept.place n held (with_flush count held) k kept.had (λ is. ap (with_flush count) is ∙ once) got in
+    let here = still_there authority.held kept.place n held (with_flush count held) k kept.had (λ is. ap (with_flush count) is ∙ once) got in
     told_there count told.0 rest last told.2 n k once (subst (λ (hs : List (Option HeldPass)). slice_get hs n ≡ Some (Some k)) (sym kept.has) here)
 
-all_told : (P : HeldPass → Type 0) (count : ℕ) (book : LentPasses) (passes : List HeldPass) (last : LentPasses) → TellAll count book passes last → ((n : ℕ) (j : HeldPass) → slice_get last.held n ≡ Some (Some j) → P j) → AllByRecursion P (map (with_flush count) passes)
-all_told P count book [] last told each = tt
-all_told P count book (held ∷ rest) last told each =
+all_told : (P : HeldPass → Type 0) (count : ℕ) (authority : LentPasses) (passes : List HeldPass) (last : LentPasses) → TellAll count authority passes last → ((n : ℕ) (j : HeldPass) → slice_get last.held n ≡ Some (Some j) → P j) → AllByRecursion P (map (with_flush count) passes)
+all_told P count authority [] last told each = tt
+all_told P count authority (held ∷ rest) last told each =
     let kept = told.1 in
     let new = with_flush count held in
-    let here = subst (λ (hs : List (Option HeldPass)). slice_get hs kept.place ≡ Some (Some new)) (sym kept.has) (set_there book.held kept.place held new kept.had) in
+    let here = subst (λ (hs : List (Option HeldPass)). slice_get hs kept.place ≡ Some (Some new)) (sym kept.has) (set_there authority.held kept.place held new kept.had) in
     (each kept.place new (told_there count told.0 rest last told.2 kept.place new (told_once count held) here), all_told P count told.0 rest last told.2 each)
 
 pub flushed_if : {D : Type 0} (shown : RuntimeShown) (hub next : HubShown D) (passes new : List HeldPass) (r : Result ℕ Refusal) → IsMoment shown next.core → Goes (store_in hub) Flush (counts_or_refused r) (store_in next) →

@@ -6,7 +6,7 @@ pub mod Rows
 pub mod Flushing
 pub mod Windows
 pub mod Repeats
-pub mod Looks
-pub mod Moves
+pub mod LooksLemmas
+pub mod MovesLemmas
 pub mod Counts
 pub mod Orders

@@ -2,7 +2,7 @@
 use Rattle.std.proofs.Common.{◌≡◌, ℕ, ◌<◌, ◌≤◌, ◌+◌, List, [], ◌∷◌, ◌++◌, length, inl, inr, refl, sym, ap, subst, ◌∙◌, true, false, Bool, Option, Some, None, Result, Ok, Err, arith}
 use Rattle.std.proofs.lemmas.Bool.Decides.{nat_tests}
 use Rattle.std.specs.Prelude.{IfErr, IfSome, OnOk, if◌then◌else◌, ◌||◌, ◌==◌, is_some, not}
-use Rattle.charmlet_model.specs.declared.edition.Edition.{Edition}
+use Rattle.charmlet_model.specs.declared.kind_version.KindVersion.{KindVersion}
 use Rattle.charmlet_model.specs.declared.names.Elem.{Elem}
 use Rattle.charmlet_model.specs.declared.names.MsgId.{MsgId}
 use Rattle.charmlet_model.specs.declared.refusal.Refusal.{Refusal}
@@ -12,7 +12,7 @@ use Rattle.charmlet_model.specs.declared.told.Told.{Told}
 use Rattle.charmlet_model.specs.declared.TheConstants.{CONSTRUCT}
 use Rattle.charmlet_model.specs.Core.{Blanks, Check, When, MayLackMemory, MayFail, Core, CoreStep, Refuses, Counts, Stepped, Steps, Request, Status, Assign, Commit, Finish, Release, Move, Flush, Checkpoint, assign_checks, assigned_to, blank_for, checks, first_refusal, is_present, is_processor, is_repeat, lacks_blank, may_fail, may_lack_memory, message_checks, new_request_checks, pending_message, place_or_home, present, request_checks, stepped_unless}
 use Rattle.charmlet_model.specs.World.{client_of}
-use Rattle.charmlet_model.specs.Edition.{edition_kind}
+use Rattle.charmlet_model.specs.KindVersion.{kind_of_version}
 use Rattle.charmlet_model.specs.Run.{Goes, StoreView}
 use Rattle.charmlet_model.specs.Sound.{IsSound}
 use Rattle.charmlet_history.specs.Kept.{oldest_on_in, told_or_refused}
@@ -20,7 +20,7 @@ use Rattle.charmlet_migrate.specs.Moving.{IsIdle}
 use Rattle.charmlet_shelf.specs.Shelf.{View}
 use Rattle.charmlet_shelf.specs.declared.phase.Phase.{Phase}
 use Rattle.charmlet_delivery.specs.UnderWay.{due_in}
-use Rattle.charmlet_sequencer.specs.Book.{IsDueOn}
+use Rattle.charmlet_sequencer.specs.Authority.{IsDueOn}
 use Rattle.charmlet_hub.specs.Hub.{HubShown, store_in}
 use Rattle.charmlet_workers.specs.Refusals.{is_lending_refusal, is_request_refusal, is_work_refusal}
 use Rattle.charmlet_workers.proofs.Oldest.{oldest_is_deliverable}
@@ -115,9 +115,9 @@ request_fit core client number to words = (
 )
 
 -- blanks that lack, and then memory
-pub blank_fit : (P : Refusal → Type 0) (blanks : Blanks) (o : Option Edition) → ((edition : Edition) → o ≡ Some edition → P (refusals.NoBlank (edition_kind edition))) → P refusals.Memory → Fit P (lacks_blank blanks o ++ MayLackMemory ∷ [])
+pub blank_fit : (P : Refusal → Type 0) (blanks : Blanks) (o : Option KindVersion) → ((kind_version : KindVersion) → o ≡ Some kind_version → P (refusals.NoBlank (kind_of_version kind_version))) → P refusals.Memory → Fit P (lacks_blank blanks o ++ MayLackMemory ∷ [])
 blank_fit P blanks None blank memory = (memory, tt)
-blank_fit P blanks (Some edition) blank memory = (λ _. blank edition refl, λ _. (memory, tt))
+blank_fit P blanks (Some kind_version) blank memory = (λ _. blank kind_version refl, λ _. (memory, tt))
 
 -- a message that can be delivered on the processor, on which none is assigned
 message_fit : (core : Core) (blanks : Blanks) (processor : ℕ) (m : Message) → (is_present core m.to || (m.entry == CONSTRUCT)) ≡ true → (place_or_home core m.to == processor) ≡ true → Fit (Is is_work_refusal) (message_checks core blanks processor (Some m))
@@ -125,7 +125,7 @@ message_fit core blanks processor m there here = (
   λ absent. no_more (is_present core m.to || (m.entry == CONSTRUCT)) there absent,
   λ _. (
     λ elsewhere. no_more (place_or_home core m.to == processor) here elsewhere,
-    λ _. (λ _. refl, λ _. blank_fit (Is is_work_refusal) blanks (blank_for core m) (λ edition is. refl) refl),
+    λ _. (λ _. refl, λ _. blank_fit (Is is_work_refusal) blanks (blank_for core m) (λ kind_version is. refl) refl),
   ),
 )
 

@@ -5,7 +5,7 @@ use Rattle.std.specs.BTreeMap.{is_at}
 use Rattle.std.specs.Global.{Vec}
 use Rattle.std.specs.Map.{lookup}
 use Rattle.std.specs.Ordering.{nat_cmp}
-use Rattle.charmlet_model.specs.declared.edition.Edition.{Edition}
+use Rattle.charmlet_model.specs.declared.kind_version.KindVersion.{KindVersion}
 use Rattle.charmlet_model.specs.declared.event.Event.{Event}
 use Rattle.charmlet_model.specs.declared.names.Elem.{Elem}
 use Rattle.charmlet_model.specs.declared.names.MsgId.{MsgId}
@@ -46,7 +46,7 @@ kept_arrays w (e ∷ es) = kept_arrays (after w e) es ∙ manifest-after w e
 -- so a handler goes where it would have gone at the opening
 same_target : (w v : World) (index : ℕ) (handler : Option Handler) (to : Elem) (entry : ℕ) → w.manifest ≡ v.manifest → IsTarget w index handler to entry → IsTarget v index handler to entry
 same_target w v index (Some handler) to entry same target = target
-same_target w v index None to entry same target = subst (λ (m : List (ℕ × Edition)). lookup (is_at (nat_cmp to.array)) m ≡ None) same target
+same_target w v index None to entry same target = subst (λ (m : List (ℕ × KindVersion)). lookup (is_at (nat_cmp to.array)) m ≡ None) same target
 
 pub target_since : (core : Core) (opening : World) (index : ℕ) (handler : Option Handler) (to : Elem) (entry : ℕ) → core.opening ≡ opening →
     IsTarget (present core) index handler to entry → IsTarget opening index handler to entry

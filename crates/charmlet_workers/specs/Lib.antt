@@ -11,7 +11,7 @@ pub use Rattle.charmlet_disk.specs.File
 pub use Rattle.charmlet_halves.specs.Halves
 pub use Rattle.charmlet_history.specs.Kept
 pub use Rattle.charmlet_history.specs.Wanting
-pub use Rattle.charmlet_persist.specs.Journal.Rest
+pub use Rattle.charmlet_persist.specs.Writes.Rest
 pub use Rattle.charmlet_stock.specs.ByKind
 pub use Rattle.charmlet_requests.specs.Handlers
 pub use Rattle.charmlet_requests.specs.Pass

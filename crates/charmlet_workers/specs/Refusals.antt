@@ -4,9 +4,9 @@ use Rattle.std.specs.Prelude.{◌≡◌, ℕ, ◌+◌, ◌<◌, ◌≤◌, Bool,
 use Rattle.charmlet_model.specs.declared.names.Elem.{Elem}
 use Rattle.charmlet_model.specs.declared.refusal.Refusal.{Refusal}
 use Rattle.charmlet_model.specs.declared.refusal.Refusal.TheVariants as refusals
-use Rattle.charmlet_model.specs.Edition.{edition_kind}
+use Rattle.charmlet_model.specs.KindVersion.{kind_of_version}
 use Rattle.charmlet_model.specs.Reaction.{greatest}
-use Rattle.charmlet_model.specs.World.{World, edition_of_array}
+use Rattle.charmlet_model.specs.World.{World, version_of_array}
 use Rattle.charmlet_history.specs.declared.request.Request.{Request}
 use Rattle.charmlet_leases.specs.Passes.Passes.{HeldPass}
 use Rattle.charmlet_workers.specs.Runtime.{RuntimeShown}
@@ -84,7 +84,7 @@ IsCauseAfter opening first last number to words (refusals.OutOfTurn wanted) =
 IsCauseAfter opening first last number to words refusals.Waiting = (number ≡ last + 1)
     × (8 ≤ last)
 IsCauseAfter opening first last number to words refusals.NoArray = (number ≡ last + 1)
-    × (edition_of_array opening to.array ≡ None)
+    × (version_of_array opening to.array ≡ None)
 IsCauseAfter opening first last number to words refusals.TooLong = (number ≡ last + 1)
     × (512 < length words)
 IsCauseAfter opening first last number to words refusals.ClientsFull = (number ≡ last + 1)
@@ -106,5 +106,5 @@ IsMoveCause shown x processor refusals.Absent = Unit {0}
 IsMoveCause shown x processor refusals.Checkpointing = Unit {0}
 IsMoveCause shown x processor refusals.BadPes = shown.processors ≤ processor
 IsMoveCause shown x processor (refusals.NoBlank kind) =
-    option_map edition_kind (edition_of_array shown.opening x.array) ≡ Some kind
+    option_map kind_of_version (version_of_array shown.opening x.array) ≡ Some kind
 IsMoveCause shown x processor _ = ⊥

@@ -8,14 +8,14 @@ use Rattle.charmlet_model.specs.declared.names.MsgId.{MsgId}
 use Rattle.charmlet_model.specs.Core.{Core, place_of, present}
 use Rattle.charmlet_model.specs.Shelves.{there_in}
 use Rattle.charmlet_model.specs.Sound.{IsSound}
-use Rattle.charmlet_model.specs.Edition.{edition_kind}
+use Rattle.charmlet_model.specs.KindVersion.{kind_of_version}
 use Rattle.charmlet_model.specs.Kind.{kind_number}
-use Rattle.charmlet_model.specs.World.{World, edition_of_array, record_of}
+use Rattle.charmlet_model.specs.World.{World, version_of_array, record_of}
 use Rattle.charmlet_disk.specs.declared.disk.Disk.{Ghosts}
 use Rattle.charmlet_halves.specs.declared.halves.Halves.{Halves}
 use Rattle.charmlet_halves.specs.Halves.{disk_of}
 use Rattle.charmlet_history.specs.Kept.{assigned_message, core_in}
-use Rattle.charmlet_persist.specs.Journal.Rest.{Agrees, IsCurrent, IsKept}
+use Rattle.charmlet_persist.specs.Writes.Rest.{Agrees, IsCurrent, IsKept}
 use Rattle.charmlet_leases.specs.Passes.Passes.{HeldPass, IsCurrent as IsCurrentPass, lent_since}
 use Rattle.charmlet_sequencer.specs.Sequencer.{HasOpened}
 use Rattle.charmlet_stock.specs.declared.by_kind.ByKind.{ByKind}
@@ -62,7 +62,7 @@ pub record WasTrue (shown : RuntimeShown) (property : Core → Type 0) : Type 0 
 abbrev pub ArePending : RuntimeShown → ℕ → Type 0
 ArePending shown count = WasTrue shown (λ core. count ≡ length (present core).pending)
 
--- at a moment just these messages were pending, in order of birth
+-- at a moment just these messages were pending, in order of arrival
 abbrev pub ArePendingIds : RuntimeShown → List MsgId → Type 0
 ArePendingIds shown ids = WasTrue shown (λ core. ids ≡ map (λ m. m.id) (present core).pending)
 
@@ -83,8 +83,9 @@ WasSealed shown generation = WasTrue shown (λ core. (core.generation ≡ genera
 -- the delivery that is assigned to the processor constructs an object of the kind
 abbrev pub brings_on : Core → Kind → ℕ → Bool
 brings_on core kind processor = option_map_or (λ m. is_none (record_of (present core) m.to).state
-    && option_map_or (λ edition. kind_number (edition_kind edition) == kind_number kind)
-    (edition_of_array (present core) m.to.array) false) (assigned_message core processor) false
+    && option_map_or (λ kind_version. kind_number (kind_of_version kind_version) ==
+    kind_number kind)
+    (version_of_array (present core) m.to.array) false) (assigned_message core processor) false
 
 -- how many such objects come on the first processors
 abbrev pub coming_on : Core → Kind → ℕ → ℕ

@@ -2,7 +2,7 @@
 use Rattle.std.specs.Prelude.{◌≡◌, ℕ, ◌+◌, ◌≤◌, true, List, [], ◌∷◌, ◌++◌, length, if◌then◌else◌, Option, Some, None, is_some, IfSome}
 use Rattle.charmlet_model.specs.declared.names.MsgId.{MsgId}
 use Rattle.charmlet_leases.specs.Seats.Seats.{HeldSeat}
-use Rattle.charmlet_workers.specs.declared.working.Worked.{Worked}
+use Rattle.charmlet_workers.specs.declared.work.Worked.{Worked}
 use Rattle.charmlet_workers.specs.Refusals.{is_work_refusal}
 
 -- the seat holds one more id, if a delivery was committed with it

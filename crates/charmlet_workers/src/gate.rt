@@ -5,7 +5,7 @@ ghost use Rattle.charmlet_shelf.specs.Shelf.{is_assigned};
 
 use charmlet_chare::Chare;
 use charmlet_model::MsgId;
-use charmlet_sequencer::{LockedShelf, RuntimeName};
+use charmlet_sequencer::{ProcessorState, RuntimeName};
 
 /// How often a worker asks a gate before it goes on anyway.
 pub const MOST_ASKS: u32 = 100_000_000;
@@ -36,7 +36,7 @@ impl Gate for OpenGate {
 /// shelf, and its receiver hasn't reacted yet.
 pub(crate) fn wait_at<G: Gate, C: Chare, B: RuntimeName>(
     gate: &G,
-    _locked: &LockedShelf<C, B>,
+    _locked: &ProcessorState<C, B>,
     processor: u16,
     id: &MsgId,
 )

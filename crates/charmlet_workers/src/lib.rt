@@ -6,20 +6,20 @@
 //! caller's own seat or pass has of it, and, once all is closed, the whole.
 #![tactic(auto)]
 
-mod asking;
-mod closing;
+mod checkpoint;
+mod closed;
 mod gate;
-mod looking;
-mod moving;
-mod opening;
+mod looks;
+mod moves;
 mod pause;
+mod requests;
 mod runtime;
-mod sealing;
-mod working;
+mod runtime_room;
+mod work;
 
-pub use crate::closing::NotClosed;
+pub use crate::closed::NotClosed;
 pub use crate::gate::{Gate, MOST_ASKS, OpenGate};
-pub use crate::opening::{NotOpened, RuntimeRoom, UnnamedBooks};
 pub use crate::pause::{NoPause, Pause};
 pub use crate::runtime::Runtime;
-pub use crate::working::{IDLE_TURNS, Station, Worked, work_all};
+pub use crate::runtime_room::{NotOpened, RuntimeRoom, UnnamedAuthorities};
+pub use crate::work::{IDLE_TURNS, Worked, WorkerSlot, work_all};

@@ -13,7 +13,7 @@ use charmlet_hub::{Hub, PassesOf, SeatsOf};
 use charmlet_leases::{ClientPass, Seat};
 use charmlet_locks::{Locks, Numbering};
 use charmlet_model::Refusal;
-use charmlet_sequencer::{LockedShelf, RuntimeName};
+use charmlet_sequencer::{ProcessorState, RuntimeName};
 use charmlet_shelf::Shelf;
 use charmlet_stock::{ByKind, Tally};
 use std::marker::Model;
@@ -44,12 +44,12 @@ impl<D: Disk, C: Chare, B: RuntimeName> Model for Runtime<D, C, B> {
 }
 
 /// The locks of shelves, which are numbered by their processors.
-pub(crate) type ShelfLocks<C, B> = Locks<LockedShelf<C, B>, ByProcessor>;
+pub(crate) type ShelfLocks<C, B> = Locks<ProcessorState<C, B>, ByProcessor>;
 
 /// A shelf has the number of its processor.
 pub struct ByProcessor;
 
-impl<C: Chare, B: RuntimeName> Numbering<LockedShelf<C, B>> for ByProcessor {
+impl<C: Chare, B: RuntimeName> Numbering<ProcessorState<C, B>> for ByProcessor {
     ghost number = { λ s. s.number };
 }
 
@@ -57,7 +57,7 @@ impl<C: Chare, B: RuntimeName> Numbering<LockedShelf<C, B>> for ByProcessor {
 /// that they can be taken out of their locks, and an empty shelf for each processor.
 #[derive(Drop)]
 pub(crate) struct Spare<C: Chare, B: RuntimeName> {
-    pub(crate) shelves: Vec<LockedShelf<C, B>>,
+    pub(crate) shelves: Vec<ProcessorState<C, B>>,
     pub(crate) empty: Vec<Shelf<C>>,
 }
 

@@ -1,23 +1,23 @@
--- Births that climb, in a table.
+-- Sequence numbers that climb, in a table.
 use Rattle.std.proofs.Common.{◌≡◌, ℕ, ◌+◌, ◌<◌, ◌≤◌, suc, false, List, [], ◌∷◌, length, take, drop, refl, ap, subst, arith, slice_get, add-one}
 use Rattle.std.specs.Prelude.{Some, ◌==◌}
 use Rattle.std.specs.Map.{values_of}
 use Rattle.charmlet_model.specs.declared.names.MsgId.{MsgId}
-use Rattle.charmlet_ready_queue.specs.Births.Births.{AllAfter, AllBefore, Climbs}
-use Rattle.charmlet_ready_queue.proofs.BirthsLemmas.Rising.{all_weaker, from_one}
+use Rattle.charmlet_ready_queue.specs.SeqNos.SeqNos.{AllAfter, AllBefore, Climbs}
+use Rattle.charmlet_ready_queue.proofs.SeqNosLemmas.Rising.{all_weaker, from_one}
 use Rattle.charmlet_ready_queue.specs.Index.Index.{holds}
 use Rattle.charmlet_ready_queue.proofs.IndexLemmas.Numbers.{none_after}
 use Rattle.charmlet_world.specs.declared.envelope.Envelope.{Envelope}
-use Rattle.charmlet_world.specs.Waiting.{borns}
+use Rattle.charmlet_world.specs.Waiting.{seqs}
 
-pub length_borns : (es : List (MsgId × Envelope)) → length (borns es) ≡ length es
-length_borns [] = refl
-length_borns (e ∷ es) = ap suc (length_borns es)
+pub length_seqs : (es : List (MsgId × Envelope)) → length (seqs es) ≡ length es
+length_seqs [] = refl
+length_seqs (e ∷ es) = ap suc (length_seqs es)
 
-pub born_there : (es : List (MsgId × Envelope)) (i : ℕ) (s : Envelope) → slice_get (values_of es) i ≡ Some s → slice_get (borns es) i ≡ Some s.born
-born_there [] i s is = cc
-born_there (e ∷ es) Prim.Native.Nat.zero s is = let same : e.1 ≡ s = cc in ap (λ (t : Envelope). Some t.born) same
-born_there (e ∷ es) (suc i) s is = born_there es i s is
+pub seq_there : (es : List (MsgId × Envelope)) (i : ℕ) (s : Envelope) → slice_get (values_of es) i ≡ Some s → slice_get (seqs es) i ≡ Some s.seq
+seq_there [] i s is = cc
+seq_there (e ∷ es) Prim.Native.Nat.zero s is = let same : e.1 ≡ s = cc in ap (λ (t : Envelope). Some t.seq) same
+seq_there (e ∷ es) (suc i) s is = seq_there es i s is
 
 -- those from one on that is after a number are after it
 pub after_one : (xs : List ℕ) (i m n : ℕ) → Climbs xs → slice_get xs i ≡ Some m → n < m → AllAfter n (drop i xs)

@@ -9,9 +9,9 @@ pub mod Suiting
 pub mod Receiving
 pub mod Risen
 pub mod Rows
-pub mod Sends
+pub mod SendsLemmas
 pub mod Showing
-pub mod Letters
+pub mod PendingMessages
 pub mod Enveloped
 pub mod EnvelopesKept
 pub mod Climbing

@@ -1,4 +1,4 @@
--- The births of messages to one element, as a table of envelopes has them.
+-- The sequence numbers of messages to one element, as a table of envelopes has them.
 use Rattle.std.specs.Prelude.{◌≡◌, ℕ, ◌≤◌, ◌==◌, List, [], ◌∷◌, ◌++◌, length, Option, Some, None, unwrap_or, if◌then◌else◌, nat_le}
 use Rattle.std.specs.List.{AllByRecursion}
 use Rattle.std.specs.Map.{lookup}
@@ -6,31 +6,31 @@ use Rattle.charmlet_model.specs.declared.names.Elem.{Elem}
 use Rattle.charmlet_model.specs.declared.names.MsgId.{MsgId}
 use Rattle.charmlet_model.specs.declared.TheConstants.{CONSTRUCT}
 use Rattle.charmlet_model.specs.Names.{same_elem}
-use Rattle.charmlet_ready_queue.specs.Births.Births.{AllBefore, Climbs}
+use Rattle.charmlet_ready_queue.specs.SeqNos.SeqNos.{AllBefore, Climbs}
 use Rattle.charmlet_ready_queue.specs.declared.index.chain.Call.{Call}
-use Rattle.charmlet_world.specs.declared.letter.Letter.{Letter}
+use Rattle.charmlet_world.specs.declared.pending_message.PendingMessage.{PendingMessage}
 use Rattle.charmlet_world.specs.declared.receivers.Receiver.{Receiver}
 use Rattle.charmlet_world.specs.declared.envelope.Envelope.{Envelope}
 use Rattle.charmlet_world.specs.declared.pending.Taking.{Taking}
-use Rattle.charmlet_world.specs.Waiting.{Counts, borns, letters}
+use Rattle.charmlet_world.specs.Waiting.{Counts, seqs, pending_messages}
 
 -- ---- calls
 
--- the call of a letter, if it is there and goes to the element
-abbrev pub call_of : Elem → ℕ → Option Letter → Option Call
+-- the call of a pending message, if it is there and goes to the element
+abbrev pub call_of : Elem → ℕ → Option PendingMessage → Option Call
 call_of x n None = None
-call_of x n (Some letter) = if same_elem letter.to x
-    then Some (record { number = n; constructs = letter.entry == CONSTRUCT }) else None
+call_of x n (Some pending_message) = if same_elem pending_message.to x
+    then Some (record { number = n; constructs = pending_message.entry == CONSTRUCT }) else None
 
 -- these calls, and that one after them
 abbrev pub then_call : List Call → Option Call → List Call
 then_call calls None = calls
 then_call calls (Some call) = calls ++ call ∷ []
 
--- the calls of the letters to an element that are there, the youngest first
+-- the calls of the pending messages to an element that are there, the youngest first
 abbrev pub calls_in : Elem → List (MsgId × Envelope) → List Call
 calls_in x [] = []
-calls_in x (e ∷ es) = then_call (calls_in x es) (call_of x e.1.born e.1.letter)
+calls_in x (e ∷ es) = then_call (calls_in x es) (call_of x e.1.seq e.1.pending_message)
 
 -- ---- receivers
 
@@ -56,11 +56,16 @@ pub record IsCounted (r : Receiver) (calls : List Call) : Type 0 where
 
 -- the envelope as it was
 abbrev pub envelope_before : Taking → Envelope
-envelope_before t = record { born = t.born; receiver = t.receiver; letter = Some t.letter }
+envelope_before t = record {
+  seq = t.seq;
+  receiver = t.receiver;
+  pending_message =
+      Some t.pending_message;
+}
 
 -- and as a hole
 abbrev pub envelope_after : Taking → Envelope
-envelope_after t = record { born = t.born; receiver = t.receiver; letter = None }
+envelope_after t = record { seq = t.seq; receiver = t.receiver; pending_message = None }
 
 -- ---- tables
 
@@ -68,10 +73,11 @@ envelope_after t = record { born = t.born; receiver = t.receiver; letter = None 
 abbrev pub smaller : ℕ → ℕ → ℕ
 smaller m n = if nat_le m n then m else n
 
--- the envelopes climb by birth, below the next one, and the calls of each element are counted
+-- the envelopes climb by sequence number, below the next one, and the calls of each element are
+-- counted
 pub record AreEnvelopes (es : List (MsgId × Envelope)) (holes start next : ℕ)
     (receivers : List (Elem × Receiver)) : Type 0 where
-  pub counts : Counts (letters es) holes start
-  pub climbs : Climbs (borns es)
-  pub below : AllBefore next (borns es)
+  pub counts : Counts (pending_messages es) holes start
+  pub climbs : Climbs (seqs es)
+  pub below : AllBefore next (seqs es)
   pub counted : (x : Elem) → IsCounted (receiver_in receivers x) (calls_in x es)

@@ -1,17 +1,17 @@
-//! The births of messages to one element, followed through a table of envelopes.
+//! The sequence numbers of messages to one element, followed through a table of envelopes.
 
 ghost use Rattle.std.specs.Prelude.{◌≡◌, ◌<◌, ◌≤◌, [], ◌∷◌, length, slice_get, take, Some, MatchOption, option_and_then};
 ghost use Rattle.charmlet_world.specs.Envelopes.{call_of, calls_in};
 
 use crate::envelope::Envelope;
-use crate::letter::Letter;
+use crate::pending_message::PendingMessage;
 use charmlet_model::{CONSTRUCT, Elem, MsgId};
 use charmlet_ready_queue::{Call, Chain};
 use indexmap::IndexMap;
 use std::marker::Model;
 
-/// The births of the pending messages to an element that are left, the youngest first. A contract
-/// sees the calls.
+/// The sequence numbers of the pending messages to an element that are left, the youngest first. A
+/// contract sees the calls.
 #[derive(Drop)]
 pub(crate) struct Calls<'a> {
     envelopes: &'a IndexMap<MsgId, Envelope>,
@@ -93,23 +93,23 @@ fn next_call(
 
 /// The call of the envelope at this place, if there is one and its message goes to the element.
 fn call_at(envelopes: &IndexMap<MsgId, Envelope>, place: usize, to: Elem) -> Option<Call>
-    ensures { result ≡ option_and_then (λ e. call_of to e.1.born e.1.letter)
+    ensures { result ≡ option_and_then (λ e. call_of to e.1.seq e.1.pending_message)
         (slice_get envelopes.now.entries place) }
 {
     let (_id, envelope) = envelopes.get_index(place)?;
-    let letter = envelope.letter.as_ref()?;
-    call_to(envelope.born, letter, to)
+    let pending_message = envelope.pending_message.as_ref()?;
+    call_to(envelope.seq, pending_message, to)
 }
 
-/// The call of a letter, if it goes to the element.
-fn call_to(number: u64, letter: &Letter, to: Elem) -> Option<Call>
-    ensures { result ≡ call_of to number (Some letter.now) }
+/// The call of a pending message, if it goes to the element.
+fn call_to(number: u64, pending_message: &PendingMessage, to: Elem) -> Option<Call>
+    ensures { result ≡ call_of to number (Some pending_message.now) }
 {
-    if letter.to != to {
+    if pending_message.to != to {
         return None;
     }
     Some(Call {
         number,
-        constructs: letter.entry == CONSTRUCT,
+        constructs: pending_message.entry == CONSTRUCT,
     })
 }

@@ -165,8 +165,8 @@ impl Elements {
         rising_rows(&self.rows, alloc)
     }
 
-    /// A copy of what is kept of each element that isn't there and has received a message, in rising
-    /// order of the elements. It fails only when out of memory.
+    /// A copy of what is kept of each element that isn't there and has received a message, in
+    /// rising order of the elements. It fails only when out of memory.
     pub fn left(&self, alloc: Global) -> Result<BTreeMap<Elem, Element>, AllocError>
         ensures { IfOk result (λ tree. tree.entries ≡ left_of (risen self.now.entries)) }
     {

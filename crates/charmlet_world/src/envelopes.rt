@@ -1,34 +1,35 @@
-//! Where the message of a birth stands in a table of envelopes.
+//! Where the message of a sequence number stands in a table of envelopes.
 
 ghost use Rattle.std.specs.Prelude.{◌≡◌, ◌<◌, ◌≤◌, false, length, slice_get, Some, None, IfSome};
-ghost use Rattle.charmlet_ready_queue.specs.Births.Births.{Climbs};
+ghost use Rattle.charmlet_ready_queue.specs.SeqNos.SeqNos.{Climbs};
 ghost use Rattle.charmlet_ready_queue.specs.Index.Index.{holds};
-ghost use Rattle.charmlet_world.specs.Waiting.{borns};
+ghost use Rattle.charmlet_world.specs.Waiting.{seqs};
 
 use crate::envelope::Envelope;
 use charmlet_model::MsgId;
 use indexmap::IndexMap;
 
-/// The envelope of this birth. It is looked for near this place first, then where it stands if none
-/// of the younger ones has left a gap, and then where it stands if none of the older ones has.
+/// The envelope of this sequence number. It is looked for near this place first, then where it
+/// stands if none of the younger ones has left a gap, and then where it stands if none of the older
+/// ones has.
 pub(crate) fn envelope_of(
     envelopes: &IndexMap<MsgId, Envelope>,
     near: usize,
     number: u64,
 ) -> Option<usize>
-    requires { Climbs (borns envelopes.now.entries) }
-    ensures found { IfSome result (λ i. slice_get (borns envelopes.now.entries) i ≡ Some number) }
-    ensures nowhere { result ≡ None → holds number (borns envelopes.now.entries) ≡ false }
+    requires { Climbs (seqs envelopes.now.entries) }
+    ensures found { IfSome result (λ i. slice_get (seqs envelopes.now.entries) i ≡ Some number) }
+    ensures nowhere { result ≡ None → holds number (seqs envelopes.now.entries) ≡ false }
 {
     let len = envelopes.len();
-    if near < len && born_at(envelopes, near) == number {
+    if near < len && seq_at(envelopes, near) == number {
         return Some(near);
     }
     if len == 0 {
         return None;
     }
-    let first = born_at(envelopes, 0);
-    let last = born_at(envelopes, len - 1);
+    let first = seq_at(envelopes, 0);
+    let last = seq_at(envelopes, len - 1);
     let younger = last.saturating_sub(number);
     let guess = (len - 1).saturating_sub(younger as usize);
     let mut second = number.saturating_sub(first) as usize;
@@ -36,7 +37,7 @@ pub(crate) fn envelope_of(
     let mut high = len;
     let mut middle = within(0, len, guess);
     while low < high {
-        let here = born_at(envelopes, middle);
+        let here = seq_at(envelopes, middle);
         if here == number {
             return Some(middle);
         }
@@ -51,12 +52,12 @@ pub(crate) fn envelope_of(
     None
 }
 
-/// The birth of the envelope at this place.
-fn born_at(envelopes: &IndexMap<MsgId, Envelope>, place: usize) -> u64
+/// The sequence number of the envelope at this place.
+fn seq_at(envelopes: &IndexMap<MsgId, Envelope>, place: usize) -> u64
     requires { place < length envelopes.now.entries }
-    ensures { slice_get (borns envelopes.now.entries) place ≡ Some result }
+    ensures { slice_get (seqs envelopes.now.entries) place ≡ Some result }
 {
-    envelopes[place].born
+    envelopes[place].seq
 }
 
 /// The guess, if it is between the two, else what is in the middle.

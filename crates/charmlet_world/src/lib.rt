@@ -5,24 +5,24 @@
 mod calls;
 mod client;
 mod clients;
-mod dispatch;
 mod element;
 mod elements;
 mod envelope;
 mod envelopes;
 pub mod laws;
-mod letter;
 mod messages;
 mod pending;
+mod pending_message;
 mod present;
 mod receivers;
-mod sending;
+mod scheduler;
+mod sends;
 
 pub use crate::client::Client;
 pub use crate::element::Element;
 pub use crate::elements::{Elements, Slot};
-pub use crate::letter::Letter;
 pub use crate::messages::Messages;
 pub use crate::pending::{Pending, Taken};
+pub use crate::pending_message::PendingMessage;
 pub use crate::present::PresentWorld;
 pub use charmlet_chare::Output;

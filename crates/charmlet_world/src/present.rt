@@ -23,12 +23,12 @@ ghost use Rattle.charmlet_world.specs.Waiting.{message_of};
 
 use crate::client::Client;
 use crate::clients::{flush_row, keep_reply, note_request};
-use crate::dispatch::{Delivered, Dispatch, place_in};
 use crate::element::Element;
 use crate::elements::Slot;
-use crate::letter::Letter;
 use crate::messages::Messages;
-use crate::sending::push_sends;
+use crate::pending_message::PendingMessage;
+use crate::scheduler::{Delivered, Scheduler, place_in};
+use crate::sends::push_sends;
 use charmlet_chare::Output;
 use charmlet_model::{ClientRow, Elem, MAX_SENDS, Manifest, Message, MsgId, Origin, Told, Words};
 use charmlet_ready_queue::Ticks;
@@ -38,11 +38,11 @@ use std::marker::Model;
 use std::sync::ledger::Ledger;
 
 /// The present world without its objects: the place and the counts of each element, the pending
-/// messages in order of birth, and the clients' rows in the present and in the durable world. A
+/// messages in order of arrival, and the clients' rows in the present and in the durable world. A
 /// contract sees what is kept, and how many deliveries there is room for.
 pub struct PresentWorld {
     manifest: Manifest,
-    dispatch: Dispatch,
+    scheduler: Scheduler,
     clients: BTreeMap<u32, Client>,
     /// How many deliveries have room for all that they may send.
     promised: usize,
@@ -55,28 +55,28 @@ impl Model for PresentWorld {
 
     ghost view = { λ w. record {
       manifest = w.manifest;
-      processors = w.dispatch.processors;
-      rows = w.dispatch.rows;
-      pending = w.dispatch.pending;
+      processors = w.scheduler.processors;
+      rows = w.scheduler.rows;
+      pending = w.scheduler.pending;
       clients = w.clients.entries;
       promised = w.promised;
     } };
 
-    ghost invariant = { λ w. HasRoom w.dispatch.processors w.promised w.dispatch.room };
+    ghost invariant = { λ w. HasRoom w.scheduler.processors w.promised w.scheduler.room };
 }
 
-// Written by hand, so that dropping all that it has is proved here, and not in each crate that drops
-// one.
+// Written by hand, so that dropping all that it has is proved here, and not in each crate that
+// drops one.
 impl Drop for PresentWorld {
     fn drop(self) {
         let PresentWorld {
             manifest,
-            dispatch,
+            scheduler,
             clients,
             promised: _,
         } = self;
         drop(manifest);
-        drop(dispatch);
+        drop(scheduler);
         drop(clients);
     }
 }
@@ -98,7 +98,7 @@ impl PresentWorld {
     {
         PresentWorld {
             manifest,
-            dispatch: Dispatch::new(alloc, processors),
+            scheduler: Scheduler::new(alloc, processors),
             clients: BTreeMap::new(alloc),
             promised: 0,
         }
@@ -130,7 +130,7 @@ impl PresentWorld {
     {
         Ok(PresentWorld {
             manifest,
-            dispatch: Dispatch::of(alloc, processors, elements, pending)?,
+            scheduler: Scheduler::of(alloc, processors, elements, pending)?,
             clients,
             promised: 0,
         })
@@ -143,7 +143,7 @@ impl PresentWorld {
         self.manifest.upgrade();
     }
 
-    /// The edition of each array.
+    /// The kind version of each array.
     pub fn manifest(&self) -> &Manifest
         ensures { result.now ≡ self.now.manifest }
     {
@@ -154,30 +154,30 @@ impl PresentWorld {
     pub fn pending_count(&self) -> usize
         ensures { result ≡ length self.now.pending }
     {
-        self.dispatch.pending().len()
+        self.scheduler.pending().len()
     }
 
-    /// The pending messages, in order of birth. It takes no memory.
+    /// The pending messages, in order of arrival. It takes no memory.
     pub fn messages(&self) -> Messages<'_>
         ensures { result ≡ self.now.pending }
     {
-        self.dispatch.pending().iter()
+        self.scheduler.pending().iter()
     }
 
     /// What is kept of the pending message of this id.
     #[inline(always)]
-    pub fn find(&self, id: MsgId) -> Option<&Letter>
-        ensures { option_map (λ letter. message_of id letter.now) result
+    pub fn find(&self, id: MsgId) -> Option<&PendingMessage>
+        ensures { option_map (λ pending_message. message_of id pending_message.now) result
             ≡ message_among id self.now.pending }
     {
-        self.dispatch.pending().find(id)
+        self.scheduler.pending().find(id)
     }
 
     /// What is kept of an element.
     pub fn element(&self, elem: Elem) -> Element
         ensures { result ≡ element_at (seen self.now).elements elem }
     {
-        self.dispatch.elements().element(elem)
+        self.scheduler.elements().element(elem)
     }
 
     /// What is kept in this slot.
@@ -185,7 +185,7 @@ impl PresentWorld {
         requires { slot < length self.now.rows }
         ensures { slice_get (values_of self.now.rows) slot ≡ Some result }
     {
-        self.dispatch.elements().at(slot)
+        self.scheduler.elements().at(slot)
     }
 
     /// How many processors there are, 1 to 64.
@@ -193,21 +193,21 @@ impl PresentWorld {
         ensures count { result ≡ self.now.processors }
         ensures few { is_processor_count result ≡ true }
     {
-        self.dispatch.processors()
+        self.scheduler.processors()
     }
 
     /// The processor of an element, given what is kept of it, or the home of one that isn't there.
     pub fn place_of(&self, elem: Elem, element: &Element) -> u16
         ensures { result ≡ unwrap_or element.now.place (home elem self.now.processors) }
     {
-        place_in(self.dispatch.processors(), elem, element.place)
+        place_in(self.scheduler.processors(), elem, element.place)
     }
 
     /// The processor of an element, or the home of one that isn't there.
     pub fn place_or_home(&self, elem: Elem) -> u16
         ensures { result ≡ place_or_home_in (seen self.now) elem }
     {
-        place_in(self.dispatch.processors(), elem, self.element(elem).place)
+        place_in(self.scheduler.processors(), elem, self.element(elem).place)
     }
 
     /// Of how many elements something is kept: of each that is there, and of each that ever
@@ -216,7 +216,7 @@ impl PresentWorld {
         ensures rows { result ≡ length self.now.rows }
         ensures elements { result ≡ length (seen self.now).elements }
     {
-        self.dispatch.elements().len()
+        self.scheduler.elements().len()
     }
 
     /// A copy of what is kept of each element, in rising order. It sorts, and fails only when out
@@ -224,15 +224,15 @@ impl PresentWorld {
     pub fn rising(&self, alloc: Global) -> Result<BTreeMap<Elem, Element>, AllocError>
         ensures { IfOk result (λ tree. tree.entries ≡ (seen self.now).elements) }
     {
-        self.dispatch.elements().rising(alloc)
+        self.scheduler.elements().rising(alloc)
     }
 
-    /// A copy of what is kept of each element that isn't there and has received a message, in rising
-    /// order of the elements. It fails only when out of memory.
+    /// A copy of what is kept of each element that isn't there and has received a message, in
+    /// rising order of the elements. It fails only when out of memory.
     pub fn left(&self, alloc: Global) -> Result<BTreeMap<Elem, Element>, AllocError>
         ensures { IfOk result (λ tree. tree.entries ≡ left_of (seen self.now).elements) }
     {
-        self.dispatch.elements().left(alloc)
+        self.scheduler.elements().left(alloc)
     }
 
     /// The processor of each element that is there, in rising order of the elements. It fails only
@@ -241,7 +241,7 @@ impl PresentWorld {
         ensures places { IfOk result (λ tree. tree.entries ≡ places_of (seen self.now).elements) }
         ensures nothing { places_of (seen self.now).elements ≡ [] → IsOk result }
     {
-        self.dispatch.elements().places(alloc)
+        self.scheduler.elements().places(alloc)
     }
 
     /// What is kept of a client, if it made a request.
@@ -277,7 +277,7 @@ impl PresentWorld {
     pub fn oldest(&self) -> Option<MsgId>
         ensures { result ≡ oldest (seen self.now) self.now.pending }
     {
-        let Some((_processor, id)) = self.dispatch.next() else {
+        let Some((_processor, id)) = self.scheduler.next() else {
             return None;
         };
         Some(id)
@@ -289,7 +289,7 @@ impl PresentWorld {
         ensures oldest { result ≡ oldest_on (seen self.now) processor self.now.pending }
         ensures ticks { ticks.new ≤ ticks.old + 1 }
     {
-        self.dispatch.oldest_on(processor, ticks)
+        self.scheduler.oldest_on(processor, ticks)
     }
 
     /// The oldest pending message that can be delivered by the counts that are kept, and before it
@@ -299,7 +299,7 @@ impl PresentWorld {
         ensures next { result ≡ next_due (seen self.now) self.now.pending }
         ensures ticks { ticks.new ≤ ticks.old + self.now.processors }
     {
-        self.dispatch.next_in(ticks)
+        self.scheduler.next_in(ticks)
     }
 
     /// The oldest pending message that can be delivered by the counts that are kept, and before it
@@ -307,14 +307,14 @@ impl PresentWorld {
     pub fn next(&self) -> Option<(u16, MsgId)>
         ensures { result ≡ next_due (seen self.now) self.now.pending }
     {
-        self.dispatch.next()
+        self.scheduler.next()
     }
 
     /// Whether no pending message can be delivered by the counts that are kept. It takes no memory.
     pub fn quiet(&self) -> bool
         ensures { result ≡ is_none (oldest (seen self.now) self.now.pending) }
     {
-        self.dispatch.quiet()
+        self.scheduler.quiet()
     }
 
     /// Accepts a client's request, whose id no pending message may have. The room for deliveries
@@ -337,17 +337,17 @@ impl PresentWorld {
         ensures promised { self.new.promised ≡ self.old.promised }
         ensures err { OnErr result (self.new ≡ self.old) }
     {
-        self.dispatch.reserve(1 + MAX_SENDS * self.promised)?;
+        self.scheduler.reserve(1 + MAX_SENDS * self.promised)?;
         note_request(&mut self.clients, client, number)?;
         let origin = Origin::Client(client);
         let id = MsgId { origin, number };
-        self.dispatch.push(Message {
+        self.scheduler.push(Message {
             id,
             to,
             entry,
             words,
         });
-        self.dispatch.expect_oldest();
+        self.scheduler.hint_head();
         Ok(())
     }
 
@@ -363,7 +363,7 @@ impl PresentWorld {
             IsOk result }
         ensures err { OnErr result (self.new ≡ self.old) }
     {
-        self.dispatch.slot_for(elem)
+        self.scheduler.slot_for(elem)
     }
 
     /// Makes all the room for the delivery of a pending message, so that its commit takes no
@@ -387,12 +387,12 @@ impl PresentWorld {
         ensures world { (w : AWorld) → Shows (seen self.old) w → Shows (seen self.new) w }
         ensures err { OnErr result (self.new ≡ self.old) }
     {
-        self.dispatch.reserve(MAX_SENDS * (self.promised + 1))?;
-        let Some(letter) = self.dispatch.pending().find(id) else {
+        self.scheduler.reserve(MAX_SENDS * (self.promised + 1))?;
+        let Some(pending_message) = self.scheduler.pending().find(id) else {
             unreachable!()
         };
-        let to = letter.to;
-        let slot = self.dispatch.slot_for(to)?;
+        let to = pending_message.to;
+        let slot = self.scheduler.slot_for(to)?;
         self.promised += 1;
         Ok(slot)
     }
@@ -428,11 +428,11 @@ impl PresentWorld {
         } = output;
         let sends = sends.into_vec();
         let count = sends.len() as u64;
-        let Delivered { message, sent } = self.dispatch.deliver(slot, id, count, is_destroyed);
-        push_sends(&mut self.dispatch, message.to, sent, sends);
+        let Delivered { message, sent } = self.scheduler.deliver(slot, id, count, is_destroyed);
+        push_sends(&mut self.scheduler, message.to, sent, sends);
         keep_reply(&mut self.clients, message.id, reply);
         self.promised -= 1;
-        self.dispatch.expect_oldest();
+        self.scheduler.hint_head();
     }
 
     /// An element that is there stands on the processor from now on. It takes no memory where no
@@ -446,7 +446,7 @@ impl PresentWorld {
         ensures promised { self.new.promised ≡ self.old.promised }
         ensures err { OnErr result (self.new ≡ self.old) }
     {
-        self.dispatch.relocate(elem, processor)?;
+        self.scheduler.relocate(elem, processor)?;
         Ok(())
     }
 

@@ -14,7 +14,7 @@ use indexmap::IndexMap;
 use std::alloc::{AllocError, Global};
 use std::marker::Model;
 
-/// How many messages to an element are pending, and the birth of the last one that came.
+/// How many messages to an element are pending, and the sequence number of the last one that came.
 #[derive(Clone, Copy, Debug)]
 pub struct Receiver {
     pub(crate) count: usize,
@@ -85,12 +85,12 @@ impl Receivers {
 
     /// Counts a message that comes to an element, which is looked for at this place first, and says
     /// where that is counted. It takes no memory.
-    pub(crate) fn count_in(&mut self, elem: Elem, born: u64, expected: usize) -> usize
+    pub(crate) fn count_in(&mut self, elem: Elem, seq: u64, expected: usize) -> usize
         requires room { 0 < self.old.room }
         requires few { (receiver_in self.old.entries elem).count < greatest }
         ensures count { (receiver_in self.new.entries elem).count
             ≡ (receiver_in self.old.entries elem).count + 1 }
-        ensures youngest { (receiver_in self.new.entries elem).youngest ≡ born }
+        ensures youngest { (receiver_in self.new.entries elem).youngest ≡ seq }
         ensures others { (y : AnElem) → same_elem elem y ≡ false →
             receiver_in self.new.entries y ≡ receiver_in self.old.entries y }
         ensures room { self.old.room ≤ self.new.room + 1 }
@@ -103,7 +103,7 @@ impl Receivers {
             index,
             Receiver {
                 count,
-                youngest: born,
+                youngest: seq,
             },
         );
         index

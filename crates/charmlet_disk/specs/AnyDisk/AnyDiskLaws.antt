@@ -23,7 +23,8 @@ counts_among (Memory disk) t c honest le left = memories.counts_among disk t c l
 counts_among (Failing fuse) t c honest le left = memories.counts_among (inside fuse) t c le left
 
 -- since this moment there is no other
-pub only_last : (disk : AnyDisk) (c : CrashBytes) → is_honest disk → left_since disk (moment_of disk) c →
+pub only_last : (disk : AnyDisk) (c : CrashBytes) → is_honest disk →
+    left_since disk (moment_of disk) c →
     MayLeave (files_of disk) c
 only_last (Folder disk) c honest left = absurd honest
 only_last (Memory disk) c honest left = memories.only_last disk c left

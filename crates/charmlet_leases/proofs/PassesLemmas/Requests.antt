@@ -393,18 +393,18 @@ flushed-before core h durable is = let flushed = is.flushed in omega (arith, dur
 pub accepted-flushed : (h : HeldPass) → (with_last_accepted h).flushed ≡ h.flushed
 accepted-flushed h = elim (nat_lt h.pass.lent_at h.pass.last && is_unknown (known h.pass h.pass.last)) as (λ b. (if b then with_answer h (with_told h.pass h.pass.last Accepted) h.pass.last Accepted else h).flushed ≡ h.flushed) [ true ↦ refl | false ↦ refl ]
 
--- what the pass held, and how the hub's book has it
-pub record Known (held : List (Option HeldPass)) (share : ℕ × Option HeldPass) (pass : Pass) (core : Core) (out : List ℕ) : Type 0 where
-  pub there : slice_get held share.0 ≡ Some (Some (held_by share.1))
-  pub is : (held_by share.1).pass ≡ pass
+-- what the pass held, and how the hub's authority has it
+pub record Known (held : List (Option HeldPass)) (fragment : ℕ × Option HeldPass) (pass : Pass) (core : Core) (out : List ℕ) : Type 0 where
+  pub there : slice_get held fragment.0 ≡ Some (Some (held_by fragment.1))
+  pub is : (held_by fragment.1).pass ≡ pass
   pub are : AreCurrent (record { out = out; held = held }) core
-  pub current : IsCurrent (held_by share.1) core
+  pub current : IsCurrent (held_by fragment.1) core
 
-pub known_by : (held : List (Option HeldPass)) (share : ℕ × Option HeldPass) (pass : Pass) (core : Core) (out : List ℕ) → slice_get held share.0 ≡ Some share.1 → share.1 ≡ Some (held_by share.1) → (held_by share.1).pass ≡ pass →
-    AreCurrent (record { out = out; held = held }) core → Known held share pass core out
-known_by held share pass core out at some is are =
-    let there : slice_get held share.0 ≡ Some (Some (held_by share.1)) = at ∙ ap Some some in
-    record { there = there; is = is; are = are; current = are.each share.0 (held_by share.1) there }
+pub known_by : (held : List (Option HeldPass)) (fragment : ℕ × Option HeldPass) (pass : Pass) (core : Core) (out : List ℕ) → slice_get held fragment.0 ≡ Some fragment.1 → fragment.1 ≡ Some (held_by fragment.1) → (held_by fragment.1).pass ≡ pass →
+    AreCurrent (record { out = out; held = held }) core → Known held fragment pass core out
+known_by held fragment pass core out at some is are =
+    let there : slice_get held fragment.0 ≡ Some (Some (held_by fragment.1)) = at ∙ ap Some some in
+    record { there = there; is = is; are = are; current = are.each fragment.0 (held_by fragment.1) there }
 
 -- the last accept, once all events are durable
 pub accepted_holds : (core : Core) (p : Pass) (last : ℕ) → last ≡ p.last → core.durable ≡ length core.history → IsUpToDate p core → Holds core.opening (take core.durable core.history) p.client last Accepted
@@ -412,10 +412,10 @@ accepted_holds core p last is durable up_to_date =
     let whole : take core.durable core.history ≡ core.history = take_all core.durable core.history (omega arith) in
     subst (λ es. Holds core.opening es p.client last Accepted) (sym whole) (let here : last ≤ (client_of (present core) p.client).last = omega arith in here)
 
--- the book has what a pass holds now, in place of what it held
-pub kept-written : (held new : List (Option HeldPass)) (share : ℕ × Option HeldPass) (pass : Pass) (core : Core) (out : List ℕ) (g : HeldPass) → Known held share pass core out → new ≡ slice_set held share.0 (Some g) →
-    answers.IsKept (record { out = out; held = held }) (record { out = out; held = new }) (held_by share.1) g
-kept-written held new share pass core out g is new_is = record { place = share.0; had = is.there; has = new_is; out = refl }
+-- the authority has what a pass holds now, in place of what it held
+pub kept-written : (held new : List (Option HeldPass)) (fragment : ℕ × Option HeldPass) (pass : Pass) (core : Core) (out : List ℕ) (g : HeldPass) → Known held fragment pass core out → new ≡ slice_set held fragment.0 (Some g) →
+    answers.IsKept (record { out = out; held = held }) (record { out = out; held = new }) (held_by fragment.1) g
+kept-written held new fragment pass core out g is new_is = record { place = fragment.0; had = is.there; has = new_is; out = refl }
 
 -- a place that is set twice
 set-again : {A : Type 0} (xs : List A) (place : ℕ) (a b : A) → slice_set (slice_set xs place a) place b ≡ slice_set xs place b

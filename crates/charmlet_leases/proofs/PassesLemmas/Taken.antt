@@ -11,7 +11,7 @@ use Rattle.charmlet_leases.proofs.PassesLemmas.Places.{all-last, at_set, count-w
 abbrev pub IsOut : List (Option HeldPass) → HeldPass → Type 0
 IsOut held h = (place : ℕ) × (slice_get held place ≡ Some (Some h))
 
--- of the passes that were handed in, with which the book had this, those are left, with which it has
+-- of the passes that were handed in, with which the authority had this, those are left, with which it has
 -- that
 pub record IsTakenSoFar (all : List (Option HeldPass)) (handed : List HeldPass) (held : List (Option HeldPass)) (left : List HeldPass) : Type 0 where
   pub count : length (passes_out held) ≡ length left

@@ -1,4 +1,4 @@
--- What passes hold, and what their book has of them.
+-- What passes hold, and what their authority has of them.
 use Rattle.std.specs.Prelude.{◌≡◌, ◌≢◌, ℕ, ◌+◌, ◌-◌, ◌≤◌, ◌==◌, nat_lt, ◌&&◌, true, List, [], ◌∷◌, ◌++◌, length, drop, take, if◌then◌else◌, Option, Some, None, slice_get, slice_set, Contains, Result, IfOk, IfErr, OnErr}
 use Rattle.std.specs.List.{AllByRecursion}
 use Rattle.charmlet_model.specs.declared.event.Event.{Event}
@@ -41,7 +41,7 @@ lent_since client last since = record {
 abbrev pub event_count : Core → ℕ
 event_count core = core.before + length core.history
 
--- what the pass with this share holds
+-- what the pass with this fragment holds
 abbrev pub held_by : Option HeldPass → HeldPass
 held_by None = lent_since 0 0 0
 held_by (Some held) = held
@@ -89,8 +89,8 @@ pub record IsCurrent (held : HeldPass) (core : Core) : Type 0 where
   pub all : held.accepts ≡ accepts_in held.pass.client core.history
   pub flushed : held.flushed ≤ core.before + core.durable
 
--- The book has the clients whose passes are out, and what each pass holds, by its place among those
--- that were lent: nothing any more once it was taken in.
+-- The authority has the clients whose passes are out, and what each pass holds, by its place among
+-- those that were lent: nothing any more once it was taken in.
 pub record LentPasses : Type 0 where
   pub out : List ℕ
   pub held : List (Option HeldPass)
@@ -122,8 +122,8 @@ pub record AreCurrent (passes : LentPasses) (core : Core) : Type 0 where
       slice_get passes.held j ≡ Some (Some h) → g.pass.client ≡ h.pass.client → i ≡ j
   pub others : (client : ℕ) → HasNone passes.held client → accepts_in client core.history ≡ []
 
--- One of the passes that are out held the one before and holds the other after, and so has the book
--- in its place. Of all other passes the book has what it had.
+-- One of the passes that are out held the one before and holds the other after, and so has the
+-- authority in its place. Of all other passes the authority has what it had.
 pub record IsKept (old new : LentPasses) (before after : HeldPass) : Type 0 where
   pub place : ℕ
   pub had : slice_get old.held place ≡ Some (Some before)
@@ -188,8 +188,8 @@ with_last_accepted held =
 abbrev pub with_flush : ℕ → HeldPass → HeldPass
 with_flush count held = record (with_last_accepted held) { flushed = count }
 
--- the book once a flush of so many events has told each of these passes, one after another
+-- the authority once a flush of so many events has told each of these passes, one after another
 abbrev pub TellAll : ℕ → LentPasses → List HeldPass → LentPasses → Type 0
-TellAll count book [] last = last ≡ book
-TellAll count book (held ∷ rest) last = (next : LentPasses)
-    × IsKept book next held (with_flush count held) × TellAll count next rest last
+TellAll count authority [] last = last ≡ authority
+TellAll count authority (held ∷ rest) last = (next : LentPasses)
+    × IsKept authority next held (with_flush count held) × TellAll count next rest last

@@ -1,4 +1,4 @@
--- What seats hold, and what their book has of them.
+-- What seats hold, and what their authority has of them.
 use Rattle.std.specs.Prelude.{ℕ, ◌==◌, Bool, List, [], ◌∷◌, Option, Some, None, if◌then◌else◌}
 use Rattle.std.specs.List.{list_any}
 use Rattle.charmlet_model.specs.declared.names.MsgId.{MsgId}
@@ -19,9 +19,9 @@ pub record HeldSeat : Type 0 where
   pub ids : List MsgId
   pub room : ℕ
 
--- The book has the processors of the seats that are out, in the order in which these were lent, and
--- the ids that each of them holds, by its place among them: none any more once it was taken in. The
--- book's own ids are those of the deliveries that were committed without a seat.
+-- The authority has the processors of the seats that are out, in the order in which these were
+-- lent, and the ids that each of them holds, by its place among them: none any more once it was
+-- taken in. The table's own ids are those of the deliveries that were committed without a seat.
 pub record Seats : Type 0 where
   pub out : List ℕ
   pub own : IdList
@@ -33,7 +33,7 @@ lists_out [] = []
 lists_out (None ∷ lists) = lists_out lists
 lists_out (Some ids ∷ lists) = ids ∷ lists_out lists
 
--- the book's own ids and those of the seats that are out are woven into these
+-- the table's own ids and those of the seats that are out are woven into these
 abbrev pub HaveAll : Seats → List MsgId → Type 0
 HaveAll seats deliveries = IsWoven (seats.own.items ∷ lists_out seats.lists) deliveries
 

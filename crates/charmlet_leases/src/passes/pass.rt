@@ -1,6 +1,6 @@
 //! Clients' passes.
 
-use charmlet_locks::{BookName, GhostValue, Share};
+use charmlet_locks::{AuthorityName, Fragment, GhostValue};
 use charmlet_model::Told;
 use charmlet_requests as requests;
 use std::alloc::AllocError;
@@ -9,13 +9,13 @@ use std::marker::{Brand, Model};
 /// What a pass holds, as only contracts see it. The values that code makes are those of passes that
 /// are being lent.
 #[derive(Drop)]
-pub struct SeenPass {
+pub struct GhostPass {
     pub(crate) client: u32,
     pub(crate) last: u64,
     pub(crate) since: u64,
 }
 
-impl Model for SeenPass {
+impl Model for GhostPass {
     ghost use Rattle.charmlet_leases.specs.Passes.Passes.{HeldPass, lent_since};
 
     ghost Value = { HeldPass };
@@ -23,7 +23,7 @@ impl Model for SeenPass {
     ghost view = { λ s. lent_since s.client s.last s.since };
 }
 
-impl GhostValue<SeenPass> for Brand {
+impl GhostValue<GhostPass> for Brand {
     ghost use Rattle.charmlet_leases.specs.Passes.Passes.{lent_since};
 
     ghost value = { lent_since 0 0 0 };
@@ -34,24 +34,24 @@ impl GhostValue<SeenPass> for Brand {
 /// events the last flush counted that it was handed to. The accepts have no bytes: their numbers
 /// follow one another, up to `last`. Of what was told the highest of each request is kept.
 #[derive(Drop)]
-pub struct ClientPass<B: BookName> {
+pub struct ClientPass<B: AuthorityName> {
     pub(crate) pass: requests::ClientPass,
-    pub(crate) share: Share<SeenPass, B>,
+    pub(crate) fragment: Fragment<GhostPass, B>,
 }
 
-impl<B: BookName> Model for ClientPass<B> {
+impl<B: AuthorityName> Model for ClientPass<B> {
     ghost use Rattle.std.specs.Prelude.{◌≡◌, Some};
     ghost use Rattle.charmlet_leases.specs.Passes.Passes.{HeldPass, held_by};
 
     ghost Value = { HeldPass };
 
-    ghost view = { λ p. held_by p.share.1 };
+    ghost view = { λ p. held_by p.fragment.1 };
 
-    ghost invariant = { λ p. (p.share.1 ≡ Some (held_by p.share.1))
-        × ((held_by p.share.1).pass ≡ p.pass) };
+    ghost invariant = { λ p. (p.fragment.1 ≡ Some (held_by p.fragment.1))
+        × ((held_by p.fragment.1).pass ≡ p.pass) };
 }
 
-impl<B: BookName> ClientPass<B> {
+impl<B: AuthorityName> ClientPass<B> {
     ghost use Rattle.std.specs.Prelude.{◌≡◌, ◌-◌, IfOk, OnErr, true};
     ghost use Rattle.charmlet_model.specs.Core.{has_words};
     ghost use Rattle.charmlet_requests.specs.Pass.{known};

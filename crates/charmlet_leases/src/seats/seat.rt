@@ -2,28 +2,28 @@
 
 use crate::seats::ids::DeliveryIds;
 use crate::tickets::{Ticket, TicketQueue};
-use charmlet_locks::{BookName, GhostValue, Share};
+use charmlet_locks::{AuthorityName, Fragment, GhostValue};
 use charmlet_model::MsgId;
 use std::alloc::AllocError;
 use std::marker::{Brand, Model};
 
-/// Names the book of the seats of one runtime, and says how many processors it has. The call that
-/// makes a book picks both.
-pub trait SeatBookName: BookName {
+/// Names the table of the seats of one runtime, and says how many processors it has. The call that
+/// makes an authority picks both.
+pub trait SeatTableName: AuthorityName {
     ghost use Rattle.std.specs.Prelude.{ℕ};
 
     ghost processors: { ℕ };
 }
 
-impl SeatBookName for Brand {
+impl SeatTableName for Brand {
     ghost processors = { 0 };
 }
 
 /// The ids that a seat holds, as only contracts see them. The one value that code makes has none.
 #[derive(Drop)]
-pub struct SeenIds;
+pub struct GhostIds;
 
-impl Model for SeenIds {
+impl Model for GhostIds {
     ghost use Rattle.std.specs.Prelude.{List, []};
     ghost use Rattle.charmlet_model.specs.declared.names.MsgId.{MsgId};
 
@@ -32,7 +32,7 @@ impl Model for SeenIds {
     ghost view = { λ _. [] };
 }
 
-impl GhostValue<SeenIds> for Brand {
+impl GhostValue<GhostIds> for Brand {
     ghost use Rattle.std.specs.Prelude.{[]};
 
     ghost value = { [] };
@@ -40,17 +40,17 @@ impl GhostValue<SeenIds> for Brand {
 
 /// The right to work for a processor. It holds the ids of the deliveries that were committed with
 /// it, in order, and a handle on its processor's queue of tickets. A contract sees the ids beside
-/// the seat's place in its book, its processor, and the room for more ids.
+/// the seat's place in its authority, its processor, and the room for more ids.
 #[derive(Drop)]
-pub struct Seat<B: SeatBookName> {
+pub struct Seat<B: SeatTableName> {
     pub(crate) place: usize,
     pub(crate) processor: u16,
     pub(crate) ids: DeliveryIds,
-    pub(crate) share: Share<SeenIds, B>,
+    pub(crate) fragment: Fragment<GhostIds, B>,
     pub(crate) queue: TicketQueue,
 }
 
-impl<B: SeatBookName> Model for Seat<B> {
+impl<B: SeatTableName> Model for Seat<B> {
     ghost use Rattle.std.specs.Prelude.{◌≡◌, ◌<◌, Some};
     ghost use Rattle.charmlet_leases.specs.Seats.Seats.{HeldSeat};
 
@@ -63,12 +63,12 @@ impl<B: SeatBookName> Model for Seat<B> {
       room = s.ids.room;
     } };
 
-    ghost invariant = { λ s. (s.share ≡ (s.place, Some s.ids.items))
+    ghost invariant = { λ s. (s.fragment ≡ (s.place, Some s.ids.items))
         × (s.processor < B.processors)
         × (s.queue ≡ s.processor) };
 }
 
-impl<B: SeatBookName> Seat<B> {
+impl<B: SeatTableName> Seat<B> {
     ghost use Rattle.std.specs.Prelude.{◌≡◌, ◌<◌, ◌≤◌, IfSome, IsOk, OnOk};
 
     /// The processor, one of those that the runtime has.

@@ -76,8 +76,8 @@ impl TicketQueue {
         })
     }
 
-    /// Puts a ticket for the message behind the others. It doesn't wait: where the queue is full, or
-    /// another push is under way, the ticket is lost.
+    /// Puts a ticket for the message behind the others. It doesn't wait: where the queue is full,
+    /// or another push is under way, the ticket is lost.
     pub fn push(&mut self, id: MsgId)
         ensures { self.new ≡ self.old }
     {

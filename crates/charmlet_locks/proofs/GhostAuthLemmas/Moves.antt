@@ -1,4 +1,4 @@
--- Each step keeps the book and its shares equal.
+-- Each step keeps the authority and its fragments equal.
 use Rattle.std.proofs.Common.{◌≡◌, ◌≢◌, ◌⊎◌, ℕ, zero, suc, ◌+◌, ◌<◌, List, [], ◌∷◌, ◌++◌, length, set, Option, Some, None, Bool, true, false, true≢false, cond, eqb, eq-eqb, ne_eqb, refl, sym, ap, ◌∙◌, subst, ⊎_elim, inl, inr, arith}
 use Rattle.std.specs.Prelude.{slice_get, slice_set}
 use mathlib.Core.Option.{some, none, some-ne-none, some-injective}
@@ -8,7 +8,7 @@ use lib.ListN.{get_elem?}
 use Rattle.atomic_table.specs.Table.{State, Me, Step, Act, keeps, step, Allows, Splits, Joins}
 use Rattle.atomic_table.proofs.Lists.{at_set}
 use Rattle.charmlet_locks.specs.declared.ghost_auth.rule.View.{View}
-use Rattle.charmlet_locks.specs.GhostAuth.Agreement.{keeper, holder, with_share, met, nobody, Fits, Agrees, added, settled, Adds, Settles, SettlesTo, Ends, IsShare}
+use Rattle.charmlet_locks.specs.GhostAuth.Agreement.{keeper, holder, with_fragment, met, nobody, Fits, Agrees, added, updated, Adds, Updates, UpdatesTo, Ends, IsFragment}
 
 -- lists
 
@@ -45,7 +45,7 @@ at_end [] a b (suc j) e = absurd (some-ne-none b (sym e))
 at_end (x ∷ xs) a b zero e = inl e
 at_end (x ∷ xs) a b (suc j) e = ⊎_elim (λ t. inl t) (λ (t : (a ≡ b) × (j ≡ length xs)). inr (t.0, ap suc t.1)) (at_end xs a b j e)
 
--- who has a share, after the share n has gone to `by`
+-- who has a fragment, after the fragment n has gone to `by`
 moved : (ℕ → ℕ) → ℕ → ℕ → ℕ → ℕ
 moved owner n by k = cond (eqb k n) by (owner k)
 
@@ -96,11 +96,11 @@ module _ {D : Type 0} where
             )),
       )
 
-  -- no other seat has the share that is with the book
+  -- no other seat has the fragment that is with the authority
   alone : (seat : ℕ) (values : List (Option D)) (owner : ℕ → ℕ) (by j : ℕ) (v u : View D) → Fits seat values owner by v → v.holds ≡ true → Fits seat values owner j u → u.holds ≡ true → j ≢ by → u.number ≢ v.number
   alone seat values owner by j v u mine m theirs t apart same = apart (sym (theirs.1 t).0 ∙ ap owner same ∙ (mine.1 m).0)
 
-  -- the share's place in the book is written, and the seat is w
+  -- the fragment's place in the authority is written, and the seat is w
   writes : (views : List (View D)) (by : ℕ) (v w : View D) (new : Option D) → v.keeps ≡ true → v.holds ≡ true → w.values ≡ slice_set v.values v.number new → (w.holds ≡ true → (w.number ≡ v.number) × (w.value ≡ new)) → Agrees views → get_elem? views by ≡ some v → Agrees (set views by w)
   writes views by v w new keeping holding changed named h at =
       let here = h.3 by v at in
@@ -126,17 +126,17 @@ module _ {D : Type 0} where
             )),
       )
 
-  -- what the rule says of the share that is with the book
+  -- what the rule says of the fragment that is with the authority
   learns : (views : List (View D)) (by : ℕ) (v : View D) → v.keeps ≡ true → v.holds ≡ true → Agrees views → get_elem? views by ≡ some v → slice_get v.values v.number ≡ Some v.value
   learns views by v keeping holding h at =
       let here = h.3 by v at in
       subst (λ (l : List (Option D)). slice_get l v.number ≡ Some v.value) (sym (here.0 keeping).1) (here.1 holding).1
 
   -- nothing is written
-  stays : (views : List (View D)) (by : ℕ) (v : View D) → v.keeps ≡ true → v.holds ≡ true → Agrees views → get_elem? views by ≡ some v → Agrees (set views by (with_share v.values v.number v.value))
+  stays : (views : List (View D)) (by : ℕ) (v : View D) → v.keeps ≡ true → v.holds ≡ true → Agrees views → get_elem? views by ≡ some v → Agrees (set views by (with_fragment v.values v.number v.value))
   stays views by v keeping holding h at =
       let here = h.3 by v at in
-      (h.0, h.1, h.2, all_set (Fits h.0 h.1 h.2) views by (with_share v.values v.number v.value) ((λ _. here.0 keeping), (λ _. here.1 holding)) (λ j u apart e. h.3 j u e))
+      (h.0, h.1, h.2, all_set (Fits h.0 h.1 h.2) views by (with_fragment v.values v.number v.value) ((λ _. here.0 keeping), (λ _. here.1 holding)) (λ j u apart e. h.3 j u e))
 
   joins_view : (views : List (View D)) (by : ℕ) (v : View D) (other : ℕ) (w : View D) → v.keeps ≡ true → w.holds ≡ true → Agrees views → get_elem? views by ≡ some v → ¬ (other ≡ by) → get_elem? (set views by (met v w)) other ≡ some w → Agrees (set (set views by (met v w)) other nobody)
   joins_view views by v other w keeping holding h at apart there =
@@ -186,14 +186,14 @@ module _ {D : Type 0} where
   pub adds : (id : ℕ) (me : Me D (View D)) (slots i a b : ℕ) (f : ℕ → ℕ) (x : D) → me.0.keeps ≡ true → Allows (λ s. Agrees s.views) slots id me i f (Adds (step slots i a b (some x)) me)
   adds id me slots i a b f x keeping s h homes at bound = (added (some x) me.0, keeps, tt, adds_view s.views id me.0 x keeping h at, refl)
 
-  pub changes : (id : ℕ) (me : Me D (View D)) (slots i a b : ℕ) (f : ℕ → ℕ) (x : D) → me.0.keeps ≡ true → me.0.holds ≡ true → Allows (λ s. Agrees s.views) slots id me i f (Settles (step slots i a b (some x)) me)
-  changes id me slots i a b f x keeping holding s h homes at bound = (settled (some x) me.0, keeps, tt, writes s.views id me.0 (settled (some x) me.0) (Some x) keeping holding refl (λ _. (refl, refl)) h at, (refl, learns s.views id me.0 keeping holding h at))
+  pub changes : (id : ℕ) (me : Me D (View D)) (slots i a b : ℕ) (f : ℕ → ℕ) (x : D) → me.0.keeps ≡ true → me.0.holds ≡ true → Allows (λ s. Agrees s.views) slots id me i f (Updates (step slots i a b (some x)) me)
+  changes id me slots i a b f x keeping holding s h homes at bound = (updated (some x) me.0, keeps, tt, writes s.views id me.0 (updated (some x) me.0) (Some x) keeping holding refl (λ _. (refl, refl)) h at, (refl, learns s.views id me.0 keeping holding h at))
 
-  pub changes_to : (id : ℕ) (me : Me D (View D)) (slots i a b : ℕ) (f : ℕ → ℕ) (x : D) → me.0.keeps ≡ true → me.0.holds ≡ true → Allows (λ s. Agrees s.views) slots id me i f (SettlesTo x (step slots i a b none) me)
-  changes_to id me slots i a b f x keeping holding s h homes at bound = (settled (some x) me.0, keeps, tt, writes s.views id me.0 (settled (some x) me.0) (Some x) keeping holding refl (λ _. (refl, refl)) h at, (refl, learns s.views id me.0 keeping holding h at))
+  pub changes_to : (id : ℕ) (me : Me D (View D)) (slots i a b : ℕ) (f : ℕ → ℕ) (x : D) → me.0.keeps ≡ true → me.0.holds ≡ true → Allows (λ s. Agrees s.views) slots id me i f (UpdatesTo x (step slots i a b none) me)
+  changes_to id me slots i a b f x keeping holding s h homes at bound = (updated (some x) me.0, keeps, tt, writes s.views id me.0 (updated (some x) me.0) (Some x) keeping holding refl (λ _. (refl, refl)) h at, (refl, learns s.views id me.0 keeping holding h at))
 
-  pub compares : (id : ℕ) (me : Me D (View D)) (slots i a b : ℕ) (f : ℕ → ℕ) → me.0.keeps ≡ true → me.0.holds ≡ true → Allows (λ s. Agrees s.views) slots id me i f (Settles (step slots i a b none) me)
-  compares id me slots i a b f keeping holding s h homes at bound = (settled none me.0, keeps, tt, stays s.views id me.0 keeping holding h at, (refl, learns s.views id me.0 keeping holding h at))
+  pub compares : (id : ℕ) (me : Me D (View D)) (slots i a b : ℕ) (f : ℕ → ℕ) → me.0.keeps ≡ true → me.0.holds ≡ true → Allows (λ s. Agrees s.views) slots id me i f (Updates (step slots i a b none) me)
+  compares id me slots i a b f keeping holding s h homes at bound = (updated none me.0, keeps, tt, stays s.views id me.0 keeping holding h at, (refl, learns s.views id me.0 keeping holding h at))
 
   pub ends : (id : ℕ) (me : Me D (View D)) (slots i a b : ℕ) (f : ℕ → ℕ) → me.0.keeps ≡ true → me.0.holds ≡ true → Allows (λ s. Agrees s.views) slots id me i f (Ends (step slots i a b none) me)
   ends id me slots i a b f keeping holding s h homes at bound =
@@ -206,6 +206,6 @@ module _ {D : Type 0} where
   pub splits : (id : ℕ) (v : View D) → v.keeps ≡ true → v.holds ≡ true → Splits (λ (s : State D (View D)). Agrees s.views) id v (keeper v.values) (holder v.number v.value)
   splits id v keeping holding s h at = splits_view s.views id v keeping holding h at
 
-  -- the seat of a share's badge is a share's
-  pub share_holds : (views : List (View D)) (m : View D) → IsShare views → views ≡ m ∷ [] → m.holds ≡ true
-  share_holds views m s e = let same : m ≡ s.0 = cc (e, s.1) in ap (λ (w : View D). w.holds) same ∙ s.2
+  -- the seat of a fragment's badge is a fragment's
+  pub fragment_holds : (views : List (View D)) (m : View D) → IsFragment views → views ≡ m ∷ [] → m.holds ≡ true
+  fragment_holds views m s e = let same : m ≡ s.0 = cc (e, s.1) in ap (λ (w : View D). w.holds) same ∙ s.2

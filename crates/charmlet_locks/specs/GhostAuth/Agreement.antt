@@ -1,4 +1,4 @@
--- A book of values, and shares that each know one of them.
+-- An authority of values, and fragments that each know one of them.
 use Rattle.std.specs.Prelude.{◌≡◌, ℕ, ◌++◌, List, [], ◌∷◌, length, true, false, Option, Some, None, slice_get, slice_set}
 use mathlib.Core.Option.{some, none}
 use lib.ListN.{get_elem?}
@@ -19,11 +19,11 @@ no_table = record {
 }
 
 module _ {D : Type 0} where
-  -- the seat of the book
+  -- the seat of the authority
   abbrev pub keeper : List (Option D) → View D
   keeper values = record { keeps = true; values = values; holds = false; number = 0; value = None }
 
-  -- the seat of a share
+  -- the seat of a fragment
   abbrev pub holder : ℕ → Option D → View D
   holder number value = record {
     keeps = false;
@@ -33,9 +33,9 @@ module _ {D : Type 0} where
     value = value;
   }
 
-  -- the book with a share taken in
-  abbrev pub with_share : List (Option D) → ℕ → Option D → View D
-  with_share values number value = record {
+  -- the authority with a fragment taken in
+  abbrev pub with_fragment : List (Option D) → ℕ → Option D → View D
+  with_fragment values number value = record {
     keeps = true;
     values = values;
     holds = true;
@@ -44,14 +44,14 @@ module _ {D : Type 0} where
   }
 
   abbrev pub met : View D → View D → View D
-  met v w = with_share v.values w.number w.value
+  met v w = with_fragment v.values w.number w.value
 
   -- a seat that knows nothing
   abbrev pub nobody : View D
   nobody = record { keeps = false; values = []; holds = false; number = 0; value = None }
 
-  -- the book's seat knows the values, and a share's seat the value at its number, which it alone
-  -- has
+  -- the authority's seat knows the values, and a fragment's seat the value at its number, which it
+  -- alone has
   abbrev pub Fits : ℕ → List (Option D) → (ℕ → ℕ) → ℕ → View D → Type 0
   Fits seat values owner by v =
       (v.keeps ≡ true → (by ≡ seat) × (v.values ≡ values))
@@ -63,33 +63,33 @@ module _ {D : Type 0} where
       (seat : ℕ) × (values : List (Option D)) × (owner : ℕ → ℕ)
       × ((by : ℕ) (v : View D) → get_elem? views by ≡ some v → Fits seat values owner by v)
 
-  -- the book with a share of the value that is said, behind the others
+  -- the authority with a fragment of the value that is said, behind the others
   abbrev pub added : mathlib.Core.Option.Option D → View D → View D
-  added none v = with_share v.values v.number v.value
-  added (some x) v = with_share (v.values ++ Some x ∷ []) (length v.values) (Some x)
+  added none v = with_fragment v.values v.number v.value
+  added (some x) v = with_fragment (v.values ++ Some x ∷ []) (length v.values) (Some x)
 
-  -- the value that is said is the book's and the share's
-  abbrev pub settled : mathlib.Core.Option.Option D → View D → View D
-  settled none v = with_share v.values v.number v.value
-  settled (some x) v = with_share (slice_set v.values v.number (Some x)) v.number (Some x)
+  -- the value that is said is the authority's and the fragment's
+  abbrev pub updated : mathlib.Core.Option.Option D → View D → View D
+  updated none v = with_fragment v.values v.number v.value
+  updated (some x) v = with_fragment (slice_set v.values v.number (Some x)) v.number (Some x)
 
   abbrev pub Adds : Step D → Me D (View D) → ℕ → Me D (View D) → Type 0
   Adds s v found w = w ≡ (added s.said v.0, v.1)
 
-  abbrev pub Settles : Step D → Me D (View D) → ℕ → Me D (View D) → Type 0
-  Settles s v found w = (w ≡ (settled s.said v.0, v.1))
+  abbrev pub Updates : Step D → Me D (View D) → ℕ → Me D (View D) → Type 0
+  Updates s v found w = (w ≡ (updated s.said v.0, v.1))
       × (slice_get v.0.values v.0.number ≡ Some v.0.value)
 
   -- the same, with a value that no code holds
-  abbrev pub SettlesTo : D → Step D → Me D (View D) → ℕ → Me D (View D) → Type 0
-  SettlesTo x s v found w = (w ≡ (settled (some x) v.0, v.1))
+  abbrev pub UpdatesTo : D → Step D → Me D (View D) → ℕ → Me D (View D) → Type 0
+  UpdatesTo x s v found w = (w ≡ (updated (some x) v.0, v.1))
       × (slice_get v.0.values v.0.number ≡ Some v.0.value)
 
   abbrev pub Ends : Step D → Me D (View D) → ℕ → Me D (View D) → Type 0
   Ends s v found w = (w ≡ (keeper (slice_set v.0.values v.0.number None), v.1))
       × (slice_get v.0.values v.0.number ≡ Some v.0.value)
 
-  -- a share's number and its value, by what its seat knows
+  -- a fragment's number and its value, by what its seat knows
   abbrev pub number_in : List (View D) → ℕ
   number_in [] = 0
   number_in (v ∷ vs) = v.number
@@ -98,6 +98,6 @@ module _ {D : Type 0} where
   value_in [] = None
   value_in (v ∷ vs) = v.value
 
-  -- there is one seat, and it is a share's
-  abbrev pub IsShare : List (View D) → Type 0
-  IsShare views = (v : View D) × (views ≡ v ∷ []) × (v.holds ≡ true)
+  -- there is one seat, and it is a fragment's
+  abbrev pub IsFragment : List (View D) → Type 0
+  IsFragment views = (v : View D) × (views ≡ v ∷ []) × (v.holds ≡ true)

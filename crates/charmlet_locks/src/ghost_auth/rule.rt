@@ -1,25 +1,25 @@
-//! What the book and its shares know, and the steps that keep them equal.
+//! What the authority and its fragments know, and the steps that keep them equal.
 
 use atomic_table::{Join, Play, Split, TableRule};
 use std::collections::LinkedList;
 use std::marker::{Brand, PhantomData};
 
-/// Names one book, so that shares of two books can't be mixed up. The call that makes a book picks
-/// it.
-pub trait BookName {
+/// Names one authority, so that fragments of two authorities can't be mixed up. The call that makes
+/// an authority picks it.
+pub trait AuthorityName {
     ghost use Rattle.atomic_table.specs.Seated.{TableId};
 
     ghost table: { TableId };
 }
 
-impl BookName for Brand {
+impl AuthorityName for Brand {
     ghost use Rattle.charmlet_locks.specs.GhostAuth.Agreement.{no_table};
 
     ghost table = { no_table };
 }
 
-/// What a seat at the word knows: the book all values, and a share its place and its value. No
-/// value of this type is ever made.
+/// What a seat at the word knows: the authority all values, and a fragment its place and its value.
+/// No value of this type is ever made.
 pub struct View<D> {
     pub keeps: bool,
     pub values: LinkedList<Option<D>>,
@@ -28,7 +28,7 @@ pub struct View<D> {
     pub value: Option<D>,
 }
 
-/// At most one seat is the book's, and each share has the book's value at its place.
+/// At most one seat is the authority's, and each fragment has the authority's value at its place.
 pub struct Equal;
 
 impl<D> TableRule<D, View<D>, ()> for Equal {
@@ -40,7 +40,7 @@ impl<D> TableRule<D, View<D>, ()> for Equal {
     ghost first = { λ _. keeper [] };
 }
 
-/// The book takes a share in.
+/// The authority takes a fragment in.
 pub struct Meet;
 
 impl<D> Join<View<D>> for Meet {
@@ -51,7 +51,7 @@ impl<D> Join<View<D>> for Meet {
     ghost spent = { nobody };
 }
 
-/// The book gives a share out.
+/// The authority gives a fragment out.
 pub struct Part;
 
 impl<D> Split<View<D>> for Part {
@@ -71,17 +71,17 @@ impl<D> Play<D, View<D>> for Add {
     ghost then = { Adds };
 }
 
-/// The book and the share that it took in have the same value. Both take on a new one, if one is
-/// given.
-pub struct Settle;
+/// The authority and the fragment that it took in have the same value. Both take on a new one, if
+/// one is given.
+pub struct Update;
 
-impl<D> Play<D, View<D>> for Settle {
-    ghost use Rattle.charmlet_locks.specs.GhostAuth.Agreement.{Settles};
+impl<D> Play<D, View<D>> for Update {
+    ghost use Rattle.charmlet_locks.specs.GhostAuth.Agreement.{Updates};
 
-    ghost then = { Settles };
+    ghost then = { Updates };
 }
 
-/// The book and the share that it took in have the same value, and the share ends.
+/// The authority and the fragment that it took in have the same value, and the fragment ends.
 pub struct End;
 
 impl<D> Play<D, View<D>> for End {
@@ -95,13 +95,13 @@ pub trait GhostValue<D> {
     ghost value: { D };
 }
 
-/// The same as `Settle`, with the value that `N` names.
-pub struct SettleTo<N> {
+/// The same as `Update`, with the value that `N` names.
+pub struct UpdateTo<N> {
     names: PhantomData<N>,
 }
 
-impl<D, N: GhostValue<D>> Play<D, View<D>> for SettleTo<N> {
-    ghost use Rattle.charmlet_locks.specs.GhostAuth.Agreement.{SettlesTo};
+impl<D, N: GhostValue<D>> Play<D, View<D>> for UpdateTo<N> {
+    ghost use Rattle.charmlet_locks.specs.GhostAuth.Agreement.{UpdatesTo};
 
-    ghost then = { SettlesTo N.value };
+    ghost then = { UpdatesTo N.value };
 }

@@ -25,7 +25,7 @@ use Rattle.charmlet_model.proofs.Fits.{AllByRecursion-map, AllByRecursion-withou
 use Rattle.charmlet_model.proofs.Maps.{both_parts, elem_total, elem_exact, lookup-insert_entry, tied_elem}
 use Rattle.charmlet_model.proofs.Reactions.{AllByRecursion-append}
 use Rattle.charmlet_record.specs.Reading.{Kinds}
-use Rattle.charmlet_recovery.specs.Replays.{LogPass, passed, passed_message, passes, sent_at}
+use Rattle.charmlet_recovery.specs.Replays.{LogScan, scanned, scanned_message, scans, sent_at}
 use Rattle.charmlet_log_scan.specs.Partition.Known.{AreGiven, given_by}
 
 unwrapped : {X : Type 0} (b : Bool) (x d : X) (o : Option X) → unwrap_or (cond b (Some x) o) d ≡ cond b x (unwrap_or o d)
@@ -40,15 +40,15 @@ sent_at-insert sent k n x = ap (λ o. unwrap_or o 0) (lookup-insert_entry elem_c
 
 -- ---- a new id is no pending one
 
-pub is-new : (pass : LogPass) (ms : List Message) (id : MsgId) → AllByRecursion (λ (m : Message). m.id.number ≤ given_by pass m.id.origin) ms → given_by pass id.origin < id.number → message_among id ms ≡ None
-is-new pass [] id given new = refl
-is-new pass (m ∷ ms) id given new =
+pub is-new : (scan : LogScan) (ms : List Message) (id : MsgId) → AllByRecursion (λ (m : Message). m.id.number ≤ given_by scan m.id.origin) ms → given_by scan id.origin < id.number → message_among id ms ≡ None
+is-new scan [] id given new = refl
+is-new scan (m ∷ ms) id given new =
     elim (same_id id m.id) as (λ b. same_id id m.id ≡ b → cond b (Some m) (message_among id ms) ≡ None) [
       | true ↦ λ same.
           let is = same_id-is id m.id same in
-          let low : id.number ≤ given_by pass id.origin = subst (λ (i : MsgId). i.number ≤ given_by pass i.origin) (sym is) given.0 in
+          let low : id.number ≤ given_by scan id.origin = subst (λ (i : MsgId). i.number ≤ given_by scan i.origin) (sym is) given.0 in
           absurd (let no : ⊥ = omega (arith, low, new) in no)
-      | false ↦ λ _. is-new pass ms id given.1 new
+      | false ↦ λ _. is-new scan ms id given.1 new
     ] refl
 
 -- ---- numbers only grow
@@ -73,7 +73,7 @@ sent-grows sent k more x =
       | false ↦ λ _. le_refl (sent_at sent x)
     ] refl)
 
-still-given : (old new : LogPass) (ms : List Message) → ((origin : Origin) → given_by old origin ≤ given_by new origin) → AllByRecursion (λ (m : Message). m.id.number ≤ given_by old m.id.origin) ms →
+still-given : (old new : LogScan) (ms : List Message) → ((origin : Origin) → given_by old origin ≤ given_by new origin) → AllByRecursion (λ (m : Message). m.id.number ≤ given_by old m.id.origin) ms →
     AllByRecursion (λ (m : Message). m.id.number ≤ given_by new m.id.origin) ms
 still-given old new ms grows given =
     AllByRecursion-map (λ (m : Message). m.id.number ≤ given_by old m.id.origin) (λ (m : Message). m.id.number ≤ given_by new m.id.origin) ms
@@ -81,48 +81,48 @@ still-given old new ms grows given =
 
 -- ---- a request
 
-accepted : (manifest : Kinds) (pass : LogPass) (before client number : ℕ) (to : Elem) (entry : ℕ) (words : List ℕ) → passes manifest pass before (Accept client number to entry words) ≡ true → (row_of pass.clients client).last + 1 ≡ number
-accepted manifest pass before client number to entry words h =
+accepted : (manifest : Kinds) (scan : LogScan) (before client number : ℕ) (to : Elem) (entry : ℕ) (words : List ℕ) → scans manifest scan before (Accept client number to entry words) ≡ true → (row_of scan.clients client).last + 1 ≡ number
+accepted manifest scan before client number to entry words h =
     let next = both_parts _ _ (both_parts _ _ (both_parts _ _ (both_parts _ _ (both_parts _ _ h).0).0).0).0 in
-    sym (eqb-true number ((row_of pass.clients client).last + 1) (both_parts _ _ next.0).0)
+    sym (eqb-true number ((row_of scan.clients client).last + 1) (both_parts _ _ next.0).0)
 
-after-request : (manifest : Kinds) (pass : LogPass) (before client number : ℕ) (to : Elem) (entry : ℕ) (words : List ℕ) → AreGiven pass → passes manifest pass before (Accept client number to entry words) ≡ true →
-    AreGiven (passed pass (Accept client number to entry words))
-after-request manifest pass before client number to entry words given h =
-    let new = passed pass (Accept client number to entry words) in
-    let next = accepted manifest pass before client number to entry words h in
-    let row = with_request (row_of pass.clients client) number in
-    let grows : (origin : Origin) → given_by pass origin ≤ given_by new origin = grows_by next in
+after-request : (manifest : Kinds) (scan : LogScan) (before client number : ℕ) (to : Elem) (entry : ℕ) (words : List ℕ) → AreGiven scan → scans manifest scan before (Accept client number to entry words) ≡ true →
+    AreGiven (scanned scan (Accept client number to entry words))
+after-request manifest scan before client number to entry words given h =
+    let new = scanned scan (Accept client number to entry words) in
+    let next = accepted manifest scan before client number to entry words h in
+    let row = with_request (row_of scan.clients client) number in
+    let grows : (origin : Origin) → given_by scan origin ≤ given_by new origin = grows_by next in
     let here : number ≤ (row_of new.clients client).last =
-    subst (λ (r : ClientRow). number ≤ r.last) (sym (row_of-insert pass.clients client row client))
-    (subst (λ b. number ≤ (cond b row (row_of pass.clients client)).last) (sym (tied_itself-nat client)) (le_refl number)) in
-    AllByRecursion-append (λ (m : Message). m.id.number ≤ given_by new m.id.origin) pass.pending (request client number to entry words ∷ []) (still-given pass new pass.pending grows given) (here, tt)
+    subst (λ (r : ClientRow). number ≤ r.last) (sym (row_of-insert scan.clients client row client))
+    (subst (λ b. number ≤ (cond b row (row_of scan.clients client)).last) (sym (tied_itself-nat client)) (le_refl number)) in
+    AllByRecursion-append (λ (m : Message). m.id.number ≤ given_by new m.id.origin) scan.pending (request client number to entry words ∷ []) (still-given scan new scan.pending grows given) (here, tt)
   where
-    grows_by : (row_of pass.clients client).last + 1 ≡ number → (origin : Origin) → given_by pass origin ≤ given_by (passed pass (Accept client number to entry words)) origin
-    grows_by next (Element x) = le_refl (sent_at pass.sent x)
-    grows_by next (Client c) = row-grows pass.clients client (with_request (row_of pass.clients client) number) (omega (arith, next)) c
+    grows_by : (row_of scan.clients client).last + 1 ≡ number → (origin : Origin) → given_by scan origin ≤ given_by (scanned scan (Accept client number to entry words)) origin
+    grows_by next (Element x) = le_refl (sent_at scan.sent x)
+    grows_by next (Client c) = row-grows scan.clients client (with_request (row_of scan.clients client) number) (omega (arith, next)) c
 
 -- ---- a delivery
 
-sends-given : (pass : LogPass) (from : Elem) (sent : ℕ) (ss : List Outgoing) → sent + length ss ≤ sent_at pass.sent from → AllByRecursion (λ (m : Message). m.id.number ≤ given_by pass m.id.origin) (numbered from sent ss)
-sends-given pass from sent [] enough = tt
-sends-given pass from sent (s ∷ ss) enough = (omega (arith, enough), sends-given pass from (sent + 1) ss (omega (arith, enough)))
+sends-given : (scan : LogScan) (from : Elem) (sent : ℕ) (ss : List Outgoing) → sent + length ss ≤ sent_at scan.sent from → AllByRecursion (λ (m : Message). m.id.number ≤ given_by scan m.id.origin) (numbered from sent ss)
+sends-given scan from sent [] enough = tt
+sends-given scan from sent (s ∷ ss) enough = (omega (arith, enough), sends-given scan from (sent + 1) ss (omega (arith, enough)))
 
-after-message : (pass : LogPass) (m : Option Message) (sends : List Outgoing) → AreGiven pass → AreGiven (passed_message pass m sends)
-after-message pass None sends given = given
-after-message pass (Some m) sends given =
-    let new = passed_message pass (Some m) sends in
-    let all = sent_at pass.sent m.to + length sends in
+after-message : (scan : LogScan) (m : Option Message) (sends : List Outgoing) → AreGiven scan → AreGiven (scanned_message scan m sends)
+after-message scan None sends given = given
+after-message scan (Some m) sends given =
+    let new = scanned_message scan (Some m) sends in
+    let all = sent_at scan.sent m.to + length sends in
     let here : all ≤ sent_at new.sent m.to =
-    subst (λ n. all ≤ n) (sym (sent_at-insert pass.sent m.to all m.to)) (subst (λ b. all ≤ cond b all (sent_at pass.sent m.to)) (sym (tied_elem m.to)) (le_refl all)) in
-    AllByRecursion-append (λ (n : Message). n.id.number ≤ given_by new n.id.origin) (without m.id pass.pending) (numbered m.to (sent_at pass.sent m.to) sends)
-    (still-given pass new (without m.id pass.pending) grows (AllByRecursion-without (λ (n : Message). n.id.number ≤ given_by pass n.id.origin) m.id pass.pending given))
-    (sends-given new m.to (sent_at pass.sent m.to) sends here)
+    subst (λ n. all ≤ n) (sym (sent_at-insert scan.sent m.to all m.to)) (subst (λ b. all ≤ cond b all (sent_at scan.sent m.to)) (sym (tied_elem m.to)) (le_refl all)) in
+    AllByRecursion-append (λ (n : Message). n.id.number ≤ given_by new n.id.origin) (without m.id scan.pending) (numbered m.to (sent_at scan.sent m.to) sends)
+    (still-given scan new (without m.id scan.pending) grows (AllByRecursion-without (λ (n : Message). n.id.number ≤ given_by scan n.id.origin) m.id scan.pending given))
+    (sends-given new m.to (sent_at scan.sent m.to) sends here)
   where
-    grows : (origin : Origin) → given_by pass origin ≤ given_by (passed_message pass (Some m) sends) origin
-    grows (Element x) = sent-grows pass.sent m.to (length sends) x
-    grows (Client c) = answered-grows pass.clients m.id.origin m.id.number [] c
+    grows : (origin : Origin) → given_by scan origin ≤ given_by (scanned_message scan (Some m) sends) origin
+    grows (Element x) = sent-grows scan.sent m.to (length sends) x
+    grows (Client c) = answered-grows scan.clients m.id.origin m.id.number [] c
 
-pub stays-given : (manifest : Kinds) (pass : LogPass) (before : ℕ) (l : Logged) → AreGiven pass → passes manifest pass before l ≡ true → AreGiven (passed pass l)
-stays-given manifest pass before (Accept client number to entry words) given h = after-request manifest pass before client number to entry words given h
-stays-given manifest pass before (Deliver id received effect sends) given h = after-message pass (message_among id pass.pending) sends given
+pub stays-given : (manifest : Kinds) (scan : LogScan) (before : ℕ) (l : Logged) → AreGiven scan → scans manifest scan before l ≡ true → AreGiven (scanned scan l)
+stays-given manifest scan before (Accept client number to entry words) given h = after-request manifest scan before client number to entry words given h
+stays-given manifest scan before (Deliver id received effect sends) given h = after-message scan (message_among id scan.pending) sends given

@@ -1,4 +1,4 @@
--- The part of the records that a worker has.
+-- The part of the records that a replayer has.
 use Rattle.std.proofs.Common.{◌≡◌, Bool, true, false, cond, List, [], ◌∷◌, refl, sym, ap, ◌∙◌}
 use Rattle.std.specs.Prelude.{Some, unwrap_or}
 use Rattle.std.specs.List.{AllByRecursion}

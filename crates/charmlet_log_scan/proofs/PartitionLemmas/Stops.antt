@@ -1,15 +1,15 @@
--- The earliest place at which a worker stops.
+-- The earliest place at which a replayer stops.
 use Rattle.std.proofs.Common.{◌≡◌, ℕ, zero, suc, ◌<◌, ◌≤◌, Bool, true, false, cond, List, [], ◌∷◌, refl, sym, ap, subst, ◌∙◌, arith}
 use Rattle.std.proofs.lemmas.Bool.{ltb-true, ltb-false, eq-eqb}
 use Rattle.std.specs.Prelude.{Option, Some, None, nat_lt, option_map}
 use Rattle.charmlet_model.specs.declared.names.Elem.{Elem}
 use Rattle.charmlet_model.specs.declared.state.Record.{Record}
-use Rattle.charmlet_record.specs.declared.placed.Placed.{Placed}
+use Rattle.charmlet_record.specs.declared.positioned.Positioned.{Positioned}
 use Rattle.charmlet_recovery.specs.Faults.{first_failure}
 use Rattle.charmlet_log_scan.specs.Partition.Parts.{Worked, Stopped, Done, stop_of, earlier, earliest_stop, first_left, is_of_worker}
 
--- What workers come to: each of them to its own, where there is no first fault; and else none stops
--- before it, and the receiver's worker stops there.
+-- What replayers come to: each of them to its own, where there is no first fault; and else none stops
+-- before it, and the receiver's replayer stops there.
 pub record AreStopsOf (first : Option ℕ) (ends : (Elem → Bool) → List (Elem × Record)) (come : (Elem → Bool) → Worked) : Type 0 where
   pub whole : first ≡ None → (mine : Elem → Bool) → come mine ≡ Done (ends mine)
   pub later : (l : ℕ) → first ≡ Some l → (mine : Elem → Bool) (k : ℕ) → come mine ≡ Stopped k → k ≤ l
@@ -54,7 +54,7 @@ module _ (stop : ℕ → Option ℕ) where
   none-stops zero h = refl
   none-stops (suc n) h = ap (λ o. earlier o (stop n)) (none-stops n h) ∙ h n
 
-  -- no worker stops before this place
+  -- no replayer stops before this place
   abbrev IsBound : ℕ → Type 0
   IsBound i = (w k : ℕ) → stop w ≡ Some k → k ≤ i
 
@@ -73,7 +73,7 @@ module _ (stop : ℕ → Option ℕ) where
             ap (earlier (earliest_stop n stop)) (ap stop (sym same) ∙ is) ∙ earlier-right (earliest_stop n stop) i (bound-earliest i n h)
       ] refl
 
--- the workers' earliest stop is the first fault
+-- the replayers' earliest stop is the first fault
 pub earliest-first : (worker : Elem → ℕ) (workers : ℕ) (first : Option ℕ) (ends : (Elem → Bool) → List (Elem × Record)) (come : (Elem → Bool) → Worked) →
     ((x : Elem) → worker x < workers) → AreStopsOf first ends come → earliest_stop workers (λ w. stop_of (come (is_of_worker worker w))) ≡ first
 earliest-first worker workers None ends come within stops =
@@ -85,7 +85,7 @@ earliest-first worker workers (Some i) ends come within stops =
     (within at.0)
     (ap stop_of (at.1 (is_of_worker worker (worker at.0)) (eq-eqb (worker at.0) (worker at.0) refl)))
 
--- the first record is a fault, and its receiver's worker stops there
+-- the first record is a fault, and its receiver's replayer stops there
 pub first-place : (l : ℕ) (x : Elem) (ends : (Elem → Bool) → List (Elem × Record)) (come : (Elem → Bool) → Worked) →
     ((mine : Elem → Bool) (k : ℕ) → come mine ≡ Stopped k → k ≤ l) → ((mine : Elem → Bool) → mine x ≡ true → come mine ≡ Stopped l) → AreStopsOf (Some l) ends come
 first-place l x ends come late here = record {
@@ -111,7 +111,7 @@ nothing-stops records part = record {
 }
 
 -- no fault is left where no test fails
-pub none-left : {X : Type 0} (tests : List Bool) (ps : List (Placed X)) → first_failure tests ≡ None → first_left tests ps ≡ None
+pub none-left : {X : Type 0} (tests : List Bool) (ps : List (Positioned X)) → first_failure tests ≡ None → first_left tests ps ≡ None
 none-left [] ps h = refl
 none-left (b ∷ tests) [] h = refl
 none-left (true ∷ tests) (p ∷ ps) h = none-left tests ps (none-more (first_failure tests) h)

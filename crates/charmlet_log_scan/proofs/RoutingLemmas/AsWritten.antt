@@ -3,8 +3,8 @@ use Rattle.std.proofs.Common.{◌≡◌, ◌≤◌, ◌==◌, Bool, true, false,
 use Rattle.std.specs.Prelude.{Some, None, IfSome, is_none}
 use Rattle.std.specs.List.{AllByRecursion}
 use Rattle.std.proofs.lemmas.Bool.{eqb-true}
-use Rattle.charmlet_model.specs.declared.edition.Edition.{Edition}
-use Rattle.charmlet_model.specs.declared.edition.Edition.TheVariants as editions
+use Rattle.charmlet_model.specs.declared.kind_version.KindVersion.{KindVersion}
+use Rattle.charmlet_model.specs.declared.kind_version.KindVersion.TheVariants as kind_versions
 use Rattle.charmlet_model.specs.declared.logged.Effect.{Effect}
 use Rattle.charmlet_model.specs.declared.logged.Effect.TheVariants.{Destroyed}
 use Rattle.charmlet_model.specs.declared.message.Outgoing.{Outgoing}
@@ -13,7 +13,7 @@ use Rattle.charmlet_model.specs.declared.reaction.Reaction.{Reaction}
 use Rattle.charmlet_model.specs.declared.state.State.{State}
 use Rattle.charmlet_model.specs.declared.state.State.TheVariants as states
 use Rattle.charmlet_model.specs.Packed.{IsState}
-use Rattle.charmlet_model.specs.Reaction.{edition_of}
+use Rattle.charmlet_model.specs.Reaction.{kind_version_of}
 use Rattle.charmlet_model.proofs.Maps.{both_parts}
 use Rattle.charmlet_model.proofs.Reactions.{IsOutgoing, IsReaction}
 use Rattle.charmlet_chare.specs.Output.{output_of}
@@ -22,64 +22,64 @@ use Rattle.charmlet_record.specs.Written.{IsSend}
 use Rattle.charmlet_recovery.specs.Faults.{same_effect}
 use Rattle.charmlet_log_scan.specs.Routing.Routed.{stay_in, written_output}
 
--- ---- a state of each edition
+-- ---- a state of each kind version
 
-some_state : Edition → State
-some_state editions.Counter = states.Counter 0 0
-some_state editions.Ring = states.Ring 0 0
-some_state editions.Account = states.Account 0
-some_state editions.Sum = states.Sum 0 0 0 0
-some_state editions.Tree = states.Tree 0
-some_state editions.Tape = states.Tape []
-some_state editions.FirstCounter = states.FirstCounter 0
+some_state : KindVersion → State
+some_state kind_versions.Counter = states.Counter 0 0
+some_state kind_versions.Ring = states.Ring 0 0
+some_state kind_versions.Account = states.Account 0
+some_state kind_versions.Sum = states.Sum 0 0 0 0
+some_state kind_versions.Tree = states.Tree 0
+some_state kind_versions.Tape = states.Tape []
+some_state kind_versions.FirstCounter = states.FirstCounter 0
 
-its_edition : (edition : Edition) → edition_of (some_state edition) ≡ edition
+its_kind_version : (kind_version : KindVersion) → kind_version_of (some_state kind_version) ≡ kind_version
 unfolding some_state
-its_edition editions.Counter = refl
-its_edition editions.Ring = refl
-its_edition editions.Account = refl
-its_edition editions.Sum = refl
-its_edition editions.Tree = refl
-its_edition editions.Tape = refl
-its_edition editions.FirstCounter = refl
+its_kind_version kind_versions.Counter = refl
+its_kind_version kind_versions.Ring = refl
+its_kind_version kind_versions.Account = refl
+its_kind_version kind_versions.Sum = refl
+its_kind_version kind_versions.Tree = refl
+its_kind_version kind_versions.Tape = refl
+its_kind_version kind_versions.FirstCounter = refl
 
-its_state : (edition : Edition) → IsState (some_state edition)
+its_state : (kind_version : KindVersion) → IsState (some_state kind_version)
 unfolding some_state
-its_state editions.Counter = (omega arith, omega arith)
-its_state editions.Ring = (omega arith, omega arith)
-its_state editions.Account = omega arith
-its_state editions.Sum = (omega arith, omega arith, omega arith, omega arith)
-its_state editions.Tree = omega arith
-its_state editions.Tape = (omega arith, tt)
-its_state editions.FirstCounter = omega arith
+its_state kind_versions.Counter = (omega arith, omega arith)
+its_state kind_versions.Ring = (omega arith, omega arith)
+its_state kind_versions.Account = omega arith
+its_state kind_versions.Sum = (omega arith, omega arith, omega arith, omega arith)
+its_state kind_versions.Tree = omega arith
+its_state kind_versions.Tape = (omega arith, tt)
+its_state kind_versions.FirstCounter = omega arith
 
 -- ---- what is written, as a reaction
 
--- an element of this edition is left, unless it is destroyed; nothing is replied
-pub written_reaction : Edition → Effect → List Outgoing → Reaction
-written_reaction edition effect sends = record {
-  state = if same_effect effect Destroyed then None else Some (some_state edition);
+-- an element of this kind version is left, unless it is destroyed; nothing is replied
+pub written_reaction : KindVersion → Effect → List Outgoing → Reaction
+written_reaction kind_version effect sends = record {
+  state = if same_effect effect Destroyed then None else Some (some_state kind_version);
   sends = sends;
   reply = [];
 }
 
-pub written_is : (edition : Edition) (effect : Effect) (sends : List Outgoing) → written_output effect sends ≡ output_of (written_reaction edition effect sends)
+pub written_is : (kind_version : KindVersion) (effect : Effect) (sends : List Outgoing) → written_output effect sends ≡ output_of (written_reaction kind_version effect sends)
 unfolding written_reaction
-written_is edition effect sends =
-    let gone : same_effect effect Destroyed ≡ is_none (if same_effect effect Destroyed then None else Some (some_state edition)) = by (same_effect effect Destroyed) in
+written_is kind_version effect sends =
+    let gone : same_effect effect Destroyed ≡ is_none (if same_effect effect Destroyed then None else Some (some_state kind_version)) = by (same_effect effect Destroyed) in
     λ i. record { sends = sends; reply = []; is_destroyed = gone i }
   where
-    by : (b : Bool) → b ≡ is_none (if b then None else Some (some_state edition))
+    by : (b : Bool) → b ≡ is_none (if b then None else Some (some_state kind_version))
     by true = refl
     by false = refl
 
-pub written_sends : (edition : Edition) (effect : Effect) (sends : List Outgoing) → (written_reaction edition effect sends).sends ≡ sends
+pub written_sends : (kind_version : KindVersion) (effect : Effect) (sends : List Outgoing) → (written_reaction kind_version effect sends).sends ≡ sends
 unfolding written_reaction
-written_sends edition effect sends = refl
+written_sends kind_version effect sends = refl
 
-pub written_reply : (edition : Edition) (effect : Effect) (sends : List Outgoing) → (written_reaction edition effect sends).reply ≡ []
+pub written_reply : (kind_version : KindVersion) (effect : Effect) (sends : List Outgoing) → (written_reaction kind_version effect sends).reply ≡ []
 unfolding written_reaction
-written_reply edition effect sends = refl
+written_reply kind_version effect sends = refl
 
 outgoing : (manifest : Kinds) (me : Elem) (sends : List Outgoing) → AllByRecursion (IsSend manifest) sends → stay_in me.array sends ≡ true → AllByRecursion (IsOutgoing me) sends
 outgoing manifest me [] each stay = tt
@@ -94,16 +94,16 @@ outgoing manifest me (s ∷ ss) each stay =
       outgoing manifest me ss each.1 parts.1,
     )
 
-pub written_good : (manifest : Kinds) (edition : Edition) (me : Elem) (effect : Effect) (sends : List Outgoing) → length sends ≤ 16 → AllByRecursion (IsSend manifest) sends → stay_in me.array sends ≡ true →
-    IsReaction edition me (written_reaction edition effect sends)
+pub written_good : (manifest : Kinds) (kind_version : KindVersion) (me : Elem) (effect : Effect) (sends : List Outgoing) → length sends ≤ 16 → AllByRecursion (IsSend manifest) sends → stay_in me.array sends ≡ true →
+    IsReaction kind_version me (written_reaction kind_version effect sends)
 unfolding written_reaction
-written_good manifest edition me effect sends few each stay = record {
+written_good manifest kind_version me effect sends few each stay = record {
   state = by (same_effect effect Destroyed);
   count = few;
   sends = outgoing manifest me sends each stay;
   reply = (omega arith, tt);
 }
   where
-    by : (b : Bool) → IfSome (if b then None else Some (some_state edition)) (λ s. (edition_of s ≡ edition) × IsState s)
+    by : (b : Bool) → IfSome (if b then None else Some (some_state kind_version)) (λ s. (kind_version_of s ≡ kind_version) × IsState s)
     by true = tt
-    by false = (its_edition edition, its_state edition)
+    by false = (its_kind_version kind_version, its_state kind_version)

@@ -15,15 +15,15 @@ use Rattle.charmlet_model.specs.declared.names.Origin.TheVariants.{Client, Eleme
 use Rattle.charmlet_model.specs.declared.names.MsgId.{MsgId}
 use Rattle.charmlet_model.specs.declared.message.Message.{Message}
 use Rattle.charmlet_model.specs.declared.message.Outgoing.{Outgoing}
-use Rattle.charmlet_model.specs.declared.edition.Edition.{Edition}
+use Rattle.charmlet_model.specs.declared.kind_version.KindVersion.{KindVersion}
 use Rattle.charmlet_model.specs.declared.state.Record.{Record}
 use Rattle.charmlet_model.specs.declared.reaction.Reaction.{Reaction}
 use Rattle.charmlet_model.specs.declared.client.ClientRow.{ClientRow}
 use Rattle.charmlet_model.specs.Names.{elem_cmp, same_origin, same_id}
-use Rattle.charmlet_model.specs.Reaction.{greatest, edition_of}
+use Rattle.charmlet_model.specs.Reaction.{greatest, kind_version_of}
 use Rattle.charmlet_model.specs.Packed.{IsState}
 use Rattle.charmlet_model.specs.Row.{no_client, awaits, with_reply}
-use Rattle.charmlet_model.specs.World.{World, performed, without, numbered, answered, record_of, row_of, client_of, edition_of_array, advanced}
+use Rattle.charmlet_model.specs.World.{World, performed, without, numbered, answered, record_of, row_of, client_of, version_of_array, advanced}
 use Rattle.charmlet_model.specs.Fit.{IsElem, IsOrigin, AreWords, AreApart, AreDistinct, WasSent, IsMessage, IsRecord, IsKept, IsRow, IsFit}
 use Rattle.charmlet_model.proofs.Maps.{elem_total, elem_exact, same_from_test, rising-insert_entry, length-insert_entry, tied_elem}
 use Rattle.charmlet_model.proofs.Histories.{row_of-insert, record_at-insert}
@@ -61,7 +61,7 @@ numbered-messages w from (s ∷ ss) sent room known h = (
   record {
     origin = known;
     sent = (omega arith, omega arith);
-    to = record { array = subst (λ a. IsSome (edition_of_array w a)) (sym h.0.array) known.array; index = h.0.index };
+    to = record { array = subst (λ a. IsSome (version_of_array w a)) (sym h.0.array) known.array; index = h.0.index };
     entry = h.0.entry;
     words = h.0.words;
   },
@@ -156,9 +156,9 @@ module _ (w : World) (m : Message) (o : Reaction) where
       subst IsRow (sym (row_of-insert w.clients k (replied k number) c))
       (elim (eq_by_cmp nat_cmp c k) as (λ b. IsRow (cond b (replied k number) (client_of w c))) [ true ↦ row-with_reply (client_of w k) number o.reply (h k) short | false ↦ h c ])
 
-  pub fit-perform : IsFit w → (edition : Edition) → edition_of_array w m.to.array ≡ Some edition → IsMessage w m → IsReaction edition m.to o →
+  pub fit-perform : IsFit w → (kind_version : KindVersion) → version_of_array w m.to.array ≡ Some kind_version → IsMessage w m → IsReaction kind_version m.to o →
       (record_of w m.to).received + 1 ≤ greatest → (record_of w m.to).sent + 16 ≤ greatest → IsFit v
-  fit-perform fit edition known message reaction counts room =
+  fit-perform fit kind_version known message reaction counts room =
       let left = without m.id w.pending in
       let sends = numbered m.to (record_of w m.to).sent o.sends in
       let old : AllByRecursion (λ n. IsMessage w n × (same_id m.id n.id ≡ false)) left =
@@ -185,11 +185,11 @@ module _ (w : World) (m : Message) (o : Reaction) where
             (λ n k. record { origin = k.0.origin; sent = still_pending message.sent n.id.origin n.id.number k.0.sent k.1; to = k.0.to; entry = k.0.entry; words = k.0.words }) old)
             (numbered-messages v m.to o.sends (record_of w m.to).sent enough message.to reaction.sends);
         records = λ x.
-            subst (IsRecord (edition_of_array w x.array)) (sym (record_at-insert w.records m.to next x))
-            (elim (eq_by_cmp elem_cmp x m.to) as (λ b. eq_by_cmp elem_cmp x m.to ≡ b → IsRecord (edition_of_array w x.array) (cond b next (record_of w x))) [
-              | true ↦ λ same. subst (λ y. IsRecord (edition_of_array w y.array) next) (sym (tells_apart elem_exact x m.to same))
+            subst (IsRecord (version_of_array w x.array)) (sym (record_at-insert w.records m.to next x))
+            (elim (eq_by_cmp elem_cmp x m.to) as (λ b. eq_by_cmp elem_cmp x m.to ≡ b → IsRecord (version_of_array w x.array) (cond b next (record_of w x))) [
+              | true ↦ λ same. subst (λ y. IsRecord (version_of_array w y.array) next) (sym (tells_apart elem_exact x m.to same))
                   (record {
-                    state = IfSome-map (λ s. (edition_of s ≡ edition) × IsState s) (λ s. (edition_of_array w m.to.array ≡ Some (edition_of s)) × IsState s) o.state (λ s k. (known ∙ ap Some (sym k.0), k.1)) reaction.state;
+                    state = IfSome-map (λ s. (kind_version_of s ≡ kind_version) × IsState s) (λ s. (version_of_array w m.to.array ≡ Some (kind_version_of s)) × IsState s) o.state (λ s k. (known ∙ ap Some (sym k.0), k.1)) reaction.state;
                     sent = let few = reaction.count in omega arith;
                     received = counts;
                   })

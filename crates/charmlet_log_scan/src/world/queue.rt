@@ -1,4 +1,4 @@
-//! Pending messages, each of which is born after all others.
+//! Pending messages, each of which comes after all others.
 
 ghost use Rattle.std.specs.Prelude.{◌≡◌, ◌+◌, ◌≤◌, ◌<◌, [], ◌∷◌, ◌++◌, IfOk, None, OnOk, length};
 ghost use Rattle.charmlet_model.specs.Fit.{AreDistinct};
@@ -9,8 +9,8 @@ use charmlet_model::{Elem, Message, MsgId, Origin, Outgoing};
 use charmlet_world::Pending;
 use std::alloc::{AllocError, Global};
 
-/// Makes room for so many more messages, and sees that there is a number for the birth of each.
-/// Where memory is refused, no message changes.
+/// Makes room for so many more messages, and sees that there is a number for the sequence number of
+/// each. Where memory is refused, no message changes.
 pub(crate) fn make_room(pending: &mut Pending, additional: usize) -> Result<(), AllocError>
     ensures messages { pending.new.messages ≡ pending.old.messages }
     ensures room { OnOk result (additional ≤ pending.new.room) }
@@ -31,8 +31,8 @@ pub(crate) fn push(pending: &mut Pending, message: Message)
     ensures next { pending.new.next ≡ pending.old.next + 1 }
     ensures room { pending.old.room ≤ pending.new.room + 1 }
 {
-    let born = pending.next();
-    pending.push(message, born);
+    let seq = pending.next();
+    pending.push(message, seq);
 }
 
 /// Adds what an element sent, which had sent `sent` messages before. It takes no memory.

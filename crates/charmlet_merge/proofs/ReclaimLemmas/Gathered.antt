@@ -8,7 +8,7 @@ use Rattle.charmlet_stock.specs.ByKind.{each_of, for_all}
 use Rattle.charmlet_stock.specs.Pile.{nothing, supplied_more, with_retired_back}
 use Rattle.charmlet_stock.specs.Stock.{blanks_in, census_of, keeping_of, supplied_to, tally_in}
 use Rattle.charmlet_migrate.specs.Moving.{objects_among}
-use Rattle.charmlet_stock.specs.Pouring.Poured.{retired_in}
+use Rattle.charmlet_stock.specs.Absorption.Absorbed.{retired_in}
 use Rattle.charmlet_replay.proofs.Cleared.{IsDismissing, all_supplied}
 
 -- all that was supplied is a blank, or retired

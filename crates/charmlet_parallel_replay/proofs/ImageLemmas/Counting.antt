@@ -1,4 +1,4 @@
--- The blanks for a worker's deliveries so far.
+-- The blanks for a replayer's deliveries so far.
 use Rattle.std.proofs.Common.{◌≡◌, ℕ, ◌+◌, ◌<◌, ◌≤◌, ◌&&◌, max, Bool, true, false, cond, not, List, [], ◌∷◌, length, drop, refl, sym, ap, subst, ◌∙◌, arith}
 use Rattle.std.specs.Prelude.{Option, Some, None, nat_le, unwrap_or}
 use Rattle.std.proofs.lemmas.Bool.{leb-true}
@@ -8,7 +8,7 @@ use Rattle.std.specs.Ordering.{eq_by_cmp}
 use Rattle.std.specs.BTreeMap.{insert_entry, is_at}
 use Rattle.std.specs.Map.{lookup}
 use Rattle.charmlet_model.specs.declared.kind.Kind.{Kind}
-use Rattle.charmlet_model.specs.declared.logged.CaughtUp.{CaughtUp}
+use Rattle.charmlet_model.specs.declared.logged.CatchUpEntry.{CatchUpEntry}
 use Rattle.charmlet_model.specs.declared.names.Elem.{Elem}
 use Rattle.charmlet_model.specs.declared.state.Record.{Record}
 use Rattle.charmlet_model.specs.Names.{elem_cmp}
@@ -32,7 +32,7 @@ above_is a b less = grind (arith, nat_tests)
 abbrev count_of : ℕ → Record
 count_of received = record { state = None; sent = 0; received = received }
 
-module _ (counts : List (Elem × ℕ)) (elements : List (Elem × Element)) (records : List (Elem × Record)) (d : CaughtUp) (are : AreCountsOf counts elements records) where
+module _ (counts : List (Elem × ℕ)) (elements : List (Elem × Element)) (records : List (Elem × Record)) (d : CatchUpEntry) (are : AreCountsOf counts elements records) where
   abbrev to : Elem
   to = d.message.to
 
@@ -62,6 +62,6 @@ module _ (counts : List (Elem × ℕ)) (elements : List (Elem × Element)) (reco
       ∙ ap (λ (r : Record). r.received) (sym (record_at-insert records to (count_of (max before d.received)) x))
 
 -- the need of one delivery, and that of those behind it
-pub one_then : (manifest : Kinds) (kind : Kind) (counts : List (Elem × Record)) (d : CaughtUp) (ds : List CaughtUp) →
+pub one_then : (manifest : Kinds) (kind : Kind) (counts : List (Elem × Record)) (d : CatchUpEntry) (ds : List CatchUpEntry) →
     wanted_by_catch_up manifest kind counts (d ∷ ds) ≡ wanted_by_catch_up manifest kind counts (d ∷ []) + wanted_by_catch_up manifest kind (with_count counts d) ds
 one_then manifest kind counts d ds = omega arith

@@ -1,4 +1,4 @@
--- Lists of lots, of which one changes.
+-- Lists of replayers, of which one changes.
 use Rattle.std.proofs.Common.{◌≡◌, ℕ, ◌<◌, ◌==◌, ◌⊎◌, inl, inr, Bool, true, false, List, length, get_or, refl, sym, ap, subst, ◌∙◌}
 use Rattle.std.specs.Prelude.{Option, Some, slice_get, slice_set}
 use Rattle.std.proofs.lemmas.Bool.{eqb-false, eqb-true}

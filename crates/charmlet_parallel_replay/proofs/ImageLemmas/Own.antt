@@ -1,4 +1,4 @@
--- The entries of an image that are a worker's.
+-- The entries of an image that are a replayer's.
 use Rattle.std.proofs.Common.{◌≡◌, ℕ, ◌+◌, ◌<◌, ◌≤◌, ◌&&◌, Bool, true, false, cond, suc, List, [], ◌∷◌, ◌++◌, length, take, drop, drop-cons, get_or, add-one, refl, sym, ap, subst, ◌∙◌, arith}
 use Rattle.std.specs.Prelude.{Option, Some, None, IsSome, is_some, map, option_map}
 use Rattle.std.specs.declared.cmp.Ordering.TheVariants.{Less, Greater}
@@ -16,7 +16,7 @@ use Rattle.charmlet_model.specs.Unpacked.{state_at}
 use Rattle.charmlet_model.proofs.Maps.{elem_total}
 use Rattle.charmlet_record.specs.Reading.{Kinds}
 use Rattle.charmlet_image.specs.declared.entries.Entry.{Entry}
-use Rattle.charmlet_image.specs.Reading.{edition_in}
+use Rattle.charmlet_image.specs.Reading.{kind_version_in}
 use Rattle.charmlet_image.specs.Views.{entry_said}
 use Rattle.charmlet_image.specs.Written.{AreRecords, IsEntry}
 use Rattle.charmlet_recovery.specs.Blanks.{array_is, one_if, wanted_by_records}
@@ -79,7 +79,7 @@ said manifest = map (entry_said manifest)
 
 -- an object that is packed is a state
 packed_some : (manifest : Kinds) (e : Entry) → is_some (entry_said manifest e).1.state ≡ is_some e.packed
-packed_some manifest e = mapped (λ packed. state_at (edition_in manifest e.element.array) packed.now) e.packed
+packed_some manifest e = mapped (λ packed. state_at (kind_version_in manifest e.element.array) packed.now) e.packed
   where
     mapped : {A B : Type 0} (f : A → B) (o : Option A) → is_some (option_map f o) ≡ is_some o
     mapped f None = refl
@@ -119,7 +119,7 @@ module _ (manifest : Kinds) (entries : List Entry) (i : ℕ) (e : Entry) (lt : i
   known_array = its_entry.0.1
 
   module _ (mine : Elem → Bool) where
-    -- ---- an entry of another worker
+    -- ---- an entry of another replayer
 
     pub others : mine e.element ≡ false → part mine (said manifest (take (i + 1) entries)) ≡ part mine (said manifest front)
     others other =

@@ -1,4 +1,4 @@
--- A worker's elements that came back so far.
+-- A replayer's elements that came back so far.
 use Rattle.std.proofs.Common.{◌≡◌, ℕ, ◌+◌, ◌<◌, ◌≤◌, ◌&&◌, Bool, true, false, List, length, take, get_or, sym, ap, subst, ◌∙◌, arith}
 use Rattle.std.specs.Prelude.{is_some}
 use Rattle.std.specs.BTreeMap.{insert_entry}
@@ -15,23 +15,23 @@ use Rattle.charmlet_chare.specs.declared.chare.Chare.{Ghosts}
 use Rattle.charmlet_stock.specs.declared.stock.Stock.{Stock}
 use Rattle.charmlet_stock.specs.Stock.{blanks_in}
 use Rattle.charmlet_log_scan.specs.Partition.Parts.{is_of_worker, part}
-use Rattle.charmlet_replay_workers.specs.Dispatch.Sharing.{worker_of}
-use Rattle.charmlet_replay.specs.Restored.{IsRestored}
-use Rattle.charmlet_replay.specs.restored.Restored.{Restored}
+use Rattle.charmlet_replayers.specs.Dispatch.Sharing.{worker_of}
+use Rattle.charmlet_replay.specs.RestoredShard.{IsRestored}
+use Rattle.charmlet_replay.specs.restored_shard.RestoredShard.{RestoredShard}
 use Rattle.charmlet_parallel_replay.specs.Image.Keeping.{KeepsOne}
 use Rattle.charmlet_parallel_replay.proofs.ImageLemmas.Keeping.{keeps_then}
 use Rattle.charmlet_parallel_replay.proofs.ImageLemmas.Own.{inserted, others, said, wanted_more, wanted_within}
 
 -- Those of these entries that are its own came back, and the stock has as many blanks fewer.
-pub record OwnBrought {C : Type 0} {G : Ghosts C} (mine : Elem → Bool) (manifest : Kinds) (old_stock : Stock C G) (old : Restored C G) (front : List Entry) (stock : Stock C G) (now : Restored C G) : Type 0 where
+pub record OwnBrought {C : Type 0} {G : Ghosts C} (mine : Elem → Bool) (manifest : Kinds) (old_stock : Stock C G) (old : RestoredShard C G) (front : List Entry) (stock : Stock C G) (now : RestoredShard C G) : Type 0 where
   pub keeps : KeepsOne old_stock stock old now
   pub restored : IsRestored (part mine (said manifest front)) now
   pub own : (kind : Kind) → blanks_in now.stock kind ≡ blanks_in old.stock kind
   pub given : (kind : Kind) → blanks_in stock kind + wanted_by_records manifest kind (part mine (said manifest front)) ≡ blanks_in old_stock kind
 
-module _ {C : Type 0} {G : Ghosts C} (mine : Elem → Bool) (manifest : Kinds) (old_stock : Stock C G) (old : Restored C G) (entries : List Entry) (i : ℕ) (e : Entry) (lt : i < length entries) (is : e ≡ get_or entries i e)
-    (good : AreRecords manifest (said manifest entries)) (stock : Stock C G) (now : Restored C G) (way : OwnBrought mine manifest old_stock old (take i entries) stock now) where
-  -- another worker's entry is passed over
+module _ {C : Type 0} {G : Ghosts C} (mine : Elem → Bool) (manifest : Kinds) (old_stock : Stock C G) (old : RestoredShard C G) (entries : List Entry) (i : ℕ) (e : Entry) (lt : i < length entries) (is : e ≡ get_or entries i e)
+    (good : AreRecords manifest (said manifest entries)) (stock : Stock C G) (now : RestoredShard C G) (way : OwnBrought mine manifest old_stock old (take i entries) stock now) where
+  -- another replayer's entry is passed over
   pub passed_over : mine e.element ≡ false → OwnBrought mine manifest old_stock old (take (i + 1) entries) stock now
   passed_over other =
       let same = others manifest entries i e lt is good mine other in
@@ -53,7 +53,7 @@ module _ {C : Type 0} {G : Ghosts C} (mine : Elem → Bool) (manifest : Kinds) (
       omega (arith, all, within, one, before)
 
   -- it comes back too
-  pub one_more : mine e.element ≡ true → (after : Stock C G) (new : Restored C G) → KeepsOne stock after now new → IsRestored (insert_entry elem_cmp (part mine (said manifest (take i entries))) e.element (entry_said manifest e).1) new →
+  pub one_more : mine e.element ≡ true → (after : Stock C G) (new : RestoredShard C G) → KeepsOne stock after now new → IsRestored (insert_entry elem_cmp (part mine (said manifest (take i entries))) e.element (entry_said manifest e).1) new →
       ((kind : Kind) → blanks_in new.stock kind ≡ blanks_in now.stock kind) → ((kind : Kind) → blanks_in after kind + one_if (is_some e.packed && array_is manifest kind e.element.array) ≡ blanks_in stock kind) →
       OwnBrought mine manifest old_stock old (take (i + 1) entries) after new
   one_more own after new keeps restored same given = record {

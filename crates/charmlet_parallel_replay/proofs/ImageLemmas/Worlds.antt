@@ -13,7 +13,7 @@ use Rattle.charmlet_world.specs.Seen.{IsCountedBy, Seen, Shows, element_at, pres
 use Rattle.charmlet_history.specs.Opened.{opened_clients, opened_element, opened_elements}
 use Rattle.charmlet_replay.specs.Counted.{IsCountedWith}
 use Rattle.charmlet_replay.proofs.Redelivered.{known_element}
-use Rattle.charmlet_parallel_replay.specs.Image.Recalled.{world_with}
+use Rattle.charmlet_parallel_replay.specs.Image.ImageRestored.{world_with}
 
 there_if : (n : ℕ) (x : Elem) (t : Bool) → is_some (if t then Some (home x n) else None) ≡ t
 there_if n x true = refl

@@ -1,4 +1,4 @@
-//! A blank that a worker is given.
+//! A blank that a replayer is given.
 
 ghost use Rattle.std.specs.Prelude.{◌≡◌, ◌+◌, ◌≤◌, ◌&&◌, true, IsSome, OnOk};
 ghost use Rattle.std.specs.BTreeMap.{is_at};
@@ -7,12 +7,12 @@ ghost use Rattle.std.specs.Ordering.{nat_cmp};
 ghost use Rattle.charmlet_model.specs.declared.kind.Kind as kinds;
 ghost use Rattle.charmlet_recovery.specs.Blanks.{array_is, one_if};
 ghost use Rattle.charmlet_stock.specs.Stock.{blanks_in, part_of};
-ghost use Rattle.charmlet_replay.specs.Restored.{IsHeld};
+ghost use Rattle.charmlet_replay.specs.RestoredShard.{IsHeld};
 ghost use Rattle.charmlet_parallel_replay.specs.Image.Keeping.{KeepsOne};
 
 use charmlet_chare::Chare;
 use charmlet_model::{Kind, Manifest};
-use charmlet_replay::Restored;
+use charmlet_replay::RestoredShard;
 use charmlet_stock::Stock;
 use std::alloc::AllocError;
 
@@ -23,18 +23,18 @@ fn kind_of_array(manifest: &Manifest, array: u16) -> Kind
     ensures one { (kind : kinds.Kind) → one_if (array_is manifest.now kind array)
         ≡ part_of result 1 kind }
 {
-    let Some(edition) = manifest.edition_of(array) else {
+    let Some(kind_version) = manifest.kind_version_of(array) else {
         unreachable!()
     };
-    edition.kind()
+    kind_version.kind()
 }
 
-/// Gives a worker a blank of an array's kind from the stock, which has one. It fails only when out
-/// of memory.
+/// Gives a replayer a blank of an array's kind from the stock, which has one. It fails only when
+/// out of memory.
 fn draw_blank<C: Chare>(
     manifest: &Manifest,
     stock: &mut Stock<C>,
-    restored: &mut Restored<C>,
+    restored: &mut RestoredShard<C>,
     array: u16,
 ) -> Result<(), AllocError>
     requires held { IsHeld restored.old }
@@ -49,16 +49,16 @@ fn draw_blank<C: Chare>(
         + one_if (array_is manifest.now kind array) ≡ blanks_in stock.old kind) }
 {
     let kind = kind_of_array(manifest, array);
-    restored.stock.draw(stock, kind, 1)
+    restored.stock.transfer_from(stock, kind, 1)
 }
 
-/// Gives a worker a blank of an array's kind from the stock, which then has one, if the worker is
-/// to have it. It fails only when out of memory.
+/// Gives a replayer a blank of an array's kind from the stock, which then has one, if the replayer
+/// is to have it. It fails only when out of memory.
 pub(crate) fn draw_if<C: Chare>(
     is_wanted: bool,
     manifest: &Manifest,
     stock: &mut Stock<C>,
-    restored: &mut Restored<C>,
+    restored: &mut RestoredShard<C>,
     array: u16,
 ) -> Result<(), AllocError>
     requires held { IsHeld restored.old }

@@ -1,4 +1,4 @@
-//! The blanks for a worker's deliveries: one for each construction that isn't skipped.
+//! The blanks for a replayer's deliveries: one for each construction that isn't skipped.
 
 ghost use Rattle.std.specs.Prelude.{◌≡◌, ◌+◌, ◌≤◌, ◌&&◌, ◌∷◌, List, [], IfOk, OnOk, not};
 ghost use Rattle.std.specs.List.{AllByRecursion};
@@ -8,20 +8,20 @@ ghost use Rattle.charmlet_model.specs.declared.names.Elem as names;
 ghost use Rattle.charmlet_model.specs.declared.state.Record.{Record};
 ghost use Rattle.charmlet_model.specs.World.{record_at};
 ghost use Rattle.charmlet_record.specs.Written.{IsCaughtUp};
-ghost use Rattle.charmlet_image.specs.Placed.{items_of};
+ghost use Rattle.charmlet_image.specs.Positioned.{items_of};
 ghost use Rattle.charmlet_recovery.specs.Bases.{is_skipped};
 ghost use Rattle.charmlet_recovery.specs.Blanks.{wanted_by_catch_up, with_count};
 ghost use Rattle.charmlet_recovery.specs.Faults.{same_effect};
 ghost use Rattle.charmlet_stock.specs.Stock.{blanks_in};
-ghost use Rattle.charmlet_replay.specs.Restored.{IsHeld};
+ghost use Rattle.charmlet_replay.specs.RestoredShard.{IsHeld};
 ghost use Rattle.charmlet_parallel_replay.specs.Image.Counts.{AreCountsOf, count_at};
 ghost use Rattle.charmlet_parallel_replay.specs.Image.Keeping.{KeepsOne};
 
 use crate::image::blanks::draw_if;
 use charmlet_chare::Chare;
-use charmlet_model::{CaughtUp, Effect, Elem, Manifest};
-use charmlet_record::Placed;
-use charmlet_replay::Restored;
+use charmlet_model::{CatchUpEntry, Effect, Elem, Manifest};
+use charmlet_record::Positioned;
+use charmlet_replay::RestoredShard;
 use charmlet_stock::Stock;
 use charmlet_world::Element;
 use std::alloc::{AllocError, Global};
@@ -46,7 +46,7 @@ fn received_by(counts: &BTreeMap<Elem, u64>, elements: &BTreeMap<Elem, Element>,
 fn note_received(
     counts: &mut BTreeMap<Elem, u64>,
     elements: &BTreeMap<Elem, Element>,
-    delivery: &CaughtUp,
+    delivery: &CatchUpEntry,
 ) -> Result<bool, AllocError>
     ensures new { (records : List (names.Elem × Record)) →
         AreCountsOf counts.old.entries elements.now.entries records →
@@ -72,14 +72,14 @@ fn wants_blank(is_new: bool, effect: Effect) -> bool
     is_new && matches!(effect, Effect::Constructed)
 }
 
-/// Gives a worker a blank for a delivery, if it constructs its receiver and isn't skipped by the
+/// Gives a replayer a blank for a delivery, if it constructs its receiver and isn't skipped by the
 /// counts so far, which then count it too. It fails only when out of memory.
 fn draw_for_one<C: Chare>(
     manifest: &Manifest,
     stock: &mut Stock<C>,
-    restored: &mut Restored<C>,
+    restored: &mut RestoredShard<C>,
     counts: &mut BTreeMap<Elem, u64>,
-    delivery: &CaughtUp,
+    delivery: &CatchUpEntry,
 ) -> Result<(), AllocError>
     requires held { IsHeld restored.old }
     requires typed { IsCaughtUp manifest.now delivery.now }
@@ -115,14 +115,14 @@ fn draw_for_one<C: Chare>(
     )
 }
 
-/// Gives a worker the blanks for its deliveries, one for each construction that isn't skipped. It
+/// Gives a replayer the blanks for its deliveries, one for each construction that isn't skipped. It
 /// fails only when out of memory.
 pub(crate) fn draw_for_all<C: Chare>(
     alloc: Global,
     manifest: &Manifest,
     stock: &mut Stock<C>,
-    restored: &mut Restored<C>,
-    deliveries: &[Placed<CaughtUp>],
+    restored: &mut RestoredShard<C>,
+    deliveries: &[Positioned<CatchUpEntry>],
 ) -> Result<(), AllocError>
     requires held { IsHeld restored.old }
     requires typed { AllByRecursion (IsCaughtUp manifest.now) (items_of deliveries.now) }

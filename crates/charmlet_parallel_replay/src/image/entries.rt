@@ -1,4 +1,4 @@
-//! The elements of a worker, which come back from an image.
+//! The elements of a replayer, which come back from an image.
 
 ghost use Rattle.std.specs.Prelude.{◌≡◌, ◌+◌, ◌≤◌, ◌<◌, ◌&&◌, List, [], None, IsSome, OnOk, is_some, map, true};
 ghost use Rattle.std.specs.BTreeMap.{insert_entry, is_at};
@@ -13,25 +13,25 @@ ghost use Rattle.charmlet_image.specs.Written.{AreRecords};
 ghost use Rattle.charmlet_recovery.specs.Blanks.{array_is, one_if, wanted_by_records};
 ghost use Rattle.charmlet_stock.specs.Stock.{blanks_in};
 ghost use Rattle.charmlet_log_scan.specs.Partition.Parts.{is_of_worker, part};
-ghost use Rattle.charmlet_replay.specs.Restored.{IsHeld, IsRestored};
-ghost use Rattle.charmlet_replay_workers.specs.Dispatch.Sharing.{worker_of};
+ghost use Rattle.charmlet_replay.specs.RestoredShard.{IsHeld, IsRestored};
+ghost use Rattle.charmlet_replayers.specs.Dispatch.Sharing.{worker_of};
 ghost use Rattle.charmlet_parallel_replay.specs.Image.Keeping.{KeepsOne};
 
 use crate::image::blanks::draw_if;
 use charmlet_chare::Chare;
 use charmlet_image::Entry;
 use charmlet_model::Manifest;
-use charmlet_replay::Restored;
-use charmlet_replay_workers::worker_of;
+use charmlet_replay::RestoredShard;
+use charmlet_replayers::worker_of;
 use charmlet_stock::Stock;
 use std::alloc::AllocError;
 
-/// Brings an element back, of which its worker knows nothing yet: its object, if it has one, from a
-/// blank of the stock. It fails only when out of memory.
+/// Brings an element back, of which its replayer knows nothing yet: its object, if it has one, from
+/// a blank of the stock. It fails only when out of memory.
 fn restore_entry<C: Chare>(
     manifest: &Manifest,
     stock: &mut Stock<C>,
-    restored: &mut Restored<C>,
+    restored: &mut RestoredShard<C>,
     entry: &Entry<'_>,
 ) -> Result<(), AllocError>
     requires held { IsHeld restored.old }
@@ -58,13 +58,13 @@ fn restore_entry<C: Chare>(
     restored.restore(manifest, entry)
 }
 
-/// Brings the elements of an image back that are this worker's, of so many workers: the entries
+/// Brings the elements of an image back that are this replayer's, of so many replayers: the entries
 /// rise and are of the manifest's arrays, and the stock has a blank for each of its objects. It
 /// fails only when out of memory.
 pub(crate) fn restore_own<C: Chare>(
     manifest: &Manifest,
     stock: &mut Stock<C>,
-    restored: &mut Restored<C>,
+    restored: &mut RestoredShard<C>,
     entries: &[Entry<'_>],
     worker: usize,
     workers: usize,

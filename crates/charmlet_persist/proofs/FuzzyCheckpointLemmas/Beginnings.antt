@@ -1,4 +1,4 @@
--- What is settled when a checkpoint begins.
+-- What is captured when a checkpoint begins.
 use Rattle.std.proofs.Common.{◌≡◌, inl, inr, ℕ, ◌-◌, ◌<◌, Bool, true, false, cond, not, ◌&&◌, List, [], ◌∷◌, length, take, drop, refl, sym, ap, subst, ◌∙◌, arith, if◌then◌else◌}
 use Rattle.std.proofs.lemmas.Bool.{ltb-true}
 use Rattle.std.proofs.lemmas.Bool.Decides.{nat_tests}
@@ -27,66 +27,66 @@ use Rattle.charmlet_world.specs.Seen.{IsCountedBy, element_at, no_element}
 use Rattle.charmlet_world.specs.Standing.{is_left, left_of}
 use Rattle.charmlet_history.specs.Kept.{IsConsistent, Kept, core_in}
 use Rattle.charmlet_history.proofs.Assigning.{there_is}
-use Rattle.charmlet_persist.specs.declared.fuzzy_checkpoint.settled.Settled.{Settled}
-use Rattle.charmlet_persist.specs.FuzzyCheckpoint.Running.{IsRunning, IsRunningFrom, Run, begun_in, left, settled_of, with_all_left, with_left}
-use Rattle.charmlet_persist.proofs.FuzzyCheckpointLemmas.Steps.{Rises, Settles, put_rises}
+use Rattle.charmlet_persist.specs.declared.fuzzy_checkpoint.captured_element.CapturedElement.{CapturedElement}
+use Rattle.charmlet_persist.specs.FuzzyCheckpoint.Checkpoint.{IsRunning, IsRunningFrom, Run, begun_in, left, captured_of, with_all_left, with_left}
+use Rattle.charmlet_persist.proofs.FuzzyCheckpointLemmas.Steps.{Rises, Captures, put_rises}
 
 -- ---- maps
 
 -- what an element leaves, if it has only left a record
-abbrev pub left_if : Element → Option (Option Settled)
+abbrev pub left_if : Element → Option (Option CapturedElement)
 left_if e = if is_left e then Some (Some (left e)) else None
 
--- that, where there is such an element, or what was settled
-abbrev over : Option Element → Option (Option Settled) → Option (Option Settled)
+-- that, where there is such an element, or what was captured
+abbrev over : Option Element → Option (Option CapturedElement) → Option (Option CapturedElement)
 over None o = o
 over (Some e) o = if is_left e then Some (Some (left e)) else o
 
 -- with what the element left, if it has
-abbrev with_left_if : List (Elem × Option Settled) → Elem × Element → List (Elem × Option Settled)
-with_left_if settled e = if is_left e.1 then insert_entry elem_cmp settled e.0 (Some (left e.1)) else settled
+abbrev with_left_if : List (Elem × Option CapturedElement) → Elem × Element → List (Elem × Option CapturedElement)
+with_left_if captured e = if is_left e.1 then insert_entry elem_cmp captured e.0 (Some (left e.1)) else captured
 
-first_left : (settled : List (Elem × Option Settled)) (e : Elem × Element) (es : List (Elem × Element)) → with_all_left settled (left_of (e ∷ es)) ≡ with_all_left (with_left_if settled e) (left_of es)
-first_left settled e es =
-    elim (is_left e.1) as (λ b. with_all_left settled (if b then e ∷ left_of es else left_of es) ≡ with_all_left (if b then insert_entry elem_cmp settled e.0 (Some (left e.1)) else settled) (left_of es)) [ true ↦ refl | false ↦ refl ]
+first_left : (captured : List (Elem × Option CapturedElement)) (e : Elem × Element) (es : List (Elem × Element)) → with_all_left captured (left_of (e ∷ es)) ≡ with_all_left (with_left_if captured e) (left_of es)
+first_left captured e es =
+    elim (is_left e.1) as (λ b. with_all_left captured (if b then e ∷ left_of es else left_of es) ≡ with_all_left (if b then insert_entry elem_cmp captured e.0 (Some (left e.1)) else captured) (left_of es)) [ true ↦ refl | false ↦ refl ]
 
-one_left : (settled : List (Elem × Option Settled)) (e : Elem × Element) (x : Elem) → settled_of (with_left_if settled e) x ≡ cond (eq_by_cmp elem_cmp x e.0) (over (Some e.1) (settled_of settled x)) (settled_of settled x)
-one_left settled e x =
-    elim (is_left e.1) as (λ b. settled_of (if b then insert_entry elem_cmp settled e.0 (Some (left e.1)) else settled) x ≡ cond (eq_by_cmp elem_cmp x e.0) (if b then Some (Some (left e.1)) else settled_of settled x) (settled_of settled x)) [
-      | true ↦ lookup-insert_entry elem_cmp elem_total x e.0 (Some (left e.1)) settled
-      | false ↦ elim (eq_by_cmp elem_cmp x e.0) as (λ b. settled_of settled x ≡ cond b (settled_of settled x) (settled_of settled x)) [ true ↦ refl | false ↦ refl ]
+one_left : (captured : List (Elem × Option CapturedElement)) (e : Elem × Element) (x : Elem) → captured_of (with_left_if captured e) x ≡ cond (eq_by_cmp elem_cmp x e.0) (over (Some e.1) (captured_of captured x)) (captured_of captured x)
+one_left captured e x =
+    elim (is_left e.1) as (λ b. captured_of (if b then insert_entry elem_cmp captured e.0 (Some (left e.1)) else captured) x ≡ cond (eq_by_cmp elem_cmp x e.0) (if b then Some (Some (left e.1)) else captured_of captured x) (captured_of captured x)) [
+      | true ↦ lookup-insert_entry elem_cmp elem_total x e.0 (Some (left e.1)) captured
+      | false ↦ elim (eq_by_cmp elem_cmp x e.0) as (λ b. captured_of captured x ≡ cond b (captured_of captured x) (captured_of captured x)) [ true ↦ refl | false ↦ refl ]
     ]
 
 rest_rises : (e : Elem × Element) (es : List (Elem × Element)) → IsStrictlySortedBy elem_cmp (keys_of (e ∷ es)) → IsStrictlySortedBy elem_cmp (keys_of es)
 unfolding IsStrictlySortedBy
 rest_rises e es h = h.1
 
-all_left : (es : List (Elem × Element)) → IsStrictlySortedBy elem_cmp (keys_of es) → (settled : List (Elem × Option Settled)) (x : Elem) → settled_of (with_all_left settled (left_of es)) x ≡ over (lookup (is_at (elem_cmp x)) es) (settled_of settled x)
-all_left [] rising settled x = refl
-all_left (e ∷ es) rising settled x =
-    let rest = all_left es (rest_rises e es rising) (with_left_if settled e) x in
-    ap (λ (s : List (Elem × Option Settled)). settled_of s x) (first_left settled e es)
-    ∙ elim (eq_by_cmp elem_cmp x e.0) as (λ b. eq_by_cmp elem_cmp x e.0 ≡ b → settled_of (with_all_left (with_left_if settled e) (left_of es)) x ≡ over (cond b (Some e.1) (lookup (is_at (elem_cmp x)) es)) (settled_of settled x)) [
+all_left : (es : List (Elem × Element)) → IsStrictlySortedBy elem_cmp (keys_of es) → (captured : List (Elem × Option CapturedElement)) (x : Elem) → captured_of (with_all_left captured (left_of es)) x ≡ over (lookup (is_at (elem_cmp x)) es) (captured_of captured x)
+all_left [] rising captured x = refl
+all_left (e ∷ es) rising captured x =
+    let rest = all_left es (rest_rises e es rising) (with_left_if captured e) x in
+    ap (λ (s : List (Elem × Option CapturedElement)). captured_of s x) (first_left captured e es)
+    ∙ elim (eq_by_cmp elem_cmp x e.0) as (λ b. eq_by_cmp elem_cmp x e.0 ≡ b → captured_of (with_all_left (with_left_if captured e) (left_of es)) x ≡ over (cond b (Some e.1) (lookup (is_at (elem_cmp x)) es)) (captured_of captured x)) [
       | true ↦ λ same.
           let others = IsDistinct-head (eq_by_cmp elem_cmp) e.0 (keys_of es) (IsDistinct-from_sorted elem_cmp (keys_of (e ∷ es)) rising) in
           let none : lookup (is_at (elem_cmp x)) es ≡ None = subst (λ y. lookup (is_at (elem_cmp y)) es ≡ None) (sym (tells_apart elem_exact x e.0 same)) (absent (is_at (elem_cmp e.0)) es others) in
-          rest ∙ ap (λ o. over o (settled_of (with_left_if settled e) x)) none ∙ one_left settled e x ∙ ap (λ b. cond b (over (Some e.1) (settled_of settled x)) (settled_of settled x)) same
+          rest ∙ ap (λ o. over o (captured_of (with_left_if captured e) x)) none ∙ one_left captured e x ∙ ap (λ b. cond b (over (Some e.1) (captured_of captured x)) (captured_of captured x)) same
       | false ↦ λ apart.
-          rest ∙ ap (over (lookup (is_at (elem_cmp x)) es)) (one_left settled e x ∙ ap (λ b. cond b (over (Some e.1) (settled_of settled x)) (settled_of settled x)) apart)
+          rest ∙ ap (over (lookup (is_at (elem_cmp x)) es)) (one_left captured e x ∙ ap (λ b. cond b (over (Some e.1) (captured_of captured x)) (captured_of captured x)) apart)
     ] refl
 
-none_settled : (o : Option Element) → over o None ≡ left_if (unwrap_or o no_element)
-none_settled None = refl
-none_settled (Some e) = refl
+none_captured : (o : Option Element) → over o None ≡ left_if (unwrap_or o no_element)
+none_captured None = refl
+none_captured (Some e) = refl
 
--- an element is settled by what it has left alone
-pub settled_first : (es : List (Elem × Element)) → IsStrictlySortedBy elem_cmp (keys_of es) → (x : Elem) → settled_of (with_all_left [] (left_of es)) x ≡ left_if (element_at es x)
-settled_first es rising x = all_left es rising [] x ∙ none_settled (lookup (is_at (elem_cmp x)) es)
+-- an element is captured by what it has left alone
+pub captured_first : (es : List (Elem × Element)) → IsStrictlySortedBy elem_cmp (keys_of es) → (x : Elem) → captured_of (with_all_left [] (left_of es)) x ≡ left_if (element_at es x)
+captured_first es rising x = all_left es rising [] x ∙ none_captured (lookup (is_at (elem_cmp x)) es)
 
-pub all_left_rises : (es : List (Elem × Element)) (settled : List (Elem × Option Settled)) → Rises settled → Rises (with_all_left settled es)
-all_left_rises [] settled rises = rises
-all_left_rises (e ∷ es) settled rises =
-    all_left_rises es (with_left settled e) (put_rises settled e.0 (Some (left e.1)) rises)
+pub all_left_rises : (es : List (Elem × Element)) (captured : List (Elem × Option CapturedElement)) → Rises captured → Rises (with_all_left captured es)
+all_left_rises [] captured rises = rises
+all_left_rises (e ∷ es) captured rises =
+    all_left_rises es (with_left captured e) (put_rises captured e.0 (Some (left e.1)) rises)
 
 -- ---- records
 
@@ -100,7 +100,7 @@ module _ (w : World) (fit : IsFit w) (x : Elem) (e : Element) (there : is_some (
   abbrev r : Record
   r = record_of w x
 
-  by_cases : (p some : Bool) → is_some e.place ≡ p → nat_lt 0 e.received ≡ some → Settles w [] x (if not p && some then Some (Some (left e)) else None)
+  by_cases : (p some : Bool) → is_some e.place ≡ p → nat_lt 0 e.received ≡ some → Captures w [] x (if not p && some then Some (Some (left e)) else None)
   by_cases true some is_there received = (0, inl (there ∙ is_there))
   by_cases false true gone received =
       let more : 0 < e.received = ltb-true 0 e.received received in
@@ -122,8 +122,8 @@ module _ (w : World) (fit : IsFit w) (x : Elem) (e : Element) (there : is_some (
       let none : r ≡ no_record = no_record_is (lookup (is_at (elem_cmp x)) w.records) (IfSome-lookup_from_All IsKept (is_at (elem_cmp x)) w.records fit.no_empty_record) (there ∙ gone) (omega (arith, counts.received)) in
       (0, inr (none, none))
 
-  pub left_settles : Settles w [] x (left_if e)
-  left_settles = by_cases (is_some e.place) (nat_lt 0 e.received) refl refl
+  pub left_captures : Captures w [] x (left_if e)
+  left_captures = by_cases (is_some e.place) (nat_lt 0 e.received) refl refl
 
 -- ---- the beginning
 
@@ -142,8 +142,8 @@ begun_running k room consistent =
     let since : drop (run.begun - k.before) k.events ≡ [] = drop_all (run.begun - k.before) k.events (omega arith) in
     let from : IsRunningFrom w [] run = record {
       rising = all_left_rises (left_of k.elements) [] none_rises;
-      settled = λ x. subst (Settles w [] x) (sym (settled_first k.elements consistent.rising x))
-          (left_settles w fit x (element_at k.elements x) (there_is k consistent x) (consistent.counts x));
+      captured = λ x. subst (Captures w [] x) (sym (captured_first k.elements consistent.rising x))
+          (left_captures w fit x (element_at k.elements x) (there_is k consistent x) (consistent.counts x));
       caught_up = refl;
       count = refl;
     } in

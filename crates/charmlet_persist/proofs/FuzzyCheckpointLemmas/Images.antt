@@ -1,4 +1,4 @@
--- What images settle.
+-- What images capture.
 use Rattle.std.proofs.Common.{◌≡◌, inl, ℕ, ◌<◌, ◌^◌, true, false, List, [], ◌∷◌, ◌++◌, length, take, refl, sym, ap, subst, ◌∙◌, arith, if◌then◌else◌}
 use Rattle.std.proofs.lemmas.List.{take_all}
 use Rattle.std.specs.Prelude.{All, Option, Some, None, IfSome, is_some, option_map}
@@ -18,9 +18,9 @@ use Rattle.charmlet_model.specs.World.{World, world, record_of}
 use Rattle.charmlet_model.proofs.SoundLemmas.{sound_fit}
 use Rattle.charmlet_image.proofs.ImageLemmas.{length-packed}
 use Rattle.charmlet_shelf.specs.declared.image.Image.{Image}
-use Rattle.charmlet_persist.specs.declared.fuzzy_checkpoint.settled.Settled.{Settled}
-use Rattle.charmlet_persist.specs.FuzzyCheckpoint.Running.{IsEntry, IsRunning, IsShownBy, Run, entry_of, events_since, settled_of, with_image, with_images, world_before}
-use Rattle.charmlet_persist.proofs.FuzzyCheckpointLemmas.Steps.{Rises, Settles, now_is, put_rises, settled_put}
+use Rattle.charmlet_persist.specs.declared.fuzzy_checkpoint.captured_element.CapturedElement.{CapturedElement}
+use Rattle.charmlet_persist.specs.FuzzyCheckpoint.Checkpoint.{IsEntry, IsRunning, IsShownBy, Run, entry_of, events_since, captured_of, with_image, with_images, world_before}
+use Rattle.charmlet_persist.proofs.FuzzyCheckpointLemmas.Steps.{Rises, Captures, now_is, put_rises, captured_put}
 
 -- ---- one image
 
@@ -54,39 +54,39 @@ module _ (v : World) (fit : IsFit v) (image : Image) (shown : IsShownBy v image)
 -- ---- all of them
 
 -- the last one comes first
-pub last_first : (settled : List (Elem × Option Settled)) (images : List Image) (image : Image) → with_images settled (images ++ image ∷ []) ≡ with_images (with_image settled image) images
-last_first settled [] image = refl
-last_first settled (i ∷ images) image = ap (λ (s : List (Elem × Option Settled)). with_image s i) (last_first settled images image)
+pub last_first : (captured : List (Elem × Option CapturedElement)) (images : List Image) (image : Image) → with_images captured (images ++ image ∷ []) ≡ with_images (with_image captured image) images
+last_first captured [] image = refl
+last_first captured (i ∷ images) image = ap (λ (s : List (Elem × Option CapturedElement)). with_image s i) (last_first captured images image)
 
 module _ (w : World) (es : List Event) (v : World) (now : world w es ≡ v) (fit : IsFit v) where
-  one_settles : (settled : List (Elem × Option Settled)) (image : Image) → IsShownBy v image → Rises settled → ((x : Elem) → Settles w es x (settled_of settled x)) →
-      Rises (with_image settled image) × ((x : Elem) → Settles w es x (settled_of (with_image settled image) x))
-  one_settles settled image shown rises settles =
+  one_captures : (captured : List (Elem × Option CapturedElement)) (image : Image) → IsShownBy v image → Rises captured → ((x : Elem) → Captures w es x (captured_of captured x)) →
+      Rises (with_image captured image) × ((x : Elem) → Captures w es x (captured_of (with_image captured image) x))
+  one_captures captured image shown rises captures =
       let at : record_of v image.elem ≡ record_of (world w (take (length es) es)) image.elem =
       ap (λ (u : World). record_of u image.elem) (sym now) ∙ ap (λ (l : List Event). record_of (world w l) image.elem) (sym (take_all (length es) es (omega arith))) in
-      elim (is_some (settled_of settled image.elem)) as (λ b.
-      Rises (if b then settled else insert_entry elem_cmp settled image.elem (Some (entry_of image)))
-      × ((x : Elem) → Settles w es x (settled_of (if b then settled else insert_entry elem_cmp settled image.elem (Some (entry_of image))) x))) [
-        | true ↦ (rises, settles)
+      elim (is_some (captured_of captured image.elem)) as (λ b.
+      Rises (if b then captured else insert_entry elem_cmp captured image.elem (Some (entry_of image)))
+      × ((x : Elem) → Captures w es x (captured_of (if b then captured else insert_entry elem_cmp captured image.elem (Some (entry_of image))) x))) [
+        | true ↦ (rises, captures)
         | false ↦ (
-          put_rises settled image.elem (Some (entry_of image)) rises,
-          settled_put (Settles w es) settled image.elem (Some (entry_of image))
-              (length es, (omega arith, subst (IsEntry (entry_of image)) at (image_entry v fit image shown))) (λ y apart. settles y),
+          put_rises captured image.elem (Some (entry_of image)) rises,
+          captured_put (Captures w es) captured image.elem (Some (entry_of image))
+              (length es, (omega arith, subst (IsEntry (entry_of image)) at (image_entry v fit image shown))) (λ y apart. captures y),
         )
       ]
 
-  all_settle : (images : List Image) (settled : List (Elem × Option Settled)) → AllByRecursion (IsShownBy v) images → Rises settled → ((x : Elem) → Settles w es x (settled_of settled x)) →
-      Rises (with_images settled images) × ((x : Elem) → Settles w es x (settled_of (with_images settled images) x))
-  all_settle [] settled shown rises settles = (rises, settles)
-  all_settle (image ∷ images) settled shown rises settles =
-      let rest = all_settle images settled shown.1 rises settles in
-      one_settles (with_images settled images) image shown.0 rest.0 rest.1
+  all_capture : (images : List Image) (captured : List (Elem × Option CapturedElement)) → AllByRecursion (IsShownBy v) images → Rises captured → ((x : Elem) → Captures w es x (captured_of captured x)) →
+      Rises (with_images captured images) × ((x : Elem) → Captures w es x (captured_of (with_images captured images) x))
+  all_capture [] captured shown rises captures = (rises, captures)
+  all_capture (image ∷ images) captured shown rises captures =
+      let rest = all_capture images captured shown.1 rises captures in
+      one_captures (with_images captured images) image shown.0 rest.0 rest.1
 
-pub taken_running : (core : Core) (run : Run) (images : List Image) → IsSound core → All (IsShownBy (present core)) images → IsRunning core run → IsRunning core (record run { settled = with_images run.settled images })
+pub taken_running : (core : Core) (run : Run) (images : List Image) → IsSound core → All (IsShownBy (present core)) images → IsRunning core run → IsRunning core (record run { captured = with_images run.captured images })
 taken_running core run images sound shown is =
-    let all = all_settle (world_before core run) (events_since core run) (present core) (now_is core run is) (sound_fit core sound) images run.settled (recursion_from_All (IsShownBy (present core)) images shown) is.from.rising is.from.settled in
+    let all = all_capture (world_before core run) (events_since core run) (present core) (now_is core run is) (sound_fit core sound) images run.captured (recursion_from_All (IsShownBy (present core)) images shown) is.from.rising is.from.captured in
     record {
       after = is.after;
       within = is.within;
-      from = record { rising = all.0; settled = all.1; caught_up = is.from.caught_up; count = is.from.count };
+      from = record { rising = all.0; captured = all.1; caught_up = is.from.caught_up; count = is.from.count };
     }

@@ -7,14 +7,14 @@ use Rattle.charmlet_pup.specs.ReadsBack.{length-number_bytes}
 use Rattle.charmlet_pup.proofs.ListLemmas.{length-words_bytes}
 use Rattle.charmlet_model.specs.declared.names.Elem.{Elem}
 use Rattle.charmlet_model.specs.declared.names.MsgId.{MsgId}
-use Rattle.charmlet_model.specs.declared.edition.Edition.{Edition}
+use Rattle.charmlet_model.specs.declared.kind_version.KindVersion.{KindVersion}
 use Rattle.charmlet_model.specs.declared.message.Message.{Message}
 use Rattle.charmlet_model.specs.declared.event.Event.{Event}
 use Rattle.charmlet_model.specs.declared.event.Event.TheVariants as events
 use Rattle.charmlet_model.specs.declared.reaction.Reaction.{Reaction}
 use Rattle.charmlet_model.specs.declared.state.State.{State}
 use Rattle.charmlet_model.specs.declared.state.Record.{Record}
-use Rattle.charmlet_model.specs.declared.logged.CaughtUp.{CaughtUp}
+use Rattle.charmlet_model.specs.declared.logged.CatchUpEntry.{CatchUpEntry}
 use Rattle.charmlet_model.specs.declared.logged.Effect.{Effect}
 use Rattle.charmlet_model.specs.declared.TheConstants.{CONSTRUCT}
 use Rattle.charmlet_model.specs.Core.{Core, assigned_to, pending_message, present}
@@ -23,7 +23,7 @@ use Rattle.charmlet_model.specs.Logging.{effect_between}
 use Rattle.charmlet_model.specs.Reaction.{greatest}
 use Rattle.charmlet_model.specs.Sound.{IsAssigned}
 use Rattle.charmlet_model.specs.Spelling.{effect_number, spell_caught_up, spell_elem, spell_id, spell_message}
-use Rattle.charmlet_model.specs.World.{World, after, can, can_deliver, edition_of_array, message_among, reaction_of, record_of}
+use Rattle.charmlet_model.specs.World.{World, after, can, can_deliver, version_of_array, message_among, reaction_of, record_of}
 use Rattle.charmlet_model.proofs.Fits.{found, reaction-good}
 use Rattle.charmlet_model.proofs.Maps.{both_parts}
 use Rattle.charmlet_model.proofs.Reactions.{IsReaction}
@@ -35,8 +35,8 @@ use Rattle.charmlet_world.specs.declared.element.Element.{Element}
 use Rattle.charmlet_world.specs.Seen.{IsCountedBy, element_at}
 use Rattle.charmlet_history.specs.Kept.{IsAssignedOutput, IsConsistent, Kept, assigned_message, core_in}
 use Rattle.charmlet_history.proofs.Assigning.{there_is}
-use Rattle.charmlet_persist.specs.declared.fuzzy_checkpoint.settled.Settled.{Settled}
-use Rattle.charmlet_persist.specs.FuzzyCheckpoint.Running.{Run, caught, effect_by, with_delivery, with_message, with_reaction, with_receiver}
+use Rattle.charmlet_persist.specs.declared.fuzzy_checkpoint.captured_element.CapturedElement.{CapturedElement}
+use Rattle.charmlet_persist.specs.FuzzyCheckpoint.Checkpoint.{Run, caught, effect_by, with_delivery, with_message, with_reaction, with_receiver}
 
 -- ---- results
 
@@ -53,7 +53,7 @@ either_way (Err e) A B P a b first second = second b
 -- ---- sizes
 
 -- a delivery of a catch-up list has at most 4,140 bytes
-pub caught_size : (c : CaughtUp) → length c.message.words ≤ 512 → length (spell_caught_up c) ≤ 4140
+pub caught_size : (c : CatchUpEntry) → length c.message.words ≤ 512 → length (spell_caught_up c) ≤ 4140
 unfolding spell_caught_up spell_message
 caught_size c few =
     let m = c.message in
@@ -151,7 +151,7 @@ module _ (k : Kept) (consistent : IsConsistent k) (processor : ℕ) (output : Ou
   few_sends : length o.sends ≤ 16
   few_sends =
       let good = found (IsMessage v) id.0 v.pending m id.2 fit.messages in
-      (subst (λ q. IfSome q (λ o. (edition : Edition) × (edition_of_array v m.to.array ≡ Some edition) × IsReaction edition m.to o)) reacts (reaction-good v m fit good)).2.count
+      (subst (λ q. IfSome q (λ o. (kind_version : KindVersion) × (version_of_array v m.to.array ≡ Some kind_version) × IsReaction kind_version m.to o)) reacts (reaction-good v m fit good)).2.count
 
   pub few_words : length m.words ≤ 512
   few_words = (found (IsMessage v) id.0 v.pending m id.2 fit.messages).words.0
@@ -176,16 +176,16 @@ module _ (k : Kept) (consistent : IsConsistent k) (processor : ℕ) (output : Ou
     destroyed = ap (λ (q : Output). not q.is_destroyed) outcome.2 ∙ stays_there o.state
 
     -- what is noted is what the world says
-    pub noted_is : (run : Run) (settled : List (Elem × Option Settled)) (bytes : List ℕ) (effect : Effect) →
-        settled ≡ with_receiver run.settled m.to (is_some e.place) (not output.is_destroyed) (record { sent = e.sent + length output.sends; received = e.received + 1; packed = None }) →
+    pub noted_is : (run : Run) (captured : List (Elem × Option CapturedElement)) (bytes : List ℕ) (effect : Effect) →
+        captured ≡ with_receiver run.captured m.to (is_some e.place) (not output.is_destroyed) (record { sent = e.sent + length output.sends; received = e.received + 1; packed = None }) →
         effect ≡ effect_by (is_some e.place) (not output.is_destroyed) →
         bytes ≡ run.caught_up ++ spell_caught_up (record { message = m; received = e.received + 1; effect = effect }) →
-        record run { settled = settled; caught_up = bytes; count = run.count + 1; room = run.room - 1 } ≡ with_delivery core processor run
-    noted_is run settled bytes effect settles effects spells =
-        let new_settled : settled ≡ with_receiver run.settled m.to (is_some r.state) (is_some o.state) (record { sent = r.sent + length o.sends; received = r.received + 1; packed = None }) =
-        settles ∙ (λ i. with_receiver run.settled m.to (there i) (destroyed i) (record { sent = counted.sent i + same_sends i; received = counted.received i + 1; packed = None })) in
+        record run { captured = captured; caught_up = bytes; count = run.count + 1; room = run.room - 1 } ≡ with_delivery core processor run
+    noted_is run captured bytes effect captures effects spells =
+        let new_captured : captured ≡ with_receiver run.captured m.to (is_some r.state) (is_some o.state) (record { sent = r.sent + length o.sends; received = r.received + 1; packed = None }) =
+        captures ∙ (λ i. with_receiver run.captured m.to (there i) (destroyed i) (record { sent = counted.sent i + same_sends i; received = counted.received i + 1; packed = None })) in
         let new_effect : effect ≡ effect_between r.state o.state = effects ∙ (λ i. effect_by (there i) (destroyed i)) ∙ effect_same r.state o.state in
         let new_bytes : bytes ≡ run.caught_up ++ spell_caught_up (caught v m o) =
         spells ∙ (λ i. run.caught_up ++ spell_caught_up (record { message = m; received = counted.received i + 1; effect = new_effect i })) in
-        (λ i. record run { settled = new_settled i; caught_up = new_bytes i; count = run.count + 1; room = run.room - 1 })
+        (λ i. record run { captured = new_captured i; caught_up = new_bytes i; count = run.count + 1; room = run.room - 1 })
         ∙ sym (ap (λ q. with_message v q run) has ∙ ap (λ q. with_reaction v m q run) reacts)

@@ -20,9 +20,9 @@ use Rattle.charmlet_model.proofs.Maps.{elem_exact, same_from_test}
 use Rattle.charmlet_shelf.specs.declared.image.Image.{Image}
 use Rattle.charmlet_shelf.specs.Image.{HasImage, IsImage, IsImageIn}
 use Rattle.charmlet_delivery.specs.Workplace.{ShowsOn}
-use Rattle.charmlet_persist.specs.declared.fuzzy_checkpoint.settled.Settled.{Settled}
+use Rattle.charmlet_persist.specs.declared.fuzzy_checkpoint.captured_element.CapturedElement.{CapturedElement}
 use Rattle.charmlet_persist.specs.FuzzyCheckpoint.Laws.{ShelvesAreTaken}
-use Rattle.charmlet_persist.specs.FuzzyCheckpoint.Running.{IsShownBy, with_image, with_images}
+use Rattle.charmlet_persist.specs.FuzzyCheckpoint.Checkpoint.{IsShownBy, with_image, with_images}
 use Rattle.charmlet_persist.proofs.FuzzyCheckpointLemmas.Others.{Known, image_here, image_known}
 
 -- an element that is found among the records
@@ -67,18 +67,18 @@ key_of_found P (e ∷ es) all x found =
       | false ↦ λ _ later. key_of_found P es all.1 x later
     ] refl found
 
--- an element that has an image is settled by it
-image_covers : (settled : List (Elem × Option Settled)) (images : List Image) (x : Elem) → HasImage images x → Known (with_images settled images) x
-image_covers settled [] x has = absurd (let never : ⊥ = cc in never)
-image_covers settled (image ∷ images) x has =
-    let rest = with_images settled images in
+-- an element that has an image is captured by it
+image_covers : (captured : List (Elem × Option CapturedElement)) (images : List Image) (x : Elem) → HasImage images x → Known (with_images captured images) x
+image_covers captured [] x has = absurd (let never : ⊥ = cc in never)
+image_covers captured (image ∷ images) x has =
+    let rest = with_images captured images in
     elim (same_elem x image.elem) as (λ b. same_elem x image.elem ≡ b → (b || list_any (λ (i : Image). same_elem x i.elem) images) ≡ true → Known (with_image rest image) x) [
       | true ↦ λ same _. subst (Known (with_image rest image)) (sym (same_from_test x image.elem same)) (image_here rest image)
-      | false ↦ λ _ later. image_known rest image x (image_covers settled images x later)
+      | false ↦ λ _ later. image_known rest image x (image_covers captured images x later)
     ] refl has
 
 pub shelves_are_taken : ShelvesAreTaken
 shelves_are_taken core run processor records images sound shows are = (
   All-from_recursion (IsShownBy (present core)) images (all_shown core sound processor records shows images are.each),
-  λ x at. image_covers run.settled images x (key_of_found (HasImage images) records are.all x (stands_here core sound processor records shows x at)),
+  λ x at. image_covers run.captured images x (key_of_found (HasImage images) records are.all x (stands_here core sound processor records shows x at)),
 )

@@ -17,7 +17,7 @@ use Rattle.charmlet_model.specs.declared.event.Event.TheVariants as events
 use Rattle.charmlet_model.specs.declared.reaction.Reaction.{Reaction}
 use Rattle.charmlet_model.specs.declared.state.State.{State}
 use Rattle.charmlet_model.specs.declared.state.Record.{Record}
-use Rattle.charmlet_model.specs.declared.logged.CaughtUp.{CaughtUp}
+use Rattle.charmlet_model.specs.declared.logged.CatchUpEntry.{CatchUpEntry}
 use Rattle.charmlet_model.specs.Core.{Core, committed, pending_message, present}
 use Rattle.charmlet_model.specs.Names.{elem_cmp}
 use Rattle.charmlet_model.specs.Packed.{pupped}
@@ -28,41 +28,41 @@ use Rattle.charmlet_model.proofs.Maps.{elem_exact, elem_total, lookup-insert_ent
 use Rattle.charmlet_recovery.specs.Moments.{deliveries, noted, noted_at, noted_if}
 use Rattle.charmlet_recovery.proofs.Recovered.{deliveries-append}
 use Rattle.charmlet_shelf.proofs.Risen.{none_from_test}
-use Rattle.charmlet_persist.specs.declared.fuzzy_checkpoint.settled.Settled.{Settled}
-use Rattle.charmlet_persist.specs.FuzzyCheckpoint.Running.{IsEntry, IsRunning, IsRunningFrom, IsSettled, Run, caught, events_since, left_by, settled_of, with_message, with_reaction, world_before}
+use Rattle.charmlet_persist.specs.declared.fuzzy_checkpoint.captured_element.CapturedElement.{CapturedElement}
+use Rattle.charmlet_persist.specs.FuzzyCheckpoint.Checkpoint.{IsEntry, IsRunning, IsRunningFrom, IsSettled, Run, caught, events_since, left_by, captured_of, with_message, with_reaction, world_before}
 
 -- ---- maps
 
--- what holds of each element holds once one of them is settled
-pub settled_put : (P : Elem → Option (Option Settled) → Type 0) (settled : List (Elem × Option Settled)) (x : Elem) (v : Option Settled) → P x (Some v) →
-    ((y : Elem) → eq_by_cmp elem_cmp y x ≡ false → P y (settled_of settled y)) → (y : Elem) → P y (settled_of (insert_entry elem_cmp settled x v) y)
-settled_put P settled x v here others y =
-    subst (P y) (sym (lookup-insert_entry elem_cmp elem_total y x v settled))
-    (elim (eq_by_cmp elem_cmp y x) as (λ b. eq_by_cmp elem_cmp y x ≡ b → P y (cond b (Some v) (settled_of settled y))) [
+-- what holds of each element holds once one of them is captured
+pub captured_put : (P : Elem → Option (Option CapturedElement) → Type 0) (captured : List (Elem × Option CapturedElement)) (x : Elem) (v : Option CapturedElement) → P x (Some v) →
+    ((y : Elem) → eq_by_cmp elem_cmp y x ≡ false → P y (captured_of captured y)) → (y : Elem) → P y (captured_of (insert_entry elem_cmp captured x v) y)
+captured_put P captured x v here others y =
+    subst (P y) (sym (lookup-insert_entry elem_cmp elem_total y x v captured))
+    (elim (eq_by_cmp elem_cmp y x) as (λ b. eq_by_cmp elem_cmp y x ≡ b → P y (cond b (Some v) (captured_of captured y))) [
       | true ↦ λ same. subst (λ z. P z (Some v)) (sym (tells_apart elem_exact y x same)) here
       | false ↦ λ apart. others y apart
     ] refl)
 
 -- and once it holds of one, where it holds of the others
-pub settled_kept : (P : Elem → Option (Option Settled) → Type 0) (settled : List (Elem × Option Settled)) (x : Elem) → P x (settled_of settled x) →
-    ((y : Elem) → eq_by_cmp elem_cmp y x ≡ false → P y (settled_of settled y)) → (y : Elem) → P y (settled_of settled y)
-settled_kept P settled x here others y =
-    elim (eq_by_cmp elem_cmp y x) as (λ b. eq_by_cmp elem_cmp y x ≡ b → P y (settled_of settled y)) [
-      | true ↦ λ same. subst (λ z. P z (settled_of settled z)) (sym (tells_apart elem_exact y x same)) here
+pub captured_kept : (P : Elem → Option (Option CapturedElement) → Type 0) (captured : List (Elem × Option CapturedElement)) (x : Elem) → P x (captured_of captured x) →
+    ((y : Elem) → eq_by_cmp elem_cmp y x ≡ false → P y (captured_of captured y)) → (y : Elem) → P y (captured_of captured y)
+captured_kept P captured x here others y =
+    elim (eq_by_cmp elem_cmp y x) as (λ b. eq_by_cmp elem_cmp y x ≡ b → P y (captured_of captured y)) [
+      | true ↦ λ same. subst (λ z. P z (captured_of captured z)) (sym (tells_apart elem_exact y x same)) here
       | false ↦ λ apart. others y apart
     ] refl
 
-abbrev pub Rises : List (Elem × Option Settled) → Type 0
-Rises settled = IsStrictlySortedBy elem_cmp (keys_of settled)
+abbrev pub Rises : List (Elem × Option CapturedElement) → Type 0
+Rises captured = IsStrictlySortedBy elem_cmp (keys_of captured)
 
-pub put_rises : (settled : List (Elem × Option Settled)) (x : Elem) (v : Option Settled) → Rises settled → Rises (insert_entry elem_cmp settled x v)
-put_rises settled x v rises = rising-insert_entry elem_cmp elem_total x v settled rises
+pub put_rises : (captured : List (Elem × Option CapturedElement)) (x : Elem) (v : Option CapturedElement) → Rises captured → Rises (insert_entry elem_cmp captured x v)
+put_rises captured x v rises = rising-insert_entry elem_cmp elem_total x v captured rises
 
 -- ---- one more event
 
--- an element is settled by its record at some moment
-abbrev pub Settles : World → List Event → Elem → Option (Option Settled) → Type 0
-Settles w es x o = (k : ℕ) × IsSettled w es k x o
+-- an element is captured by its record at some moment
+abbrev pub Captures : World → List Event → Elem → Option (Option CapturedElement) → Type 0
+Captures w es x o = (k : ℕ) × IsSettled w es k x o
 
 module _ (w : World) (es : List Event) (e : Event) where
   abbrev more : List Event
@@ -71,20 +71,20 @@ module _ (w : World) (es : List Event) (e : Event) where
   pub grown : world w more ≡ after (world w es) e
   grown = world-append w es (e ∷ [])
 
-  entry_stays : (s : Settled) (k : ℕ) (x : Elem) → (k ≤ length es) × IsEntry s (record_of (world w (take k es)) x) → (k ≤ length more) × IsEntry s (record_of (world w (take k more)) x)
+  entry_stays : (s : CapturedElement) (k : ℕ) (x : Elem) → (k ≤ length es) × IsEntry s (record_of (world w (take k es)) x) → (k ≤ length more) × IsEntry s (record_of (world w (take k more)) x)
   entry_stays s k x h = (
     omega (arith, h.0, length-append es (e ∷ [])),
     subst (λ (l : List Event). IsEntry s (record_of (world w l) x)) (sym (take-append-le k es (e ∷ []) h.0)) h.1,
   )
 
-  -- what is settled stays so
-  pub known_stays : (x : Elem) (o : Option (Option Settled)) → is_some o ≡ true → Settles w es x o → Settles w more x o
+  -- what is captured stays so
+  pub known_stays : (x : Elem) (o : Option (Option CapturedElement)) → is_some o ≡ true → Captures w es x o → Captures w more x o
   known_stays x None some h = absurd (let never : ⊥ = cc in never)
   known_stays x (Some None) some h = h
   known_stays x (Some (Some s)) some h = (h.0, entry_stays s h.0 x h.1)
 
   -- and what has the same record
-  pub same_stays : (x : Elem) (o : Option (Option Settled)) → record_of (world w more) x ≡ record_of (world w es) x → Settles w es x o → Settles w more x o
+  pub same_stays : (x : Elem) (o : Option (Option CapturedElement)) → record_of (world w more) x ≡ record_of (world w es) x → Captures w es x o → Captures w more x o
   same_stays x None same h = (h.0, ⊎_elim (λ there. inl (ap (λ (r : Record). is_some r.state) same ∙ there)) (λ none. inr (none.0, same ∙ none.1)) h.1)
   same_stays x (Some None) same h = h
   same_stays x (Some (Some s)) same h = (h.0, entry_stays s h.0 x h.1)
@@ -93,12 +93,12 @@ module _ (w : World) (es : List Event) (e : Event) where
   pub event_kept : (run : Run) → ((x : Elem) → record_of (after (world w es) e) x ≡ record_of (world w es) x) → noted_at (world w es) e ≡ [] → IsRunningFrom w es run → IsRunningFrom w more run
   event_kept run same none is =
       let same_list : deliveries w more ≡ deliveries w es =
-      deliveries-append w es (e ∷ []) ∙ ap (λ (l : List CaughtUp). deliveries w es ++ (l ++ [])) none ∙ append-nil (deliveries w es) in
+      deliveries-append w es (e ∷ []) ∙ ap (λ (l : List CatchUpEntry). deliveries w es ++ (l ++ [])) none ∙ append-nil (deliveries w es) in
       record {
         rising = is.rising;
-        settled = λ x. same_stays x (settled_of run.settled x) (ap (λ (v : World). record_of v x) grown ∙ same x) (is.settled x);
+        captured = λ x. same_stays x (captured_of run.captured x) (ap (λ (v : World). record_of v x) grown ∙ same x) (is.captured x);
         caught_up = is.caught_up ∙ ap (flat_map spell_caught_up) (sym same_list);
-        count = is.count ∙ ap (length {A = CaughtUp}) (sym same_list);
+        count = is.count ∙ ap (length {A = CatchUpEntry}) (sym same_list);
       }
 
 -- ---- a delivery
@@ -126,61 +126,61 @@ module _ (w : World) (es : List Event) (v : World) (now : world w es ≡ v) (id 
   deliveries_are =
       deliveries-append w es (e ∷ [])
       ∙ ap (λ (u : World). deliveries w es ++ (noted_at u e ++ [])) now
-      ∙ ap (λ (l : List CaughtUp). deliveries w es ++ (l ++ [])) (ap (noted_if v) found ∙ ap (noted v m) reacts)
+      ∙ ap (λ (l : List CatchUpEntry). deliveries w es ++ (l ++ [])) (ap (noted_if v) found ∙ ap (noted v m) reacts)
 
   -- an element that isn't the receiver
-  other_stays : (run : Run) → IsRunningFrom w es run → (y : Elem) → eq_by_cmp elem_cmp y m.to ≡ false → Settles w longer y (settled_of run.settled y)
+  other_stays : (run : Run) → IsRunningFrom w es run → (y : Elem) → eq_by_cmp elem_cmp y m.to ≡ false → Captures w longer y (captured_of run.captured y)
   other_stays run is y apart =
-      same_stays w es e y (settled_of run.settled y)
-      (record_then y ∙ ap (λ b. cond b (advanced r o) (record_of v y)) apart ∙ ap (λ (u : World). record_of u y) (sym now)) (is.settled y)
+      same_stays w es e y (captured_of run.captured y)
+      (record_then y ∙ ap (λ b. cond b (advanced r o) (record_of v y)) apart ∙ ap (λ (u : World). record_of u y) (sym now)) (is.captured y)
 
-  abbrev next : List (Elem × Option Settled) → (known was there : Bool) → List (Elem × Option Settled)
-  next settled known was there = if known then settled
-      else (if was then (if there then settled else insert_entry elem_cmp settled m.to (Some (left_by (advanced r o)))) else insert_entry elem_cmp settled m.to None)
+  abbrev next : List (Elem × Option CapturedElement) → (known was there : Bool) → List (Elem × Option CapturedElement)
+  next captured known was there = if known then captured
+      else (if was then (if there then captured else insert_entry elem_cmp captured m.to (Some (left_by (advanced r o)))) else insert_entry elem_cmp captured m.to None)
 
-  unsettled : (q : Option (Option Settled)) (known was : Bool) → known ≡ false → is_some q ≡ known → (is_some r.state ≡ was) → was ≡ false → Settles w es m.to q → record_of w m.to ≡ no_record
-  unsettled None known was unknown same before gone h =
+  uncaptured : (q : Option (Option CapturedElement)) (known was : Bool) → known ≡ false → is_some q ≡ known → (is_some r.state ≡ was) → was ≡ false → Captures w es m.to q → record_of w m.to ≡ no_record
+  uncaptured None known was unknown same before gone h =
       ⊎_elim (λ there.
       let some : false ≡ true = sym gone ∙ sym before ∙ ap (λ (u : World). is_some (record_of u m.to).state) (sym now) ∙ there in
       absurd (let never : ⊥ = cc in never)) (λ none. none.0) h.1
-  unsettled (Some q) known was unknown same before gone h = absurd (let never : ⊥ = cc in never)
+  uncaptured (Some q) known was unknown same before gone h = absurd (let never : ⊥ = cc in never)
 
-  cases_settled : (run : Run) → IsRunningFrom w es run → (known was there : Bool) → is_some (settled_of run.settled m.to) ≡ known → is_some r.state ≡ was → is_some o.state ≡ there →
-      Rises (next run.settled known was there) × ((y : Elem) → Settles w longer y (settled_of (next run.settled known was there) y))
-  cases_settled run is true was there is_known is_was is_there = (
+  cases_captured : (run : Run) → IsRunningFrom w es run → (known was there : Bool) → is_some (captured_of run.captured m.to) ≡ known → is_some r.state ≡ was → is_some o.state ≡ there →
+      Rises (next run.captured known was there) × ((y : Elem) → Captures w longer y (captured_of (next run.captured known was there) y))
+  cases_captured run is true was there is_known is_was is_there = (
     is.rising,
-    settled_kept (Settles w longer) run.settled m.to (known_stays w es e m.to (settled_of run.settled m.to) is_known (is.settled m.to)) (other_stays run is),
+    captured_kept (Captures w longer) run.captured m.to (known_stays w es e m.to (captured_of run.captured m.to) is_known (is.captured m.to)) (other_stays run is),
   )
-  cases_settled run is false true true is_known is_was is_there = (
+  cases_captured run is false true true is_known is_was is_there = (
     is.rising,
-    settled_kept (Settles w longer) run.settled m.to
-        (subst (Settles w longer m.to) (sym (none_from_test (settled_of run.settled m.to) is_known)) (0, inl (ap (λ (q : Record). is_some q.state) record_there ∙ is_there))) (other_stays run is),
+    captured_kept (Captures w longer) run.captured m.to
+        (subst (Captures w longer m.to) (sym (none_from_test (captured_of run.captured m.to) is_known)) (0, inl (ap (λ (q : Record). is_some q.state) record_there ∙ is_there))) (other_stays run is),
   )
-  cases_settled run is false true false is_known is_was is_there =
+  cases_captured run is false true false is_known is_was is_there =
       let gone : o.state ≡ None = none_from_test o.state is_there in
       let whole : take (length longer) longer ≡ longer = take_all (length longer) longer (omega arith) in
       let at : record_of (world w (take (length longer) longer)) m.to ≡ advanced r o = ap (λ (l : List Event). record_of (world w l) m.to) whole ∙ record_there in
       let entry : IsEntry (left_by (advanced r o)) (advanced r o) = record { sent = refl; received = refl; packed = sym (ap (λ (s : Option State). option_map pupped s) gone); short = tt; kept = inr (omega arith) } in (
-        put_rises run.settled m.to (Some (left_by (advanced r o))) is.rising,
-        settled_put (Settles w longer) run.settled m.to (Some (left_by (advanced r o)))
+        put_rises run.captured m.to (Some (left_by (advanced r o))) is.rising,
+        captured_put (Captures w longer) run.captured m.to (Some (left_by (advanced r o)))
             (length longer, (omega arith, subst (IsEntry (left_by (advanced r o))) (sym at) entry)) (other_stays run is),
       )
-  cases_settled run is false false there is_known is_was is_there = (
-    put_rises run.settled m.to None is.rising,
-    settled_put (Settles w longer) run.settled m.to None
-        (0, unsettled (settled_of run.settled m.to) false false refl is_known is_was refl (is.settled m.to)) (other_stays run is),
+  cases_captured run is false false there is_known is_was is_there = (
+    put_rises run.captured m.to None is.rising,
+    captured_put (Captures w longer) run.captured m.to None
+        (0, uncaptured (captured_of run.captured m.to) false false refl is_known is_was refl (is.captured m.to)) (other_stays run is),
   )
 
   pub delivered_from : (run : Run) → IsRunningFrom w es run → IsRunningFrom w longer (with_reaction v m (Some o) run)
   delivered_from run is =
-      let done = cases_settled run is (is_some (settled_of run.settled m.to)) (is_some r.state) (is_some o.state) refl refl refl in
+      let done = cases_captured run is (is_some (captured_of run.captured m.to)) (is_some r.state) (is_some o.state) refl refl refl in
       record {
         rising = done.0;
-        settled = done.1;
+        captured = done.1;
         caught_up =
             (λ i. is.caught_up i ++ sym (append-nil (spell_caught_up (caught v m o))) i)
             ∙ sym (ap (flat_map spell_caught_up) deliveries_are ∙ flat_map-append spell_caught_up (deliveries w es) (caught v m o ∷ []));
-        count = let grows = ap (length {A = CaughtUp}) deliveries_are in omega (arith, grows, is.count, length-append (deliveries w es) (caught v m o ∷ []));
+        count = let grows = ap (length {A = CatchUpEntry}) deliveries_are in omega (arith, grows, is.count, length-append (deliveries w es) (caught v m o ∷ []));
       }
 
 -- ---- the core

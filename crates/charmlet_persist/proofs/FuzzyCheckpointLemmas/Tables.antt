@@ -13,7 +13,7 @@ use Rattle.charmlet_model.proofs.Maps.{elem_total, same_elem-is}
 use Rattle.charmlet_shelf.specs.Risen.{risen}
 use Rattle.charmlet_shelf.proofs.Records.{alike}
 use Rattle.charmlet_shelf.proofs.Risen.{found_risen, rising_always}
-use Rattle.charmlet_persist.specs.declared.fuzzy_checkpoint.settled.Settled.{Settled}
+use Rattle.charmlet_persist.specs.declared.fuzzy_checkpoint.captured_element.CapturedElement.{CapturedElement}
 use Rattle.charmlet_persist.specs.FuzzyCheckpoint.Sealing.{counted_if}
 use Rattle.charmlet_persist.proofs.FuzzyCheckpointLemmas.Steps.{Rises}
 
@@ -35,13 +35,13 @@ sorted_rises ks sorted distinct =
     (λ k l. less_than (get_or ks k none) (get_or ks (k + 1) none) (sorted k none (omega arith) (omega arith)) (apart_from_distinct same_elem ks k (k + 1) none distinct (omega arith) (omega arith)))
 
 -- what rises is the list that a tree of it would be
-pub risen_already : (es : List (Elem × Option Settled)) → Rises es → es ≡ risen es
+pub risen_already : (es : List (Elem × Option CapturedElement)) → Rises es → es ≡ risen es
 risen_already es rises =
     alike es (risen es) rises (rising_always es)
     (λ q. (λ i. lookup (λ k. sym (same_elem-is q k) i) es) ∙ sym (found_risen q es))
 
 -- two that find the same come to one list
-pub risen_same : (es fs : List (Elem × Option Settled)) → ((q : Elem) → lookup (same_elem q) fs ≡ lookup (same_elem q) es) → risen fs ≡ risen es
+pub risen_same : (es fs : List (Elem × Option CapturedElement)) → ((q : Elem) → lookup (same_elem q) fs ≡ lookup (same_elem q) es) → risen fs ≡ risen es
 risen_same es fs same =
     alike (risen fs) (risen es) (rising_always fs) (rising_always es)
     (λ q. found_risen q fs ∙ same q ∙ sym (found_risen q es))
@@ -53,10 +53,10 @@ on_ok (Err e) A B f h = h
 
 -- ---- one entry more
 
-pub counted_more : (o : Option Settled) (n : ℕ) → is_some o ≡ true → counted_if o n ≡ n + 1
+pub counted_more : (o : Option CapturedElement) (n : ℕ) → is_some o ≡ true → counted_if o n ≡ n + 1
 counted_more None n some = absurd (let never : ⊥ = cc in never)
 counted_more (Some s) n some = refl
 
-pub counted_less : (o : Option Settled) (n : ℕ) → is_some o ≡ false → counted_if o n ≡ n
+pub counted_less : (o : Option CapturedElement) (n : ℕ) → is_some o ≡ false → counted_if o n ≡ n
 counted_less None n none = refl
 counted_less (Some s) n none = absurd (let never : ⊥ = cc in never)

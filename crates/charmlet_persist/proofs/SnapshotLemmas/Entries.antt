@@ -14,8 +14,8 @@ use Rattle.charmlet_model.specs.Names.{elem_cmp}
 use Rattle.charmlet_model.specs.Packed.{IsState, pupped}
 use Rattle.charmlet_model.specs.Core.{Core, place_of, present}
 use Rattle.charmlet_model.specs.Spelling.{spell_elem}
-use Rattle.charmlet_model.specs.Reaction.{edition_of}
-use Rattle.charmlet_model.specs.World.{edition_of_array, record_of}
+use Rattle.charmlet_model.specs.Reaction.{kind_version_of}
+use Rattle.charmlet_model.specs.World.{version_of_array, record_of}
 use Rattle.charmlet_model.proofs.SoundLemmas.{sound_fit}
 use Rattle.charmlet_image.specs.declared.entries.Entry.{Entry}
 use Rattle.charmlet_image.specs.Images.{spell_entry, spell_option, spell_state}
@@ -92,7 +92,7 @@ module _ (history : History) (consistent : IsConsistent history) (shelves : List
 
     is_a_state : IsState its_state.0
     is_a_state =
-        (subst (λ o. IfSome o (λ s. (edition_of_array (present core) x.array ≡ Some (edition_of s)) × IsState s)) its_state.1 ((sound_fit core consistent.sound).records x).state).1
+        (subst (λ o. IfSome o (λ s. (version_of_array (present core) x.array ≡ Some (kind_version_of s)) × IsState s)) its_state.1 ((sound_fit core consistent.sound).records x).state).1
 
     -- the shelf there, read at any default
     module _ (default : View) where

@@ -10,7 +10,7 @@ use Rattle.charmlet_recovery.specs.Meanings.{Whole, meaning}
 use Rattle.charmlet_recovery.specs.Moments.{IsTakenDuring}
 use Rattle.charmlet_recovery.specs.Stores.{half_with}
 use Rattle.charmlet_recovery.proofs.Writing.{images_have_size, taken_images_are_saved}
-use Rattle.charmlet_persist.specs.Journal.Rest.{IsSealing}
+use Rattle.charmlet_persist.specs.Writes.Rest.{IsSealing}
 use Rattle.charmlet_persist.specs.Snapshot.Showing.{IsImageOf, IsWithinLimits, event_count, sealed_saved}
 
 -- the image of the present world was taken while nothing happened

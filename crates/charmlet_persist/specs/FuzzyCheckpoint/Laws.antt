@@ -1,4 +1,4 @@
--- The laws of a running checkpoint: what other steps of its store keep.
+-- The laws of a fuzzy checkpoint: what other steps of its store keep.
 use Rattle.std.specs.Prelude.{◌≡◌, ℕ, true, is_some, List, Some}
 use Rattle.std.specs.List.{All}
 use Rattle.std.specs.Map.{keys_of}
@@ -12,7 +12,7 @@ use Rattle.charmlet_shelf.specs.Image.{AreImages}
 use Rattle.charmlet_delivery.specs.Workplace.{ShowsOn}
 use Rattle.charmlet_history.specs.Kept.{IsAssignedOutput}
 use Rattle.charmlet_chare.specs.declared.output.Output.{Output}
-use Rattle.charmlet_persist.specs.FuzzyCheckpoint.Running.{AreAllSettled, IsRunning, IsShownBy, Run, settled_of, with_delivery, with_images}
+use Rattle.charmlet_persist.specs.FuzzyCheckpoint.Checkpoint.{AreAllCaptured, IsRunning, IsShownBy, Run, captured_of, with_delivery, with_images}
 
 -- ---- steps that are no delivery
 
@@ -44,48 +44,48 @@ HaltsKeepRunning = (core : Core) (run : Run) → IsRunning core run →
 
 -- A delivery that is noted is of the store in which it is made. A commit and a finish lead to the
 -- same.
-abbrev pub NotedDeliveriesKeepRunning : Type 0
-NotedDeliveriesKeepRunning = (core : Core) (run : Run) (processor : ℕ) (output : Output) →
+abbrev pub RecordedDeliveriesKeepRunning : Type 0
+RecordedDeliveriesKeepRunning = (core : Core) (run : Run) (processor : ℕ) (output : Output) →
     IsRunning core run → IsAssignedOutput core processor output →
     IsRunning (next_core core (Commit processor)) (with_delivery core processor run)
 
--- ---- what is settled
+-- ---- what is captured
 
--- each element that stands on the processor is settled
-abbrev pub AreSettledOn : Core → Run → ℕ → Type 0
-AreSettledOn core run processor = (x : Elem) → place_of core x ≡ Some processor →
-    is_some (settled_of run.settled x) ≡ true
+-- each element that stands on the processor is captured
+abbrev pub AreCapturedOn : Core → Run → ℕ → Type 0
+AreCapturedOn core run processor = (x : Elem) → place_of core x ≡ Some processor →
+    is_some (captured_of run.captured x) ≡ true
 
--- images settle their elements
-abbrev pub ImagesSettle : Type 0
-ImagesSettle = (run : Run) (images : List Image) →
-    All (λ (image : Image). is_some (settled_of (with_images run.settled images) image.elem)
+-- images capture their elements
+abbrev pub ImagesCapture : Type 0
+ImagesCapture = (run : Run) (images : List Image) →
+    All (λ (image : Image). is_some (captured_of (with_images run.captured images) image.elem)
     ≡ true) images
 
--- and what was settled stays so
-abbrev pub ImagesKeepSettled : Type 0
-ImagesKeepSettled = (run : Run) (images : List Image) (x : Elem) →
-    is_some (settled_of run.settled x) ≡ true →
-    is_some (settled_of (with_images run.settled images) x) ≡ true
+-- and what was captured stays so
+abbrev pub ImagesKeepCaptured : Type 0
+ImagesKeepCaptured = (run : Run) (images : List Image) (x : Elem) →
+    is_some (captured_of run.captured x) ≡ true →
+    is_some (captured_of (with_images run.captured images) x) ≡ true
 
--- A delivery keeps what stands on a processor settled, once that is: a new element is settled when
--- it is constructed.
-abbrev pub DeliveriesKeepSettled : Type 0
-DeliveriesKeepSettled = (core : Core) (run : Run) (committing processor : ℕ) (output : Output) →
+-- A delivery keeps what stands on a processor captured, once that is: a new element is captured
+-- when it is constructed.
+abbrev pub DeliveriesKeepCaptured : Type 0
+DeliveriesKeepCaptured = (core : Core) (run : Run) (committing processor : ℕ) (output : Output) →
     IsSound core → IsRunning core run → IsAssignedOutput core committing output →
-    AreSettledOn core run processor →
-    AreSettledOn (next_core core (Commit committing)) (with_delivery core committing run) processor
+    AreCapturedOn core run processor →
+    AreCapturedOn (next_core core (Commit committing)) (with_delivery core committing run) processor
 
--- where what stands on each processor is settled, all that is there is
+-- where what stands on each processor is captured, all that is there is
 abbrev pub ProcessorsAreAll : Type 0
 ProcessorsAreAll = (core : Core) (run : Run) → IsSound core →
-    ((processor : ℕ) → AreSettledOn core run processor) → AreAllSettled core run
+    ((processor : ℕ) → AreCapturedOn core run processor) → AreAllCaptured core run
 
 -- The images of a shelf that shows its part of the present world are of elements that are there,
--- and settle all that stands on its processor.
+-- and capture all that stands on its processor.
 abbrev pub ShelvesAreTaken : Type 0
 ShelvesAreTaken = (core : Core) (run : Run) (processor : ℕ) (records : List (Elem × Record))
     (images : List Image) → IsSound core →
     ShowsOn processor records core.places (present core) →
     AreImages records (keys_of records) images → All (IsShownBy (present core)) images
-    × AreSettledOn core (record run { settled = with_images run.settled images }) processor
+    × AreCapturedOn core (record run { captured = with_images run.captured images }) processor

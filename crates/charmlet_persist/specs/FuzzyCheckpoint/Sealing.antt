@@ -1,4 +1,4 @@
--- What a running checkpoint writes at its end.
+-- What a fuzzy checkpoint writes at its end.
 use Rattle.std.specs.Prelude.{◌≡◌, ◌⊎◌, ℕ, ◌+◌, ◌<◌, ◌≤◌, ◌^◌, List, [], ◌∷◌, ◌++◌, length, Option, Some, None, IfSome, option_map}
 use Rattle.std.specs.List.{flat_map}
 use Rattle.charmlet_pup.specs.Fields.{number_bytes, byte_list}
@@ -10,41 +10,41 @@ use Rattle.charmlet_model.specs.Spelling.{spell_elem, spell_list, spell_message}
 use Rattle.charmlet_image.specs.declared.header.Header.{Header}
 use Rattle.charmlet_image.specs.declared.header.Mark.TheVariants.{Third}
 use Rattle.charmlet_image.specs.Images.{spell_array, spell_client, spell_header, spell_option}
-use Rattle.charmlet_persist.specs.declared.fuzzy_checkpoint.settled.Settled.{Settled}
-use Rattle.charmlet_persist.specs.FuzzyCheckpoint.Running.{Run}
+use Rattle.charmlet_persist.specs.declared.fuzzy_checkpoint.captured_element.CapturedElement.{CapturedElement}
+use Rattle.charmlet_persist.specs.FuzzyCheckpoint.Checkpoint.{Run}
 
 -- the packed state has fewer than 2^32 bytes, if there is one
-abbrev pub IsShort : Settled → Type 0
+abbrev pub IsShort : CapturedElement → Type 0
 IsShort s = IfSome s.packed (λ bytes. length bytes.items < 2 ^ 32)
 
 -- an entry
-unfoldable pub spell_kept : Elem → Settled → List ℕ
+unfoldable pub spell_kept : Elem → CapturedElement → List ℕ
 spell_kept x s = spell_elem x
     ++ (number_bytes 8 s.sent ++ (number_bytes 8 s.received
     ++ spell_option byte_list (option_map (λ bytes. bytes.items) s.packed)))
 
 -- the entry, if there is one
-abbrev pub spell_kept_if : Elem → Option Settled → List ℕ
+abbrev pub spell_kept_if : Elem → Option CapturedElement → List ℕ
 spell_kept_if x None = []
 spell_kept_if x (Some s) = spell_kept x s
 
 -- the same of a pair
-abbrev pub spell_settled : Elem × Option Settled → List ℕ
-spell_settled e = spell_kept_if e.0 e.1
+abbrev pub spell_captured : Elem × Option CapturedElement → List ℕ
+spell_captured e = spell_kept_if e.0 e.1
 
 -- one more, if there is an entry
-abbrev pub counted_if : Option Settled → ℕ → ℕ
+abbrev pub counted_if : Option CapturedElement → ℕ → ℕ
 counted_if None n = n
 counted_if (Some s) n = n + 1
 
 -- how many entries there are
-abbrev pub count_kept : List (Elem × Option Settled) → ℕ
+abbrev pub count_kept : List (Elem × Option CapturedElement) → ℕ
 count_kept [] = 0
 count_kept (e ∷ es) = counted_if e.1 (count_kept es)
 
 -- the entries, after how many they are
-abbrev pub spell_entries : List (Elem × Option Settled) → List ℕ
-spell_entries settled = number_bytes 4 (count_kept settled) ++ flat_map spell_settled settled
+abbrev pub spell_entries : List (Elem × Option CapturedElement) → List ℕ
+spell_entries captured = number_bytes 4 (count_kept captured) ++ flat_map spell_captured captured
 
 -- The image: arrays, clients and pending messages as they are at its end, the entries, and the
 -- deliveries that were made meanwhile.
@@ -52,7 +52,7 @@ abbrev pub spell_running : Core → Run → List ℕ
 spell_running core run =
     spell_list (spell_array Third) (present core).manifest
     ++ (spell_list (spell_client Third) (present core).clients
-    ++ (spell_list spell_message (present core).pending ++ (spell_entries run.settled
+    ++ (spell_list spell_message (present core).pending ++ (spell_entries run.captured
     ++ (number_bytes 4 run.count ++ run.caught_up))))
 
 -- its header, with the next generation, which counts each event

@@ -3,10 +3,10 @@
 ghost use Rattle.std.specs.Prelude.{◌≡◌, [], IfOk, OnOk};
 ghost use Rattle.charmlet_shelf.specs.Risen.{risen};
 ghost use Rattle.charmlet_history.specs.Kept.{core_in};
-ghost use Rattle.charmlet_persist.specs.FuzzyCheckpoint.Running.{IsRunning, begun_in, with_all_left, with_left};
+ghost use Rattle.charmlet_persist.specs.FuzzyCheckpoint.Checkpoint.{IsRunning, begun_in, with_all_left, with_left};
 
-use crate::fuzzy_checkpoint::running::Running;
-use crate::fuzzy_checkpoint::settled::{Settled, put};
+use crate::fuzzy_checkpoint::captured_element::{CapturedElement, put};
+use crate::fuzzy_checkpoint::checkpoint::FuzzyCheckpoint;
 use charmlet_history::History;
 use charmlet_model::Elem;
 use charmlet_world::Element;
@@ -14,10 +14,10 @@ use indexmap::IndexMap;
 use std::alloc::{AllocError, Global};
 use std::collections::BTreeMap;
 
-impl Running {
+impl FuzzyCheckpoint {
     /// Begins a checkpoint, with room for so many deliveries: as many as are assigned already. An
-    /// element that isn't there is settled by its record now, if it has one. For the others there is
-    /// room. It fails only when out of memory.
+    /// element that isn't there is captured by its record now, if it has one. For the others there
+    /// is room. It fails only when out of memory.
     pub fn begin(alloc: Global, history: &History, deliveries: usize) -> Result<Self, AllocError>
         ensures begun { IfOk result (λ running. running ≡ begun_in history.now deliveries) }
         ensures running { IfOk result (λ running. IsRunning (core_in history.now) running) }
@@ -25,9 +25,9 @@ impl Running {
         history.facts();
         let left = history.left()?;
         let most = history.element_count().saturating_add(deliveries);
-        let mut running = Running {
+        let mut running = FuzzyCheckpoint {
             begun: history.event_count(),
-            settled: settle_all(alloc, most, &left)?,
+            captured: capture_all(alloc, most, &left)?,
             caught_up: Vec::new(alloc),
             count: 0,
             room: 0,
@@ -37,33 +37,33 @@ impl Running {
     }
 }
 
-/// Elements that aren't there and have a record, settled by it, with room for at most so many
+/// Elements that aren't there and have a record, captured by it, with room for at most so many
 /// elements. It fails only when out of memory.
-fn settle_all(
+fn capture_all(
     alloc: Global,
     most: usize,
     left: &BTreeMap<Elem, Element>,
-) -> Result<IndexMap<Elem, Option<Settled>>, AllocError>
+) -> Result<IndexMap<Elem, Option<CapturedElement>>, AllocError>
     ensures { IfOk result (λ table. risen table.entries ≡ with_all_left [] left.now.entries) }
 {
     let mut table = IndexMap::new(alloc);
     table.reserve(most)?;
     for (elem, element) in left {
-        settle_left(&mut table, *elem, element)?;
+        capture_left(&mut table, *elem, element)?;
     }
     Ok(table)
 }
 
-/// Settles an element by the record that it left. It fails only when out of memory.
-fn settle_left(
-    table: &mut IndexMap<Elem, Option<Settled>>,
+/// Captures an element by the record that it left. It fails only when out of memory.
+fn capture_left(
+    table: &mut IndexMap<Elem, Option<CapturedElement>>,
     elem: Elem,
     element: &Element,
 ) -> Result<(), AllocError>
     ensures { OnOk result (risen table.new.entries
         ≡ with_left (risen table.old.entries) (elem, element.now)) }
 {
-    let left = Settled {
+    let left = CapturedElement {
         sent: element.sent,
         received: element.received,
         packed: None,

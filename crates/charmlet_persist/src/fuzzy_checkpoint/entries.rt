@@ -6,7 +6,7 @@ ghost use Rattle.charmlet_pup.specs.Fields.{number_bytes};
 ghost use Rattle.charmlet_shelf.specs.Risen.{risen};
 ghost use Rattle.charmlet_persist.specs.FuzzyCheckpoint.Sealing.{IsShort, count_kept, spell_entries, spell_kept, spell_kept_if};
 
-use crate::fuzzy_checkpoint::settled::Settled;
+use crate::fuzzy_checkpoint::captured_element::CapturedElement;
 use charmlet_image::{Entry, entry_size, write_entry};
 use charmlet_model::Elem;
 use charmlet_record::{write_bytes, write_u32};
@@ -14,7 +14,7 @@ use indexmap::IndexMap;
 use std::alloc::AllocError;
 
 /// Brings a table into rising order of its elements. When out of memory, it is as before.
-pub(crate) fn rise(table: &mut IndexMap<Elem, Option<Settled>>) -> Result<(), AllocError>
+pub(crate) fn rise(table: &mut IndexMap<Elem, Option<CapturedElement>>) -> Result<(), AllocError>
     ensures ok { OnOk result (table.new.entries ≡ risen table.old.entries) }
     ensures same { risen table.new.entries ≡ risen table.old.entries }
     ensures room { spare table.old ≤ spare table.new }
@@ -23,12 +23,12 @@ pub(crate) fn rise(table: &mut IndexMap<Elem, Option<Settled>>) -> Result<(), Al
 }
 
 /// How many entries there are.
-pub(crate) fn count_entries(table: &IndexMap<Elem, Option<Settled>>) -> usize
+pub(crate) fn count_entries(table: &IndexMap<Elem, Option<CapturedElement>>) -> usize
     ensures { result ≡ count_kept table.now.entries }
 {
     let mut count = 0;
-    for (_elem, settled) in table {
-        let is_counted = settled.is_some();
+    for (_elem, captured) in table {
+        let is_counted = captured.is_some();
         if is_counted {
             count += 1;
         }
@@ -40,7 +40,7 @@ pub(crate) fn count_entries(table: &IndexMap<Elem, Option<Settled>>) -> usize
 pub(crate) fn append_entries(
     out: &mut Vec<u8>,
     count: u32,
-    table: &IndexMap<Elem, Option<Settled>>,
+    table: &IndexMap<Elem, Option<CapturedElement>>,
 ) -> Result<(), AllocError>
     requires count { count ≡ count_kept table.now.entries }
     requires short { All (λ e. IfSome e.1 IsShort) table.now.entries }
@@ -49,8 +49,8 @@ pub(crate) fn append_entries(
 {
     out.reserve(4)?;
     write_u32(out, count);
-    for (elem, settled) in table {
-        append_entry_if(out, *elem, settled)?;
+    for (elem, captured) in table {
+        append_entry_if(out, *elem, captured)?;
     }
     Ok(())
 }
@@ -59,31 +59,31 @@ pub(crate) fn append_entries(
 fn append_entry_if(
     out: &mut Vec<u8>,
     elem: Elem,
-    settled: &Option<Settled>,
+    captured: &Option<CapturedElement>,
 ) -> Result<(), AllocError>
-    requires { IfSome settled.now IsShort }
-    ensures { OnOk result (out.new.items ≡ out.old.items ++ spell_kept_if elem settled.now) }
+    requires { IfSome captured.now IsShort }
+    ensures { OnOk result (out.new.items ≡ out.old.items ++ spell_kept_if elem captured.now) }
 {
-    match settled {
+    match captured {
         None => Ok(()),
-        Some(settled) => append_entry(out, elem, settled),
+        Some(captured) => append_entry(out, elem, captured),
     }
 }
 
 /// Appends an entry. It fails only when out of memory.
 #[tactic(auto, unfolding(charmlet_image::specs::NewStores::spell_packed_entry, crate::specs::FuzzyCheckpoint::Sealing::spell_kept))]
-fn append_entry(out: &mut Vec<u8>, elem: Elem, settled: &Settled) -> Result<(), AllocError>
-    requires { IsShort settled.now }
-    ensures { OnOk result (out.new.items ≡ out.old.items ++ spell_kept elem settled.now) }
+fn append_entry(out: &mut Vec<u8>, elem: Elem, captured: &CapturedElement) -> Result<(), AllocError>
+    requires { IsShort captured.now }
+    ensures { OnOk result (out.new.items ≡ out.old.items ++ spell_kept elem captured.now) }
 {
-    let packed = match &settled.packed {
+    let packed = match &captured.packed {
         None => None,
         Some(packed) => Some(packed.as_slice()),
     };
     let entry = Entry {
         element: elem,
-        sent: settled.sent,
-        received: settled.received,
+        sent: captured.sent,
+        received: captured.received,
         packed,
     };
     out.reserve(entry_size(&entry))?;

@@ -8,7 +8,7 @@ ghost use Rattle.charmlet_world.specs.Waiting.{message_of};
 
 use charmlet_model::MsgId;
 use charmlet_record::{append_message, write_u32};
-use charmlet_world::{Letter, Messages};
+use charmlet_world::{Messages, PendingMessage};
 use std::alloc::{AllocError, Global};
 
 /// Appends how many messages there are, and each of them. It fails only when out of memory.
@@ -25,23 +25,23 @@ pub fn append_pending(
 {
     out.reserve(4)?;
     write_u32(out, count);
-    for (id, letter) in pending {
-        append_letter(alloc, out, id, letter)?;
+    for (id, pending_message) in pending {
+        append_pending_message(alloc, out, id, pending_message)?;
     }
     Ok(())
 }
 
 /// Appends the message of this id. It fails only when out of memory.
-fn append_letter(
+fn append_pending_message(
     alloc: Global,
     out: &mut Vec<u8>,
     id: MsgId,
-    letter: &Letter,
+    pending_message: &PendingMessage,
 ) -> Result<(), AllocError>
-    requires { AreFewWords letter.now.words }
+    requires { AreFewWords pending_message.now.words }
     ensures { OnOk result (out.new.items
-        ≡ out.old.items ++ spell_message (message_of id letter.now)) }
+        ≡ out.old.items ++ spell_message (message_of id pending_message.now)) }
 {
-    let message = letter.copy(alloc, id)?;
+    let message = pending_message.copy(alloc, id)?;
     append_message(out, &message)
 }

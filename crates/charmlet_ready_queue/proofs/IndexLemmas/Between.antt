@@ -1,40 +1,40 @@
--- What holds while the births of an element are shifted one after another.
+-- What holds while the sequence numbers of an element are shifted one after another.
 use Rattle.std.proofs.Common.{◌≡◌, ◌≢◌, ℕ, ◌+◌, false, List, [], ◌∷◌, length, arith, slice_get}
 use Rattle.std.specs.Prelude.{◌==◌, IfSome}
 use Rattle.std.specs.List.{AllByRecursion}
 use Rattle.std.proofs.lemmas.Option.{slice_get_within}
 use Rattle.charmlet_ready_queue.specs.declared.index.chain.Call.{Call}
 use Rattle.charmlet_ready_queue.specs.declared.index.lists.Lists.{Lists}
-use Rattle.charmlet_ready_queue.specs.declared.index.place.Place.{Place}
-use Rattle.charmlet_ready_queue.specs.declared.index.place.Stand.{Stand}
-use Rattle.charmlet_ready_queue.specs.Index.Index.{AreApart, ArePlaced, HaveRoom, IsIndexOf, IsRoomy, holds, moved, place_by, stood}
+use Rattle.charmlet_ready_queue.specs.declared.index.place.QueuePlace.{QueuePlace}
+use Rattle.charmlet_ready_queue.specs.declared.index.place.Readiness.{Readiness}
+use Rattle.charmlet_ready_queue.specs.Index.Index.{AreApart, ArePositioned, HaveRoom, IsIndexOf, IsRoomy, holds, moved, place_by, stood}
 use Rattle.charmlet_ready_queue.proofs.IndexLemmas.Steps.{less_room, some_at}
 
--- the births that are left are where the old stand says; once they are where the new one says, all
+-- the sequence numbers that are left are where the old stand says; once they are where the new one says, all
 -- are
-pub record Between (old new : Stand) (all left : List Call) (births : List ℕ) (place : ℕ → Place) (lists : List Lists) : Type 0 where
-  pub now : ℕ → Place
-  pub index : IsIndexOf births now lists
-  pub placed : ArePlaced old left births now
+pub record Between (old new : Readiness) (all left : List Call) (seq_nos : List ℕ) (place : ℕ → QueuePlace) (lists : List Lists) : Type 0 where
+  pub now : ℕ → QueuePlace
+  pub index : IsIndexOf seq_nos now lists
+  pub placed : ArePositioned old left seq_nos now
   pub ends : stood new left now ≡ stood new all place
 
 unlike : (a b : ℕ) → a ≢ b → (a == b) ≡ false
 unlike a b h = grind arith
 
--- births other than one that is moved stay
-others_stay : (old : Stand) (n : ℕ) (at : Place) (calls : List Call) (births : List ℕ) (place : ℕ → Place) → AllByRecursion (λ (d : Call). d.number ≢ n) calls → ArePlaced old calls births place → ArePlaced old calls births (moved n at place)
-others_stay old n at [] births place apart placed = tt
-others_stay old n at (d ∷ calls) births place apart placed = (placed.0, rw (unlike d.number n apart.0) placed.1, others_stay old n at calls births place apart.1 placed.2)
+-- sequence numbers other than one that is moved stay
+others_stay : (old : Readiness) (n : ℕ) (at : QueuePlace) (calls : List Call) (seq_nos : List ℕ) (place : ℕ → QueuePlace) → AllByRecursion (λ (d : Call). d.number ≢ n) calls → ArePositioned old calls seq_nos place → ArePositioned old calls seq_nos (moved n at place)
+others_stay old n at [] seq_nos place apart placed = tt
+others_stay old n at (d ∷ calls) seq_nos place apart placed = (placed.0, rw (unlike d.number n apart.0) placed.1, others_stay old n at calls seq_nos place apart.1 placed.2)
 
-pub between_step : (old new : Stand) (all : List Call) (c : Call) (calls : List Call) (births : List ℕ) (place : ℕ → Place) (lists news : List Lists) → AreApart (c ∷ calls) → (b : Between old new all (c ∷ calls) births place lists) → IsIndexOf births (moved c.number (place_by new c.constructs) b.now) news → Between old new all calls births place news
-between_step old new all c calls births place lists news apart b is = record {
+pub between_step : (old new : Readiness) (all : List Call) (c : Call) (calls : List Call) (seq_nos : List ℕ) (place : ℕ → QueuePlace) (lists news : List Lists) → AreApart (c ∷ calls) → (b : Between old new all (c ∷ calls) seq_nos place lists) → IsIndexOf seq_nos (moved c.number (place_by new c.constructs) b.now) news → Between old new all calls seq_nos place news
+between_step old new all c calls seq_nos place lists news apart b is = record {
   now = moved c.number (place_by new c.constructs) b.now;
   index = is;
-  placed = others_stay old c.number (place_by new c.constructs) calls births b.now apart.0 b.placed.2;
+  placed = others_stay old c.number (place_by new c.constructs) calls seq_nos b.now apart.0 b.placed.2;
   ends = b.ends;
 }
 
-pub room_step : (headroom : ℕ) (old new : Stand) (c : Call) (calls : List Call) (lists news : List Lists) → length news ≡ length lists → ((p n : ℕ) → IfSome (slice_get lists p) (IsRoomy (n + 1)) → IfSome (slice_get news p) (IsRoomy n)) → HaveRoom headroom old new (length (c ∷ calls)) lists → HaveRoom headroom old new (length calls) news
+pub room_step : (headroom : ℕ) (old new : Readiness) (c : Call) (calls : List Call) (lists news : List Lists) → length news ≡ length lists → ((p n : ℕ) → IfSome (slice_get lists p) (IsRoomy (n + 1)) → IfSome (slice_get news p) (IsRoomy n)) → HaveRoom headroom old new (length (c ∷ calls)) lists → HaveRoom headroom old new (length calls) news
 room_step headroom old new c calls lists news len less room p l there was is =
     let within = slice_get_within news p l there in
     let own = some_at lists p (omega (arith, within, len)) in

@@ -2,8 +2,8 @@
 use Rattle.std.proofs.Common.{◌≡◌, ℕ, ◌+◌, ◌<◌, Bool, true, false, ◌&&◌, ◌||◌, List, [], ◌∷◌, length, filter, refl, sym, subst, arith, if◌then◌else◌, slice_get}
 use Rattle.std.specs.Prelude.{Option, Some, None, IfSome, is_none, ◌==◌, nat_lt}
 use Rattle.std.specs.List.{AllByRecursion}
-use Rattle.charmlet_ready_queue.specs.Births.Births.{AllAfter, Climbs}
-use Rattle.charmlet_ready_queue.specs.declared.index.place.Place.{Place}
+use Rattle.charmlet_ready_queue.specs.SeqNos.SeqNos.{AllAfter, Climbs}
+use Rattle.charmlet_ready_queue.specs.declared.index.place.QueuePlace.{QueuePlace}
 use Rattle.charmlet_ready_queue.specs.Index.Index.{earlier, first_of, is_ready_on}
 
 pub first_is : (p : ℕ → Bool) (bs : List ℕ) → first_of p bs ≡ slice_get (filter p bs) 0
@@ -75,17 +75,17 @@ first_either p q w is (b ∷ bs) r =
     ])
 
 -- ready on a processor before this one
-abbrev pub is_below : (ℕ → Place) → ℕ → ℕ → Bool
+abbrev pub is_below : (ℕ → QueuePlace) → ℕ → ℕ → Bool
 is_below place k n = nat_lt (place n).on k && (place n).is_ready
 
-pub none_below : (place : ℕ → Place) (bs : List ℕ) → None ≡ first_of (is_below place 0) bs
+pub none_below : (place : ℕ → QueuePlace) (bs : List ℕ) → None ≡ first_of (is_below place 0) bs
 none_below place [] = refl
 none_below place (b ∷ bs) = let never : nat_lt (place b).on 0 ≡ false = none (place b).on in rw never (none_below place bs)
   where
     none : (n : ℕ) → nat_lt n 0 ≡ false
     none n = grind arith
 
-pub one_more_below : (place : ℕ → Place) (k b : ℕ) → is_below place (k + 1) b ≡ (is_below place k b || is_ready_on (place b) k)
+pub one_more_below : (place : ℕ → QueuePlace) (k b : ℕ) → is_below place (k + 1) b ≡ (is_below place k b || is_ready_on (place b) k)
 one_more_below place k b = rw (more (place b).on k) (spread (nat_lt (place b).on k) ((place b).on == k) (place b).is_ready)
   where
     more : (n k : ℕ) → nat_lt n (k + 1) ≡ (nat_lt n k || (n == k))
@@ -98,14 +98,14 @@ one_more_below place k b = rw (more (place b).on k) (spread (nat_lt (place b).on
     spread true false false = refl
     spread false t u = refl
 
-pub on_this : (place : ℕ → Place) (k : ℕ) (o : Option ℕ) (bs : List ℕ) → o ≡ first_of (λ n. is_ready_on (place n) k) bs → IfSome o (λ b. (place b).on ≡ k)
+pub on_this : (place : ℕ → QueuePlace) (k : ℕ) (o : Option ℕ) (bs : List ℕ) → o ≡ first_of (λ n. is_ready_on (place n) k) bs → IfSome o (λ b. (place b).on ≡ k)
 on_this place k None bs is = tt
 on_this place k (Some b) bs is = let has = first_has (λ n. is_ready_on (place n) k) bs b (sym is) in here (place b).on (place b).is_ready has
   where
     here : (n : ℕ) (t : Bool) → ((n == k) && t) ≡ true → n ≡ k
     here n t h = grind arith
 
-pub all_below : (place : ℕ → Place) (n : ℕ) (bs : List ℕ) → AllByRecursion (λ b. (place b).on < n) bs → first_of (is_below place n) bs ≡ first_of (λ b. (place b).is_ready) bs
+pub all_below : (place : ℕ → QueuePlace) (n : ℕ) (bs : List ℕ) → AllByRecursion (λ b. (place b).on < n) bs → first_of (is_below place n) bs ≡ first_of (λ b. (place b).is_ready) bs
 all_below place n bs h = first_same (is_below place n) (λ b. (place b).is_ready) bs (each bs h)
   where
     below : (m n : ℕ) (t : Bool) → m < n → (nat_lt m n && t) ≡ t
@@ -132,7 +132,7 @@ never true = refl
 never false = refl
 
 -- one that is ready on a processor is ready
-pub some_ready : (place : ℕ → Place) (k : ℕ) (bs : List ℕ) → 0 < length (filter (λ n. is_ready_on (place n) k) bs) → false ≡ is_none (first_of (λ n. (place n).is_ready) bs)
+pub some_ready : (place : ℕ → QueuePlace) (k : ℕ) (bs : List ℕ) → 0 < length (filter (λ n. is_ready_on (place n) k) bs) → false ≡ is_none (first_of (λ n. (place n).is_ready) bs)
 some_ready place k [] h = grind arith
 some_ready place k (b ∷ bs) h = by (λ i. some_ready place k bs i) (place b).is_ready refl
   where

@@ -2,8 +2,8 @@
 use Rattle.std.proofs.Common.{◌≡◌, ℕ, ◌+◌, ◌<◌, ◌≤◌, Bool, true, false, not, ◌||◌, List, [], ◌∷◌, ◌++◌, length, filter, refl, sym, ap, subst, ◌∙◌, arith, if◌then◌else◌}
 use Rattle.std.specs.Prelude.{◌==◌, nat_lt}
 use Rattle.std.specs.List.{AllByRecursion}
-use Rattle.charmlet_ready_queue.specs.Births.Births.{AllAfter, AllBefore, Climbs, with_number, without_number}
-use Rattle.charmlet_ready_queue.proofs.BirthsLemmas.Rising.{all_filter, all_left, all_weaker, climbs_filter}
+use Rattle.charmlet_ready_queue.specs.SeqNos.SeqNos.{AllAfter, AllBefore, Climbs, with_number, without_number}
+use Rattle.charmlet_ready_queue.proofs.SeqNosLemmas.Rising.{all_filter, all_left, all_weaker, climbs_filter}
 use Rattle.charmlet_ready_queue.specs.Index.Index.{holds}
 
 not_later : (x n : ℕ) → x < n → nat_lt n x ≡ false

@@ -2,8 +2,8 @@
 use Rattle.std.proofs.Common.{◌≡◌, ◌≢◌, ℕ, ◌+◌, ◌<◌, ◌≤◌, suc, List, [], ◌∷◌, ◌++◌, length, refl, sym, ap, subst, ◌∙◌, arith, slice_get, slice_set}
 use Rattle.std.specs.Prelude.{Some}
 use Rattle.charmlet_ready_queue.specs.declared.index.lists.Lists.{Lists}
-use Rattle.charmlet_ready_queue.specs.declared.index.place.Place.{Place}
-use Rattle.charmlet_ready_queue.specs.Births.Births.{AllBefore}
+use Rattle.charmlet_ready_queue.specs.declared.index.place.QueuePlace.{QueuePlace}
+use Rattle.charmlet_ready_queue.specs.SeqNos.SeqNos.{AllBefore}
 use Rattle.charmlet_ready_queue.specs.Index.Index.{IsBelow, IsIndexOf, IsOn, IsRoomy}
 
 -- what stands at a place after the write: what was written, or what was there
@@ -21,18 +21,18 @@ length_set (x ∷ xs) (suc p) v = ap suc (length_set xs p v)
 
 -- ---- room is made
 
--- the births stay, and there is no less room
+-- the sequence numbers stay, and there is no less room
 pub record HasMore (old new : Lists) : Type 0 where
-  pub ready : new.ready.births ≡ old.ready.births
-  pub waiting : new.waiting.births ≡ old.waiting.births
+  pub ready : new.ready.seq_nos ≡ old.ready.seq_nos
+  pub waiting : new.waiting.seq_nos ≡ old.waiting.seq_nos
   pub away : new.away ≡ old.away
   pub ready_capacity : old.ready.capacity ≤ new.ready.capacity
   pub waiting_capacity : old.waiting.capacity ≤ new.waiting.capacity
 
-pub index_stays : (births : List ℕ) (place : ℕ → Place) (lists : List Lists) (on : ℕ) (old new : Lists) → slice_get lists on ≡ Some old → HasMore old new → IsIndexOf births place lists → IsIndexOf births place (slice_set lists on new)
-index_stays births place lists on old new at more is =
+pub index_stays : (seq_nos : List ℕ) (place : ℕ → QueuePlace) (lists : List Lists) (on : ℕ) (old new : Lists) → slice_get lists on ≡ Some old → HasMore old new → IsIndexOf seq_nos place lists → IsIndexOf seq_nos place (slice_set lists on new)
+index_stays seq_nos place lists on old new at more is =
     let was = is on old at in
-    at_place (IsOn births place) lists on new
+    at_place (IsOn seq_nos place) lists on new
     (record { ready = more.ready ∙ was.ready; waiting = more.waiting ∙ was.waiting; away = more.away ∙ was.away })
     (λ r l apart there. is r l there)
 
@@ -41,8 +41,8 @@ more_room k old new more r =
     let ready = ap length more.ready in
     let waiting = ap length more.waiting in
     record {
-      ready = sum (length new.ready.births) (length new.waiting.births) new.away (length old.ready.births) (length old.waiting.births) old.away old.ready.capacity new.ready.capacity ready waiting more.away more.ready_capacity r.ready;
-      waiting = sum (length new.ready.births) (length new.waiting.births) new.away (length old.ready.births) (length old.waiting.births) old.away old.waiting.capacity new.waiting.capacity ready waiting more.away more.waiting_capacity r.waiting;
+      ready = sum (length new.ready.seq_nos) (length new.waiting.seq_nos) new.away (length old.ready.seq_nos) (length old.waiting.seq_nos) old.away old.ready.capacity new.ready.capacity ready waiting more.away more.ready_capacity r.ready;
+      waiting = sum (length new.ready.seq_nos) (length new.waiting.seq_nos) new.away (length old.ready.seq_nos) (length old.waiting.seq_nos) old.away old.waiting.capacity new.waiting.capacity ready waiting more.away more.waiting_capacity r.waiting;
     }
   where
     sum : (a b c x y z s t : ℕ) → a ≡ x → b ≡ y → c ≡ z → s ≤ t → x + y + z + k ≤ s → a + b + c + k ≤ t
@@ -71,5 +71,5 @@ at_end C [] v here others (suc r) x is = cc
 at_end C (y ∷ ys) v here others Prim.Native.Nat.zero x is = others 0 x is
 at_end C (y ∷ ys) v here others (suc r) x is = at_end (λ n. C (suc n)) ys v here (λ n z at. others (suc n) z at) r x is
 
-pub below_none : (l : Lists) → l.ready.births ≡ [] → l.waiting.births ≡ [] → IsBelow 0 l
+pub below_none : (l : Lists) → l.ready.seq_nos ≡ [] → l.waiting.seq_nos ≡ [] → IsBelow 0 l
 below_none l ready waiting = record { ready = subst (AllBefore 0) (sym ready) tt; waiting = subst (AllBefore 0) (sym waiting) tt }

@@ -1,10 +1,10 @@
--- What one birth that leaves or comes makes of the lists of a processor.
+-- What one sequence number that leaves or comes makes of the lists of a processor.
 use Rattle.std.proofs.Common.{◌≡◌, ◌≢◌, ℕ, ◌+◌, ◌<◌, ◌≤◌, Bool, true, false, not, ◌&&◌, ◌||◌, List, [], ◌∷◌, suc, length, filter, refl, sym, ap, subst, ◌∙◌, arith, slice_get, if◌then◌else◌}
 use Rattle.std.specs.Prelude.{◌==◌, Option, Some, None, IfSome}
-use Rattle.charmlet_ready_queue.specs.Births.Births.{AllBefore, Climbs, with_number, without_number}
-use Rattle.charmlet_ready_queue.proofs.BirthsLemmas.Rising.{all_filter, all_with, climbs_filter}
+use Rattle.charmlet_ready_queue.specs.SeqNos.SeqNos.{AllBefore, Climbs, with_number, without_number}
+use Rattle.charmlet_ready_queue.proofs.SeqNosLemmas.Rising.{all_filter, all_with, climbs_filter}
 use Rattle.charmlet_ready_queue.specs.declared.index.lists.Lists.{Lists}
-use Rattle.charmlet_ready_queue.specs.declared.index.place.Place.{Place}
+use Rattle.charmlet_ready_queue.specs.declared.index.place.QueuePlace.{QueuePlace}
 use Rattle.charmlet_ready_queue.specs.Index.Index.{HasRoomFor, IsBelow, IsHeld, IsIndexOf, IsOn, IsRoomy, IsWith, IsWithout, OnEach, holds, is_away_from, is_ready_on, is_waiting_on, load, moved, touches}
 use Rattle.charmlet_ready_queue.proofs.IndexLemmas.Numbers.{bit, count_with, count_without, held_has, kind_with, kind_without, length_with, none_without, some_filter, some_held, with_without}
 
@@ -13,42 +13,42 @@ cancel a b k c h i = omega arith
 
 -- ---- one leaves
 
-pub without_on : (births : List ℕ) (place : ℕ → Place) (n p : ℕ) (old new : Lists) → Climbs births → holds n births ≡ true → IsOn births place p old → IsWithout n (place n) p old new → IsOn (without_number n births) place p new
-without_on births place n p old new c h o w = record {
-  ready = w.ready ∙ (ap (λ ys. if is_ready_on (place n) p then without_number n ys else ys) o.ready ∙ sym (kind_without (λ m. is_ready_on (place m) p) n births));
-  waiting = w.waiting ∙ (ap (λ ys. if is_waiting_on (place n) p then without_number n ys else ys) o.waiting ∙ sym (kind_without (λ m. is_waiting_on (place m) p) n births));
-  away = cancel new.away (length (filter (λ m. is_away_from (place m) p) (without_number n births))) (bit (is_away_from (place n) p)) old.away w.away (count_without (λ m. is_away_from (place m) p) n births c h ∙ sym o.away);
+pub without_on : (seq_nos : List ℕ) (place : ℕ → QueuePlace) (n p : ℕ) (old new : Lists) → Climbs seq_nos → holds n seq_nos ≡ true → IsOn seq_nos place p old → IsWithout n (place n) p old new → IsOn (without_number n seq_nos) place p new
+without_on seq_nos place n p old new c h o w = record {
+  ready = w.ready ∙ (ap (λ ys. if is_ready_on (place n) p then without_number n ys else ys) o.ready ∙ sym (kind_without (λ m. is_ready_on (place m) p) n seq_nos));
+  waiting = w.waiting ∙ (ap (λ ys. if is_waiting_on (place n) p then without_number n ys else ys) o.waiting ∙ sym (kind_without (λ m. is_waiting_on (place m) p) n seq_nos));
+  away = cancel new.away (length (filter (λ m. is_away_from (place m) p) (without_number n seq_nos))) (bit (is_away_from (place n) p)) old.away w.away (count_without (λ m. is_away_from (place m) p) n seq_nos c h ∙ sym o.away);
 }
 
-pub without_index : (births : List ℕ) (place : ℕ → Place) (n : ℕ) (at : Place) (olds news : List Lists) → Climbs births → holds n births ≡ true → place n ≡ at → IsIndexOf births place olds → OnEach (IsWithout n at) olds news → IsIndexOf (without_number n births) place news
-without_index births place n at olds news c h here is each p new there =
+pub without_index : (seq_nos : List ℕ) (place : ℕ → QueuePlace) (n : ℕ) (at : QueuePlace) (olds news : List Lists) → Climbs seq_nos → holds n seq_nos ≡ true → place n ≡ at → IsIndexOf seq_nos place olds → OnEach (IsWithout n at) olds news → IsIndexOf (without_number n seq_nos) place news
+without_index seq_nos place n at olds news c h here is each p new there =
     let one = each p new there in
-    without_on births place n p one.0 new c h (is p one.0 one.1) (subst (λ (a : Place). IsWithout n a p one.0 new) (sym here) one.2)
+    without_on seq_nos place n p one.0 new c h (is p one.0 one.1) (subst (λ (a : QueuePlace). IsWithout n a p one.0 new) (sym here) one.2)
 
 -- ---- one comes
 
 same_number : (n : ℕ) → (n == n) ≡ true
 same_number n = grind arith
 
-pub with_on : (births : List ℕ) (place : ℕ → Place) (n : ℕ) (at : Place) (p : ℕ) (old new : Lists) → Climbs births → holds n births ≡ false → IsOn births place p old → IsWith n at p old new → IsOn (with_number n births) (moved n at place) p new
-with_on births place n at p old new c none o w =
+pub with_on : (seq_nos : List ℕ) (place : ℕ → QueuePlace) (n : ℕ) (at : QueuePlace) (p : ℕ) (old new : Lists) → Climbs seq_nos → holds n seq_nos ≡ false → IsOn seq_nos place p old → IsWith n at p old new → IsOn (with_number n seq_nos) (moved n at place) p new
+with_on seq_nos place n at p old new c none o w =
     let here : moved n at place n ≡ at = rw (same_number n) refl in
     record {
-      ready = w.ready ∙ (ap (λ ys. if is_ready_on at p then with_number n ys else ys) o.ready ∙ sym (subst (λ (a : Place). filter (λ m. is_ready_on (moved n at place m) p) (with_number n births) ≡ (if is_ready_on a p then with_number n (filter (λ m. is_ready_on (place m) p) births) else filter (λ m. is_ready_on (place m) p) births)) here (kind_with (λ m. is_ready_on (place m) p) (λ m. is_ready_on (moved n at place m) p) n (λ m e. rw e refl) births c none)));
-      waiting = w.waiting ∙ (ap (λ ys. if is_waiting_on at p then with_number n ys else ys) o.waiting ∙ sym (subst (λ (a : Place). filter (λ m. is_waiting_on (moved n at place m) p) (with_number n births) ≡ (if is_waiting_on a p then with_number n (filter (λ m. is_waiting_on (place m) p) births) else filter (λ m. is_waiting_on (place m) p) births)) here (kind_with (λ m. is_waiting_on (place m) p) (λ m. is_waiting_on (moved n at place m) p) n (λ m e. rw e refl) births c none)));
-      away = w.away ∙ (ap (λ k. k + bit (is_away_from at p)) o.away ∙ sym (subst (λ (a : Place). length (filter (λ m. is_away_from (moved n at place m) p) (with_number n births)) ≡ length (filter (λ m. is_away_from (place m) p) births) + bit (is_away_from a p)) here (count_with (λ m. is_away_from (place m) p) (λ m. is_away_from (moved n at place m) p) n (λ m e. rw e refl) births c none)));
+      ready = w.ready ∙ (ap (λ ys. if is_ready_on at p then with_number n ys else ys) o.ready ∙ sym (subst (λ (a : QueuePlace). filter (λ m. is_ready_on (moved n at place m) p) (with_number n seq_nos) ≡ (if is_ready_on a p then with_number n (filter (λ m. is_ready_on (place m) p) seq_nos) else filter (λ m. is_ready_on (place m) p) seq_nos)) here (kind_with (λ m. is_ready_on (place m) p) (λ m. is_ready_on (moved n at place m) p) n (λ m e. rw e refl) seq_nos c none)));
+      waiting = w.waiting ∙ (ap (λ ys. if is_waiting_on at p then with_number n ys else ys) o.waiting ∙ sym (subst (λ (a : QueuePlace). filter (λ m. is_waiting_on (moved n at place m) p) (with_number n seq_nos) ≡ (if is_waiting_on a p then with_number n (filter (λ m. is_waiting_on (place m) p) seq_nos) else filter (λ m. is_waiting_on (place m) p) seq_nos)) here (kind_with (λ m. is_waiting_on (place m) p) (λ m. is_waiting_on (moved n at place m) p) n (λ m e. rw e refl) seq_nos c none)));
+      away = w.away ∙ (ap (λ k. k + bit (is_away_from at p)) o.away ∙ sym (subst (λ (a : QueuePlace). length (filter (λ m. is_away_from (moved n at place m) p) (with_number n seq_nos)) ≡ length (filter (λ m. is_away_from (place m) p) seq_nos) + bit (is_away_from a p)) here (count_with (λ m. is_away_from (place m) p) (λ m. is_away_from (moved n at place m) p) n (λ m e. rw e refl) seq_nos c none)));
     }
 
-pub with_index : (births : List ℕ) (place : ℕ → Place) (n : ℕ) (at : Place) (olds news : List Lists) → Climbs births → holds n births ≡ false → IsIndexOf births place olds → OnEach (IsWith n at) olds news → IsIndexOf (with_number n births) (moved n at place) news
-with_index births place n at olds news c none is each p new there =
+pub with_index : (seq_nos : List ℕ) (place : ℕ → QueuePlace) (n : ℕ) (at : QueuePlace) (olds news : List Lists) → Climbs seq_nos → holds n seq_nos ≡ false → IsIndexOf seq_nos place olds → OnEach (IsWith n at) olds news → IsIndexOf (with_number n seq_nos) (moved n at place) news
+with_index seq_nos place n at olds news c none is each p new there =
     let one = each p new there in
-    with_on births place n at p one.0 new c none (is p one.0 one.1) one.2
+    with_on seq_nos place n at p one.0 new c none (is p one.0 one.1) one.2
 
 -- one leaves, and comes elsewhere
-pub shifted_index : (births : List ℕ) (place : ℕ → Place) (n : ℕ) (from into : Place) (olds mids news : List Lists) → Climbs births → holds n births ≡ true → place n ≡ from → IsIndexOf births place olds → OnEach (IsWithout n from) olds mids → OnEach (IsWith n into) mids news → IsIndexOf births (moved n into place) news
-shifted_index births place n from into olds mids news c h here is first second =
-    subst (λ bs. IsIndexOf bs (moved n into place) news) (with_without n births c h)
-    (with_index (without_number n births) place n into mids news (climbs_filter _ births c) (none_without n births) (without_index births place n from olds mids c h here is first) second)
+pub shifted_index : (seq_nos : List ℕ) (place : ℕ → QueuePlace) (n : ℕ) (from into : QueuePlace) (olds mids news : List Lists) → Climbs seq_nos → holds n seq_nos ≡ true → place n ≡ from → IsIndexOf seq_nos place olds → OnEach (IsWithout n from) olds mids → OnEach (IsWith n into) mids news → IsIndexOf seq_nos (moved n into place) news
+shifted_index seq_nos place n from into olds mids news c h here is first second =
+    subst (λ bs. IsIndexOf bs (moved n into place) news) (with_without n seq_nos c h)
+    (with_index (without_number n seq_nos) place n into mids news (climbs_filter _ seq_nos c) (none_without n seq_nos) (without_index seq_nos place n from olds mids c h here is first) second)
 
 -- ---- room
 
@@ -60,23 +60,23 @@ one_of true false false = refl
 one_of false s true = refl
 one_of false s false = refl
 
-pub load_without : (births : List ℕ) (place : ℕ → Place) (n p : ℕ) (old new : Lists) → Climbs births → holds n births ≡ true → IsOn births place p old → IsWithout n (place n) p old new → load new + bit (touches (place n) p) ≡ load old
-load_without births place n p old new c h o w =
-    let after = without_on births place n p old new c h o w in
-    let ready : length new.ready.births + bit (is_ready_on (place n) p) ≡ length old.ready.births = rw after.ready (rw o.ready (count_without (λ m. is_ready_on (place m) p) n births c h)) in
-    let waiting : length new.waiting.births + bit (is_waiting_on (place n) p) ≡ length old.waiting.births = rw after.waiting (rw o.waiting (count_without (λ m. is_waiting_on (place m) p) n births c h)) in
+pub load_without : (seq_nos : List ℕ) (place : ℕ → QueuePlace) (n p : ℕ) (old new : Lists) → Climbs seq_nos → holds n seq_nos ≡ true → IsOn seq_nos place p old → IsWithout n (place n) p old new → load new + bit (touches (place n) p) ≡ load old
+load_without seq_nos place n p old new c h o w =
+    let after = without_on seq_nos place n p old new c h o w in
+    let ready : length new.ready.seq_nos + bit (is_ready_on (place n) p) ≡ length old.ready.seq_nos = rw after.ready (rw o.ready (count_without (λ m. is_ready_on (place m) p) n seq_nos c h)) in
+    let waiting : length new.waiting.seq_nos + bit (is_waiting_on (place n) p) ≡ length old.waiting.seq_nos = rw after.waiting (rw o.waiting (count_without (λ m. is_waiting_on (place m) p) n seq_nos c h)) in
     let all = one_of ((place n).on == p) (place n).is_ready ((place n).home == p) in
-    sum (length new.ready.births) (length new.waiting.births) new.away (bit (is_ready_on (place n) p)) (bit (is_waiting_on (place n) p)) (bit (is_away_from (place n) p)) (bit (touches (place n) p)) (length old.ready.births) (length old.waiting.births) old.away ready waiting w.away all
+    sum (length new.ready.seq_nos) (length new.waiting.seq_nos) new.away (bit (is_ready_on (place n) p)) (bit (is_waiting_on (place n) p)) (bit (is_away_from (place n) p)) (bit (touches (place n) p)) (length old.ready.seq_nos) (length old.waiting.seq_nos) old.away ready waiting w.away all
   where
     sum : (a b c r w v t x y z : ℕ) → a + r ≡ x → b + w ≡ y → c + v ≡ z → r + w + v ≡ t → a + b + c + t ≡ x + y + z
     sum a b c r w v t x y z h i j k = omega arith
 
-pub load_with : (n : ℕ) (at : Place) (p : ℕ) (old new : Lists) → IsWith n at p old new → load new ≤ load old + bit (touches at p)
+pub load_with : (n : ℕ) (at : QueuePlace) (p : ℕ) (old new : Lists) → IsWith n at p old new → load new ≤ load old + bit (touches at p)
 load_with n at p old new w =
-    let ready : length new.ready.births ≤ length old.ready.births + bit (is_ready_on at p) = subst (λ ys. length ys ≤ length old.ready.births + bit (is_ready_on at p)) (sym w.ready) (more (is_ready_on at p) old.ready.births) in
-    let waiting : length new.waiting.births ≤ length old.waiting.births + bit (is_waiting_on at p) = subst (λ ys. length ys ≤ length old.waiting.births + bit (is_waiting_on at p)) (sym w.waiting) (more (is_waiting_on at p) old.waiting.births) in
+    let ready : length new.ready.seq_nos ≤ length old.ready.seq_nos + bit (is_ready_on at p) = subst (λ ys. length ys ≤ length old.ready.seq_nos + bit (is_ready_on at p)) (sym w.ready) (more (is_ready_on at p) old.ready.seq_nos) in
+    let waiting : length new.waiting.seq_nos ≤ length old.waiting.seq_nos + bit (is_waiting_on at p) = subst (λ ys. length ys ≤ length old.waiting.seq_nos + bit (is_waiting_on at p)) (sym w.waiting) (more (is_waiting_on at p) old.waiting.seq_nos) in
     let all = one_of (at.on == p) at.is_ready (at.home == p) in
-    sum (length new.ready.births) (length new.waiting.births) new.away (bit (is_ready_on at p)) (bit (is_waiting_on at p)) (bit (is_away_from at p)) (bit (touches at p)) (length old.ready.births) (length old.waiting.births) old.away ready waiting w.away all
+    sum (length new.ready.seq_nos) (length new.waiting.seq_nos) new.away (bit (is_ready_on at p)) (bit (is_waiting_on at p)) (bit (is_away_from at p)) (bit (touches at p)) (length old.ready.seq_nos) (length old.waiting.seq_nos) old.away ready waiting w.away all
   where
     more : (t : Bool) (xs : List ℕ) → length (if t then with_number n xs else xs) ≤ length xs + bit t
     more true xs = length_with n xs
@@ -85,9 +85,9 @@ load_with n at p old new w =
     sum : (a b c r w v t x y z : ℕ) → a ≤ x + r → b ≤ y + w → c ≡ z + v → r + w + v ≡ t → a + b + c ≤ x + y + z + t
     sum a b c r w v t x y z h i j k = omega arith
 
-pub roomy_without : (births : List ℕ) (place : ℕ → Place) (n : ℕ) (at : Place) (p : ℕ) (old new : Lists) (k : ℕ) → Climbs births → holds n births ≡ true → place n ≡ at → IsOn births place p old → IsWithout n at p old new → IsRoomy k old → IsRoomy (k + bit (touches at p)) new
-roomy_without births place n at p old new k c h here o w r =
-    let less : load new + bit (touches at p) ≡ load old = subst (λ (a : Place). load new + bit (touches a p) ≡ load old) here (load_without births place n p old new c h o (subst (λ (a : Place). IsWithout n a p old new) (sym here) w)) in
+pub roomy_without : (seq_nos : List ℕ) (place : ℕ → QueuePlace) (n : ℕ) (at : QueuePlace) (p : ℕ) (old new : Lists) (k : ℕ) → Climbs seq_nos → holds n seq_nos ≡ true → place n ≡ at → IsOn seq_nos place p old → IsWithout n at p old new → IsRoomy k old → IsRoomy (k + bit (touches at p)) new
+roomy_without seq_nos place n at p old new k c h here o w r =
+    let less : load new + bit (touches at p) ≡ load old = subst (λ (a : QueuePlace). load new + bit (touches a p) ≡ load old) here (load_without seq_nos place n p old new c h o (subst (λ (a : QueuePlace). IsWithout n a p old new) (sym here) w)) in
     record {
       ready = sum (load new) (bit (touches at p)) (load old) k old.ready.capacity new.ready.capacity less w.ready_capacity r.ready;
       waiting = sum (load new) (bit (touches at p)) (load old) k old.waiting.capacity new.waiting.capacity less w.waiting_capacity r.waiting;
@@ -96,7 +96,7 @@ roomy_without births place n at p old new k c h here o w r =
     sum : (a t b k x y : ℕ) → a + t ≡ b → y ≡ x → b + k ≤ x → a + (k + t) ≤ y
     sum a t b k x y h i j = omega arith
 
-pub roomy_with : (n : ℕ) (at : Place) (p : ℕ) (old new : Lists) (k : ℕ) → IsWith n at p old new → IsRoomy (k + bit (touches at p)) old → IsRoomy k new
+pub roomy_with : (n : ℕ) (at : QueuePlace) (p : ℕ) (old new : Lists) (k : ℕ) → IsWith n at p old new → IsRoomy (k + bit (touches at p)) old → IsRoomy k new
 roomy_with n at p old new k w r =
     let more = load_with n at p old new w in
     record {
@@ -116,20 +116,20 @@ bit_small false = omega arith
 
 -- ---- numbers
 
-pub below_without : (n m : ℕ) (at : Place) (p : ℕ) (old new : Lists) → IsWithout m at p old new → IsBelow n old → IsBelow n new
+pub below_without : (n m : ℕ) (at : QueuePlace) (p : ℕ) (old new : Lists) → IsWithout m at p old new → IsBelow n old → IsBelow n new
 below_without n m at p old new w b = record {
-  ready = subst (AllBefore n) (sym w.ready) (by (is_ready_on at p) old.ready.births b.ready);
-  waiting = subst (AllBefore n) (sym w.waiting) (by (is_waiting_on at p) old.waiting.births b.waiting);
+  ready = subst (AllBefore n) (sym w.ready) (by (is_ready_on at p) old.ready.seq_nos b.ready);
+  waiting = subst (AllBefore n) (sym w.waiting) (by (is_waiting_on at p) old.waiting.seq_nos b.waiting);
 }
   where
     by : (t : Bool) (xs : List ℕ) → AllBefore n xs → AllBefore n (if t then without_number m xs else xs)
     by true xs h = all_filter (λ k. k < n) _ xs h
     by false xs h = h
 
-pub below_with : (n m : ℕ) (at : Place) (p : ℕ) (old new : Lists) → m < n → IsWith m at p old new → IsBelow n old → IsBelow n new
+pub below_with : (n m : ℕ) (at : QueuePlace) (p : ℕ) (old new : Lists) → m < n → IsWith m at p old new → IsBelow n old → IsBelow n new
 below_with n m at p old new lt w b = record {
-  ready = subst (AllBefore n) (sym w.ready) (by (is_ready_on at p) old.ready.births b.ready);
-  waiting = subst (AllBefore n) (sym w.waiting) (by (is_waiting_on at p) old.waiting.births b.waiting);
+  ready = subst (AllBefore n) (sym w.ready) (by (is_ready_on at p) old.ready.seq_nos b.ready);
+  waiting = subst (AllBefore n) (sym w.waiting) (by (is_waiting_on at p) old.waiting.seq_nos b.waiting);
 }
   where
     by : (t : Bool) (xs : List ℕ) → AllBefore n xs → AllBefore n (if t then with_number m xs else xs)
@@ -138,14 +138,14 @@ below_with n m at p old new lt w b = record {
 
 -- ---- what is held
 
--- a birth that is away is counted at its home
-pub counted_away : (n : ℕ) (at : Place) (lists : List Lists) → IsHeld n at lists → at.on ≢ at.home → (l : Lists) → slice_get lists at.home ≡ Some l → 0 < l.away
+-- a sequence number that is away is counted at its home
+pub counted_away : (n : ℕ) (at : QueuePlace) (lists : List Lists) → IsHeld n at lists → at.on ≢ at.home → (l : Lists) → slice_get lists at.home ≡ Some l → 0 < l.away
 counted_away n at lists held apart l there =
     let place = held.1 in
     let away = (held.2 at.home l there).away in
     let other : (at.on == at.home) ≡ false = unlike at.on at.home apart in
     let is_away : is_away_from at at.home ≡ true = rw (same_number at.home) (rw other refl) in
-    let kind : is_away_from (place n) at.home ≡ true = subst (λ (a : Place). is_away_from a at.home ≡ true) (sym held.5) is_away in
+    let kind : is_away_from (place n) at.home ≡ true = subst (λ (a : QueuePlace). is_away_from a at.home ≡ true) (sym held.5) is_away in
     let some = some_held n _ (some_filter (λ m. is_away_from (place m) at.home) n held.0 kind held.4) in
     omega (arith, away, some)
   where
@@ -157,8 +157,8 @@ some_at [] p h = grind arith
 some_at (l ∷ lists) Prim.Native.Nat.zero h = (l, refl)
 some_at (l ∷ lists) (suc p) h = some_at lists p (omega (arith, h))
 
--- a birth that is there is before the next one
-pub held_below : (n next : ℕ) (at : Place) (lists : List Lists) → IsHeld n at lists → at.on < length lists → ((p : ℕ) (l : Lists) → slice_get lists p ≡ Some l → IsBelow next l) → n < next
+-- a sequence number that is there is before the next one
+pub held_below : (n next : ℕ) (at : QueuePlace) (lists : List Lists) → IsHeld n at lists → at.on < length lists → ((p : ℕ) (l : Lists) → slice_get lists p ≡ Some l → IsBelow next l) → n < next
 held_below n next at lists held within below =
     let place = held.1 in
     let found = some_at lists at.on within in
@@ -166,13 +166,13 @@ held_below n next at lists held within below =
     let on = held.2 at.on found.0 found.1 in
     by place held.0 held.4 held.5 found.0 own on at.is_ready refl
   where
-    by : (place : ℕ → Place) (births : List ℕ) → holds n births ≡ true → place n ≡ at → (l : Lists) → IsBelow next l → IsOn births place at.on l → (t : Bool) → at.is_ready ≡ t → n < next
-    by place births there here l own on true e =
-        let kind : is_ready_on (place n) at.on ≡ true = subst (λ (a : Place). is_ready_on a at.on ≡ true) (sym here) (rw (same_number at.on) e) in
-        held_has (λ m. m < next) n l.ready.births own.ready (subst (λ xs. holds n xs ≡ true) (sym on.ready) (some_filter (λ m. is_ready_on (place m) at.on) n births kind there))
-    by place births there here l own on false e =
-        let kind : is_waiting_on (place n) at.on ≡ true = subst (λ (a : Place). is_waiting_on a at.on ≡ true) (sym here) (rw (same_number at.on) (rw e refl)) in
-        held_has (λ m. m < next) n l.waiting.births own.waiting (subst (λ xs. holds n xs ≡ true) (sym on.waiting) (some_filter (λ m. is_waiting_on (place m) at.on) n births kind there))
+    by : (place : ℕ → QueuePlace) (seq_nos : List ℕ) → holds n seq_nos ≡ true → place n ≡ at → (l : Lists) → IsBelow next l → IsOn seq_nos place at.on l → (t : Bool) → at.is_ready ≡ t → n < next
+    by place seq_nos there here l own on true e =
+        let kind : is_ready_on (place n) at.on ≡ true = subst (λ (a : QueuePlace). is_ready_on a at.on ≡ true) (sym here) (rw (same_number at.on) e) in
+        held_has (λ m. m < next) n l.ready.seq_nos own.ready (subst (λ xs. holds n xs ≡ true) (sym on.ready) (some_filter (λ m. is_ready_on (place m) at.on) n seq_nos kind there))
+    by place seq_nos there here l own on false e =
+        let kind : is_waiting_on (place n) at.on ≡ true = subst (λ (a : QueuePlace). is_waiting_on a at.on ≡ true) (sym here) (rw (same_number at.on) (rw e refl)) in
+        held_has (λ m. m < next) n l.waiting.seq_nos own.waiting (subst (λ xs. holds n xs ≡ true) (sym on.waiting) (some_filter (λ m. is_waiting_on (place m) at.on) n seq_nos kind there))
 
 pub some_each : (lists : List Lists) (p : ℕ) (Q : Lists → Type 0) → ((l : Lists) → slice_get lists p ≡ Some l → Q l) → IfSome (slice_get lists p) Q
 some_each lists p Q f = by (slice_get lists p) refl
@@ -181,8 +181,8 @@ some_each lists p Q f = by (slice_get lists p) refl
     by None e = tt
     by (Some l) e = f l e
 
--- once a birth left its place each processor has room for it where it comes
-pub mid_roomy : (n : ℕ) (from into : Place) (h : ℕ) (olds mids : List Lists) → IsHeld n from olds → ((p : ℕ) (l : Lists) → slice_get olds p ≡ Some l → IsRoomy h l) → HasRoomFor h from into olds → OnEach (IsWithout n from) olds mids → (p : ℕ) (l : Lists) → slice_get mids p ≡ Some l → IsRoomy (h + bit (touches into p)) l
+-- once a sequence number left its place each processor has room for it where it comes
+pub mid_roomy : (n : ℕ) (from into : QueuePlace) (h : ℕ) (olds mids : List Lists) → IsHeld n from olds → ((p : ℕ) (l : Lists) → slice_get olds p ≡ Some l → IsRoomy h l) → HasRoomFor h from into olds → OnEach (IsWithout n from) olds mids → (p : ℕ) (l : Lists) → slice_get mids p ≡ Some l → IsRoomy (h + bit (touches into p)) l
 mid_roomy n from into h olds mids held roomy room each p l there =
     let one = each p l there in
     by (touches from p) (touches into p) one.0 l (roomy p one.0 one.1) (λ s t. room p one.0 one.1 s t)

@@ -1,17 +1,17 @@
-//! The births of messages to one element.
+//! The sequence numbers of messages to one element.
 
 ghost use Rattle.std.specs.Prelude.{◌≡◌, [], ◌∷◌, List, MatchOption};
 ghost use Rattle.charmlet_ready_queue.specs.declared.index.chain.Call.{Call as ACall};
 
-/// The birth of a message to an element, and whether the message constructs the element.
+/// The sequence number of a message to an element, and whether the message constructs the element.
 #[derive(Clone, Copy, Debug, PartialEq, Eq)]
 pub struct Call {
     pub number: u64,
     pub constructs: bool,
 }
 
-/// The births of messages to one element, which are gone through one after another. They move least
-/// where they come in rising or in falling order.
+/// The sequence numbers of messages to one element, which are gone through one after another. They
+/// move least where they come in rising or in falling order.
 pub trait Chain {
     /// Those that are left.
     ghost left: { Self → List ACall };

@@ -1,28 +1,29 @@
-//! The births on all processors.
+//! The sequence numbers on all processors.
 
 ghost use Rattle.std.specs.Prelude.{◌≡◌, ◌≢◌, ℕ, ◌+◌, ◌≤◌, ◌<◌, true, [], ◌∷◌, ◌++◌, List, length, slice_get, Some, is_none, IsOk, OnOk, OnErr, IfOk, IfSome, option_map};
 ghost use Rattle.std.specs.List.{AllByRecursion};
 ghost use Rattle.charmlet_model.specs.Reaction.{greatest};
-ghost use Rattle.charmlet_ready_queue.specs.Births.Births.{AllBefore, Climbs, without_number};
-ghost use Rattle.charmlet_ready_queue.specs.Index.Index.{AreApart, AreHeld, AreKept, ArePlaced, HasRoomFor, HaveRoom, IsBelow, IsHeld, IsIndexOf, IsPlaced, IsRoomy, earlier, first_of, holds, is_ready_on, moved, stood};
+ghost use Rattle.charmlet_ready_queue.specs.SeqNos.SeqNos.{AllBefore, Climbs, without_number};
+ghost use Rattle.charmlet_ready_queue.specs.Index.Index.{AreApart, AreHeld, AreKept, ArePositioned, HasRoomFor, HaveRoom, IsBelow, IsHeld, IsIndexOf, IsPlaced, IsRoomy, earlier, first_of, holds, is_ready_on, moved, stood};
 ghost use Rattle.charmlet_ready_queue.specs.declared.index.lists.Lists.{Lists as ALists};
-ghost use Rattle.charmlet_ready_queue.specs.declared.index.place.Place.{Place as APlace};
+ghost use Rattle.charmlet_ready_queue.specs.declared.index.place.QueuePlace.{QueuePlace as APlace};
 
-use crate::births::Ticks;
 use crate::index::chain::Chain;
 use crate::index::lists::Lists;
-use crate::index::place::{Place, Stand};
+use crate::index::place::{QueuePlace, Readiness};
 use crate::index::turns::{push_in, put_in, take_from};
+use crate::seq_nos::Ticks;
 use std::alloc::{AllocError, Global};
 use std::marker::{Brand, Model};
 use std::sync::ledger::{Blank, Ledger};
 
-/// How many more births there is room for where room is made, so that the lists are seldom gone
-/// through for it.
+/// How many more sequence numbers there is room for where room is made, so that the lists are
+/// seldom gone through for it.
 const MORE: usize = 256;
 
-/// For each processor the births that are ready on it, and those that wait there. A contract sees
-/// these lists, for how many more births each has room, and the number of the next birth.
+/// For each processor the sequence numbers that are ready on it, and those that wait there. A
+/// contract sees these lists, for how many more sequence numbers each has room, and the number of
+/// the next sequence number.
 #[derive(Drop)]
 pub struct Index {
     alloc: Global,
@@ -42,7 +43,7 @@ impl Model for Index {
 }
 
 impl Index {
-    /// No births, and no processors until it is opened. It takes no memory.
+    /// No sequence numbers, and no processors until it is opened. It takes no memory.
     pub fn new(alloc: Global) -> Self
         ensures lists { result.lists ≡ [] }
         ensures headroom { result.headroom ≡ 0 }
@@ -57,7 +58,7 @@ impl Index {
     }
 
     /// Has lists for so many processors from now on. Where it had them for another number, there
-    /// are no births. Where memory is refused, nothing changes.
+    /// are no sequence numbers. Where memory is refused, nothing changes.
     pub fn open(&mut self, processors: usize) -> Result<(), AllocError>
         ensures ok { OnOk result (length self.new.lists ≡ processors) }
         ensures same { length self.old.lists ≡ processors → self.new ≡ self.old }
@@ -76,11 +77,11 @@ impl Index {
         Ok(())
     }
 
-    /// Makes room for so many more births, wherever each of them is. Where memory is refused, no
-    /// birth changes.
+    /// Makes room for so many more sequence numbers, wherever each of them is. Where memory is
+    /// refused, no sequence number changes.
     pub fn reserve(&mut self, additional: usize) -> Result<(), AllocError>
-        ensures index { (births : List ℕ) (place : ℕ → APlace) →
-            IsIndexOf births place self.old.lists → IsIndexOf births place self.new.lists }
+        ensures index { (seq_nos : List ℕ) (place : ℕ → APlace) →
+            IsIndexOf seq_nos place self.old.lists → IsIndexOf seq_nos place self.new.lists }
         ensures len { length self.new.lists ≡ length self.old.lists }
         ensures next { self.new.next ≡ self.old.next }
         ensures headroom { self.old.headroom ≤ self.new.headroom }
@@ -100,12 +101,12 @@ impl Index {
         Ok(())
     }
 
-    /// Makes room for so many births that come to the processor from others, beside the room that
-    /// there is for more. Where memory is refused, no birth changes.
+    /// Makes room for so many sequence numbers that come to the processor from others, beside the
+    /// room that there is for more. Where memory is refused, no sequence number changes.
     pub fn reserve_on(&mut self, on: usize, additional: usize) -> Result<(), AllocError>
         requires { on < length self.old.lists }
-        ensures index { (births : List ℕ) (place : ℕ → APlace) →
-            IsIndexOf births place self.old.lists → IsIndexOf births place self.new.lists }
+        ensures index { (seq_nos : List ℕ) (place : ℕ → APlace) →
+            IsIndexOf seq_nos place self.old.lists → IsIndexOf seq_nos place self.new.lists }
         ensures len { length self.new.lists ≡ length self.old.lists }
         ensures next { self.new.next ≡ self.old.next }
         ensures headroom { self.new.headroom ≡ self.old.headroom }
@@ -115,17 +116,17 @@ impl Index {
         reserve_one(&mut self.lists, self.headroom, on, additional)
     }
 
-    /// Adds a birth, which is after all others, and says its number. It takes no memory.
-    pub fn push(&mut self, at: Place) -> u64
+    /// Adds a sequence number, which is after all others, and says its number. It takes no memory.
+    pub fn push(&mut self, at: QueuePlace) -> u64
         requires on { at.on < length self.old.lists }
         requires home { at.home < length self.old.lists }
         requires room { 0 < self.old.headroom }
         ensures number { result ≡ self.old.next }
         ensures few { result < greatest }
-        ensures index { (births : List ℕ) (place : ℕ → APlace) →
-            IsIndexOf births place self.old.lists → Climbs births →
-            AllBefore self.old.next births →
-            IsIndexOf (births ++ self.old.next ∷ []) (moved self.old.next at place)
+        ensures index { (seq_nos : List ℕ) (place : ℕ → APlace) →
+            IsIndexOf seq_nos place self.old.lists → Climbs seq_nos →
+            AllBefore self.old.next seq_nos →
+            IsIndexOf (seq_nos ++ self.old.next ∷ []) (moved self.old.next at place)
             self.new.lists }
         ensures len { length self.new.lists ≡ length self.old.lists }
         ensures next { self.new.next ≡ self.old.next + 1 }
@@ -138,14 +139,14 @@ impl Index {
         number
     }
 
-    /// Takes a birth out, which is there. It takes no memory.
-    pub fn take(&mut self, number: u64, at: Place)
+    /// Takes a sequence number out, which is there. It takes no memory.
+    pub fn take(&mut self, number: u64, at: QueuePlace)
         requires on { at.on < length self.old.lists }
         requires home { at.home < length self.old.lists }
         requires held { IsHeld number at self.old.lists }
-        ensures index { (births : List ℕ) (place : ℕ → APlace) →
-            IsIndexOf births place self.old.lists → Climbs births → holds number births ≡ true →
-            place number ≡ at → IsIndexOf (without_number number births) place self.new.lists }
+        ensures index { (seq_nos : List ℕ) (place : ℕ → APlace) →
+            IsIndexOf seq_nos place self.old.lists → Climbs seq_nos → holds number seq_nos ≡ true →
+            place number ≡ at → IsIndexOf (without_number number seq_nos) place self.new.lists }
         ensures len { length self.new.lists ≡ length self.old.lists }
         ensures next { self.new.next ≡ self.old.next }
         ensures headroom { self.new.headroom ≡ self.old.headroom }
@@ -153,18 +154,18 @@ impl Index {
         take_from(&mut self.lists, at, number);
     }
 
-    /// A birth, which is here, is there from now on, where there is room for it: on a processor for
-    /// which it didn't count before, that room was made. It takes no memory.
-    pub fn shift(&mut self, number: u64, from: Place, into: Place)
+    /// A sequence number, which is here, is there from now on, where there is room for it: on a
+    /// processor for which it didn't count before, that room was made. It takes no memory.
+    pub fn shift(&mut self, number: u64, from: QueuePlace, into: QueuePlace)
         requires from_on { from.on < length self.old.lists }
         requires into_on { into.on < length self.old.lists }
         requires from_home { from.home < length self.old.lists }
         requires into_home { into.home < length self.old.lists }
         requires held { IsHeld number from self.old.lists }
         requires room { HasRoomFor self.old.headroom from into self.old.lists }
-        ensures index { (births : List ℕ) (place : ℕ → APlace) →
-            IsIndexOf births place self.old.lists → Climbs births → holds number births ≡ true →
-            place number ≡ from → IsIndexOf births (moved number into place) self.new.lists }
+        ensures index { (seq_nos : List ℕ) (place : ℕ → APlace) →
+            IsIndexOf seq_nos place self.old.lists → Climbs seq_nos → holds number seq_nos ≡ true →
+            place number ≡ from → IsIndexOf seq_nos (moved number into place) self.new.lists }
         ensures room { (p n : ℕ) → IfSome (slice_get self.old.lists p) (IsRoomy (n + 1)) →
             IfSome (slice_get self.new.lists p) (IsRoomy n) }
         ensures len { length self.new.lists ≡ length self.old.lists }
@@ -176,9 +177,9 @@ impl Index {
     }
 
     /// An element stands otherwise from now on: on another processor, or so that it takes other
-    /// messages. These are its births, each once, and for them there is room: on a processor for
-    /// which they didn't count before, that room was made. It takes no memory.
-    pub fn restand<C: Chain>(&mut self, calls: &mut C, old: Stand, new: Stand)
+    /// messages. These are its sequence numbers, each once, and for them there is room: on a
+    /// processor for which they didn't count before, that room was made. It takes no memory.
+    pub fn update_readiness<C: Chain>(&mut self, calls: &mut C, old: Readiness, new: Readiness)
         requires old_on { old.on < length self.old.lists }
         requires new_on { new.on < length self.old.lists }
         requires old_home { old.home < length self.old.lists }
@@ -187,10 +188,10 @@ impl Index {
         requires held { AreHeld old (C.left calls.old) self.old.lists }
         requires room { HaveRoom self.old.headroom old new (length (C.left calls.old))
             self.old.lists }
-        ensures index { (births : List ℕ) (place : ℕ → APlace) →
-            IsIndexOf births place self.old.lists → Climbs births →
-            ArePlaced old (C.left calls.old) births place →
-            IsIndexOf births (stood new (C.left calls.old) place) self.new.lists }
+        ensures index { (seq_nos : List ℕ) (place : ℕ → APlace) →
+            IsIndexOf seq_nos place self.old.lists → Climbs seq_nos →
+            ArePositioned old (C.left calls.old) seq_nos place →
+            IsIndexOf seq_nos (stood new (C.left calls.old) place) self.new.lists }
         ensures len { length self.new.lists ≡ length self.old.lists }
         ensures next { self.new.next ≡ self.old.next }
         ensures headroom { self.new.headroom ≡ self.old.headroom }
@@ -202,25 +203,25 @@ impl Index {
         }
     }
 
-    /// The oldest birth that is ready on the processor. It is at most one look.
+    /// The oldest sequence number that is ready on the processor. It is at most one look.
     pub fn oldest_on<L: Ledger>(&self, on: usize, ticks: &mut Ticks<L>) -> Option<u64>
-        ensures index { (births : List ℕ) (place : ℕ → APlace) →
-            IsIndexOf births place self.now.lists → on < length self.now.lists →
-            result ≡ first_of (λ n. is_ready_on (place n) on) births }
+        ensures index { (seq_nos : List ℕ) (place : ℕ → APlace) →
+            IsIndexOf seq_nos place self.now.lists → on < length self.now.lists →
+            result ≡ first_of (λ n. is_ready_on (place n) on) seq_nos }
         ensures ticks { ticks.new ≤ ticks.old + 1 }
     {
         oldest_of(&self.lists, on, ticks)
     }
 
-    /// The oldest birth that is ready on any processor, and before it that processor. It is at most
-    /// one look for each processor.
+    /// The oldest sequence number that is ready on any processor, and before it that processor. It
+    /// is at most one look for each processor.
     pub fn next_in<L: Ledger>(&self, ticks: &mut Ticks<L>) -> Option<(usize, u64)>
-        ensures index { (births : List ℕ) (place : ℕ → APlace) →
-            IsIndexOf births place self.now.lists → Climbs births →
-            AllByRecursion (λ n. (place n).on < length self.now.lists) births →
-            option_map (λ e. e.1) result ≡ first_of (λ n. (place n).is_ready) births }
-        ensures placed { (births : List ℕ) (place : ℕ → APlace) →
-            IsIndexOf births place self.now.lists → IsPlaced place result }
+        ensures index { (seq_nos : List ℕ) (place : ℕ → APlace) →
+            IsIndexOf seq_nos place self.now.lists → Climbs seq_nos →
+            AllByRecursion (λ n. (place n).on < length self.now.lists) seq_nos →
+            option_map (λ e. e.1) result ≡ first_of (λ n. (place n).is_ready) seq_nos }
+        ensures placed { (seq_nos : List ℕ) (place : ℕ → APlace) →
+            IsIndexOf seq_nos place self.now.lists → IsPlaced place result }
         ensures ticks { ticks.new ≤ ticks.old + length self.now.lists }
     {
         next_of(&self.lists, ticks)
@@ -228,12 +229,12 @@ impl Index {
 
     /// The same, with a count of its own. It takes no memory.
     pub fn next(&self) -> Option<(usize, u64)>
-        ensures index { (births : List ℕ) (place : ℕ → APlace) →
-            IsIndexOf births place self.now.lists → Climbs births →
-            AllByRecursion (λ n. (place n).on < length self.now.lists) births →
-            option_map (λ e. e.1) result ≡ first_of (λ n. (place n).is_ready) births }
-        ensures placed { (births : List ℕ) (place : ℕ → APlace) →
-            IsIndexOf births place self.now.lists → IsPlaced place result }
+        ensures index { (seq_nos : List ℕ) (place : ℕ → APlace) →
+            IsIndexOf seq_nos place self.now.lists → Climbs seq_nos →
+            AllByRecursion (λ n. (place n).on < length self.now.lists) seq_nos →
+            option_map (λ e. e.1) result ≡ first_of (λ n. (place n).is_ready) seq_nos }
+        ensures placed { (seq_nos : List ℕ) (place : ℕ → APlace) →
+            IsIndexOf seq_nos place self.now.lists → IsPlaced place result }
     {
         self.next_counted::<Brand>(Blank::new(1))
     }
@@ -242,23 +243,23 @@ impl Index {
         requires name { blank.name ≡ L.name }
         requires parts { blank.parts ≡ L.parts }
         requires some { 0 < blank.parts }
-        ensures index { (births : List ℕ) (place : ℕ → APlace) →
-            IsIndexOf births place self.now.lists → Climbs births →
-            AllByRecursion (λ n. (place n).on < length self.now.lists) births →
-            option_map (λ e. e.1) result ≡ first_of (λ n. (place n).is_ready) births }
-        ensures placed { (births : List ℕ) (place : ℕ → APlace) →
-            IsIndexOf births place self.now.lists → IsPlaced place result }
+        ensures index { (seq_nos : List ℕ) (place : ℕ → APlace) →
+            IsIndexOf seq_nos place self.now.lists → Climbs seq_nos →
+            AllByRecursion (λ n. (place n).on < length self.now.lists) seq_nos →
+            option_map (λ e. e.1) result ≡ first_of (λ n. (place n).is_ready) seq_nos }
+        ensures placed { (seq_nos : List ℕ) (place : ℕ → APlace) →
+            IsIndexOf seq_nos place self.now.lists → IsPlaced place result }
     {
         let mut ticks = Ticks::<L>::new(blank);
         self.next_in(&mut ticks)
     }
 
-    /// Whether no birth is ready on any processor. It takes no memory.
+    /// Whether no sequence number is ready on any processor. It takes no memory.
     pub fn quiet(&self) -> bool
-        ensures { (births : List ℕ) (place : ℕ → APlace) →
-            IsIndexOf births place self.now.lists →
-            AllByRecursion (λ n. (place n).on < length self.now.lists) births →
-            result ≡ is_none (first_of (λ n. (place n).is_ready) births) }
+        ensures { (seq_nos : List ℕ) (place : ℕ → APlace) →
+            IsIndexOf seq_nos place self.now.lists →
+            AllByRecursion (λ n. (place n).on < length self.now.lists) seq_nos →
+            result ≡ is_none (first_of (λ n. (place n).is_ready) seq_nos) }
     {
         none_ready(&self.lists)
     }
@@ -282,8 +283,8 @@ fn empty_lists(alloc: Global, processors: usize) -> Result<Vec<Lists>, AllocErro
 fn reserve_each(lists: &mut Vec<Lists>, headroom: usize, wanted: usize) -> Result<(), AllocError>
     requires roomy { (p : ℕ) (l : ALists) → slice_get lists.old.items p ≡ Some l →
         IsRoomy headroom l }
-    ensures index { (births : List ℕ) (place : ℕ → APlace) →
-        IsIndexOf births place lists.old.items → IsIndexOf births place lists.new.items }
+    ensures index { (seq_nos : List ℕ) (place : ℕ → APlace) →
+        IsIndexOf seq_nos place lists.old.items → IsIndexOf seq_nos place lists.new.items }
     ensures len { length lists.new.items ≡ length lists.old.items }
     ensures roomy { (p : ℕ) (l : ALists) → slice_get lists.new.items p ≡ Some l →
         IsRoomy headroom l }
@@ -308,8 +309,8 @@ fn reserve_one(
     requires within { on < length lists.old.items }
     requires roomy { (p : ℕ) (l : ALists) → slice_get lists.old.items p ≡ Some l →
         IsRoomy headroom l }
-    ensures index { (births : List ℕ) (place : ℕ → APlace) →
-        IsIndexOf births place lists.old.items → IsIndexOf births place lists.new.items }
+    ensures index { (seq_nos : List ℕ) (place : ℕ → APlace) →
+        IsIndexOf seq_nos place lists.old.items → IsIndexOf seq_nos place lists.new.items }
     ensures len { length lists.new.items ≡ length lists.old.items }
     ensures roomy { (p : ℕ) (l : ALists) → slice_get lists.new.items p ≡ Some l →
         IsRoomy headroom l }
@@ -325,9 +326,9 @@ fn reserve_one(
 }
 
 fn oldest_of<L: Ledger>(lists: &Vec<Lists>, on: usize, ticks: &mut Ticks<L>) -> Option<u64>
-    ensures index { (births : List ℕ) (place : ℕ → APlace) →
-        IsIndexOf births place lists.now.items → on < length lists.now.items →
-        result ≡ first_of (λ n. is_ready_on (place n) on) births }
+    ensures index { (seq_nos : List ℕ) (place : ℕ → APlace) →
+        IsIndexOf seq_nos place lists.now.items → on < length lists.now.items →
+        result ≡ first_of (λ n. is_ready_on (place n) on) seq_nos }
     ensures ticks { ticks.new ≤ ticks.old + 1 }
 {
     if on >= lists.len() {
@@ -341,12 +342,12 @@ fn oldest_of<L: Ledger>(lists: &Vec<Lists>, on: usize, ticks: &mut Ticks<L>) -> 
 }
 
 fn next_of<L: Ledger>(lists: &Vec<Lists>, ticks: &mut Ticks<L>) -> Option<(usize, u64)>
-    ensures index { (births : List ℕ) (place : ℕ → APlace) →
-        IsIndexOf births place lists.now.items → Climbs births →
-        AllByRecursion (λ n. (place n).on < length lists.now.items) births →
-        option_map (λ e. e.1) result ≡ first_of (λ n. (place n).is_ready) births }
-    ensures placed { (births : List ℕ) (place : ℕ → APlace) →
-        IsIndexOf births place lists.now.items → IsPlaced place result }
+    ensures index { (seq_nos : List ℕ) (place : ℕ → APlace) →
+        IsIndexOf seq_nos place lists.now.items → Climbs seq_nos →
+        AllByRecursion (λ n. (place n).on < length lists.now.items) seq_nos →
+        option_map (λ e. e.1) result ≡ first_of (λ n. (place n).is_ready) seq_nos }
+    ensures placed { (seq_nos : List ℕ) (place : ℕ → APlace) →
+        IsIndexOf seq_nos place lists.now.items → IsPlaced place result }
     ensures ticks { ticks.new ≤ ticks.old + length lists.now.items }
 {
     let mut best = None;
@@ -359,7 +360,7 @@ fn next_of<L: Ledger>(lists: &Vec<Lists>, ticks: &mut Ticks<L>) -> Option<(usize
 
 /// The earlier one of the best one so far and one that is on this processor.
 fn earlier_of(best: Option<(usize, u64)>, on: usize, here: Option<u64>) -> Option<(usize, u64)>
-    ensures birth { option_map (λ e. e.1) result ≡ earlier (option_map (λ e. e.1) best) here }
+    ensures seq_no { option_map (λ e. e.1) result ≡ earlier (option_map (λ e. e.1) best) here }
     ensures placed { (place : ℕ → APlace) → IsPlaced place best →
         IfSome here (λ n. (place n).on ≡ on) → IsPlaced place result }
 {
@@ -375,12 +376,12 @@ fn earlier_of(best: Option<(usize, u64)>, on: usize, here: Option<u64>) -> Optio
     Some((place, first))
 }
 
-/// Whether none of the lists has a ready birth.
+/// Whether none of the lists has a ready sequence number.
 fn none_ready(lists: &Vec<Lists>) -> bool
-    ensures { (births : List ℕ) (place : ℕ → APlace) →
-        IsIndexOf births place lists.now.items →
-        AllByRecursion (λ n. (place n).on < length lists.now.items) births →
-        result ≡ is_none (first_of (λ n. (place n).is_ready) births) }
+    ensures { (seq_nos : List ℕ) (place : ℕ → APlace) →
+        IsIndexOf seq_nos place lists.now.items →
+        AllByRecursion (λ n. (place n).on < length lists.now.items) seq_nos →
+        result ≡ is_none (first_of (λ n. (place n).is_ready) seq_nos) }
 {
     for on in 0..lists.len() {
         if lists[on].ready.len() > 0 {

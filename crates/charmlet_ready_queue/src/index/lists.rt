@@ -1,41 +1,41 @@
-//! The births on one processor.
+//! The sequence numbers on one processor.
 
 ghost use Rattle.std.specs.Prelude.{◌≡◌, ◌+◌, ◌≤◌, ◌<◌, [], OnOk, if◌then◌else◌};
-ghost use Rattle.charmlet_ready_queue.specs.Births.Births.{with_number, without_number};
+ghost use Rattle.charmlet_ready_queue.specs.SeqNos.SeqNos.{with_number, without_number};
 ghost use Rattle.charmlet_ready_queue.specs.Index.Index.{IsBelow, IsRoomy};
 
-use crate::births::Births;
+use crate::seq_nos::SeqNos;
 use std::alloc::{AllocError, Global};
 
-/// The births on one processor: those that are ready, and those that wait. Beside them, how many
-/// births of elements that have their home here are on other processors.
+/// The sequence numbers on one processor: those that are ready, and those that wait. Beside them,
+/// how many sequence numbers of elements that have their home here are on other processors.
 #[derive(Drop)]
 pub struct Lists {
-    pub ready: Births,
-    pub waiting: Births,
+    pub ready: SeqNos,
+    pub waiting: SeqNos,
     pub away: usize,
 }
 
 impl Lists {
     /// None. It takes no memory.
     pub(crate) fn new(alloc: Global) -> Self
-        ensures ready { result.ready.births ≡ [] }
-        ensures waiting { result.waiting.births ≡ [] }
+        ensures ready { result.ready.seq_nos ≡ [] }
+        ensures waiting { result.waiting.seq_nos ≡ [] }
         ensures away { result.away ≡ 0 }
         ensures roomy { IsRoomy 0 result }
     {
         Lists {
-            ready: Births::new(alloc),
-            waiting: Births::new(alloc),
+            ready: SeqNos::new(alloc),
+            waiting: SeqNos::new(alloc),
             away: 0,
         }
     }
 
-    /// Makes room in each list for all births that may have to stand there, and for so many more.
-    /// Where memory is refused, no birth changes.
+    /// Makes room in each list for all sequence numbers that may have to stand there, and for so
+    /// many more. Where memory is refused, no sequence number changes.
     pub(crate) fn reserve(&mut self, headroom: usize) -> Result<(), AllocError>
-        ensures ready { self.new.ready.births ≡ self.old.ready.births }
-        ensures waiting { self.new.waiting.births ≡ self.old.waiting.births }
+        ensures ready { self.new.ready.seq_nos ≡ self.old.ready.seq_nos }
+        ensures waiting { self.new.waiting.seq_nos ≡ self.old.waiting.seq_nos }
         ensures away { self.new.away ≡ self.old.away }
         ensures ready_capacity { self.old.ready.capacity ≤ self.new.ready.capacity }
         ensures waiting_capacity { self.old.waiting.capacity ≤ self.new.waiting.capacity }
@@ -55,12 +55,12 @@ impl Lists {
         Ok(())
     }
 
-    /// Takes a birth out of the list in which it is.
+    /// Takes a sequence number out of the list in which it is.
     pub(crate) fn take(&mut self, number: u64, is_ready: bool)
-        ensures ready { self.new.ready.births ≡ (if is_ready
-            then without_number number self.old.ready.births else self.old.ready.births) }
-        ensures waiting { self.new.waiting.births ≡ (if is_ready then self.old.waiting.births
-            else without_number number self.old.waiting.births) }
+        ensures ready { self.new.ready.seq_nos ≡ (if is_ready
+            then without_number number self.old.ready.seq_nos else self.old.ready.seq_nos) }
+        ensures waiting { self.new.waiting.seq_nos ≡ (if is_ready then self.old.waiting.seq_nos
+            else without_number number self.old.waiting.seq_nos) }
         ensures away { self.new.away ≡ self.old.away }
         ensures ready_capacity { self.new.ready.capacity ≡ self.old.ready.capacity }
         ensures waiting_capacity { self.new.waiting.capacity ≡ self.old.waiting.capacity }
@@ -72,13 +72,13 @@ impl Lists {
         }
     }
 
-    /// Puts a birth in its place of one list, where there is room.
+    /// Puts a sequence number in its place of one list, where there is room.
     pub(crate) fn put(&mut self, number: u64, is_ready: bool)
         requires { IsRoomy 1 self.old }
-        ensures ready { self.new.ready.births ≡ (if is_ready
-            then with_number number self.old.ready.births else self.old.ready.births) }
-        ensures waiting { self.new.waiting.births ≡ (if is_ready then self.old.waiting.births
-            else with_number number self.old.waiting.births) }
+        ensures ready { self.new.ready.seq_nos ≡ (if is_ready
+            then with_number number self.old.ready.seq_nos else self.old.ready.seq_nos) }
+        ensures waiting { self.new.waiting.seq_nos ≡ (if is_ready then self.old.waiting.seq_nos
+            else with_number number self.old.waiting.seq_nos) }
         ensures away { self.new.away ≡ self.old.away }
         ensures ready_capacity { self.new.ready.capacity ≡ self.old.ready.capacity }
         ensures waiting_capacity { self.new.waiting.capacity ≡ self.old.waiting.capacity }
@@ -90,14 +90,14 @@ impl Lists {
         }
     }
 
-    /// Adds the last birth of all to one list, where there is room.
+    /// Adds the last sequence number of all to one list, where there is room.
     pub(crate) fn push(&mut self, number: u64, is_ready: bool)
         requires roomy { IsRoomy 1 self.old }
         requires last { IsBelow number self.old }
-        ensures ready { self.new.ready.births ≡ (if is_ready
-            then with_number number self.old.ready.births else self.old.ready.births) }
-        ensures waiting { self.new.waiting.births ≡ (if is_ready then self.old.waiting.births
-            else with_number number self.old.waiting.births) }
+        ensures ready { self.new.ready.seq_nos ≡ (if is_ready
+            then with_number number self.old.ready.seq_nos else self.old.ready.seq_nos) }
+        ensures waiting { self.new.waiting.seq_nos ≡ (if is_ready then self.old.waiting.seq_nos
+            else with_number number self.old.waiting.seq_nos) }
         ensures away { self.new.away ≡ self.old.away }
         ensures ready_capacity { self.new.ready.capacity ≡ self.old.ready.capacity }
         ensures waiting_capacity { self.new.waiting.capacity ≡ self.old.waiting.capacity }
@@ -109,7 +109,7 @@ impl Lists {
         }
     }
 
-    /// One more birth of an element that has its home here is elsewhere.
+    /// One more sequence number of an element that has its home here is elsewhere.
     pub(crate) fn send_away(&mut self)
         requires { IsRoomy 1 self.old }
         ensures ready { self.new.ready ≡ self.old.ready }
@@ -121,7 +121,7 @@ impl Lists {
         self.away += 1;
     }
 
-    /// One of the births that were elsewhere isn't any more.
+    /// One of the sequence numbers that were elsewhere isn't any more.
     pub(crate) fn take_back(&mut self)
         requires { 0 < self.old.away }
         ensures ready { self.new.ready ≡ self.old.ready }
@@ -132,15 +132,15 @@ impl Lists {
     }
 }
 
-/// Makes room for so many births in all, and, where that takes memory, for a quarter more, so that
-/// a list that grows is seldom moved.
-fn grow(births: &mut Births, wanted: usize) -> Result<(), AllocError>
-    ensures births { births.new.births ≡ births.old.births }
-    ensures capacity { births.old.capacity ≤ births.new.capacity }
-    ensures ok { OnOk result (wanted ≤ births.new.capacity) }
+/// Makes room for so many sequence numbers in all, and, where that takes memory, for a quarter
+/// more, so that a list that grows is seldom moved.
+fn grow(seq_nos: &mut SeqNos, wanted: usize) -> Result<(), AllocError>
+    ensures seq_nos { seq_nos.new.seq_nos ≡ seq_nos.old.seq_nos }
+    ensures capacity { seq_nos.old.capacity ≤ seq_nos.new.capacity }
+    ensures ok { OnOk result (wanted ≤ seq_nos.new.capacity) }
 {
-    if wanted <= births.capacity() {
+    if wanted <= seq_nos.capacity() {
         return Ok(());
     }
-    births.reserve(wanted.saturating_add(wanted / 4))
+    seq_nos.reserve(wanted.saturating_add(wanted / 4))
 }

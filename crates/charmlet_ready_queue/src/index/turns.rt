@@ -1,4 +1,4 @@
-//! One birth in the lists of all processors.
+//! One sequence number in the lists of all processors.
 
 ghost use Rattle.std.specs.Prelude.{◌≡◌, ◌≢◌, ℕ, ◌<◌, true, length, slice_get, Some};
 ghost use Rattle.charmlet_ready_queue.specs.Index.Index.{IsBelow, IsRoomy, IsWith, IsWithout, OnEach, touches};
@@ -6,9 +6,9 @@ ghost use Rattle.charmlet_ready_queue.specs.Index.Turns.{IsAway, IsBack, IsPut, 
 ghost use Rattle.charmlet_ready_queue.specs.declared.index.lists.Lists.{Lists as ALists};
 
 use crate::index::lists::Lists;
-use crate::index::place::Place;
+use crate::index::place::QueuePlace;
 
-/// Takes a birth out of a list of this processor.
+/// Takes a sequence number out of a list of this processor.
 fn take_on(lists: &mut Vec<Lists>, on: usize, number: u64, is_ready: bool)
     requires { on < length lists.old.items }
     ensures each { OnEach (IsTaken number on is_ready) lists.old.items lists.new.items }
@@ -17,7 +17,7 @@ fn take_on(lists: &mut Vec<Lists>, on: usize, number: u64, is_ready: bool)
     lists[on].take(number, is_ready);
 }
 
-/// Puts a birth in its place of a list of this processor.
+/// Puts a sequence number in its place of a list of this processor.
 fn put_on(lists: &mut Vec<Lists>, on: usize, number: u64, is_ready: bool)
     requires within { on < length lists.old.items }
     requires room { (l : ALists) → slice_get lists.old.items on ≡ Some l → IsRoomy 1 l }
@@ -27,7 +27,7 @@ fn put_on(lists: &mut Vec<Lists>, on: usize, number: u64, is_ready: bool)
     lists[on].put(number, is_ready);
 }
 
-/// Adds the last birth of all to a list of this processor.
+/// Adds the last sequence number of all to a list of this processor.
 fn push_on(lists: &mut Vec<Lists>, on: usize, number: u64, is_ready: bool)
     requires within { on < length lists.old.items }
     requires room { (l : ALists) → slice_get lists.old.items on ≡ Some l → IsRoomy 1 l }
@@ -58,8 +58,8 @@ fn send_away_on(lists: &mut Vec<Lists>, home: usize)
     lists[home].send_away();
 }
 
-/// Takes a birth out of the lists.
-pub(crate) fn take_from(lists: &mut Vec<Lists>, at: Place, number: u64)
+/// Takes a sequence number out of the lists.
+pub(crate) fn take_from(lists: &mut Vec<Lists>, at: QueuePlace, number: u64)
     requires on { at.on < length lists.old.items }
     requires home { at.home < length lists.old.items }
     requires away { at.on ≢ at.home → (l : ALists) →
@@ -73,8 +73,8 @@ pub(crate) fn take_from(lists: &mut Vec<Lists>, at: Place, number: u64)
     }
 }
 
-/// Puts a birth in its place of the lists.
-pub(crate) fn put_in(lists: &mut Vec<Lists>, at: Place, number: u64)
+/// Puts a sequence number in its place of the lists.
+pub(crate) fn put_in(lists: &mut Vec<Lists>, at: QueuePlace, number: u64)
     requires on { at.on < length lists.old.items }
     requires home { at.home < length lists.old.items }
     requires room { (p : ℕ) (l : ALists) → slice_get lists.old.items p ≡ Some l →
@@ -88,8 +88,8 @@ pub(crate) fn put_in(lists: &mut Vec<Lists>, at: Place, number: u64)
     put_on(lists, at.on, number, at.is_ready);
 }
 
-/// Adds the last birth of all to the lists.
-pub(crate) fn push_in(lists: &mut Vec<Lists>, at: Place, number: u64)
+/// Adds the last sequence number of all to the lists.
+pub(crate) fn push_in(lists: &mut Vec<Lists>, at: QueuePlace, number: u64)
     requires on { at.on < length lists.old.items }
     requires home { at.home < length lists.old.items }
     requires room { (p : ℕ) (l : ALists) → slice_get lists.old.items p ≡ Some l →

@@ -8,7 +8,7 @@ use Rattle.std.specs.Ordering.{nat_cmp}
 use Rattle.std.specs.Prelude.{Some}
 use Rattle.charmlet_model.specs.declared.half.Half.{Half}
 use Rattle.charmlet_model.specs.declared.logged.Logged.{Logged}
-use Rattle.charmlet_record.specs.declared.placed.Placed.{Placed}
+use Rattle.charmlet_record.specs.declared.positioned.Positioned.{Positioned}
 use Rattle.charmlet_record.specs.Lawful.{IsBytes}
 use Rattle.charmlet_record.specs.Places.{log_places, placed_log, with_places}
 use Rattle.charmlet_record.specs.Reading.{Kinds, read_log, read_events}
@@ -25,7 +25,7 @@ use Rattle.charmlet_image.specs.declared.header.Header.{Header}
 use Rattle.charmlet_image.specs.declared.half.OpenHalf.{OpenHalf}
 use Rattle.charmlet_image.specs.Halves.{Open, found, IsSaved}
 use Rattle.charmlet_image.specs.Images.{Image, Saved, spell_header, spell_image, spell_half}
-use Rattle.charmlet_image.specs.Placed.{items_of}
+use Rattle.charmlet_image.specs.Positioned.{items_of}
 use Rattle.charmlet_image.specs.Views.{IsView, entry_said}
 use Rattle.charmlet_image.proofs.HalfLemmas.{read_halves_were_spelled}
 use Rattle.charmlet_image.proofs.HalfViews.{length-spell_header}
@@ -38,15 +38,15 @@ use Rattle.charmlet_recovery.specs.Recovered as definitions
 use Rattle.charmlet_recovery.specs.Recovered.{log_of, offset_of, recovered_by}
 use Rattle.charmlet_recovery.proofs.FirstFaults.{places, faulty-parts}
 use Rattle.charmlet_reference.specs.declared.recovery.parts.Parts.{Parts}
-use Rattle.charmlet_reference.specs.declared.recovery.replaying.Place.{Place}
-use Rattle.charmlet_reference.specs.declared.recovery.replaying.Place.TheVariants.{InCatchUp, InPending, InEvents}
+use Rattle.charmlet_reference.specs.declared.recovery.replayed.Place.{Place}
+use Rattle.charmlet_reference.specs.declared.recovery.replayed.Place.TheVariants.{InCatchUp, InPending, InEvents}
 use Rattle.charmlet_reference.specs.Recovery.Views.{image_of, place_seen}
 use Rattle.charmlet_reference.specs.Recovery.Parts.{AreParts, HasParts, offset_at, places_in}
 use Rattle.charmlet_reference.specs.Recovery.Written.{meaning_as_written}
 use Rattle.charmlet_reference.proofs.RecoveryLemmas.OffsetLemmas.{offsets_in, pending_at, caught_up_at, event_at}
 
 -- the events of a log that is read
-pub events_read : (kinds : Kinds) (bytes : List ℕ) (events : List (Placed Logged)) (after : List ℕ) → IsBytes bytes → read_events kinds bytes ≡ Ok (events, after) → events ≡ places_in (read_log kinds bytes)
+pub events_read : (kinds : Kinds) (bytes : List ℕ) (events : List (Positioned Logged)) (after : List ℕ) → IsBytes bytes → read_events kinds bytes ≡ Ok (events, after) → events ≡ places_in (read_log kinds bytes)
 events_read kinds bytes events after fits e = by (read_log kinds bytes) (sym (log_places_are_known kinds bytes fits) ∙ e)
   where
     by : (r : Result (List (List Logged) × List ℕ) ℕ) → placed_log r ≡ Ok (events, after) → events ≡ places_in r
@@ -107,7 +107,7 @@ items_of_log : (following : ℕ) (batches : List (List Logged)) → items_of (lo
 items_of_log following [] = refl
 items_of_log following (batch ∷ batches) =
     let after = length (spell_log batches) + following in
-    map-append (λ (p : Placed Logged). p.item) (with_places spell_event after batch) (log_places following batches)
+    map-append (λ (p : Positioned Logged). p.item) (with_places spell_event after batch) (log_places following batches)
     ∙ (λ i. items_with_places spell_event after batch i ++ items_of_log following batches i)
 
 nothing : length (spell_log []) ≡ 0

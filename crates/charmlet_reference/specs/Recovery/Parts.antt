@@ -1,7 +1,7 @@
 -- What the parts of an open half are to what the half says.
 use Rattle.std.specs.Prelude.{◌≡◌, ℕ, ◌<◌, ◌≤◌, ◌^◌, ◌+◌, List, [], length, slice_index, Result, Ok, Err}
 use Rattle.charmlet_model.specs.declared.logged.Logged.{Logged}
-use Rattle.charmlet_record.specs.declared.placed.Placed.{Placed}
+use Rattle.charmlet_record.specs.declared.positioned.Positioned.{Positioned}
 use Rattle.charmlet_record.specs.Places.{log_places}
 use Rattle.charmlet_image.specs.Halves.{Open, found}
 use Rattle.charmlet_image.specs.Images.{Saved}
@@ -9,13 +9,13 @@ use Rattle.charmlet_recovery.specs.Faults as faults
 use Rattle.charmlet_recovery.specs.Recovered.{log_of, offset_of}
 use Rattle.charmlet_reference.specs.declared.recovery.parts.Offsets.{Offsets}
 use Rattle.charmlet_reference.specs.declared.recovery.parts.Parts.{Parts}
-use Rattle.charmlet_reference.specs.declared.recovery.replaying.Place.{Place}
-use Rattle.charmlet_reference.specs.declared.recovery.replaying.Place.TheVariants.{InCatchUp, InPending, InEvents}
+use Rattle.charmlet_reference.specs.declared.recovery.replayed.Place.{Place}
+use Rattle.charmlet_reference.specs.declared.recovery.replayed.Place.TheVariants.{InCatchUp, InPending, InEvents}
 use Rattle.charmlet_reference.specs.Recovery.Views.{image_of}
 
 -- the events of a log that was read, with the places that the lengths say; after the last batch
 -- stands a closed gate
-abbrev pub places_in : Result (List (List Logged) × List ℕ) ℕ → List (Placed Logged)
+abbrev pub places_in : Result (List (List Logged) × List ℕ) ℕ → List (Positioned Logged)
 places_in (Ok x) = log_places (length x.1 + 1) x.0
 places_in (Err left) = []
 

@@ -2,7 +2,7 @@
 use Rattle.std.specs.Prelude.{◌≡◌, ℕ, ◌+◌, ◌==◌, List, if◌then◌else◌}
 use Rattle.charmlet_model.specs.declared.half.Half.{Half}
 use Rattle.charmlet_model.specs.declared.half.Half.TheVariants.{Zero, One}
-use Rattle.charmlet_model.specs.declared.logged.CaughtUp.{CaughtUp}
+use Rattle.charmlet_model.specs.declared.logged.CatchUpEntry.{CatchUpEntry}
 use Rattle.charmlet_model.specs.World.{World}
 use Rattle.charmlet_image.specs.declared.header.Header.{Header}
 use Rattle.charmlet_image.specs.Halves.{Taken, NothingHere, DamagedAt, found, taken, taken_half}
@@ -10,17 +10,17 @@ use Rattle.charmlet_image.specs.Images.{Image}
 use Rattle.charmlet_recovery.specs.Faults as faults
 use Rattle.charmlet_recovery.specs.Meanings as meanings
 use Rattle.charmlet_recovery.specs.Recovered as definitions
-use Rattle.charmlet_reference.specs.declared.recovery.replaying.Place.{Place}
-use Rattle.charmlet_reference.specs.declared.recovery.replaying.Place.TheVariants.{InCatchUp, InPending, InEvents}
-use Rattle.charmlet_reference.specs.declared.recovery.replaying.Meaning.{Meaning}
-use Rattle.charmlet_reference.specs.declared.recovery.replaying.Meaning.TheVariants.{Faulty, Whole}
-use Rattle.charmlet_reference.specs.declared.recovery.recovering.Recovered.{Recovered}
-use Rattle.charmlet_reference.specs.declared.recovery.recovering.Recovered.TheVariants.{Nothing, Damaged, Found}
-use Rattle.charmlet_reference.specs.declared.recovery.recovering.Choice.{Choice}
-use Rattle.charmlet_reference.specs.declared.recovery.recovering.Choice.TheVariants as choices
+use Rattle.charmlet_reference.specs.declared.recovery.replayed.Place.{Place}
+use Rattle.charmlet_reference.specs.declared.recovery.replayed.Place.TheVariants.{InCatchUp, InPending, InEvents}
+use Rattle.charmlet_reference.specs.declared.recovery.replayed.Meaning.{Meaning}
+use Rattle.charmlet_reference.specs.declared.recovery.replayed.Meaning.TheVariants.{Faulty, Whole}
+use Rattle.charmlet_reference.specs.declared.recovery.recovered.Recovered.{Recovered}
+use Rattle.charmlet_reference.specs.declared.recovery.recovered.Recovered.TheVariants.{Nothing, Damaged, Found}
+use Rattle.charmlet_reference.specs.declared.recovery.recovered.Choice.{Choice}
+use Rattle.charmlet_reference.specs.declared.recovery.recovered.Choice.TheVariants as choices
 
 -- the image that has this world before its catch-up list, and that list
-abbrev pub image_of : World → List CaughtUp → Image
+abbrev pub image_of : World → List CatchUpEntry → Image
 image_of w deliveries = record {
   manifest = w.manifest;
   clients = w.clients;

@@ -7,7 +7,7 @@ ghost use Rattle.charmlet_recovery.specs.Bases.{is_skipped, redelivered, redeliv
 ghost use Rattle.charmlet_recovery.specs.Faults.{catch_up_tests, first_failure, has_effect, is_caught_up, is_next_delivery, same_effect};
 
 use crate::PlainWorld;
-use charmlet_model::{CaughtUp, Effect, Message, State};
+use charmlet_model::{CatchUpEntry, Effect, Message, State};
 use std::alloc::AllocError;
 
 /// Makes the deliveries of a catch-up list, in order, up to the first one that is at fault, and
@@ -15,7 +15,7 @@ use std::alloc::AllocError;
 /// skipped. It fails only when out of memory.
 pub fn catch_up(
     plain: &mut PlainWorld,
-    deliveries: &[CaughtUp],
+    deliveries: &[CatchUpEntry],
 ) -> Result<Option<usize>, AllocError>
     ensures fault { IfOk result (λ place. place ≡ first_failure (catch_up_tests plain.old.manifest
         plain.old.records deliveries.now)) }
@@ -33,7 +33,7 @@ pub fn catch_up(
 
 /// Makes a delivery, or skips it, and returns whether it is free of fault. It fails only when out
 /// of memory.
-fn redeliver(plain: &mut PlainWorld, delivery: &CaughtUp) -> Result<bool, AllocError>
+fn redeliver(plain: &mut PlainWorld, delivery: &CatchUpEntry) -> Result<bool, AllocError>
     ensures good { IfOk result (λ good. good ≡ is_caught_up plain.old.manifest (record_of plain.old
         delivery.now.message.to) delivery.now) }
     ensures made { IfOk result (λ good. good ≡ true → plain.new ≡ record plain.old {
@@ -51,7 +51,7 @@ fn redeliver(plain: &mut PlainWorld, delivery: &CaughtUp) -> Result<bool, AllocE
 }
 
 /// Whether the receiver's record has the delivery already.
-fn is_skipped(plain: &PlainWorld, delivery: &CaughtUp) -> bool
+fn is_skipped(plain: &PlainWorld, delivery: &CatchUpEntry) -> bool
     ensures { result ≡ is_skipped (record_of plain.now delivery.now.message.to) delivery.now }
 {
     let (_, received) = plain.counts(delivery.message.to);
@@ -60,7 +60,7 @@ fn is_skipped(plain: &PlainWorld, delivery: &CaughtUp) -> bool
 
 /// Whether the delivery is the next one of its receiver, can be made, and has the effect that is
 /// written. It fails only when out of memory.
-fn is_next_delivery(plain: &PlainWorld, delivery: &CaughtUp) -> Result<bool, AllocError>
+fn is_next_delivery(plain: &PlainWorld, delivery: &CatchUpEntry) -> Result<bool, AllocError>
     ensures { IfOk result (λ good. good ≡ is_next_delivery plain.now.manifest (record_of plain.now
         delivery.now.message.to) delivery.now) }
 {

@@ -43,36 +43,75 @@ pub fn well_formed<'a>(
     purpose: Purpose,
 ) -> Result<WellFormed<'a>, AllocError> {
     let source = Source::new(alloc, text)?;
-    let mut handlers: IndexSet<&'a [u8]> = IndexSet::new(alloc);
-    let mut names: IndexSet<&'a [u8]> = IndexSet::new(alloc);
-    let mut called: Vec<Called<'a>> = Vec::new(alloc);
+    let mut calls = Calls::new(alloc);
     for (place, line) in source.lines().iter().enumerate() {
+        calls.read(alloc, line, (place as u64).saturating_add(1))?;
+    }
+    Ok(calls.into_well_formed(purpose))
+}
+
+/// What the lines of a script declare and call, up to some line.
+#[derive(Drop)]
+struct Calls<'a> {
+    handlers: IndexSet<&'a [u8]>,
+    /// The names without a handler.
+    names: IndexSet<&'a [u8]>,
+    /// The first of these, each with the lines that call it.
+    called: Vec<Called<'a>>,
+}
+
+impl<'a> Calls<'a> {
+    fn new(alloc: Global) -> Self {
+        Calls {
+            handlers: IndexSet::new(alloc),
+            names: IndexSet::new(alloc),
+            called: Vec::new(alloc),
+        }
+    }
+
+    /// Reads one more line, which has this number.
+    fn read(&mut self, alloc: Global, line: &'a [u8], number: u64) -> Result<(), AllocError> {
         if let Some(name) = name_after(line, HANDLER, 1) {
-            handlers.insert(name)?;
+            self.handlers.insert(name)?;
         }
-        let Some(name) = name_after(line, CALL, 3) else {
-            continue;
-        };
-        if handlers.contains(&name) {
-            continue;
+        match name_after(line, CALL, 3) {
+            Some(name) => self.note_call(alloc, name, number),
+            None => Ok(()),
         }
-        let (index, is_new) = names.insert_full(name)?;
+    }
+
+    /// Notes that the line with this number calls a name, if that has no handler.
+    fn note_call(&mut self, alloc: Global, name: &'a [u8], number: u64) -> Result<(), AllocError> {
+        if self.handlers.contains(&name) {
+            return Ok(());
+        }
+        let (index, is_new) = self.names.insert_full(name)?;
         if is_new && index < MOST_SHOWN {
-            called.push(Called::new(alloc, name))?;
+            self.called.push(Called::new(alloc, name))?;
         }
-        if let Some(call) = called.get_mut(index) {
-            call.add((place as u64).saturating_add(1))?;
+        match self.called.get_mut(index) {
+            Some(called) => called.add(number),
+            None => Ok(()),
         }
     }
-    let mut search = Search::new();
-    for call in &mut called {
-        call.meant = search.nearest(call.name, handlers.as_slice());
+
+    /// What is told of them, with the nearest handler of each name.
+    fn into_well_formed(self, purpose: Purpose) -> WellFormed<'a> {
+        let Calls {
+            handlers,
+            names,
+            mut called,
+        } = self;
+        let mut search = Search::new();
+        for one in &mut called {
+            one.meant = search.nearest(one.name, handlers.as_slice());
+        }
+        WellFormed {
+            purpose,
+            called,
+            names: names.len(),
+        }
     }
-    Ok(WellFormed {
-        purpose,
-        called,
-        names: names.len(),
-    })
 }
 
 /// The word in this place of a line that begins with this one.

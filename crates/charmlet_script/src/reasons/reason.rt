@@ -78,13 +78,27 @@ fn write_length<W: fmt::Write>(
     line: u64,
     column: Option<u64>,
 ) -> fmt::Result {
+    write_size(f, length)?;
+    write_first_past(f, line, column)
+}
+
+/// Writes how many bytes a script has that is too long, as far as is known.
+fn write_size<W: fmt::Write>(f: &mut fmt::Formatter<W>, length: Option<u64>) -> fmt::Result {
     match length {
         Some(length) => write!(
             f,
             "the script has {length} bytes, and may have {MAX_LENGTH}: "
-        )?,
-        None => write!(f, "the script has more than {MAX_LENGTH} bytes: ")?,
+        ),
+        None => write!(f, "the script has more than {MAX_LENGTH} bytes: "),
     }
+}
+
+/// Writes where the first byte stands that is too much.
+fn write_first_past<W: fmt::Write>(
+    f: &mut fmt::Formatter<W>,
+    line: u64,
+    column: Option<u64>,
+) -> fmt::Result {
     match column {
         Some(column) => write!(
             f,

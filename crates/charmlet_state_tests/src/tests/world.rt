@@ -1,4 +1,4 @@
-mod births;
 mod index;
 mod pending;
+mod seq_nos;
 mod worlds;

@@ -2,8 +2,8 @@ mod reading;
 mod worlds;
 
 use charmlet_model::{
-    CONSTRUCT, ClientRow, Edition, Elem, Half, Kind, Manifest, MsgId, Origin, Outgoing, Reaction,
-    Refusal, State, Words,
+    CONSTRUCT, ClientRow, Elem, Half, Kind, KindVersion, Manifest, MsgId, Origin, Outgoing,
+    Reaction, Refusal, State, Words,
 };
 use charmlet_pup::PupFault;
 use charmlet_reference::{pack_state, react, read_state};
@@ -21,12 +21,12 @@ const TAPE: [u8; 20] = [2, 0, 0, 0, 1, 0, 0, 0, 0, 0, 0, 0, 2, 1, 0, 0, 0, 0, 0,
 // What a message makes.
 fn answer(
     rt: &(impl AllocGlobal + Abort),
-    edition: Edition,
+    kind_version: KindVersion,
     state: Option<&State>,
     entry: u16,
     words: &[u64],
 ) -> Reaction {
-    let reaction = react(rt.alloc(), edition, ME, state, entry, words).expect(rt, "memory");
+    let reaction = react(rt.alloc(), kind_version, ME, state, entry, words).expect(rt, "memory");
     reaction.expect(rt, "a reaction")
 }
 
@@ -42,14 +42,14 @@ fn are_children(rt: &impl Abort, sends: &[Outgoing]) {
 
 #[test]
 fn tree_is_constructed_with_its_children(rt: HostRuntime) {
-    let made = answer(&rt, Edition::Tree, None, CONSTRUCT, &[2]);
+    let made = answer(&rt, KindVersion::Tree, None, CONSTRUCT, &[2]);
     are_children(&rt, made.sends.as_slice());
 }
 
 // An account of 10 is asked to pay this amount, and has this reply.
 fn pays(rt: &(impl AllocGlobal + Abort), amount: u64, reply: u64) -> Reaction {
     let account = State::Account { balance: 10 };
-    let paid = answer(rt, Edition::Account, Some(&account), 0, &[9, amount]);
+    let paid = answer(rt, KindVersion::Account, Some(&account), 0, &[9, amount]);
     assert_eq!(rt; paid.reply.as_slice(), [reply].as_slice());
     paid
 }
@@ -64,13 +64,13 @@ fn account_pays_what_it_has(rt: HostRuntime) {
 // A message with this word makes this of an object, and has this reply.
 fn makes(
     rt: &(impl AllocGlobal + Abort),
-    edition: Edition,
+    kind_version: KindVersion,
     state: Option<&State>,
     entry: u16,
     word: u64,
     wanted: &str,
 ) {
-    let made = answer(rt, edition, state, entry, &[word]);
+    let made = answer(rt, kind_version, state, entry, &[word]);
     let state = &made.state;
     let reply = made.reply.as_slice();
     let text = format!(in rt.alloc(); "{state:?} {reply:?}").expect(rt, "memory");
@@ -82,7 +82,7 @@ fn makes(
 #[test]
 fn counters_react_by_their_version(rt: HostRuntime) {
     let new = "Some(Counter { count: 5, peak: 5 }) []";
-    makes(&rt, Edition::Counter, None, CONSTRUCT, 5, new);
+    makes(&rt, KindVersion::Counter, None, CONSTRUCT, 5, new);
     let counter = State::Counter { count: 8, peak: 20 };
     for (entry, word, wanted) in [
         (0, 1, "Some(Counter { count: 9, peak: 20 }) [9]"),
@@ -94,10 +94,17 @@ fn counters_react_by_their_version(rt: HostRuntime) {
         (3, 3, "Some(Counter { count: 8, peak: 20 }) [20]"),
         (4, 3, "Some(Counter { count: 8, peak: 20 }) []"),
     ] {
-        makes(&rt, Edition::Counter, Some(&counter), entry, word, wanted);
+        makes(
+            &rt,
+            KindVersion::Counter,
+            Some(&counter),
+            entry,
+            word,
+            wanted,
+        );
     }
     let new = "Some(FirstCounter { count: 5 }) []";
-    makes(&rt, Edition::FirstCounter, None, CONSTRUCT, 5, new);
+    makes(&rt, KindVersion::FirstCounter, None, CONSTRUCT, 5, new);
     let first = State::FirstCounter { count: 8 };
     for (entry, wanted) in [
         (0, "Some(FirstCounter { count: 11 }) [11]"),
@@ -105,13 +112,20 @@ fn counters_react_by_their_version(rt: HostRuntime) {
         (2, "Some(FirstCounter { count: 8 }) []"),
         (3, "Some(FirstCounter { count: 8 }) []"),
     ] {
-        makes(&rt, Edition::FirstCounter, Some(&first), entry, 3, wanted);
+        makes(
+            &rt,
+            KindVersion::FirstCounter,
+            Some(&first),
+            entry,
+            3,
+            wanted,
+        );
     }
 }
 
 #[test]
 fn absent_elements_do_not_react(rt: HostRuntime) {
-    let reaction = react(rt.alloc(), Edition::Ring, ME, None, 0, &[1]).expect(&rt, "memory");
+    let reaction = react(rt.alloc(), KindVersion::Ring, ME, None, 0, &[1]).expect(&rt, "memory");
     assert!(rt; reaction.is_none());
 }
 
@@ -134,9 +148,9 @@ fn is_tape(rt: &impl Abort, read: &State) {
 #[test]
 fn tapes_are_packed_and_read(rt: HostRuntime) {
     are_tape(&rt, &packed_tape(&rt));
-    let read = read_state(rt.alloc(), Edition::Tape, &TAPE);
+    let read = read_state(rt.alloc(), KindVersion::Tape, &TAPE);
     is_tape(&rt, &read.expect(&rt, "a tape"));
-    let short = read_state(rt.alloc(), Edition::Tape, &TAPE[..19]);
+    let short = read_state(rt.alloc(), KindVersion::Tape, &TAPE[..19]);
     assert!(rt; matches!(short, Err(PupFault::Short)));
 }
 
@@ -162,15 +176,15 @@ fn kinds_have_their_numbers(rt: HostRuntime) {
 fn kinds_have_their_versions(rt: HostRuntime) {
     for (number, version, wanted) in [
         (1, 0, None),
-        (1, 1, Some(Edition::FirstCounter)),
-        (1, 2, Some(Edition::Counter)),
+        (1, 1, Some(KindVersion::FirstCounter)),
+        (1, 2, Some(KindVersion::Counter)),
         (1, 3, None),
         (2, 0, None),
-        (2, 1, Some(Edition::Ring)),
+        (2, 1, Some(KindVersion::Ring)),
         (2, 2, None),
         (2, 3, None),
     ] {
-        assert_eq!(rt; Edition::of_version(number, version), wanted);
+        assert_eq!(rt; KindVersion::of_version(number, version), wanted);
     }
 }
 
@@ -181,12 +195,12 @@ fn manifest_of(rt: &(impl AllocGlobal + Abort), pairs: &[(u16, u16)]) -> Option<
 
 // Array 9 has tapes, array 0 counters, and there is no array 1.
 fn has_two_arrays(rt: &impl Abort, manifest: &Manifest) {
-    for (array, edition) in [
-        (9, Some(Edition::Tape)),
-        (0, Some(Edition::Counter)),
+    for (array, kind_version) in [
+        (9, Some(KindVersion::Tape)),
+        (0, Some(KindVersion::Counter)),
         (1, None),
     ] {
-        assert_eq!(rt; manifest.edition_of(array), edition);
+        assert_eq!(rt; manifest.kind_version_of(array), kind_version);
     }
 }
 

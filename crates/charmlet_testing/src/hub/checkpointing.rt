@@ -6,7 +6,7 @@ use crate::objects::Object;
 use crate::store::{Failed, Running};
 use charmlet_hub::{Checkpoint, Hub, NotSealed};
 use charmlet_model::Refusal;
-use charmlet_sequencer::{LockedShelf, RuntimeName};
+use charmlet_sequencer::{ProcessorState, RuntimeName};
 
 /// What lacks where no checkpoint runs.
 const CHECKPOINT: Failed = Failed::Lacks("checkpoint");
@@ -86,7 +86,7 @@ impl<B: RuntimeName> HubMachine<B> {
 /// is refused, it is given up.
 pub(crate) fn checkpoint<B: RuntimeName>(
     hub: &mut Hub<ProbeDisk, Object, B>,
-    shelves: &mut [LockedShelf<Object, B>],
+    shelves: &mut [ProcessorState<Object, B>],
 ) -> Result<u64, Failed> {
     let mut checkpoint = match hub.begin() {
         Ok(checkpoint) => checkpoint,
@@ -106,7 +106,7 @@ pub(crate) fn checkpoint<B: RuntimeName>(
 fn image_all<B: RuntimeName>(
     hub: &mut Hub<ProbeDisk, Object, B>,
     checkpoint: &mut Checkpoint<B>,
-    shelves: &mut [LockedShelf<Object, B>],
+    shelves: &mut [ProcessorState<Object, B>],
 ) -> Result<(), Failed> {
     for shelf in shelves.iter_mut() {
         image(hub, checkpoint, shelf)?;
@@ -151,7 +151,7 @@ pub(crate) fn end<B: RuntimeName>(
 fn image<B: RuntimeName>(
     hub: &mut Hub<ProbeDisk, Object, B>,
     checkpoint: &mut Checkpoint<B>,
-    shelf: &mut LockedShelf<Object, B>,
+    shelf: &mut ProcessorState<Object, B>,
 ) -> Result<Option<u64>, Failed> {
     if shelf.number() != checkpoint.shelves() {
         return Err(SHELF);

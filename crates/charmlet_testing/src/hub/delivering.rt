@@ -6,7 +6,7 @@ use crate::store::{Failed, Turn};
 use charmlet_hub::{Hub, SeatsOf};
 use charmlet_leases::Seat;
 use charmlet_model::{Elem, MsgId, Refusal};
-use charmlet_sequencer::{LockedShelf, RuntimeName};
+use charmlet_sequencer::{ProcessorState, RuntimeName};
 
 /// What lacks where no delivery is under way, or where it isn't as far as it has to be.
 const DELIVERY: Failed = Failed::Lacks("delivery");
@@ -14,7 +14,7 @@ const DELIVERY: Failed = Failed::Lacks("delivery");
 /// Delivers a message as a worker does, with the seat of the shelf's processor.
 pub(crate) fn deliver<B: RuntimeName>(
     hub: &mut Hub<ProbeDisk, Object, B>,
-    shelf: &mut LockedShelf<Object, B>,
+    shelf: &mut ProcessorState<Object, B>,
     seat: &mut Seat<SeatsOf<B>>,
     id: MsgId,
 ) -> Result<(), Refusal> {
@@ -31,7 +31,7 @@ pub(crate) fn deliver<B: RuntimeName>(
 /// Commits what was done on a shelf, with the seat of its processor.
 pub(crate) fn commit<B: RuntimeName>(
     hub: &mut Hub<ProbeDisk, Object, B>,
-    shelf: &mut LockedShelf<Object, B>,
+    shelf: &mut ProcessorState<Object, B>,
     seat: &mut Seat<SeatsOf<B>>,
 ) -> Result<(), Failed> {
     seat.reserve(1)?;
@@ -43,7 +43,7 @@ pub(crate) fn commit<B: RuntimeName>(
 }
 
 /// Has the receiver on a shelf react.
-pub(crate) fn enter<B: RuntimeName>(shelf: &mut LockedShelf<Object, B>) -> Result<(), Failed> {
+pub(crate) fn enter<B: RuntimeName>(shelf: &mut ProcessorState<Object, B>) -> Result<(), Failed> {
     if !shelf.is_assigned() {
         return Err(DELIVERY);
     }
@@ -53,13 +53,13 @@ pub(crate) fn enter<B: RuntimeName>(shelf: &mut LockedShelf<Object, B>) -> Resul
 /// Calls this on a shelf, for which no seat is needed.
 pub(crate) fn turn<B: RuntimeName>(
     hub: &mut Hub<ProbeDisk, Object, B>,
-    shelf: &mut LockedShelf<Object, B>,
+    shelf: &mut ProcessorState<Object, B>,
     turn: Turn,
 ) -> Result<(), Failed> {
     match turn {
         Turn::Enter => enter(shelf),
         Turn::CommitOwn if shelf.is_done() => {
-            hub.commit_own(shelf)?;
+            hub.commit_without_seat(shelf)?;
             Ok(())
         }
         Turn::Finish if shelf.is_done() => {
@@ -81,8 +81,8 @@ pub(crate) fn turn<B: RuntimeName>(
 /// Moves an element from one shelf to another, if it stands on the first one.
 pub(crate) fn carry<B: RuntimeName>(
     hub: &mut Hub<ProbeDisk, Object, B>,
-    from: &mut LockedShelf<Object, B>,
-    to: &mut LockedShelf<Object, B>,
+    from: &mut ProcessorState<Object, B>,
+    to: &mut ProcessorState<Object, B>,
     elem: Elem,
 ) -> Result<(), Refusal> {
     let Some(place) = hub.history().where_is(elem) else {
@@ -97,7 +97,7 @@ pub(crate) fn carry<B: RuntimeName>(
 /// Moves an element from the shelf at one place to that at another.
 pub(crate) fn carry_among<B: RuntimeName>(
     hub: &mut Hub<ProbeDisk, Object, B>,
-    shelves: &mut [LockedShelf<Object, B>],
+    shelves: &mut [ProcessorState<Object, B>],
     source: usize,
     destination: usize,
     elem: Elem,

@@ -11,33 +11,33 @@ use crate::hub::closing::{end, put_back, take_pass, take_seat};
 use crate::objects::Object;
 use crate::store::{Ended, ProbeStore, Without};
 use charmlet_hub::{
-    Checkpoint, CheckpointsOf, Closed, Hub, NotClosed, PassesOf, SeatsOf, SeenToken,
+    Checkpoint, CheckpointsOf, Closed, GhostToken, Hub, NotClosed, PassesOf, SeatsOf,
 };
-use charmlet_leases::{ClientPass, Seat, SeenIds, SeenPass};
-use charmlet_locks::Unnamed;
+use charmlet_leases::{ClientPass, GhostIds, GhostPass, Seat};
+use charmlet_locks::UnnamedAuthority;
 use charmlet_model::Refusal;
-use charmlet_sequencer::{LockedShelf, Opened, RuntimeName, SeenPart, open_store};
+use charmlet_sequencer::{GhostPart, Opened, ProcessorState, RuntimeName, open_store};
 use charmlet_store::empty_shelves;
 use std::alloc::{AllocError, Global};
 use std::collections::BTreeMap;
 
-/// The books of a hub, before they have their names.
+/// The authorities of a hub, before they have their names.
 #[derive(Drop)]
-pub struct Books {
-    pub parts: Unnamed<SeenPart>,
-    pub seats: Unnamed<SeenIds>,
-    pub passes: Unnamed<SeenPass>,
-    pub checkpoints: Unnamed<SeenToken>,
+pub struct Authorities {
+    pub parts: UnnamedAuthority<GhostPart>,
+    pub seats: UnnamedAuthority<GhostIds>,
+    pub passes: UnnamedAuthority<GhostPass>,
+    pub checkpoints: UnnamedAuthority<GhostToken>,
 }
 
-impl Books {
-    /// New books. It fails only when out of memory.
-    pub fn new(alloc: Global) -> Result<Books, AllocError> {
-        let parts = Unnamed::new(alloc)?;
-        let seats = Unnamed::new(alloc)?;
-        let passes = Unnamed::new(alloc)?;
-        let checkpoints = Unnamed::new(alloc)?;
-        Ok(Books {
+impl Authorities {
+    /// New authorities. It fails only when out of memory.
+    pub fn new(alloc: Global) -> Result<Authorities, AllocError> {
+        let parts = UnnamedAuthority::new(alloc)?;
+        let seats = UnnamedAuthority::new(alloc)?;
+        let passes = UnnamedAuthority::new(alloc)?;
+        let checkpoints = UnnamedAuthority::new(alloc)?;
+        Ok(Authorities {
             parts,
             seats,
             passes,
@@ -51,7 +51,7 @@ impl Books {
 pub struct HubMachine<B: RuntimeName> {
     pub(crate) alloc: Global,
     pub(crate) hub: Hub<ProbeDisk, Object, B>,
-    pub(crate) shelves: Vec<LockedShelf<Object, B>>,
+    pub(crate) shelves: Vec<ProcessorState<Object, B>>,
     /// The seats that are lent: those that were asked for, and those of processors that delivered.
     pub(crate) seats: Vec<Seat<SeatsOf<B>>>,
     /// The passes that are lent: those that were asked for, and those of clients that asked for
@@ -87,18 +87,22 @@ impl<B: RuntimeName> Drop for HubMachine<B> {
 
 impl<B: RuntimeName> HubMachine<B> {
     /// A hub over a store, under its name. Nothing is lent. It fails only when out of memory.
-    pub fn open(alloc: Global, store: ProbeStore, books: Books) -> Result<Self, AllocError>
+    pub fn open(
+        alloc: Global,
+        store: ProbeStore,
+        authorities: Authorities,
+    ) -> Result<Self, AllocError>
         requires named { IsOf B.opening B.before B.processors store }
         requires generation { B.generation ≡ store.generation }
-        requires parts { table_of books.parts ≡ B.table }
-        requires seats { table_of books.seats ≡ B.seats }
-        requires passes { table_of books.passes ≡ B.passes }
-        requires checkpoints { table_of books.checkpoints ≡ B.checkpoints }
+        requires parts { table_of authorities.parts ≡ B.table }
+        requires seats { table_of authorities.seats ≡ B.seats }
+        requires passes { table_of authorities.passes ≡ B.passes }
+        requires checkpoints { table_of authorities.checkpoints ≡ B.checkpoints }
         requires honest { B.honest → ⊥ }
     {
         let processors = store.processors();
         match Vec::with_capacity(alloc, usize::from(processors)) {
-            Ok(shelves) => Ok(Self::open_with(alloc, store, processors, books, shelves)),
+            Ok(shelves) => Ok(Self::open_with(alloc, store, processors, authorities, shelves)),
             Err(_) => Err(AllocError),
         }
     }
@@ -108,34 +112,34 @@ impl<B: RuntimeName> HubMachine<B> {
         alloc: Global,
         store: ProbeStore,
         processors: u16,
-        books: Books,
-        shelves: Vec<LockedShelf<Object, B>>,
+        authorities: Authorities,
+        shelves: Vec<ProcessorState<Object, B>>,
     ) -> Self
         requires named { IsOf B.opening B.before B.processors store }
         requires generation { B.generation ≡ store.generation }
         requires processors { processors ≡ B.processors }
-        requires parts { table_of books.parts ≡ B.table }
-        requires seats { table_of books.seats ≡ B.seats }
-        requires passes { table_of books.passes ≡ B.passes }
-        requires checkpoints { table_of books.checkpoints ≡ B.checkpoints }
+        requires parts { table_of authorities.parts ≡ B.table }
+        requires seats { table_of authorities.seats ≡ B.seats }
+        requires passes { table_of authorities.passes ≡ B.passes }
+        requires checkpoints { table_of authorities.checkpoints ≡ B.checkpoints }
         requires honest { B.honest → ⊥ }
         requires none { vec_len shelves ≡ 0 }
         requires room { B.processors ≤ vec_capacity shelves }
     {
         let (store, halves) = store.into_parts();
-        let Books {
+        let Authorities {
             parts,
             seats,
             passes,
             checkpoints,
-        } = books;
+        } = authorities;
         let Opened { sequencer, shelves } = open_store(store, halves, parts.named::<B>(), shelves);
-        let seat_book = seats.named::<SeatsOf<B>>();
-        let pass_book = passes.named::<PassesOf<B>>();
+        let seat_table = seats.named::<SeatsOf<B>>();
+        let pass_table = passes.named::<PassesOf<B>>();
         let tokens = checkpoints.named::<CheckpointsOf<B>>();
         HubMachine {
             alloc,
-            hub: Hub::new(alloc, sequencer, processors, seat_book, pass_book, tokens),
+            hub: Hub::new(alloc, sequencer, processors, seat_table, pass_table, tokens),
             shelves,
             seats: Vec::new(alloc),
             passes: Vec::new(alloc),

@@ -108,7 +108,7 @@ impl<B: RuntimeName> HubMachine<B> {
 
     /// Moves an element to a processor.
     fn relocate(&mut self, elem: Elem, processor: u16) -> Result<(), Refusal> {
-        let source = match self.hub.source_of_move(elem, processor) {
+        let source = match self.hub.locate_for_move(elem, processor) {
             Ok(Some(source)) => usize::from(source),
             Ok(None) => return Ok(()),
             Err(refusal) => return Err(refusal),

@@ -4,7 +4,7 @@ ghost use Rattle.charmlet_replay.specs.Unused.{IsUnused};
 
 use crate::disk::ProbeDisk;
 use crate::objects::{Object, Tally, blanks};
-use charmlet_engine::{Wanted, manifest, stock_of};
+use charmlet_engine::{Wanted, manifest, stock_from_objects};
 use charmlet_model::{Kind, Refusal};
 use charmlet_stock::Stock;
 use std::alloc::{AllocError, Global};
@@ -38,7 +38,7 @@ impl Drop for Blanks {
 impl Blanks {
     /// Blanks of these objects. When out of memory it hands all of them back.
     pub fn of(alloc: Global, objects: Vec<Object>) -> Result<Blanks, Vec<Object>> {
-        match stock_of(alloc, objects) {
+        match stock_from_objects(alloc, objects) {
             Ok(stock) => Ok(Blanks { stock }),
             Err(objects) => Err(objects),
         }

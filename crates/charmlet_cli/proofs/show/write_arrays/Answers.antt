@@ -1,8 +1,8 @@
-use Rattle.charmlet_model.specs.declared.edition.Edition.TheVariants.{Counter}
+use Rattle.charmlet_model.specs.declared.kind_version.KindVersion.TheVariants.{Counter}
 use Rattle.std.specs.List.{flat_map}
 use Rattle.charmlet_cli.specs.FoundLines.{array_texts}
-use Rattle.charmlet_lines.specs.Writing.{in_lines}
-use Rattle.charmlet_lines.proofs.Printing.{beginning_written, lines_begin}
+use Rattle.charmlet_script_output.specs.Writing.{in_lines}
+use Rattle.charmlet_script_output.proofs.Printing.{beginning_written, lines_begin}
 use Rattle.charmlet_cli.proofs.show.write_arrays.Goals as goal
 
 pub returns-in_err-write_line : goal.returns-in_err-write_line

@@ -2,7 +2,7 @@ use Rattle.std.proofs.Common.{take}
 use Rattle.std.specs.Io.KnownBytes.{Appends}
 use Rattle.std.specs.List.{flat_map}
 use Rattle.charmlet_cli.specs.FoundLines.{array_texts}
-use Rattle.charmlet_lines.specs.Writing.{in_lines}
+use Rattle.charmlet_script_output.specs.Writing.{in_lines}
 use Rattle.charmlet_cli.proofs.show.write_arrays.Given as goal
 
 -- the arrays so far are printed

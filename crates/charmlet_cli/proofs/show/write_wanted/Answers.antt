@@ -7,9 +7,9 @@ use Rattle.charmlet_model.specs.declared.kind.Kind.{Kind}
 use Rattle.charmlet_model.specs.declared.kind.Kind.TheVariants as kinds
 use Rattle.charmlet_model.specs.Texts.{Text}
 use Rattle.charmlet_cli.specs.FoundLines.{count_texts, wanted_texts}
-use Rattle.charmlet_lines.specs.Writing.{in_lines, AppendsBeginning}
-use Rattle.charmlet_lines.specs.Shown.{all_kinds}
-use Rattle.charmlet_lines.proofs.Printing.{beginning_written, lines_begin, lines_more}
+use Rattle.charmlet_script_output.specs.Writing.{in_lines, AppendsBeginning}
+use Rattle.charmlet_script_output.specs.Shown.{all_kinds}
+use Rattle.charmlet_script_output.proofs.Printing.{beginning_written, lines_begin, lines_more}
 use Rattle.charmlet_cli.proofs.show.write_wanted.Goals as goal
 
 pub loop-kind-preserved : goal.loop-kind-preserved

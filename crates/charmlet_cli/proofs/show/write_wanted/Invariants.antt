@@ -2,7 +2,7 @@ use Rattle.std.proofs.Common.{take}
 use Rattle.std.specs.Io.KnownBytes.{Appends}
 use Rattle.std.specs.List.{flat_map}
 use Rattle.charmlet_cli.specs.FoundLines.{wanted_texts}
-use Rattle.charmlet_lines.specs.Writing.{in_lines}
+use Rattle.charmlet_script_output.specs.Writing.{in_lines}
 use Rattle.charmlet_cli.proofs.show.write_wanted.Given as goal
 
 -- the kinds so far are printed

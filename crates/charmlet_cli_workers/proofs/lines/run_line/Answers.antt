@@ -10,7 +10,7 @@ use Rattle.charmlet_script.specs.declared.script.Line.{Line}
 use Rattle.charmlet_script.specs.declared.script.Line.TheVariants as lines
 use Rattle.charmlet_script.specs.Script.{blanks_in as supplied_by}
 use Rattle.charmlet_stock.specs.Stock.{blanks_in}
-use Rattle.charmlet_workers.specs.declared.working.Station.{Station}
+use Rattle.charmlet_workers.specs.declared.work.WorkerSlot.{WorkerSlot}
 use Rattle.charmlet_cli_workers.specs.Heard.{known_by, names_in}
 use Rattle.charmlet_cli_workers.specs.Said.{Answers, Says}
 use Rattle.charmlet_cli_workers.proofs.Hearing.{same_passes}
@@ -64,24 +64,24 @@ returns-in-Census-clause-said g c = λ before done.
 pub returns-in-Drain-clause-said : goal.returns-in-Drain-clause-said
 returns-in-Drain-clause-said g c = λ before done.
     let clients = known_by c.args.runtime.now (names_in c.args.floor.now.handlers) c.args.floor.now.clients.passes.items in
-    let lent : c.as_mut_slice-stations.result.now ≡ c.args.floor.now.stations.items = search rules in
-    let ids : before.delivered ≡ map (λ (s : Station g.row.B.Denot). s.seat.ids) c.as_mut_slice-stations.result.now = done.delivered ∙ ap (λ ss. map (λ (s : Station g.row.B.Denot). s.seat.ids) ss) (sym lent) in
+    let lent : c.as_mut_slice-slots.result.now ≡ c.args.floor.now.slots.items = search rules in
+    let ids : before.delivered ≡ map (λ (s : WorkerSlot g.row.B.Denot). s.seat.ids) c.as_mut_slice-slots.result.now = done.delivered ∙ ap (λ ss. map (λ (s : WorkerSlot g.row.B.Denot). s.seat.ids) ss) (sym lent) in
     let written = c.drain_line.ensures (names_in c.args.floor.now.handlers) c.args.floor.now.clients.passes.items before ids in
-    let items = c.args.floor.now.stations.items in
-    let new = c.drain_line.new.stations in
-    let long : c.args.floor.now.stations.len ≡ length items = search rules in
-    let same : length new ≡ length items = omega (arith, c.drain_line.auto.stations, ap length lent) in
-    let whole : take c.args.floor.now.stations.len (new ++ drop (length new) items) ≡ new =
-    ap (λ ss. take c.args.floor.now.stations.len (new ++ ss)) (drop_all (length new) items (omega (arith, same))) ∙ ap (take c.args.floor.now.stations.len) (append-nil new) ∙ take_all c.args.floor.now.stations.len new (omega (arith, same, long)) in
-    let after = record before { delivered = map (λ (s : Station g.row.B.Denot). s.seat.ids) c.drain_line.new.stations } in
-    (after, (record { accepts = done.accepts; delivered = ap (λ ss. map (λ (s : Station g.row.B.Denot). s.seat.ids) ss) (sym whole); knows = done.knows }), (written.0, subst (λ (line : Line). Says clients before line written.0 after) (sym c.in-Drain.is) written.1, written.2))
+    let items = c.args.floor.now.slots.items in
+    let new = c.drain_line.new.slots in
+    let long : c.args.floor.now.slots.len ≡ length items = search rules in
+    let same : length new ≡ length items = omega (arith, c.drain_line.auto.slots, ap length lent) in
+    let whole : take c.args.floor.now.slots.len (new ++ drop (length new) items) ≡ new =
+    ap (λ ss. take c.args.floor.now.slots.len (new ++ ss)) (drop_all (length new) items (omega (arith, same))) ∙ ap (take c.args.floor.now.slots.len) (append-nil new) ∙ take_all c.args.floor.now.slots.len new (omega (arith, same, long)) in
+    let after = record before { delivered = map (λ (s : WorkerSlot g.row.B.Denot). s.seat.ids) c.drain_line.new.slots } in
+    (after, (record { accepts = done.accepts; delivered = ap (λ ss. map (λ (s : WorkerSlot g.row.B.Denot). s.seat.ids) ss) (sym whole); knows = done.knows }), (written.0, subst (λ (line : Line). Says clients before line written.0 after) (sym c.in-Drain.is) written.1, written.2))
 
 pub returns-in-Call-clause-said : goal.returns-in-Call-clause-said
 returns-in-Call-clause-said g c = λ before done.
     let old = c.args.floor.now.clients.passes.items in
     let new = c.call_handler-told.new.clients.passes.items in
     let clients = known_by c.args.runtime.now (names_in c.args.floor.now.handlers) new in
-    let lists = map (λ (s : Station g.row.B.Denot). s.seat.ids) c.args.floor.now.stations.items in
+    let lists = map (λ (s : WorkerSlot g.row.B.Denot). s.seat.ids) c.args.floor.now.slots.items in
     let call = c.in-Call in
     let words : c.as_slice.result.now ≡ call.words = c.as_slice.ensures in
     let did = c.call_handler-told.ensures.did lists before done in
@@ -95,7 +95,7 @@ returns-in-Call-clause-said g c = λ before done.
 pub returns-in-Step-clause-said : goal.returns-in-Step-clause-said
 returns-in-Step-clause-said g c = λ before done.
     let clients = known_by c.args.runtime.now (names_in c.args.floor.now.handlers) c.answer_to-answer.new.clients.passes.items in
-    let lists = map (λ (s : Station g.row.B.Denot). s.seat.ids) c.args.floor.now.stations.items in
+    let lists = map (λ (s : WorkerSlot g.row.B.Denot). s.seat.ids) c.args.floor.now.slots.items in
     let did = c.answer_to-answer.ensures.answers (names_in c.args.floor.now.handlers) lists before done in
     let texts = answer_text c.answer_to-answer.result ∷ [] in (
       did.0,

@@ -4,8 +4,8 @@ use Rattle.std.proofs.lemmas.List.{take_all, take_more}
 use Rattle.charmlet_script.specs.declared.script.Line.{Line}
 use Rattle.charmlet_script.specs.Script.{blanks_in as supplied_by}
 use Rattle.charmlet_stock.specs.Stock.{blanks_in}
-use Rattle.charmlet_lines.proofs.Results.{on_err}
-use Rattle.charmlet_lines.proofs.Printing.{appends_nothing, lines_then, split_at}
+use Rattle.charmlet_script_output.proofs.Results.{on_err}
+use Rattle.charmlet_script_output.proofs.Printing.{appends_nothing, lines_then, split_at}
 use Rattle.charmlet_cli_workers.specs.Heard.{known_by, names_in}
 use Rattle.charmlet_requests.specs.declared.handlers.Handlers.{Handlers}
 use Rattle.charmlet_cli_workers.specs.Said.{AreSaid, SayInTurn, Says}

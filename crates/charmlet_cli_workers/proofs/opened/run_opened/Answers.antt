@@ -1,5 +1,5 @@
 use Rattle.std.proofs.Common.{◌≤◌, map, sym, subst}
-use Rattle.charmlet_workers.specs.declared.working.Station.{Station}
+use Rattle.charmlet_workers.specs.declared.work.WorkerSlot.{WorkerSlot}
 use Rattle.charmlet_requests.specs.declared.handlers.Handlers.{Handlers}
 use Rattle.charmlet_script.specs.Script.{blanks_of}
 use Rattle.charmlet_stock.specs.Stock.{blanks_in}
@@ -14,7 +14,7 @@ run_on-ran-requires-clause-enough g c _ _ = λ kind. subst (λ s. blanks_of kind
 pub returns-clause-left : goal.returns-clause-left
 returns-clause-left g c =
     let passes = c.run_on-ran.new.floor.clients.passes.items in
-    let lists = map (λ (s : Station g.row.B.Denot). s.seat.ids) c.run_on-ran.new.floor.stations.items in
+    let lists = map (λ (s : WorkerSlot g.row.B.Denot). s.seat.ids) c.run_on-ran.new.floor.slots.items in
     let lines = c.args.lines.now in
     let was = g.W.Write.contents c.args.writer.now in
     let now = g.W.Write.contents c.run_on-ran.new.writer in
@@ -25,7 +25,7 @@ returns-clause-left g c =
 pub returns-clause-prints : goal.returns-clause-prints
 returns-clause-prints g c =
     let passes = c.run_on-ran.new.floor.clients.passes.items in
-    let lists = map (λ (s : Station g.row.B.Denot). s.seat.ids) c.run_on-ran.new.floor.stations.items in
+    let lists = map (λ (s : WorkerSlot g.row.B.Denot). s.seat.ids) c.run_on-ran.new.floor.slots.items in
     let lines = c.args.lines.now in
     prints_apart (known_by c.args.runtime (names_in c.new-floor.result.handlers) passes) (IsDoneBy passes lists) lines.restarted lines.lines.now (g.W.Write.contents c.args.writer.now) (g.W.Write.contents c.run_on-ran.new.writer) c.take_apart.result.disk c.run_on-ran.result c.take_apart.result.result
     c.take_apart.ensures.same c.take_apart.ensures.back c.take_apart.ensures.err c.run_on-ran.ensures.prints

@@ -1,8 +1,8 @@
 use Rattle.std.proofs.Common.{sym, subst, Option}
 use Rattle.std.specs.Io.KnownBytes.{Appends}
-use Rattle.charmlet_lines.specs.declared.restarting.RestartedLine.{RestartedLine}
-use Rattle.charmlet_lines.specs.Writing.{in_lines}
-use Rattle.charmlet_lines.proofs.Printing.{appends_nothing}
+use Rattle.charmlet_script_output.specs.declared.restarted_line.RestartedLine.{RestartedLine}
+use Rattle.charmlet_script_output.specs.Writing.{in_lines}
+use Rattle.charmlet_script_output.proofs.Printing.{appends_nothing}
 use Rattle.charmlet_cli_workers.specs.Said.{opening_texts}
 use Rattle.charmlet_cli_workers.proofs.opened.write_opening.Goals as goal
 

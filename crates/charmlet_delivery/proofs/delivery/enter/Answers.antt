@@ -14,8 +14,8 @@ returns-clause-ok g c =
     let state = g.C.Chare.state in
     let old = c.args.shelf.now in
     let history = c.args.history.now in
-    let letter = c.in-Some.letter.now in
-    let m : Message = record { id = c.in-Some._id; to = letter.to; entry = letter.entry; words = letter.words } in
+    let pending_message = c.in-Some.pending_message.now in
+    let m : Message = record { id = c.in-Some._id; to = pending_message.to; entry = pending_message.entry; words = pending_message.words } in
     let here : assigned_message (core_in history) old.number ≡ Some m =
     ap (assigned_message (core_in history)) (sym c.number.ensures) ∙ sym c.assigned.ensures ∙ ap (option_map shown_message) c.in-Some.is in
     let done : (due : Due) × IsDueAt old.records m due × IsCarriedOut state old.records due c.in-Ok.delivered.output c.in-Ok.delivered.destroyed c.deliver.new.self.records =

@@ -17,8 +17,8 @@ pub returns-in_default-wanted-clause-ok : goal.returns-in_default-wanted-clause-
 returns-in_default-wanted-clause-ok g c =
     let old = c.args.shelf.now in
     let history = c.args.history.now in
-    let letter = c.in-Some.letter.now in
-    let m : Message = record { id = c.in-Some.id; to = letter.to; entry = letter.entry; words = letter.words } in
+    let pending_message = c.in-Some.pending_message.now in
+    let m : Message = record { id = c.in-Some.id; to = pending_message.to; entry = pending_message.entry; words = pending_message.words } in
     let here : assigned_message (core_in history) old.number ≡ Some m =
     ap (assigned_message (core_in history)) (sym c.number.ensures) ∙ sym c.assigned.ensures ∙ ap (option_map shown_message) c.in-Some.is in
     let called = c.assign_copy-assigned in
@@ -31,14 +31,14 @@ returns-clause-ok g c =
     let old = c.args.shelf.now in
     let history = c.args.history.now in
     let m = c.in-Ok.message in
-    let edition = c.in-Some-wanted.edition in
+    let kind_version = c.in-Some-wanted.kind_version in
     let here : assigned_message (core_in history) old.number ≡ Some m =
     ap (assigned_message (core_in history)) (sym c.number.ensures) ∙ sym c.assigned.ensures ∙ ap (option_map shown_message) c.in-Some.is ∙ ap Some (sym c.in-Ok.ensures) in
-    let wanted : blank_of_id (core_in history) (assigned_to (core_in history) old.number) ≡ Some edition = c.requires.wanted ∙ c.in-Some-wanted.is in
+    let wanted : blank_of_id (core_in history) (assigned_to (core_in history) old.number) ≡ Some kind_version = c.requires.wanted ∙ c.in-Some-wanted.is in
     let counts = c.facts.ensures.counts m.to in
     let sent = c.element-counts.result.sent in
     let received = c.element-counts.result.received in
     let sends : sent ≡ (record_of (present (core_in history)) m.to).sent = ap (λ (e : Element). e.sent) c.element-counts.ensures ∙ counts.sent in
     let receives : received ≡ (record_of (present (core_in history)) m.to).received = ap (λ (e : Element). e.received) c.element-counts.ensures ∙ counts.received in
-    let is = when_ok (c.assign_newcomer.new.shelf ≡ record old { phase = Assigned (newcomer_due m edition sent received) }) c.assign_newcomer.result (sym c.is_err-2.ensures.value ∙ c.if-is_err-2.false) c.assign_newcomer.ensures.ok in
-    delivering_new history c.facts.ensures old c.assign_newcomer.new.shelf c.requires.part c.requires.idle m here edition wanted sent received is sends receives
+    let is = when_ok (c.assign_newcomer.new.shelf ≡ record old { phase = Assigned (newcomer_due m kind_version sent received) }) c.assign_newcomer.result (sym c.is_err-2.ensures.value ∙ c.if-is_err-2.false) c.assign_newcomer.ensures.ok in
+    delivering_new history c.facts.ensures old c.assign_newcomer.new.shelf c.requires.part c.requires.idle m here kind_version wanted sent received is sends receives

@@ -15,7 +15,7 @@ use Rattle.charmlet_script.specs.declared.script.Line.{Line}
 use Rattle.charmlet_script.specs.Script.{blanks_of}
 use Rattle.charmlet_requests.specs.Handlers.{handler_of}
 use Rattle.charmlet_engine.specs.Engine.{EngineShown, view_of}
-use Rattle.charmlet_lines.specs.Named.{named_by}
+use Rattle.charmlet_script_output.specs.Named.{named_by}
 use Rattle.charmlet_lab.specs.Lines.{AreRun}
 use Rattle.charmlet_lab.specs.Rounds.{IsRound}
 use Rattle.charmlet_lab.proofs.Causes.{failure_counted}

@@ -2,7 +2,7 @@ use Rattle.std.proofs.Common.{rules, arith, ◌≡◌, ◌-◌, ◌+◌, ◌<◌
 use mathlib.Core.Option.{none}
 use Rattle.atomic_table.specs.Table.{Allows, rest, step}
 use Rattle.charmlet_locks.specs.Home.{Gives, HoldsFrom, IsKept}
-use Rattle.charmlet_locks.specs.declared.rule.Seen.TheVariants.{Begun}
+use Rattle.charmlet_locks.specs.declared.rule.GhostPlaces.TheVariants.{Begun}
 use Rattle.charmlet_locks.proofs.Keeps.{HoldsFirst, gives_place, held_first}
 use Rattle.charmlet_locks.proofs.locks.give_back.Goals as goal
 

@@ -1,6 +1,6 @@
 use Rattle.std.proofs.Common.{◌≡◌, ◌-◌, ◌<◌, ◌≤◌}
 use Rattle.charmlet_locks.specs.Home.{HoldsFrom}
-use Rattle.charmlet_locks.specs.declared.rule.Seen.TheVariants.{Begun}
+use Rattle.charmlet_locks.specs.declared.rule.GhostPlaces.TheVariants.{Begun}
 use Rattle.charmlet_locks.proofs.locks.give_back.Given as goal
 
 abbrev pub invariant-loop-place : goal.invariant-loop-place

@@ -1,5 +1,5 @@
 use Rattle.std.proofs.Common.{rules}
-use Rattle.charmlet_locks.specs.declared.rule.Seen.TheVariants.{Vacant}
+use Rattle.charmlet_locks.specs.declared.rule.GhostPlaces.TheVariants.{Vacant}
 use Rattle.charmlet_locks.proofs.Keeps.{sits}
 use Rattle.charmlet_locks.proofs.locks.new_seat.Goals as goal
 

@@ -1,6 +1,6 @@
 use Rattle.std.proofs.Common.{◌≡◌, ◌-◌, ◌<◌}
 use Rattle.charmlet_locks.specs.Home.{HoldsFrom}
-use Rattle.charmlet_locks.specs.declared.rule.Seen.TheVariants.{Begun}
+use Rattle.charmlet_locks.specs.declared.rule.GhostPlaces.TheVariants.{Begun}
 use Rattle.charmlet_locks.proofs.locks.seize_all.Given as goal
 
 abbrev pub invariant-loop-taken : goal.invariant-loop-taken

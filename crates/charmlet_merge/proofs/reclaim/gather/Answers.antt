@@ -2,7 +2,7 @@ use Rattle.std.proofs.Common.{rules, ◌≡◌, ◌∷◌, ◌+◌, length, arit
 use Rattle.std.specs.List.{All}
 use Rattle.std.proofs.lemmas.List.{nil_from_length}
 use Rattle.charmlet_migrate.specs.Moving.{IsCountedAmong, IsIdle}
-use Rattle.charmlet_replay.proofs.Cleared.{first_within, next_dismissed}
+use Rattle.charmlet_replay.proofs.Cleared.{first_within, next_reclaimed}
 use Rattle.charmlet_merge.proofs.ReclaimLemmas.Gathered.{all_in}
 use Rattle.charmlet_merge.proofs.reclaim.gather.Goals as goal
 
@@ -31,7 +31,7 @@ loop-shelf-preserved g c =
     let as_many = c.loop-shelf.invariant.left ∙ ap length is in
     record {
       left = omega arith;
-      so_far = next_dismissed c.args.stock c.loop-shelf.shelf-iterator.rest.items c.loop-shelf.stock c.loop-shelf.invariant.so_far c.in-Some.shelf c.next.new.self.rest.items is
+      so_far = next_reclaimed c.args.stock c.loop-shelf.shelf-iterator.rest.items c.loop-shelf.stock c.loop-shelf.invariant.so_far c.in-Some.shelf c.next.new.self.rest.items is
           c.clear_shelf.new.shelf c.clear_shelf.new.stock c.clear_shelf.ensures.shelf c.clear_shelf.ensures.held c.clear_shelf.ensures.supplied c.clear_shelf.ensures.keeping;
     }
 

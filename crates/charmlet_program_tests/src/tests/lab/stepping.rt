@@ -2,7 +2,7 @@
 //! crashes.
 
 ghost use Rattle.std.specs.Prelude.{◌≡◌};
-ghost use Rattle.charmlet_model.specs.Edition.{AreNewest};
+ghost use Rattle.charmlet_model.specs.KindVersion.{AreNewest};
 
 use super::counters::blank_counters;
 use charmlet_disk::{AnyDisk, CrashChoice};
@@ -11,7 +11,7 @@ use charmlet_kinds::Counter;
 use charmlet_model::{
     Answer, CONSTRUCT, Elem, Kind, Manifest, MsgId, Origin, Refusal, Step, Told, Words,
 };
-use charmlet_recover::stock_of;
+use charmlet_recover::stock_from_objects;
 use std::alloc::{AllocError, AllocGlobal, Global};
 use std::process::Abort;
 use std::test::Fail;
@@ -106,7 +106,7 @@ fn comes_back<R: Threads + Sync + AllocGlobal + Abort>(
     generation: u64,
     events: u64,
 ) -> Result<(), Fail> {
-    let Ok(blanks) = stock_of(rt.alloc(), blank_counters(rt.alloc(), 1)?) else {
+    let Ok(blanks) = stock_from_objects(rt.alloc(), blank_counters(rt.alloc(), 1)?) else {
         panic!(rt; "memory")
     };
     let Ok(mut engine) = Engine::restart(rt, rt.alloc(), disk, blanks, 1) else {

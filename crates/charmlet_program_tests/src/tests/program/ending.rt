@@ -1,6 +1,6 @@
 //! How the program ends after failures that no command line leads to.
 
-use charmlet_cli::{CommandError, Failure, RunError, Stop, end_program};
+use charmlet_cli::{CommandError, ExitReason, Failure, RunError, end_program};
 use charmlet_kinds::Counter;
 use charmlet_model::Refusal;
 use charmlet_script::ReadError;
@@ -25,16 +25,21 @@ fn ends_with(
 }
 
 // After this stop the program ends with this exit status, and says this.
-fn stops_with(rt: &(impl AllocGlobal + Abort), stop: Stop, wanted: u8, says: &str) {
+fn stops_with(rt: &(impl AllocGlobal + Abort), stop: ExitReason, wanted: u8, says: &str) {
     ends_with(rt, Failure::from(stop), wanted, says.as_bytes(), says);
 }
 
 #[test]
 fn stops_end_with_1_or_2(rt: HostRuntime) {
-    let stop = Stop::NotShown(Refusal::Memory);
+    let stop = ExitReason::NotShown(Refusal::Memory);
     stops_with(&rt, stop, 1, "cannot show store\n");
-    stops_with(&rt, Stop::NotSurvived, 1, "cannot survive each crash\n");
-    let last = Stop::MalformedLine(u64::MAX);
+    stops_with(
+        &rt,
+        ExitReason::NotSurvived,
+        1,
+        "cannot survive each crash\n",
+    );
+    let last = ExitReason::MalformedLine(u64::MAX);
     stops_with(&rt, last, 2, "script line 18446744073709551615\n");
 }
 
@@ -48,9 +53,13 @@ fn want_of_memory_ends_with_1(rt: HostRuntime) {
     lacks_memory(&rt, Failure::from(CommandError::Memory), "command");
     let error = io::Error::from(ErrorKind::OutOfMemory);
     lacks_memory(&rt, Failure::from(error), "output");
-    lacks_memory(&rt, Failure::from(Stop::from(AllocError)), "allocation");
-    let stop = Stop::from(ReadError::Memory);
+    lacks_memory(
+        &rt,
+        Failure::from(ExitReason::from(AllocError)),
+        "allocation",
+    );
+    let stop = ExitReason::from(ReadError::Memory);
     lacks_memory(&rt, Failure::from(stop), "script");
-    let stop = Stop::from(RunError::<Counter>::Memory);
+    let stop = ExitReason::from(RunError::<Counter>::Memory);
     lacks_memory(&rt, Failure::from(stop), "run");
 }

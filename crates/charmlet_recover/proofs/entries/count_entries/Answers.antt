@@ -15,7 +15,7 @@ count-requires c = λ kind.
     let at = c.loop-entry.entry-index in
     let none : Entry = record { element = record { array = 0; index = 0 }; sent = 0; received = 0; packed = None } in
     let e : Entry = get_or es at none in
-    let made = ap one_if (c.edition_held.ensures kind ∙ ap (λ b. b && array_is manifest kind e.element.array) (still_some manifest e)) in
+    let made = ap one_if (c.kind_version_held.ensures kind ∙ ap (λ b. b && array_is manifest kind e.element.array) (still_some manifest e)) in
     let split = ap (λ (xs : List Entry). wanted_by_records manifest kind (map (entry_said manifest) xs)) (next_at es at none c.loop-entry-test.true) in
     let few = few_of_records manifest kind (map (entry_said manifest) es) in
     let long : length (map (entry_said manifest) es) ≡ length es = length-map es (entry_said manifest) in

@@ -2,7 +2,7 @@
 
 ghost use Rattle.std.specs.Prelude.{◌≡◌, ◌≤◌, ◌<◌, ◌^◌, [], ◌∷◌, Some, None, IfOk};
 ghost use Rattle.charmlet_history.specs.Parts.{world_of};
-ghost use Rattle.charmlet_state_tests.specs.Opening.{array_editions, clients, counter_at, message, opening_world, pending, records};
+ghost use Rattle.charmlet_state_tests.specs.Opening.{array_versions, clients, counter_at, message, opening_world, pending, records};
 
 use charmlet_history::{History, Opening, WorldParts};
 use charmlet_model::{
@@ -51,7 +51,7 @@ fn opening_parts(alloc: Global) -> Result<WorldParts, AllocError>
 
 // An array of counters, and one of trees that has no elements.
 fn manifest(alloc: Global) -> Result<Manifest, AllocError>
-    ensures { IfOk result (λ manifest. manifest ≡ array_editions) }
+    ensures { IfOk result (λ manifest. manifest ≡ array_versions) }
 {
     let manifest = Manifest::of(alloc, &[(0, 1), (1, 5)])?;
     let Some(manifest) = manifest else {

@@ -7,7 +7,7 @@ ghost use Rattle.charmlet_history.specs.Kept.{IsAssignedOutput, core_in};
 use super::opening::counter_at;
 use charmlet_chare::Output;
 use charmlet_history::{History, RefusedCommit, Request};
-use charmlet_model::{Edition, Elem, MsgId, Origin, Refusal, Sends, Told, Words};
+use charmlet_model::{Elem, KindVersion, MsgId, Origin, Refusal, Sends, Told, Words};
 use charmlet_world::Element;
 use std::alloc::{AllocError, Global};
 use std::process::Abort;
@@ -50,10 +50,10 @@ pub enum Answer {
     Done,
     Refused(Refusal),
     Told(Told),
-    Blank(Option<Edition>),
+    Blank(Option<KindVersion>),
     Durable(u64),
     Halted(bool),
-    Place(Option<u16>),
+    QueuePlace(Option<u16>),
     Counted(Element),
     Assigned(Option<MsgId>),
     Next(Option<(u16, MsgId)>),
@@ -87,9 +87,9 @@ fn told(answered: Result<Told, Refusal>) -> Answer {
     }
 }
 
-fn blank(answered: Result<Option<Edition>, Refusal>) -> Answer {
+fn blank(answered: Result<Option<KindVersion>, Refusal>) -> Answer {
     match answered {
-        Ok(edition) => Answer::Blank(edition),
+        Ok(kind_version) => Answer::Blank(kind_version),
         Err(refusal) => Answer::Refused(refusal),
     }
 }
@@ -118,7 +118,7 @@ fn looked_up(history: &History, step: Step) -> Option<Answer> {
         Step::Move(elem, processor) => blank(history.test_move(elem, processor)),
         Step::Assigned(processor) => Answer::Assigned(assigned(history, processor)),
         Step::IsHalted => Answer::Halted(history.is_halted()),
-        Step::WhereIs(elem) => Answer::Place(history.where_is(elem)),
+        Step::WhereIs(elem) => Answer::QueuePlace(history.where_is(elem)),
         Step::Counts(elem) => Answer::Counted(history.element(elem)),
         Step::Next => Answer::Next(history.next()),
         Step::Pending => Answer::Pending(history.pending_count()),
@@ -128,7 +128,7 @@ fn looked_up(history: &History, step: Step) -> Option<Answer> {
 }
 
 fn assigned(history: &History, processor: u16) -> Option<MsgId> {
-    let (id, _letter) = history.assigned(processor)?;
+    let (id, _pending_message) = history.assigned(processor)?;
     Some(id)
 }
 
@@ -173,26 +173,27 @@ fn answer_to(history: &mut History, alloc: Global, step: Step) -> Answer {
 // Assigns a message to a counter at an entry that it doesn't have, so that the delivery does
 // nothing. Counter 0 is there, and processor 3 is idle.
 fn assign(history: &mut History, processor: u16, id: MsgId) -> Option<Refusal>
-    ensures outcome { IsNone result → IsAssignedOutput (core_in history.new) processor empty_output }
+    ensures outcome { IsNone result →
+        IsAssignedOutput (core_in history.new) processor empty_output }
 {
     if let Err(refusal) = history.test_delivery(processor, id) {
         return Some(refusal);
     }
-    let edition = match history.test_move(counter_at(0), 3) {
-        Ok(edition) => edition,
+    let kind_version = match history.test_move(counter_at(0), 3) {
+        Ok(kind_version) => kind_version,
         Err(refusal) => return Some(refusal),
     };
-    let Some(Edition::Counter) = edition else {
+    let Some(KindVersion::Counter) = kind_version else {
         return Some(Refusal::Strayed);
     };
     if history.assign(processor, id).is_err() {
         return Some(Refusal::Memory);
     }
     history.facts();
-    let Some((_id, letter)) = history.assigned(processor) else {
+    let Some((_id, pending_message)) = history.assigned(processor) else {
         return Some(Refusal::Strayed);
     };
-    if letter.entry != 4 || letter.to.array != 0 {
+    if pending_message.entry != 4 || pending_message.to.array != 0 {
         return Some(Refusal::Strayed);
     }
     None
@@ -267,10 +268,10 @@ fn write_element(text: &mut String, element: Element) -> Result<(), AllocError> 
     writeln!(text, "{place:?} sent {sent} received {received}")
 }
 
-fn write_blank(text: &mut String, edition: Option<Edition>) -> Result<(), AllocError> {
-    match edition {
-        Some(edition) => {
-            let kind = edition.kind();
+fn write_blank(text: &mut String, kind_version: Option<KindVersion>) -> Result<(), AllocError> {
+    match kind_version {
+        Some(kind_version) => {
+            let kind = kind_version.kind();
             writeln!(text, "can with a blank of kind {kind}")
         }
         None => writeln!(text, "can"),
@@ -282,10 +283,10 @@ fn write_answer(text: &mut String, answer: &Answer) -> Result<(), AllocError> {
         Answer::Done => writeln!(text, "done"),
         Answer::Refused(refusal) => writeln!(text, "{refusal}"),
         Answer::Told(told) => writeln!(text, "{told}"),
-        Answer::Blank(edition) => write_blank(text, *edition),
+        Answer::Blank(kind_version) => write_blank(text, *kind_version),
         Answer::Durable(count) => writeln!(text, "durable {count}"),
         Answer::Halted(is_halted) => writeln!(text, "halted {is_halted}"),
-        Answer::Place(place) => writeln!(text, "{place:?}"),
+        Answer::QueuePlace(place) => writeln!(text, "{place:?}"),
         Answer::Counted(element) => write_element(text, *element),
         Answer::Assigned(id) => write_assigned(text, *id),
         Answer::Next(next) => write_next(text, *next),

@@ -3,7 +3,7 @@
 ghost use Rattle.std.specs.Prelude.{◌≡◌, ◌∷◌, []};
 ghost use Rattle.charmlet_kinds.specs.Ring.{state_of};
 ghost use Rattle.charmlet_model.specs.Packed.{IsState};
-ghost use Rattle.charmlet_model.specs.Reaction.{edition_of};
+ghost use Rattle.charmlet_model.specs.Reaction.{kind_version_of};
 
 use super::shelf::{ME, OTHER, RING, lacks, message, releases, resident, shelf_with};
 use charmlet_chare::Chare;
@@ -16,7 +16,7 @@ use std::process::Abort;
 // An object of this packed form.
 fn unpacked<C: Chare>(rt: &impl Abort, mut blank: C, packed: &[u8]) -> C
     ensures state { IsState (C.state result) }
-    ensures edition { edition_of (C.state result) ≡ edition_of (C.state blank) }
+    ensures kind_version { kind_version_of (C.state result) ≡ kind_version_of (C.state blank) }
 {
     assert!(rt; blank.unpack(packed).is_ok());
     blank

@@ -5,7 +5,7 @@ ghost use Rattle.charmlet_pup.specs.ReadsBack.{ReadsBack-byte_list, ReadsBack-wo
 ghost use Rattle.charmlet_pup.specs.Visit.{RoomForBytes, RoomForWords};
 
 use super::{are_bytes, are_words};
-use charmlet_pup::{Er, Pass, Pup, PupFault, pack, size_of, unpack};
+use charmlet_pup::{Er, Pup, PupFault, UnpackRound, pack, size_of, unpack};
 use std::process::Abort;
 
 // At most 64 numbers.
@@ -196,7 +196,11 @@ fn modes_are_told_apart(rt: HostRuntime) {
     is_mode(&rt, &Er::Sizing(0), (true, false, false));
     let packing = Er::Packing(Vec::new(rt.alloc()));
     is_mode(&rt, &packing, (false, true, false));
-    is_mode(&rt, &Er::Unpacking(&[], Pass::Test), (false, false, true));
+    is_mode(
+        &rt,
+        &Er::Unpacking(&[], UnpackRound::Test),
+        (false, false, true),
+    );
 }
 
 // A visit had this fault.
@@ -211,11 +215,11 @@ const ONE: [u8; 12] = [1, 0, 0, 0, 7, 0, 0, 0, 0, 0, 0, 0];
 // These bytes have this fault for an empty list without room, which they leave so.
 fn has_list_fault(rt: &(impl AllocGlobal + Abort), bytes: &[u8], limit: u32, fault: PupFault) {
     let mut words = Vec::new(rt.alloc());
-    let mut er = Er::Unpacking(bytes, Pass::Write);
+    let mut er = Er::Unpacking(bytes, UnpackRound::Write);
     is_fault(rt, er.words(&mut words, limit), fault);
     are_words(rt, &words, &[]);
     let mut letters = Vec::new(rt.alloc());
-    let mut er = Er::Unpacking(bytes, Pass::Write);
+    let mut er = Er::Unpacking(bytes, UnpackRound::Write);
     is_fault(rt, er.bytes(&mut letters, limit), fault);
     are_bytes(rt, &letters, &[]);
 }
@@ -223,11 +227,11 @@ fn has_list_fault(rt: &(impl AllocGlobal + Abort), bytes: &[u8], limit: u32, fau
 #[test]
 fn faults_leave_what_is_written(rt: HostRuntime) {
     let mut number = 5u64;
-    let mut er = Er::Unpacking(&ONE[..7], Pass::Write);
+    let mut er = Er::Unpacking(&ONE[..7], UnpackRound::Write);
     is_fault(&rt, er.u64(&mut number), PupFault::Short);
     are_words(&rt, &[number], &[5]);
     let mut flag = true;
-    let mut er = Er::Unpacking(&ONE[4..], Pass::Write);
+    let mut er = Er::Unpacking(&ONE[4..], UnpackRound::Write);
     is_fault(&rt, er.flag(&mut flag), PupFault::BadFlag);
     is_set(&rt, flag);
     has_list_fault(&rt, &ONE[..3], 1, PupFault::Short);

@@ -1,23 +1,23 @@
 // The index, each call once.
 
-use charmlet_ready_queue::{Index, Place, Stand};
+use charmlet_ready_queue::{Index, QueuePlace, Readiness};
 use std::process::Abort;
 
-const WAITING: Stand = Stand {
+const WAITING: Readiness = Readiness {
     on: 1,
     home: 1,
     is_there: false,
     has_room: true,
 };
 
-const READY: Place = Place {
+const READY: QueuePlace = QueuePlace {
     on: 0,
     home: 1,
     is_ready: true,
 };
 
 #[test]
-fn places_are_by_stands(rt: HostRuntime) {
+fn places_are_by_readiness(rt: HostRuntime) {
     assert!(&rt; !WAITING.place(false).is_ready);
     assert!(&rt; WAITING.place(true).is_ready);
     let mut full = WAITING;

@@ -1,4 +1,5 @@
-// The pending messages against a plain list, on long random sequences of births and takes.
+// The pending messages against a plain list, on long random sequences of sequence numbers and
+// takes.
 
 ghost use Rattle.std.specs.Prelude.{◌≡◌, ◌<◌, None};
 ghost use Rattle.charmlet_model.specs.Reaction.{greatest};
@@ -57,18 +58,18 @@ fn lacks(rt: &impl Abort, pending: &Pending, id: MsgId)
     assert!(rt; pending.find(id).is_none(), "{id} is there");
 }
 
-// The next birth.
-fn next_birth(rt: &impl Abort, pending: &Pending) -> u64
+// The next sequence number.
+fn next_seq_no(rt: &impl Abort, pending: &Pending) -> u64
     ensures next { result ≡ pending.now.next }
     ensures few { result < greatest }
 {
-    let born = pending.next();
-    assert!(rt; born < u64::MAX, "no births are left");
-    born
+    let seq = pending.next();
+    assert!(rt; seq < u64::MAX, "no sequence numbers are left");
+    seq
 }
 
 // Adds a message at both ends of both lists. Where memory is refused, nothing has changed.
-fn birth(
+fn seq_no(
     rt: &(impl AllocGlobal + Abort),
     lists: &mut Lists,
     number: u64,
@@ -77,16 +78,16 @@ fn birth(
     lists.pending.reserve(1)?;
     let message = message(rt.alloc(), number)?;
     lacks(rt, &lists.pending, message.id);
-    let born = next_birth(rt, &lists.pending);
-    lists.pending.push(message, born);
+    let seq = next_seq_no(rt, &lists.pending);
+    lists.pending.push(message, seq);
     lists.plain.push(number)?;
     Ok(())
 }
 
 // Adds the messages with numbers from `first` up to, but not including, `end`.
-fn births(rt: &(impl AllocGlobal + Abort), lists: &mut Lists, first: u64, end: u64) {
+fn seq_nos(rt: &(impl AllocGlobal + Abort), lists: &mut Lists, first: u64, end: u64) {
     for number in first..end {
-        birth(rt, lists, number).expect(rt, "memory");
+        seq_no(rt, lists, number).expect(rt, "memory");
     }
 }
 
@@ -119,9 +120,9 @@ fn take(rt: &impl Abort, lists: &mut Lists, place: usize) {
 fn are_same(rt: &impl Abort, lists: &Lists) {
     assert_eq!(rt; lists.pending.len(), lists.plain.len());
     let mut numbers = lists.plain.iter();
-    for (id, letter) in lists.pending.iter() {
+    for (id, pending_message) in lists.pending.iter() {
         assert_eq!(rt; Some(&id.number), numbers.next());
-        assert_eq!(rt; letter.words.as_slice().first(), Some(&id.number));
+        assert_eq!(rt; pending_message.words.as_slice().first(), Some(&id.number));
     }
     assert!(rt; numbers.next().is_none());
 }
@@ -131,8 +132,8 @@ fn are_same(rt: &impl Abort, lists: &Lists) {
 struct Choice {
     seed: u64,
     steps: u64,
-    // How many of a hundred steps are births.
-    births: u32,
+    // How many of a hundred steps are sequence numbers.
+    seq_nos: u32,
     // How many of a hundred takes are at random. The others take the oldest.
     random: u32,
 }
@@ -146,7 +147,7 @@ fn some_place(rng: &mut Pcg32, random: u32, length: usize) -> usize {
     }
 }
 
-// A birth of this number, or a take.
+// A sequence number of this number, or a take.
 fn step(
     rt: &(impl AllocGlobal + Abort),
     rng: &mut Pcg32,
@@ -154,8 +155,8 @@ fn step(
     choice: Choice,
     number: u64,
 ) {
-    if rng.next_word() % 100 < choice.births {
-        birth(rt, lists, number).expect(rt, "memory");
+    if rng.next_word() % 100 < choice.seq_nos {
+        seq_no(rt, lists, number).expect(rt, "memory");
     } else if !lists.plain.is_empty() {
         let place = some_place(rng, choice.random, lists.plain.len());
         take(rt, lists, place);
@@ -175,11 +176,11 @@ fn run(rt: &(impl AllocGlobal + Abort), choice: Choice) {
 }
 
 #[test]
-fn messages_are_taken_in_order_of_birth(rt: HostRuntime) {
+fn messages_are_taken_in_order_of_seq_no(rt: HostRuntime) {
     let choice = Choice {
         seed: 1,
         steps: 8000,
-        births: 52,
+        seq_nos: 52,
         random: 0,
     };
     run(&rt, choice);
@@ -190,7 +191,7 @@ fn messages_are_taken_at_random(rt: HostRuntime) {
     let choice = Choice {
         seed: 2,
         steps: 8000,
-        births: 55,
+        seq_nos: 55,
         random: 100,
     };
     run(&rt, choice);
@@ -201,7 +202,7 @@ fn most_messages_are_taken_at_once(rt: HostRuntime) {
     let choice = Choice {
         seed: 3,
         steps: 4000,
-        births: 30,
+        seq_nos: 30,
         random: 50,
     };
     run(&rt, choice);
@@ -219,7 +220,7 @@ fn take_any(rt: &impl Abort, rng: &mut Pcg32, lists: &mut Lists) {
 #[test]
 fn all_messages_are_taken_after_a_burst(rt: HostRuntime) {
     let mut lists = Lists::new(rt.alloc());
-    births(&rt, &mut lists, 1, 1000);
+    seq_nos(&rt, &mut lists, 1, 1000);
     let mut rng = Pcg32::new(4, 54);
     for _ in 0..1000 {
         take_any(&rt, &mut rng, &mut lists);
@@ -228,7 +229,7 @@ fn all_messages_are_taken_after_a_burst(rt: HostRuntime) {
         }
     }
     assert_eq!(rt; lists.pending.len(), 0);
-    births(&rt, &mut lists, 2000, 2001);
+    seq_nos(&rt, &mut lists, 2000, 2001);
     are_same(&rt, &lists);
 }
 
@@ -236,30 +237,30 @@ fn all_messages_are_taken_after_a_burst(rt: HostRuntime) {
 #[test]
 fn a_taken_id_comes_again_as_the_last(rt: HostRuntime) {
     let mut lists = Lists::new(rt.alloc());
-    births(&rt, &mut lists, 1, 9);
+    seq_nos(&rt, &mut lists, 1, 9);
     take(&rt, &mut lists, 2);
-    births(&rt, &mut lists, 3, 4);
+    seq_nos(&rt, &mut lists, 3, 4);
     are_same(&rt, &lists);
 }
 
 // Adds a message. When out of memory, nothing has changed, and it is tried once more.
-fn birth_again(
+fn seq_no_again(
     rt: &(impl AllocGlobal + Abort),
     lists: &mut Lists,
     number: u64,
 ) -> Result<(), AllocError> {
-    if birth(rt, lists, number).is_ok() {
+    if seq_no(rt, lists, number).is_ok() {
         return Ok(());
     }
     are_same(rt, lists);
-    birth(rt, lists, number)
+    seq_no(rt, lists, number)
 }
 
 #[test]
 fn refused_memory_leaves_the_pending_messages(rt: HostRuntime) -> Result<(), Fail> {
     let mut lists = Lists::new(rt.alloc());
     for number in 1..40 {
-        birth_again(&rt, &mut lists, number)?;
+        seq_no_again(&rt, &mut lists, number)?;
         if number % 3 == 0 {
             take(&rt, &mut lists, 1);
         }
@@ -276,8 +277,8 @@ fn sixteen_messages_come_within_the_room_that_was_made(rt: HostRuntime) {
     for number in 0..16 {
         let message = message(rt.alloc(), number).expect(&rt, "memory");
         assert!(rt; pending.find(message.id).is_none());
-        let born = next_birth(&rt, &pending);
-        pending.push(message, born);
+        let seq = next_seq_no(&rt, &pending);
+        pending.push(message, seq);
     }
     assert_eq!(rt; pending.len(), 16);
 }

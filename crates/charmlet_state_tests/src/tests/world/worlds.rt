@@ -9,7 +9,7 @@ use charmlet_model::{
 };
 use charmlet_ready_queue::Ticks;
 use charmlet_reference::PlainWorld;
-use charmlet_world::{Letter, PresentWorld};
+use charmlet_world::{PendingMessage, PresentWorld};
 use rand_core::utils::NextWord;
 use rand_pcg::Pcg32;
 use std::alloc::{AllocError, AllocGlobal, Global};
@@ -115,11 +115,11 @@ fn deliver(world: &mut PresentWorld, plain: &mut PlainWorld, id: MsgId) -> Resul
 // ---- what both show
 
 // A pending message is this one.
-fn is_message(rt: &impl Abort, id: MsgId, letter: &Letter, message: &Message) {
+fn is_message(rt: &impl Abort, id: MsgId, pending_message: &PendingMessage, message: &Message) {
     assert_eq!(rt; id, message.id);
-    assert_eq!(rt; letter.to, message.to);
-    assert_eq!(rt; letter.entry, message.entry);
-    assert_eq!(rt; letter.words.as_slice(), message.words.as_slice());
+    assert_eq!(rt; pending_message.to, message.to);
+    assert_eq!(rt; pending_message.entry, message.entry);
+    assert_eq!(rt; pending_message.words.as_slice(), message.words.as_slice());
 }
 
 // The oldest message that can be delivered.
@@ -171,9 +171,9 @@ fn found_are_same(rt: &impl Abort, world: &PresentWorld, plain: &PlainWorld) {
 fn messages_are_same(rt: &impl Abort, world: &PresentWorld, plain: &PlainWorld) {
     assert_eq!(rt; world.pending_count(), plain.pending().len());
     let mut messages = plain.pending().iter();
-    for (id, letter) in world.messages() {
+    for (id, pending_message) in world.messages() {
         let message = messages.next().expect(rt, "a message of the plain world");
-        is_message(rt, id, letter, message);
+        is_message(rt, id, pending_message, message);
     }
     assert!(rt; messages.next().is_none());
     found_are_same(rt, world, plain);

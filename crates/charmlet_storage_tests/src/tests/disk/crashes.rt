@@ -1,6 +1,6 @@
 // What a crash leaves of a disk in memory, by its bytes.
 use super::{has_failures, has_len, syncs};
-use charmlet_disk::{CrashChoice, Disk, MemDisk, sync_both, write_through};
+use charmlet_disk::{CrashChoice, Disk, MemDisk, sync_both, write_and_sync};
 use charmlet_model::Half;
 use std::alloc::{AllocError, AllocGlobal, Global};
 use std::process::Abort;
@@ -162,7 +162,7 @@ fn crashes_leave_what_was_synced(rt: HostRuntime) {
 fn bytes_written_through_are_sure(rt: HostRuntime) {
     let mut disk = half_sure(&rt).crash(CrashChoice::Sevens);
     if let Ok(end) = disk.len(Half::One) {
-        assert!(rt; write_through(&mut disk, Half::One, end, b"kept").is_ok());
+        assert!(rt; write_and_sync(&mut disk, Half::One, end, b"kept").is_ok());
     }
     let mut left = disk.crash(CrashChoice::Old);
     has_bytes(&rt, &mut left, Half::One, b"\x07\x07\x07\x07kept");
@@ -228,7 +228,7 @@ fn refused_memory_is_a_fault_that_changes_nothing(rt: HostRuntime) {
 fn small_writes_after_a_large_file(rt: HostRuntime) {
     let mut disk = MemDisk::new(rt.alloc());
     let large = vec![in rt.alloc(); 7u8; 1_000_000].expect(&rt, "memory");
-    assert!(rt; write_through(&mut disk, Half::One, 0, &large).is_ok());
+    assert!(rt; write_and_sync(&mut disk, Half::One, 0, &large).is_ok());
     for k in 0..20_000 {
         puts(&rt, &mut disk, Half::One, 1_000_000 + k, &[1]);
         if k % 8 == 0 {

@@ -1,5 +1,5 @@
-mod backlog;
 mod damage;
 mod memory;
 pub mod random;
+mod wal_buffer;
 pub mod worked;

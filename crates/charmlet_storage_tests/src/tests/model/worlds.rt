@@ -1,7 +1,7 @@
 //! Worked histories of one array, run by the plain program of the world. A transcript has a line `>
 //! STEP` for each step, and after it the step's answer.
 
-use charmlet_model::{CONSTRUCT, Edition, Elem, Event, Manifest, MsgId, Origin, Words};
+use charmlet_model::{CONSTRUCT, Elem, Event, KindVersion, Manifest, MsgId, Origin, Words};
 use charmlet_reference::PlainWorld;
 use std::alloc::{AllocError, AllocGlobal, Global};
 use std::process::Abort;
@@ -602,8 +602,11 @@ fn worlds_have_1024_clients_at_most(rt: HostRuntime) {
 #[test]
 fn worlds_keep_their_manifest(rt: HostRuntime) {
     let world = empty_world(rt.alloc(), 3, 6).expect(&rt, "memory");
-    assert_eq!(rt; world.manifest().edition_of(3), Some(Edition::Tape));
-    assert_eq!(rt; world.manifest().edition_of(0), None);
+    assert_eq!(rt;
+        world.manifest().kind_version_of(3),
+        Some(KindVersion::Tape)
+    );
+    assert_eq!(rt; world.manifest().kind_version_of(0), None);
 }
 
 const ROOT: Elem = Elem { array: 0, index: 0 };

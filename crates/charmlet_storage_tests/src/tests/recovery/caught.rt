@@ -2,7 +2,7 @@
 
 use super::answers::{Files, assert_answer, assert_changes};
 use super::stores::{CAUGHT_STORE, GROWN_STORE, IMAGE_STORE, KEPT_STORE, NEW_STORE, OLDER_STORE};
-use charmlet_model::{Edition, Elem, Half};
+use charmlet_model::{Elem, Half, KindVersion};
 use charmlet_reference::{PlainWorld, Recovered, recover, recover_as_written};
 use std::alloc::{AllocError, AllocGlobal, Global};
 use std::process::Abort;
@@ -37,9 +37,9 @@ fn assert_kept(rt: &(impl AllocGlobal + Abort), world: &PlainWorld, index: u64, 
     assert_eq!(rt; text.as_str(), wanted);
 }
 
-// The array 0 is of this edition.
-fn assert_edition(rt: &impl Abort, world: &PlainWorld, wanted: Edition) {
-    assert_eq!(rt; world.manifest().edition_of(0), Some(wanted));
+// The array 0 is of this kind version.
+fn assert_kind_version(rt: &impl Abort, world: &PlainWorld, wanted: KindVersion) {
+    assert_eq!(rt; world.manifest().kind_version_of(0), Some(wanted));
 }
 
 const EIGHT: &str =
@@ -53,7 +53,7 @@ const SIX: &str =
 #[test]
 fn counters_are_caught_up(rt: HostRuntime) {
     let world = world_of(&rt, &NEW_STORE, &CAUGHT_STORE);
-    assert_edition(&rt, &world, Edition::Counter);
+    assert_kind_version(&rt, &world, KindVersion::Counter);
     assert_kept(&rt, &world, 0, EIGHT);
     assert_kept(&rt, &world, 1, SIX);
     assert!(rt; world.pending().is_empty());
@@ -69,7 +69,7 @@ const FIRST_SIX: &str =
 #[test]
 fn counters_are_caught_up_as_written(rt: HostRuntime) {
     let world = world_as_written(&rt, &NEW_STORE, &CAUGHT_STORE);
-    assert_edition(&rt, &world, Edition::FirstCounter);
+    assert_kind_version(&rt, &world, KindVersion::FirstCounter);
     assert_kept(&rt, &world, 0, FIRST_EIGHT);
     assert_kept(&rt, &world, 1, FIRST_SIX);
 }

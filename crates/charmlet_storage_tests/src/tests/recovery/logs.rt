@@ -2,7 +2,7 @@
 
 use super::rounds::assert_verdict;
 use charmlet_model::{
-    CONSTRUCT, CaughtUp, Effect, Elem, Event, Logged, MAX_EVENTS, Manifest, MsgId, Words,
+    CONSTRUCT, CatchUpEntry, Effect, Elem, Event, Logged, MAX_EVENTS, Manifest, MsgId, Words,
 };
 use charmlet_reference::{Meaning, PlainWorld, replay};
 use rand_core::utils::NextWord;
@@ -23,7 +23,7 @@ struct History {
     world: PlainWorld,
     events: Vec<Event>,
     log: Vec<Logged>,
-    caught_up: Vec<CaughtUp>,
+    caught_up: Vec<CatchUpEntry>,
 }
 
 // A construction, or one of three entries.
@@ -74,7 +74,7 @@ fn effect_of(before: bool, after: bool) -> Effect {
 }
 
 // What stands of the delivery of this message, in a catch-up list and in a log.
-fn noted(rt: &(impl AllocGlobal + Abort), world: &PlainWorld, id: MsgId) -> (CaughtUp, Logged) {
+fn noted(rt: &(impl AllocGlobal + Abort), world: &PlainWorld, id: MsgId) -> (CatchUpEntry, Logged) {
     let message = world.message(id).expect(rt, "a message");
     let reaction = world
         .reaction(message)
@@ -83,7 +83,7 @@ fn noted(rt: &(impl AllocGlobal + Abort), world: &PlainWorld, id: MsgId) -> (Cau
     let received = world.counts(message.to).1.saturating_add(1);
     let effect = effect_of(world.state(message.to).is_some(), reaction.state.is_some());
     let message = message.copy(rt.alloc()).expect(rt, "memory");
-    let caught_up = CaughtUp {
+    let caught_up = CatchUpEntry {
         message,
         received,
         effect,
@@ -179,7 +179,7 @@ fn folded(rt: &(impl AllocGlobal + Abort), events: &[Event]) -> PlainWorld {
 fn replayed(
     rt: &(impl AllocGlobal + Abort),
     image: PlainWorld,
-    caught_up: &[CaughtUp],
+    caught_up: &[CatchUpEntry],
     before: u64,
     log: &[Logged],
 ) -> (PlainWorld, u64) {

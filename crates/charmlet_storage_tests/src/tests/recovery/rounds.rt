@@ -2,8 +2,8 @@
 // rounds.
 
 use charmlet_model::{
-    CONSTRUCT, CaughtUp, Effect, Elem, Event, Logged, MAX_EVENTS, Manifest, Message, MsgId, Origin,
-    Outgoing, Sends, Words,
+    CONSTRUCT, CatchUpEntry, Effect, Elem, Event, Logged, MAX_EVENTS, Manifest, Message, MsgId,
+    Origin, Outgoing, Sends, Words,
 };
 use charmlet_reference::{Meaning, PlainWorld, replay};
 use std::alloc::{AllocError, AllocGlobal, Global};
@@ -32,7 +32,7 @@ fn client_id(client: u32, number: u64) -> MsgId {
 fn verdict(
     alloc: Global,
     image: PlainWorld,
-    caught_up: &[CaughtUp],
+    caught_up: &[CatchUpEntry],
     before: u64,
     log: &[Logged],
 ) -> Result<String, AllocError> {
@@ -49,7 +49,7 @@ fn verdict(
 pub fn assert_verdict(
     rt: &(impl AllocGlobal + Abort),
     image: PlainWorld,
-    caught_up: &[CaughtUp],
+    caught_up: &[CatchUpEntry],
     before: u64,
     log: &[Logged],
     wanted: &str,
@@ -116,7 +116,7 @@ fn delivery(
     entry: u16,
     received: u64,
     effect: Effect,
-) -> Result<CaughtUp, AllocError> {
+) -> Result<CatchUpEntry, AllocError> {
     let words = Words::from_slice(alloc, &[0])?;
     let message = Message {
         id,
@@ -124,7 +124,7 @@ fn delivery(
         entry,
         words,
     };
-    Ok(CaughtUp {
+    Ok(CatchUpEntry {
         message,
         received,
         effect,
@@ -132,7 +132,7 @@ fn delivery(
 }
 
 // A leaf is constructed, and destroyed, and the counter is added to.
-fn deliveries(alloc: Global, written: Deliveries) -> Result<Vec<CaughtUp>, AllocError> {
+fn deliveries(alloc: Global, written: Deliveries) -> Result<Vec<CatchUpEntry>, AllocError> {
     let [first, second, third] = written;
     let origin = Origin::Element(TREE);
     let child = MsgId { origin, number: 1 };
@@ -198,14 +198,14 @@ fn waiting(rt: &(impl AllocGlobal + Abort), one: MsgId, other: MsgId) -> PlainWo
 }
 
 // The catch-up list constructs a tree of depth 1, which then sends two messages.
-fn tree_is_caught_up(alloc: Global) -> Result<Vec<CaughtUp>, AllocError> {
+fn tree_is_caught_up(alloc: Global) -> Result<Vec<CatchUpEntry>, AllocError> {
     let message = Message {
         id: client_id(8, 1),
         to: TREE,
         entry: CONSTRUCT,
         words: Words::from_slice(alloc, &[1])?,
     };
-    let caught_up = CaughtUp {
+    let caught_up = CatchUpEntry {
         message,
         received: 1,
         effect: Effect::Constructed,
@@ -392,7 +392,7 @@ fn events_are_limited(rt: HostRuntime) {
 fn goes_wrong(
     rt: &(impl AllocGlobal + Abort),
     image: PlainWorld,
-    caught_up: &[CaughtUp],
+    caught_up: &[CatchUpEntry],
     wanted: &str,
 ) {
     let wrong = Written { number: 5, ..TRUE };

@@ -6,9 +6,9 @@ ghost use Rattle.charmlet_replay.specs.Unused.{IsUnused};
 use charmlet_halves::{Surveyed, survey};
 use charmlet_locate::is_processor_count;
 use charmlet_model::{Answer, Elem, Half, Kind, Refusal};
-use charmlet_parallel_replay::{NotRepeated, Unfinished, replay_by};
+use charmlet_parallel_replay::{NotRepeated, ReplayError, replay_by};
 use charmlet_record::{Fault, ReadError};
-use charmlet_recover::{NotRestarted, Recovered, replayable_half, restart_by, stock_of};
+use charmlet_recover::{NotRestarted, Recovered, replayable_half, restart_by, stock_from_objects};
 use charmlet_reference::{Recovered as Plain, recover};
 use charmlet_replay::{NotReplayed, Replayed, replay};
 use charmlet_stock::Stock;
@@ -64,7 +64,7 @@ fn stock_for(
     for object in blanks(rt.alloc(), tally, &ONE_OF_EACH).expect(rt, "memory") {
         objects.push(object).expect(rt, "memory");
     }
-    match stock_of(rt.alloc(), objects) {
+    match stock_from_objects(rt.alloc(), objects) {
         Ok(stock) => stock,
         Err(_) => panic!(rt; "memory"),
     }
@@ -125,8 +125,8 @@ fn add_waiting(text: &mut String, store: &Store<Object>) -> Result<(), AllocErro
         let row = rows.present();
         write!(text, "{client} {row:?}\n")?;
     }
-    for (id, letter) in store.history.messages() {
-        write!(text, "{id} {letter:?}\n")?;
+    for (id, pending_message) in store.history.messages() {
+        write!(text, "{id} {pending_message:?}\n")?;
     }
     if let Some((processor, id)) = store.next() {
         write!(text, "next {id} on {processor}\n")?;
@@ -168,9 +168,9 @@ fn stands(rt: &(impl AllocGlobal + Abort), store: Store<Object>, is_current: boo
 fn refusal_of(found: &Surveyed, why: ReadError) -> Refusal {
     match why {
         ReadError::Memory => Refusal::Memory,
-        ReadError::Damaged(Fault { left }) => Refusal::Damaged {
+        ReadError::Damaged(Fault { bytes_left }) => Refusal::Damaged {
             half: found.half,
-            offset: found.bytes.len().saturating_sub(left) as u64,
+            offset: found.bytes.len().saturating_sub(bytes_left) as u64,
         },
     }
 }
@@ -222,8 +222,8 @@ fn replay_by_workers<R: Threads + Sync + AllocGlobal + Abort>(
         Ok(half) => match replay_by(rt, rt.alloc(), half, stock, processors, workers) {
             Ok(replayed) => Ok(replayed),
             Err(NotRepeated { why, blanks }) => match why {
-                Unfinished::Read(why) => Err(NotReplayed { why, blanks }),
-                Unfinished::Lack => panic!(rt; "there are blanks enough"),
+                ReplayError::Read(why) => Err(NotReplayed { why, blanks }),
+                ReplayError::OutOfBlanks => panic!(rt; "there are blanks enough"),
             },
         },
         Err(_) => panic!(rt; "there are blanks enough"),

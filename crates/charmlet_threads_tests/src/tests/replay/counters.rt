@@ -1,6 +1,6 @@
 // A store of counters on two processors, of which each gets one.
 
-ghost use Rattle.charmlet_model.specs.Edition.{AreNewest};
+ghost use Rattle.charmlet_model.specs.KindVersion.{AreNewest};
 
 use charmlet_engine::Engine;
 use charmlet_kinds::Counter;
@@ -111,8 +111,8 @@ pub fn logged(rt: &(impl AllocGlobal + Abort), adds: bool) -> ProbeDisk {
     engine.into_disk()
 }
 
-// A disk whose log makes these counters, and then has so many batches, in each of which 1 is added so
-// often to each counter.
+// A disk whose log makes these counters, and then has so many batches, in each of which 1 is added
+// so often to each counter.
 pub fn logged_often(rt: &(impl AllocGlobal + Abort), batches: u64, times: u64) -> ProbeDisk {
     let mut engine = new_engine(rt);
     ask_both(rt, &mut engine, 1, CONSTRUCT, 5);

@@ -1,5 +1,5 @@
-// A log of more events than several workers are dealt at a time comes back by them as by one, also
-// where an event is at fault that they are dealt later.
+// A log of more events than several workers are dispatched at a time comes back by them as by one,
+// also where an event is at fault that they are dispatched later.
 
 use super::answers::{Files, by_many, by_one, by_restart};
 use super::counters::logged_often;

@@ -9,7 +9,7 @@ use charmlet_chare::{Chare, Outbox};
 use charmlet_kinds::Counter;
 use charmlet_model::Elem;
 use charmlet_pup::PupFault;
-use charmlet_recover::{restart_by, stock_of};
+use charmlet_recover::{restart_by, stock_from_objects};
 use charmlet_stock::Stock;
 use charmlet_testing::ProbeDisk;
 use std::alloc::{AllocError, AllocGlobal};
@@ -149,7 +149,7 @@ fn two_that_meet(rt: &(impl AllocGlobal + Abort), flags: &Arc<Flags>) -> Stock<M
         };
         objects.push(meeting).expect(rt, "memory");
     }
-    match stock_of(rt.alloc(), objects) {
+    match stock_from_objects(rt.alloc(), objects) {
         Ok(stock) => stock,
         Err(_) => panic!(rt; "memory"),
     }

@@ -1,7 +1,7 @@
 // Random stores come back by several workers as they do by the plain replay, as their runs left
 // them, with gates that are closed, and with other bytes.
 
-ghost use Rattle.charmlet_model.specs.Edition.{AreNewest};
+ghost use Rattle.charmlet_model.specs.KindVersion.{AreNewest};
 
 use super::answers::{Files, by_many, by_one, by_restart, is_read, plainly};
 use charmlet_engine::Engine;

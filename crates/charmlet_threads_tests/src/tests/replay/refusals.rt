@@ -5,7 +5,7 @@ ghost use Rattle.charmlet_replay.specs.Unused.{IsUnused};
 use super::answers::{Files, by_restart, disk_of};
 use super::counters::logged;
 use charmlet_model::{Half, Kind, Refusal};
-use charmlet_recover::{NotRestarted, restart_by, stock_of};
+use charmlet_recover::{NotRestarted, restart_by, stock_from_objects};
 use charmlet_stock::Stock;
 use charmlet_testing::{Object, Tally, blanks};
 use std::alloc::{AllocError, AllocGlobal, Global};
@@ -19,7 +19,7 @@ fn two_blanks(rt: &(impl AllocGlobal + Abort)) -> Stock<Object>
 {
     let tally = Arc::new(rt.alloc(), Tally::new()).expect(rt, "memory");
     let objects = blanks(rt.alloc(), &tally, &[(Kind::Counter, 2)]).expect(rt, "memory");
-    match stock_of(rt.alloc(), objects) {
+    match stock_from_objects(rt.alloc(), objects) {
         Ok(stock) => stock,
         Err(_) => panic!(rt; "memory"),
     }

@@ -14,7 +14,7 @@ use charmlet_leases::{ClientPass, Seat};
 use charmlet_model::{CONSTRUCT, Elem, Event, MsgId, Origin, Refusal, Told};
 use charmlet_sequencer::RuntimeName;
 use charmlet_testing::{Blanks, Object, ProbeDisk, ProbeStore, Switches, Tally, wanted_objects};
-use charmlet_workers::{Gate, MOST_ASKS, Runtime, Station, Worked, work_all};
+use charmlet_workers::{Gate, MOST_ASKS, Runtime, Worked, WorkerSlot, work_all};
 use std::alloc::AllocGlobal;
 use std::marker::Brand;
 use std::process::Abort;
@@ -107,21 +107,21 @@ fn sit<B: RuntimeName, R: Wait + Abort>(
     rt: &R,
     runtime: &Runtime<ProbeDisk, Object, B>,
     processor: u16,
-) -> Station<B> {
+) -> WorkerSlot<B> {
     let seat = runtime.seat(rt, processor).expect(rt, "it isn't out");
     assert_eq!(rt; runtime.seat(rt, processor).err(), Some(Refusal::PassOut));
     let worked = Worked {
         count: 0,
         refusal: None,
     };
-    Station { seat, worked }
+    WorkerSlot { seat, worked }
 }
 
 // Each worker has committed its one message.
-fn has_worked<B: RuntimeName>(rt: &impl Abort, station: &Station<B>, client: u32) {
-    assert_eq!(rt; station.worked.count, 1);
-    assert_eq!(rt; station.worked.refusal, None);
-    assert_eq!(rt; station.seat.ids(), [first_of(client)].as_slice());
+fn has_worked<B: RuntimeName>(rt: &impl Abort, slot: &WorkerSlot<B>, client: u32) {
+    assert_eq!(rt; slot.worked.count, 1);
+    assert_eq!(rt; slot.worked.refusal, None);
+    assert_eq!(rt; slot.seat.ids(), [first_of(client)].as_slice());
 }
 
 // A flush fails at this call of the disk, whose later calls would all pass. Then all is refused.
@@ -191,18 +191,18 @@ fn cross<B: RuntimeName + Send + Sync, R: Threads + Wait + Sync + AllocGlobal + 
 ) -> ProbeDisk {
     assert!(rt; runtime.supply(rt, blanks).is_ok());
     let mut passes = Vec::new(rt.alloc());
-    let mut stations = Vec::new(rt.alloc());
+    let mut slots = Vec::new(rt.alloc());
     for place in 0..2 {
         let pass = ask(rt, &runtime, 7 + place, u64::from(place));
         passes.push(pass).expect(rt, "memory");
-        let station = sit(rt, &runtime, place as u16);
-        stations.push(station).expect(rt, "memory");
+        let slot = sit(rt, &runtime, place as u16);
+        slots.push(slot).expect(rt, "memory");
     }
     assert_eq!(rt; runtime.seat(rt, 2).err(), Some(Refusal::BadPes));
-    work_all(rt, &runtime, stations.as_mut_slice(), gate, 3);
+    work_all(rt, &runtime, slots.as_mut_slice(), gate, 3);
     fail(rt, &runtime, passes.as_mut_slice(), switches, call);
     let counts = switches.counts();
-    let disk = end(rt, runtime, stand(rt, stations), passes);
+    let disk = end(rt, runtime, stand(rt, slots), passes);
     assert_eq!(rt; switches.counts(), counts);
     disk
 }
@@ -210,18 +210,18 @@ fn cross<B: RuntimeName + Send + Sync, R: Threads + Wait + Sync + AllocGlobal + 
 // Each worker has committed its one message. Their seats.
 fn stand<B: RuntimeName>(
     rt: &(impl AllocGlobal + Abort),
-    stations: Vec<Station<B>>,
+    slots: Vec<WorkerSlot<B>>,
 ) -> Vec<Seat<SeatsOf<B>>> {
     let mut seats = Vec::new(rt.alloc());
-    for (client, station) in (7..).zip(stations) {
-        has_worked(rt, &station, client);
-        let Station { seat, worked: _ } = station;
+    for (client, slot) in (7..).zip(slots) {
+        has_worked(rt, &slot, client);
+        let WorkerSlot { seat, worked: _ } = slot;
         seats.push(seat).expect(rt, "memory");
     }
     seats
 }
 
-// The same over a store, with books that `B` names.
+// The same over a store, with authorities that `B` names.
 fn cross_named<B: RuntimeName + Send + Sync, R: Threads + Wait + Sync + AllocGlobal + Abort>(
     rt: &R,
     start: Start,
@@ -231,20 +231,20 @@ fn cross_named<B: RuntimeName + Send + Sync, R: Threads + Wait + Sync + AllocGlo
     requires ready { IsReady start.store start.halves }
     requires named { IsOf B.opening B.before B.processors (core_in start.store.history) }
     requires generation { B.generation ≡ (core_in start.store.history).generation }
-    requires parts { table_of start.books.parts ≡ B.table }
-    requires seats { table_of start.books.seats ≡ B.seats }
-    requires passes { table_of start.books.passes ≡ B.passes }
-    requires checkpoints { table_of start.books.checkpoints ≡ B.checkpoints }
+    requires parts { table_of start.authorities.parts ≡ B.table }
+    requires seats { table_of start.authorities.seats ≡ B.seats }
+    requires passes { table_of start.authorities.passes ≡ B.passes }
+    requires checkpoints { table_of start.authorities.checkpoints ≡ B.checkpoints }
     requires honest { B.honest → ⊥ }
 {
     let Start {
         store,
         halves,
-        books,
+        authorities,
         switches,
         blanks,
     } = start;
-    match Runtime::<ProbeDisk, Object, B>::open(store, halves, books) {
+    match Runtime::<ProbeDisk, Object, B>::open(store, halves, authorities) {
         Ok(runtime) => cross(rt, runtime, gate, &switches, blanks, call),
         Err(_) => panic!(rt; "memory"),
     }

@@ -3,7 +3,7 @@
 
 ghost use Rattle.std.specs.Prelude.{◌≡◌};
 ghost use Rattle.charmlet_locks.specs.GhostAuth.Naming.{table_of};
-ghost use Rattle.charmlet_model.specs.Edition.{AreNewest};
+ghost use Rattle.charmlet_model.specs.KindVersion.{AreNewest};
 ghost use Rattle.charmlet_sequencer.specs.Sequencer.{IsOf};
 ghost use Rattle.charmlet_engine.specs.Engine.{core_of};
 
@@ -11,10 +11,10 @@ use charmlet_history::Request;
 use charmlet_hub::{PassesOf, SeatsOf};
 use charmlet_leases::{ClientPass, Seat};
 use charmlet_model::{CONSTRUCT, Elem, Kind, Manifest, MsgId, Origin, Told};
-use charmlet_runtime::UnnamedRuntime;
+use charmlet_runtime::RuntimeBuilder;
 use charmlet_sequencer::RuntimeName;
 use charmlet_testing::{Object, ProbeDisk, Tally, blanks};
-use charmlet_workers::{OpenGate, Runtime, RuntimeRoom, UnnamedBooks};
+use charmlet_workers::{OpenGate, Runtime, RuntimeRoom, UnnamedAuthorities};
 use std::alloc::AllocGlobal;
 use std::marker::Brand;
 use std::process::Abort;
@@ -38,11 +38,11 @@ fn array_of(rt: &(impl AllocGlobal + Abort), kind: Kind) -> Manifest
 }
 
 // A new runtime on two processors, with an array of elements of this kind.
-fn create(rt: &(impl AllocGlobal + Abort), kind: Kind) -> UnnamedRuntime<ProbeDisk, Object>
+fn create(rt: &(impl AllocGlobal + Abort), kind: Kind) -> RuntimeBuilder<ProbeDisk, Object>
     ensures { (core_of result).processors ≡ 2 }
 {
     let disk = ProbeDisk::new(rt.alloc()).expect(rt, "memory");
-    match UnnamedRuntime::create(rt.alloc(), disk, array_of(rt, kind), 2) {
+    match RuntimeBuilder::create(rt.alloc(), disk, array_of(rt, kind), 2) {
         Ok(begun) => begun,
         Err(_) => panic!(rt; "no store is there"),
     }
@@ -130,22 +130,22 @@ fn grow<B: RuntimeName, R: Wait + AllocGlobal + Abort>(
 // One of the two under the name `B`: a tree is made, or a token goes on.
 fn run_named<B: RuntimeName, R: Wait + AllocGlobal + Abort>(
     rt: &R,
-    begun: UnnamedRuntime<ProbeDisk, Object>,
-    books: UnnamedBooks,
+    begun: RuntimeBuilder<ProbeDisk, Object>,
+    authorities: UnnamedAuthorities,
     kind: Kind,
     tally: &Arc<Tally>,
 )
     requires named { IsOf B.opening B.before B.processors (core_of begun) }
     requires generation { B.generation ≡ (core_of begun).generation }
     requires two { B.processors ≡ 2 }
-    requires parts { table_of books.parts ≡ B.table }
-    requires seats { table_of books.seats ≡ B.seats }
-    requires passes { table_of books.passes ≡ B.passes }
-    requires checkpoints { table_of books.checkpoints ≡ B.checkpoints }
+    requires parts { table_of authorities.parts ≡ B.table }
+    requires seats { table_of authorities.seats ≡ B.seats }
+    requires passes { table_of authorities.passes ≡ B.passes }
+    requires checkpoints { table_of authorities.checkpoints ≡ B.checkpoints }
     requires honest { B.honest → ⊥ }
 {
     let room = RuntimeRoom::new(rt.alloc(), 2).expect(rt, "memory");
-    let runtime = begun.open_in::<B>(books, room);
+    let runtime = begun.open_in::<B>(authorities, room);
     match kind {
         Kind::Tree => grow(rt, runtime, tally),
         _ => pass_on(rt, runtime, tally),
@@ -155,8 +155,8 @@ fn run_named<B: RuntimeName, R: Wait + AllocGlobal + Abort>(
 // The same of elements of this kind, under a name of its own.
 fn run_once<R: Wait + AllocGlobal + Abort>(rt: &R, kind: Kind) {
     let tally = Arc::new(rt.alloc(), Tally::new()).expect(rt, "memory");
-    let books = UnnamedBooks::new(rt.alloc()).expect(rt, "memory");
-    run_named::<Brand, R>(rt, create(rt, kind), books, kind, &tally)
+    let authorities = UnnamedAuthorities::new(rt.alloc()).expect(rt, "memory");
+    run_named::<Brand, R>(rt, create(rt, kind), authorities, kind, &tally)
 }
 
 #[test]

@@ -227,20 +227,20 @@ fn meet_named<B: RuntimeName + Send + Sync, R: Threads + Wait + Sync + AllocGlob
     requires ready { IsReady start.store start.halves }
     requires named { IsOf B.opening B.before B.processors (core_in start.store.history) }
     requires generation { B.generation ≡ (core_in start.store.history).generation }
-    requires parts { table_of start.books.parts ≡ B.table }
-    requires seats { table_of start.books.seats ≡ B.seats }
-    requires passes { table_of start.books.passes ≡ B.passes }
-    requires checkpoints { table_of start.books.checkpoints ≡ B.checkpoints }
+    requires parts { table_of start.authorities.parts ≡ B.table }
+    requires seats { table_of start.authorities.seats ≡ B.seats }
+    requires passes { table_of start.authorities.passes ≡ B.passes }
+    requires checkpoints { table_of start.authorities.checkpoints ≡ B.checkpoints }
     requires honest { B.honest → ⊥ }
 {
     let Start {
         store,
         halves,
-        books,
+        authorities,
         switches,
         blanks,
     } = start;
-    match Runtime::<ProbeDisk, Object, B>::open(store, halves, books) {
+    match Runtime::<ProbeDisk, Object, B>::open(store, halves, authorities) {
         Ok(runtime) => meet(rt, runtime, tally, &switches, blanks),
         Err(_) => panic!(rt; "memory"),
     }

@@ -13,11 +13,11 @@ use charmlet_history::Request;
 use charmlet_hub::{Closed, PassesOf, SeatsOf};
 use charmlet_leases::{ClientPass, Seat};
 use charmlet_model::{CONSTRUCT, Elem, Kind, MsgId, Origin, Refusal, Told};
-use charmlet_runtime::{Reopened, UnnamedRuntime, open_reopened};
+use charmlet_runtime::{Reopened, RuntimeBuilder, open_reopened};
 use charmlet_sequencer::RuntimeName;
 use charmlet_store::Look;
 use charmlet_testing::{Object, ProbeDisk, Switches, Tally, blanks};
-use charmlet_workers::{NotClosed, OpenGate, Runtime, RuntimeRoom, UnnamedBooks};
+use charmlet_workers::{NotClosed, OpenGate, Runtime, RuntimeRoom, UnnamedAuthorities};
 use std::alloc::AllocGlobal;
 use std::marker::Brand;
 use std::process::Abort;
@@ -300,50 +300,50 @@ fn live<B: RuntimeName, R: Wait + AllocGlobal + Abort>(
 // The first one under the name `B`.
 fn live_named<B: RuntimeName, R: Wait + AllocGlobal + Abort>(
     rt: &R,
-    begun: UnnamedRuntime<ProbeDisk, Object>,
-    books: UnnamedBooks,
+    begun: RuntimeBuilder<ProbeDisk, Object>,
+    authorities: UnnamedAuthorities,
     switches: &Switches,
 ) -> ProbeDisk
     requires named { IsOf B.opening B.before B.processors (core_of begun) }
     requires generation { B.generation ≡ (core_of begun).generation }
     requires two { B.processors ≡ 2 }
-    requires parts { table_of books.parts ≡ B.table }
-    requires seats { table_of books.seats ≡ B.seats }
-    requires passes { table_of books.passes ≡ B.passes }
-    requires checkpoints { table_of books.checkpoints ≡ B.checkpoints }
+    requires parts { table_of authorities.parts ≡ B.table }
+    requires seats { table_of authorities.seats ≡ B.seats }
+    requires passes { table_of authorities.passes ≡ B.passes }
+    requires checkpoints { table_of authorities.checkpoints ≡ B.checkpoints }
     requires honest { B.honest → ⊥ }
 {
     let room = RuntimeRoom::new(rt.alloc(), 2).expect(rt, "memory");
-    live(rt, begun.open_in::<B>(books, room), Some(switches))
+    live(rt, begun.open_in::<B>(authorities, room), Some(switches))
 }
 
 // The same, under a name of its own.
 fn live_once<R: Wait + AllocGlobal + Abort>(
     rt: &R,
-    begun: UnnamedRuntime<ProbeDisk, Object>,
+    begun: RuntimeBuilder<ProbeDisk, Object>,
     switches: &Switches,
 ) -> ProbeDisk
     requires { (core_of begun).processors ≡ 2 }
 {
-    let books = UnnamedBooks::new(rt.alloc()).expect(rt, "memory");
-    live_named::<Brand, R>(rt, begun, books, switches)
+    let authorities = UnnamedAuthorities::new(rt.alloc()).expect(rt, "memory");
+    live_named::<Brand, R>(rt, begun, authorities, switches)
 }
 
 // The second one under the name `B`.
 fn live_again_named<B: RuntimeName, R: Wait + AllocGlobal + Abort>(
     rt: &R,
     reopened: Reopened<ProbeDisk, Object>,
-    books: UnnamedBooks,
+    authorities: UnnamedAuthorities,
 ) -> ProbeDisk
     requires named { IsOf B.opening B.before B.processors (core_to_be reopened) }
     requires generation { B.generation ≡ (core_to_be reopened).generation }
-    requires parts { table_of books.parts ≡ B.table }
-    requires seats { table_of books.seats ≡ B.seats }
-    requires passes { table_of books.passes ≡ B.passes }
-    requires checkpoints { table_of books.checkpoints ≡ B.checkpoints }
+    requires parts { table_of authorities.parts ≡ B.table }
+    requires seats { table_of authorities.seats ≡ B.seats }
+    requires passes { table_of authorities.passes ≡ B.passes }
+    requires checkpoints { table_of authorities.checkpoints ≡ B.checkpoints }
     requires honest { B.honest → ⊥ }
 {
-    match open_reopened::<ProbeDisk, Object, B>(rt.alloc(), reopened, books) {
+    match open_reopened::<ProbeDisk, Object, B>(rt.alloc(), reopened, authorities) {
         Ok(runtime) => live(rt, runtime, None),
         Err(_) => panic!(rt; "memory"),
     }
@@ -354,8 +354,8 @@ fn live_again<R: Wait + AllocGlobal + Abort>(
     rt: &R,
     reopened: Reopened<ProbeDisk, Object>,
 ) -> ProbeDisk {
-    let books = UnnamedBooks::new(rt.alloc()).expect(rt, "memory");
-    live_again_named::<Brand, R>(rt, reopened, books)
+    let authorities = UnnamedAuthorities::new(rt.alloc()).expect(rt, "memory");
+    live_again_named::<Brand, R>(rt, reopened, authorities)
 }
 
 #[test]

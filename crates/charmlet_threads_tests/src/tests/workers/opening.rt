@@ -1,20 +1,20 @@
 //! Stores to open a runtime over: new ones, and one that comes back.
 
 ghost use Rattle.std.specs.Prelude.{◌≡◌};
-ghost use Rattle.charmlet_model.specs.Edition.{AreNewest};
+ghost use Rattle.charmlet_model.specs.KindVersion.{AreNewest};
 ghost use Rattle.charmlet_engine.specs.Engine.{core_of};
 ghost use Rattle.charmlet_workers.specs.Runtime.{IsReady};
 
 use charmlet_halves::Halves;
 use charmlet_model::{Kind, Manifest};
 use charmlet_persist::{Created, create};
-use charmlet_recover::stock_of;
-use charmlet_runtime::{Reopened, UnnamedRuntime};
+use charmlet_recover::stock_from_objects;
+use charmlet_runtime::{Reopened, RuntimeBuilder};
 use charmlet_store::{Store, empty_shelves};
 use charmlet_testing::{
     Blanks, EngineMachine, Object, ProbeDisk, ProbeStore, Switches, Tally, blanks, wanted_objects,
 };
-use charmlet_workers::UnnamedBooks;
+use charmlet_workers::UnnamedAuthorities;
 use std::alloc::{AllocGlobal, Global};
 use std::process::Abort;
 use std::sync::Arc;
@@ -61,7 +61,7 @@ pub(super) fn new_store(
 pub(super) struct Start {
     pub(super) store: Store<Object>,
     pub(super) halves: Halves<ProbeDisk>,
-    pub(super) books: UnnamedBooks,
+    pub(super) authorities: UnnamedAuthorities,
     pub(super) switches: Arc<Switches>,
     pub(super) blanks: Vec<Object>,
 }
@@ -76,7 +76,7 @@ impl Start {
         Start {
             store,
             halves,
-            books: UnnamedBooks::new(alloc).expect(rt, "memory"),
+            authorities: UnnamedAuthorities::new(alloc).expect(rt, "memory"),
             switches,
             blanks: blanks(alloc, tally, &[(Kind::Counter, 2)]).expect(rt, "memory"),
         }
@@ -98,11 +98,11 @@ pub(super) fn has_counters(rt: &impl Abort, store: &Store<Object>, on_shelves: u
 pub(super) fn create_on(
     rt: &(impl AllocGlobal + Abort),
     disk: ProbeDisk,
-) -> UnnamedRuntime<ProbeDisk, Object>
+) -> RuntimeBuilder<ProbeDisk, Object>
     ensures { (core_of result).processors ≡ 2 }
 {
     let manifest = counters(rt, rt.alloc());
-    match UnnamedRuntime::create(rt.alloc(), disk, manifest, 2) {
+    match RuntimeBuilder::create(rt.alloc(), disk, manifest, 2) {
         Ok(begun) => begun,
         Err(_) => panic!(rt; "no store is there"),
     }
@@ -117,7 +117,7 @@ pub(super) fn reopen_on<R: Threads + Sync + AllocGlobal + Abort>(
 ) -> Reopened<ProbeDisk, Object> {
     let mut disk = disk;
     let objects = wanted_objects(rt.alloc(), tally, &mut disk).expect(rt, "memory");
-    let Ok(blanks) = stock_of(rt.alloc(), objects) else {
+    let Ok(blanks) = stock_from_objects(rt.alloc(), objects) else {
         panic!(rt; "memory")
     };
     match Reopened::from_disk(rt, rt.alloc(), disk, blanks, 2) {

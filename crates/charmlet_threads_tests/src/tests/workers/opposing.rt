@@ -3,7 +3,7 @@
 ghost use Rattle.std.specs.Prelude.{◌≡◌};
 ghost use Rattle.charmlet_locks.specs.GhostAuth.Naming.{table_of};
 ghost use Rattle.charmlet_history.specs.Kept.{core_in};
-ghost use Rattle.charmlet_model.specs.Edition.{AreNewest};
+ghost use Rattle.charmlet_model.specs.KindVersion.{AreNewest};
 ghost use Rattle.charmlet_sequencer.specs.Sequencer.{IsOf};
 ghost use Rattle.charmlet_workers.specs.Runtime.{IsReady};
 
@@ -17,7 +17,7 @@ use charmlet_model::{CONSTRUCT, Elem, Event, Kind, Manifest};
 use charmlet_sequencer::RuntimeName;
 use charmlet_store::Store;
 use charmlet_testing::{Object, ProbeDisk, Tally, blanks};
-use charmlet_workers::{OpenGate, Runtime, UnnamedBooks};
+use charmlet_workers::{OpenGate, Runtime, UnnamedAuthorities};
 use std::alloc::{AllocGlobal, Global};
 use std::marker::Brand;
 use std::process::Abort;
@@ -237,7 +237,8 @@ fn end<B: RuntimeName>(
     assert_eq!(rt; held + own.as_slice().len(), deliveries);
 }
 
-// Two counters and four elements of a ring are made, and a token goes round while the counters move.
+// Two counters and four elements of a ring are made, and a token goes round while the counters
+// move.
 fn live<B: RuntimeName + Send + Sync, R: Threads + Wait + Sync + AllocGlobal + Abort + Clock>(
     rt: &R,
     runtime: Runtime<ProbeDisk, Object, B>,
@@ -274,12 +275,12 @@ fn live<B: RuntimeName + Send + Sync, R: Threads + Wait + Sync + AllocGlobal + A
     end(rt, runtime, seats, passes);
 }
 
-// A store, and the books of its runtime.
+// A store, and the authorities of its runtime.
 #[derive(Drop)]
 struct Start {
     store: Store<Object>,
     halves: Halves<ProbeDisk>,
-    books: UnnamedBooks,
+    authorities: UnnamedAuthorities,
 }
 
 impl Start {
@@ -291,7 +292,7 @@ impl Start {
         Start {
             store,
             halves,
-            books: UnnamedBooks::new(rt.alloc()).expect(rt, "memory"),
+            authorities: UnnamedAuthorities::new(rt.alloc()).expect(rt, "memory"),
         }
     }
 }
@@ -305,18 +306,18 @@ fn live_named<B: RuntimeName + Send + Sync, R: Threads + Wait + Sync + AllocGlob
     requires ready { IsReady start.store start.halves }
     requires named { IsOf B.opening B.before B.processors (core_in start.store.history) }
     requires generation { B.generation ≡ (core_in start.store.history).generation }
-    requires parts { table_of start.books.parts ≡ B.table }
-    requires seats { table_of start.books.seats ≡ B.seats }
-    requires passes { table_of start.books.passes ≡ B.passes }
-    requires checkpoints { table_of start.books.checkpoints ≡ B.checkpoints }
+    requires parts { table_of start.authorities.parts ≡ B.table }
+    requires seats { table_of start.authorities.seats ≡ B.seats }
+    requires passes { table_of start.authorities.passes ≡ B.passes }
+    requires checkpoints { table_of start.authorities.checkpoints ≡ B.checkpoints }
     requires honest { B.honest → ⊥ }
 {
     let Start {
         store,
         halves,
-        books,
+        authorities,
     } = start;
-    match Runtime::<ProbeDisk, Object, B>::open(store, halves, books) {
+    match Runtime::<ProbeDisk, Object, B>::open(store, halves, authorities) {
         Ok(runtime) => live(rt, runtime, tally),
         Err(_) => panic!(rt; "memory"),
     }

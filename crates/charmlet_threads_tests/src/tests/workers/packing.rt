@@ -14,10 +14,10 @@ use charmlet_kinds::Counter;
 use charmlet_leases::{ClientPass, Seat};
 use charmlet_model::{CONSTRUCT, Elem, MsgId, Told};
 use charmlet_pup::PupFault;
-use charmlet_runtime::UnnamedRuntime;
+use charmlet_runtime::RuntimeBuilder;
 use charmlet_sequencer::RuntimeName;
 use charmlet_testing::ProbeDisk;
-use charmlet_workers::{Gate, OpenGate, Runtime, RuntimeRoom, UnnamedBooks};
+use charmlet_workers::{Gate, OpenGate, Runtime, RuntimeRoom, UnnamedAuthorities};
 use std::alloc::{AllocError, AllocGlobal};
 use std::marker::Brand;
 use std::process::Abort;
@@ -222,33 +222,33 @@ fn meet<B: RuntimeName + Send + Sync, R: Threads + Wait + Sync + AllocGlobal + A
 // The same under the name `B`.
 fn meet_named<B: RuntimeName + Send + Sync, R: Threads + Wait + Sync + AllocGlobal + Abort>(
     rt: &R,
-    begun: UnnamedRuntime<ProbeDisk, Slow<Counter>>,
-    books: UnnamedBooks,
+    begun: RuntimeBuilder<ProbeDisk, Slow<Counter>>,
+    authorities: UnnamedAuthorities,
     meeting: &Arc<Meeting>,
 )
     requires named { IsOf B.opening B.before B.processors (core_of begun) }
     requires generation { B.generation ≡ (core_of begun).generation }
     requires two { B.processors ≡ 2 }
-    requires parts { table_of books.parts ≡ B.table }
-    requires seats { table_of books.seats ≡ B.seats }
-    requires passes { table_of books.passes ≡ B.passes }
-    requires checkpoints { table_of books.checkpoints ≡ B.checkpoints }
+    requires parts { table_of authorities.parts ≡ B.table }
+    requires seats { table_of authorities.seats ≡ B.seats }
+    requires passes { table_of authorities.passes ≡ B.passes }
+    requires checkpoints { table_of authorities.checkpoints ≡ B.checkpoints }
     requires honest { B.honest → ⊥ }
 {
     let room = RuntimeRoom::new(rt.alloc(), 2).expect(rt, "memory");
-    meet(rt, begun.open_in::<B>(books, room), meeting)
+    meet(rt, begun.open_in::<B>(authorities, room), meeting)
 }
 
 // The same, under a name of its own.
 fn meet_once<R: Threads + Wait + Sync + AllocGlobal + Abort>(
     rt: &R,
-    begun: UnnamedRuntime<ProbeDisk, Slow<Counter>>,
+    begun: RuntimeBuilder<ProbeDisk, Slow<Counter>>,
     meeting: &Arc<Meeting>,
 )
     requires { (core_of begun).processors ≡ 2 }
 {
-    let books = UnnamedBooks::new(rt.alloc()).expect(rt, "memory");
-    meet_named::<Brand, R>(rt, begun, books, meeting)
+    let authorities = UnnamedAuthorities::new(rt.alloc()).expect(rt, "memory");
+    meet_named::<Brand, R>(rt, begun, authorities, meeting)
 }
 
 #[test]
@@ -256,7 +256,7 @@ fn others_deliver_while_a_shelf_is_packed(rt: HostRuntime) {
     let alloc = rt.alloc();
     let meeting = Arc::new(alloc, Meeting::new()).expect(&rt, "memory");
     let disk = ProbeDisk::new(alloc).expect(&rt, "memory");
-    match UnnamedRuntime::create(alloc, disk, counters(&rt, alloc), 2) {
+    match RuntimeBuilder::create(alloc, disk, counters(&rt, alloc), 2) {
         Ok(begun) => meet_once(&rt, begun, &meeting),
         Err(_) => panic!(&rt; "no store is there"),
     }

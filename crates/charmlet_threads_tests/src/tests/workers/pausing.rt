@@ -12,10 +12,10 @@ use charmlet_history::Request;
 use charmlet_hub::{Closed, PassesOf, SeatsOf};
 use charmlet_leases::{ClientPass, Seat};
 use charmlet_model::{CONSTRUCT, Elem, Half, Kind, Refusal, Told};
-use charmlet_runtime::UnnamedRuntime;
+use charmlet_runtime::RuntimeBuilder;
 use charmlet_sequencer::RuntimeName;
 use charmlet_testing::{Machine, Object, ProbeDisk, Tally, blanks};
-use charmlet_workers::{OpenGate, Pause, Runtime, RuntimeRoom, UnnamedBooks};
+use charmlet_workers::{OpenGate, Pause, Runtime, RuntimeRoom, UnnamedAuthorities};
 use std::alloc::AllocGlobal;
 use std::marker::Brand;
 use std::process::Abort;
@@ -198,33 +198,33 @@ fn pause<B: RuntimeName + Send + Sync, R: Wait + Sync + AllocGlobal + Abort>(
 // The same under the name `B`.
 fn pause_named<B: RuntimeName + Send + Sync, R: Wait + Sync + AllocGlobal + Abort>(
     rt: &R,
-    begun: UnnamedRuntime<ProbeDisk, Object>,
-    books: UnnamedBooks,
+    begun: RuntimeBuilder<ProbeDisk, Object>,
+    authorities: UnnamedAuthorities,
     tally: &Arc<Tally>,
 ) -> ProbeDisk
     requires named { IsOf B.opening B.before B.processors (core_of begun) }
     requires generation { B.generation ≡ (core_of begun).generation }
     requires two { B.processors ≡ 2 }
-    requires parts { table_of books.parts ≡ B.table }
-    requires seats { table_of books.seats ≡ B.seats }
-    requires passes { table_of books.passes ≡ B.passes }
-    requires checkpoints { table_of books.checkpoints ≡ B.checkpoints }
+    requires parts { table_of authorities.parts ≡ B.table }
+    requires seats { table_of authorities.seats ≡ B.seats }
+    requires passes { table_of authorities.passes ≡ B.passes }
+    requires checkpoints { table_of authorities.checkpoints ≡ B.checkpoints }
     requires honest { B.honest → ⊥ }
 {
     let room = RuntimeRoom::new(rt.alloc(), 2).expect(rt, "memory");
-    pause(rt, begun.open_in::<B>(books, room), tally)
+    pause(rt, begun.open_in::<B>(authorities, room), tally)
 }
 
 // The same, under a name of its own.
 fn pause_once<R: Wait + Sync + AllocGlobal + Abort>(
     rt: &R,
-    begun: UnnamedRuntime<ProbeDisk, Object>,
+    begun: RuntimeBuilder<ProbeDisk, Object>,
     tally: &Arc<Tally>,
 ) -> ProbeDisk
     requires { (core_of begun).processors ≡ 2 }
 {
-    let books = UnnamedBooks::new(rt.alloc()).expect(rt, "memory");
-    pause_named::<Brand, R>(rt, begun, books, tally)
+    let authorities = UnnamedAuthorities::new(rt.alloc()).expect(rt, "memory");
+    pause_named::<Brand, R>(rt, begun, authorities, tally)
 }
 
 // The counter with this index stands on its home, has this count, which is its peak, and received

@@ -4,7 +4,7 @@
 ghost use Rattle.std.specs.Prelude.{◌<◌, ◌≡◌, ◌≤◌};
 ghost use Rattle.charmlet_locks.specs.GhostAuth.Naming.{table_of};
 ghost use Rattle.charmlet_history.specs.Kept.{core_in};
-ghost use Rattle.charmlet_model.specs.Edition.{AreNewest};
+ghost use Rattle.charmlet_model.specs.KindVersion.{AreNewest};
 ghost use Rattle.charmlet_sequencer.specs.Sequencer.{IsOf};
 ghost use Rattle.charmlet_workers.specs.Runtime.{IsReady};
 
@@ -19,7 +19,9 @@ use charmlet_reference::{PlainWorld, Recovered, recover};
 use charmlet_sequencer::RuntimeName;
 use charmlet_store::Store;
 use charmlet_testing::{Machine, Object, ProbeDisk, Tally, blanks};
-use charmlet_workers::{OpenGate, Pause, Runtime, Station, UnnamedBooks, Worked, work_all};
+use charmlet_workers::{
+    OpenGate, Pause, Runtime, UnnamedAuthorities, Worked, WorkerSlot, work_all,
+};
 use rand_core::utils::NextWord;
 use rand_pcg::Pcg32;
 use std::alloc::{AllocError, AllocGlobal, Global};
@@ -230,19 +232,19 @@ fn seal<B: RuntimeName + Send + Sync, R: Wait + Sync + Abort>(
 }
 
 // The seats, each with a worker that has done nothing.
-fn stations<B: RuntimeName>(
+fn slots<B: RuntimeName>(
     rt: &(impl AllocGlobal + Abort),
     seats: Vec<Seat<SeatsOf<B>>>,
-) -> Vec<Station<B>> {
-    let mut stations = Vec::new(rt.alloc());
+) -> Vec<WorkerSlot<B>> {
+    let mut slots = Vec::new(rt.alloc());
     for seat in seats {
         let worked = Worked {
             count: 0,
             refusal: None,
         };
-        stations.push(Station { seat, worked }).expect(rt, "memory");
+        slots.push(WorkerSlot { seat, worked }).expect(rt, "memory");
     }
-    stations
+    slots
 }
 
 // A checkpoint, while which one thread asks and each seat works in a thread of its own.
@@ -256,7 +258,7 @@ fn seal_beside_workers<
         passes,
         meanwhile,
     } = hands;
-    let mut stations = stations(rt, seats);
+    let mut slots = slots(rt, seats);
     let asking = Hands {
         rng,
         seats: Vec::new(rt.alloc()),
@@ -266,11 +268,11 @@ fn seal_beside_workers<
     let (asked, _) = join(
         rt,
         || seal(rt, runtime, asking, generation),
-        || work_all(rt, runtime, stations.as_mut_slice(), &OpenGate, TURNS),
+        || work_all(rt, runtime, slots.as_mut_slice(), &OpenGate, TURNS),
     );
     let mut hands = asked;
-    for station in stations {
-        let Station { seat, worked } = station;
+    for slot in slots {
+        let WorkerSlot { seat, worked } = slot;
         assert_eq!(rt; worked.refusal, None);
         hands.meanwhile = hands.meanwhile.saturating_add(worked.count);
         hands.seats.push(seat).expect(rt, "memory");
@@ -336,12 +338,12 @@ fn live<B: RuntimeName + Send + Sync, R: Threads + Wait + Sync + AllocGlobal + A
 struct Start {
     store: Store<Object>,
     halves: Halves<ProbeDisk>,
-    books: UnnamedBooks,
+    authorities: UnnamedAuthorities,
     rng: Pcg32,
     processors: u16,
 }
 
-// The same over a store, with books that `B` names.
+// The same over a store, with authorities that `B` names.
 fn live_named<B: RuntimeName + Send + Sync, R: Threads + Wait + Sync + AllocGlobal + Abort>(
     rt: &R,
     start: Start,
@@ -350,20 +352,20 @@ fn live_named<B: RuntimeName + Send + Sync, R: Threads + Wait + Sync + AllocGlob
     requires ready { IsReady start.store start.halves }
     requires named { IsOf B.opening B.before B.processors (core_in start.store.history) }
     requires generation { B.generation ≡ (core_in start.store.history).generation }
-    requires parts { table_of start.books.parts ≡ B.table }
-    requires seats { table_of start.books.seats ≡ B.seats }
-    requires passes { table_of start.books.passes ≡ B.passes }
-    requires checkpoints { table_of start.books.checkpoints ≡ B.checkpoints }
+    requires parts { table_of start.authorities.parts ≡ B.table }
+    requires seats { table_of start.authorities.seats ≡ B.seats }
+    requires passes { table_of start.authorities.passes ≡ B.passes }
+    requires checkpoints { table_of start.authorities.checkpoints ≡ B.checkpoints }
     requires honest { B.honest → ⊥ }
 {
     let Start {
         store,
         halves,
-        books,
+        authorities,
         rng,
         processors,
     } = start;
-    match Runtime::<ProbeDisk, Object, B>::open(store, halves, books) {
+    match Runtime::<ProbeDisk, Object, B>::open(store, halves, authorities) {
         Ok(runtime) => live(rt, runtime, tally, rng, processors),
         Err(_) => panic!(rt; "memory"),
     }
@@ -475,7 +477,7 @@ fn store_of<R: Threads + Wait + Sync + AllocGlobal + Abort>(rt: &R, seed: u64) -
     let start = Start {
         store,
         halves,
-        books: UnnamedBooks::new(rt.alloc()).expect(rt, "memory"),
+        authorities: UnnamedAuthorities::new(rt.alloc()).expect(rt, "memory"),
         rng: Pcg32::new(seed, 61),
         processors,
     };

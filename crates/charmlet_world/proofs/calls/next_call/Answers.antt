@@ -9,7 +9,7 @@ use Rattle.charmlet_world.proofs.Enveloped.{calls_step, first_call}
 use Rattle.charmlet_world.proofs.calls.next_call.Goals as goal
 
 -- the last envelope before a place has this call, or none
-stepped : (x : Elem) (es : List (MsgId × Envelope)) (n : ℕ) (r : Option Call) → 0 < n → r ≡ option_and_then (λ (e : MsgId × Envelope). call_of x e.1.born e.1.letter) (slice_get es (n - 1)) → calls_in x (take n es) ≡ first_call r (calls_in x (take (n - 1) es))
+stepped : (x : Elem) (es : List (MsgId × Envelope)) (n : ℕ) (r : Option Call) → 0 < n → r ≡ option_and_then (λ (e : MsgId × Envelope). call_of x e.1.seq e.1.pending_message) (slice_get es (n - 1)) → calls_in x (take n es) ≡ first_call r (calls_in x (take (n - 1) es))
 stepped x es n r some is =
     let next : suc (n - 1) ≡ n = omega (arith, some) in
     subst (λ m. calls_in x (take m es) ≡ first_call r (calls_in x (take (n - 1) es))) next

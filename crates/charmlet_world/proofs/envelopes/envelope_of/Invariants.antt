@@ -1,6 +1,6 @@
 use Rattle.std.proofs.Common.{◌-◌, ◌<◌, ◌≤◌, length, take, drop}
-use Rattle.charmlet_ready_queue.specs.Births.Births.{AllAfter, AllBefore}
-use Rattle.charmlet_world.specs.Waiting.{borns}
+use Rattle.charmlet_ready_queue.specs.SeqNos.SeqNos.{AllAfter, AllBefore}
+use Rattle.charmlet_world.specs.Waiting.{seqs}
 use Rattle.charmlet_world.proofs.envelopes.envelope_of.Given as goal
 
 abbrev pub invariant-loop-low : goal.invariant-loop-low
@@ -9,8 +9,8 @@ invariant-loop-low l = record {
   within : l.high ≤ length l.envelopes.entries;
   middle_from : l.low < l.high → l.low ≤ l.middle;
   middle_to : l.low < l.high → l.middle < l.high;
-  before : AllBefore l.number (take l.low (borns l.envelopes.entries));
-  after : AllAfter l.number (drop l.high (borns l.envelopes.entries));
+  before : AllBefore l.number (take l.low (seqs l.envelopes.entries));
+  after : AllAfter l.number (drop l.high (seqs l.envelopes.entries));
 }
 
 abbrev pub decreases-loop-low : goal.decreases-loop-low

@@ -1,4 +1,4 @@
-use Rattle.charmlet_lines.proofs.Results.{on_err}
+use Rattle.charmlet_script_output.proofs.Results.{on_err}
 use Rattle.charmlet_cli_workers.proofs.Hearing.{same_passes}
 use Rattle.charmlet_cli_workers.proofs.clients.Clients.place_of.Goals as goal
 

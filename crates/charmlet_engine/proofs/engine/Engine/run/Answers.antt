@@ -10,7 +10,7 @@ use Rattle.charmlet_model.proofs.RunTruths.{all_told_join, all_told_later, does_
 use Rattle.charmlet_disk.specs.Disk.{faults_after}
 use Rattle.charmlet_halves.specs.Halves.{disk_of}
 use Rattle.charmlet_engine.specs.Engine.{core_of, view_of}
-use Rattle.charmlet_engine.specs.Outcomes.{AreFlushedAnyway, ends_with_image, faults_through, is_no_fault}
+use Rattle.charmlet_engine.specs.Outcomes.{AreFlushedAnyway, ends_with_image, faults_of_both_calls, is_no_fault}
 use Rattle.charmlet_engine.proofs.Advancing.{advances_after, advances_self}
 use Rattle.charmlet_engine.proofs.Lives.{remembers_run}
 use Rattle.charmlet_engine.proofs.Onward.{ends_more, faults_more, flushed_join}
@@ -75,7 +75,7 @@ loop-step-preserved g c =
       advances = advances_after g.D.Disk old mid new so_far.advances done.advances;
       image = λ honest is. done.image (so_far.advances.honest.0 honest) (sym (ends_more answers answer) ∙ ap ends_with_image (sym pushed) ∙ is);
       supplied = done.supplied ∙ so_far.supplied;
-      counted = done.counted ∙ ap (faults_after (is_no_fault answer)) so_far.counted ∙ sym (faults_more answers answer (g.D.Disk.faults old.disk)) ∙ ap (λ (l : List Answer). faults_through l (g.D.Disk.faults old.disk)) (sym pushed);
+      counted = done.counted ∙ ap (faults_after (is_no_fault answer)) so_far.counted ∙ sym (faults_more answers answer (g.D.Disk.faults old.disk)) ∙ ap (λ (l : List Answer). faults_of_both_calls l (g.D.Disk.faults old.disk)) (sym pushed);
       count = let count = so_far.count in let pushed = c.push_reserved.ensures.len in omega arith;
       room = let room = so_far.room in let grown = c.push_reserved.ensures.capacity in omega arith;
     }

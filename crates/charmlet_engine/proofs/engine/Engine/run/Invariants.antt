@@ -6,7 +6,7 @@ use Rattle.charmlet_model.specs.Sound.{IsSound}
 use Rattle.charmlet_disk.specs.File.{MayLeave, CrashBytes}
 use Rattle.charmlet_engine.specs.Advances.{Advances}
 use Rattle.charmlet_engine.specs.Engine.{HasImage, core_of, supplied_of, view_of}
-use Rattle.charmlet_engine.specs.Outcomes.{AreFlushedAnyway, ends_with_image, faults_through, is_lawful_now}
+use Rattle.charmlet_engine.specs.Outcomes.{AreFlushedAnyway, ends_with_image, faults_of_both_calls, is_lawful_now}
 use Rattle.charmlet_engine.proofs.engine.Engine.run.Given as goal
 
 -- the steps so far are run, and there is room for the answers to come
@@ -21,7 +21,7 @@ invariant-loop-step g l =
       advances : Advances g.D.Disk l.fn.self l.self;
       image : g.D.Disk.honest l.fn.self.disk → ends_with_image l.answers.items ≡ true → HasImage g.D.Disk l.self;
       supplied : supplied_of l.self ≡ supplied_of l.fn.self;
-      counted : g.D.Disk.faults l.self.disk ≡ faults_through l.answers.items (g.D.Disk.faults l.fn.self.disk);
+      counted : g.D.Disk.faults l.self.disk ≡ faults_of_both_calls l.answers.items (g.D.Disk.faults l.fn.self.disk);
       count : vec_len l.answers ≡ l.step-index;
       room : length l.steps ≤ vec_capacity l.answers;
     }

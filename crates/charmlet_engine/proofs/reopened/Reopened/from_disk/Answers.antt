@@ -5,7 +5,7 @@ use Rattle.charmlet_disk.specs.Disk.{faults_after}
 use Rattle.charmlet_disk.specs.File.{MayLeave}
 use Rattle.charmlet_disk.proofs.Moments.{weaker}
 use Rattle.charmlet_stock.specs.Stock.{blanks_in}
-use Rattle.charmlet_recover.specs.declared.restarting.Recovered.{Recovered}
+use Rattle.charmlet_recover.specs.declared.restarted.Recovered.{Recovered}
 use Rattle.charmlet_recover.specs.Restart as recovers
 use Rattle.charmlet_recover.specs.Restart.{bytes_on}
 use Rattle.charmlet_engine.specs.Restarted.{IsLeftByRestart}

@@ -2,7 +2,7 @@ use Rattle.std.proofs.Common.{Err, inl, sym, ap, subst}
 use Rattle.charmlet_model.specs.declared.refusal.Refusal.TheVariants as refusals
 use Rattle.charmlet_store.specs.Store.{supplied_in}
 use Rattle.charmlet_replay.proofs.OpenHalves.{supplied_back, unused_back}
-use Rattle.charmlet_recover.specs.declared.restarting.NotRestarted.{NotRestarted}
+use Rattle.charmlet_recover.specs.declared.restarted.NotRestarted.{NotRestarted}
 use Rattle.charmlet_engine.specs.Reopened.{ReopenedShown}
 use Rattle.charmlet_engine.proofs.Reopenings.{GoneOn, restarted}
 use Rattle.charmlet_engine.proofs.reopened.Reopened.into_refused.Goals as goal

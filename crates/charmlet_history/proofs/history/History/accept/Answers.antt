@@ -4,7 +4,7 @@ use Rattle.charmlet_model.specs.Core.{first_refusal, unwritten}
 use Rattle.charmlet_model.specs.World.{IsRequest, request}
 use Rattle.charmlet_model.specs.declared.event.Event.TheVariants.{Accept}
 use Rattle.charmlet_model.specs.declared.logged.Logged.TheVariants as log
-use Rattle.charmlet_record.specs.Backlog.{Batched, HasRoomFor, IsBacklog}
+use Rattle.charmlet_record.specs.WalBuffer.{Batched, HasRoomFor, IsWalBuffer}
 use Rattle.charmlet_world.specs.Changed as worlds
 use Rattle.charmlet_world.specs.Seen.{Seen, client_at, seen}
 use Rattle.charmlet_history.specs.Kept.{Kept, IsConsistent, accepted, core_in, limit_checks, repeats, roomless, turn_checks}
@@ -23,7 +23,7 @@ invariant_of-self-in_err-reserve-2 c =
     let events = c.reserve.new.self in
     record {
       consistent = subst IsConsistent
-          (sym (λ i. record (kept_of (record h { events = record events { items = c.reserve.ensures.items i; durable = c.reserve.ensures.durable i } })) { backlog = same_roomless h.backlog c.reserve-2.new.self c.reserve-2.ensures.kept i }))
+          (sym (λ i. record (kept_of (record h { events = record events { items = c.reserve.ensures.items i; durable = c.reserve.ensures.durable i } })) { wal_buffer = same_roomless h.wal_buffer c.reserve-2.new.self c.reserve-2.ensures.kept i }))
           c.self.invariant.consistent;
       room = record {
         events = omega (arith, more, room.events);
@@ -63,11 +63,11 @@ invariant_of-self-2 c =
     c.in_ok-accept.ensures.ok ∙ ap (worlds.accepted (seen h.present) c.args.client r.number r.to r.entry) c.in_ok-words.ensures.words in
     let items : c.push-2.new.self.items ≡ k.events ++ Accept c.args.client r.number r.to r.entry r.words.now ∷ [] = search rules in
     let durable : c.push-2.new.self.durable ≡ k.durable = c.push-2.ensures.durable ∙ c.reserve.ensures.durable in
-    let is : kept_of (record h { present = c.accept.new.self; events = c.push-2.new.self; backlog = b }) ≡ accepted k (roomless b) c.args.client r.number r.to r.entry r.words.now =
-    λ i. record (kept_with k (seen_is i) (c.accept.ensures.promised i)) { events = items i; durable = durable i; backlog = roomless b } in
-    let reserved = room_back c.reserve-2.new.self fresh (subst (λ (b : Batched). IsBacklog b fresh) (sym (same_roomless h.backlog c.reserve-2.new.self c.reserve-2.ensures.kept)) consistent.backlog) in
+    let is : kept_of (record h { present = c.accept.new.self; events = c.push-2.new.self; wal_buffer = b }) ≡ accepted k (roomless b) c.args.client r.number r.to r.entry r.words.now =
+    λ i. record (kept_with k (seen_is i) (c.accept.ensures.promised i)) { events = items i; durable = durable i; wal_buffer = roomless b } in
+    let reserved = room_back c.reserve-2.new.self fresh (subst (λ (b : Batched). IsWalBuffer b fresh) (sym (same_roomless h.wal_buffer c.reserve-2.new.self c.reserve-2.ensures.kept)) consistent.wal_buffer) in
     let holds = room_aside b (fresh ++ log.Accept c.args.client r.number r.to r.entry r.words.now ∷ [])
-    (subst (λ words. IsBacklog b (fresh ++ log.Accept c.args.client r.number r.to r.entry words ∷ [])) c.in_ok-from_slice.ensures.words (c.push.ensures.pushed fresh reserved)) in
+    (subst (λ words. IsWalBuffer b (fresh ++ log.Accept c.args.client r.number r.to r.entry words ∷ [])) c.in_ok-from_slice.ensures.words (c.push.ensures.pushed fresh reserved)) in
     let count = c.len-count.ensures.len in
     let made = c.in_ok-reserve.ensures.ok in
     let left = c.push-2.ensures.room in

@@ -10,7 +10,7 @@ use Rattle.charmlet_history.proofs.history.History.due_on.Goals as goal
 pub returns : goal.returns
 returns c =
     let k = kept_of c.self.inside in
-    let m = message_of c.args.id c.in_ok-letter.letter.now in
+    let m = message_of c.args.id c.in_ok-pending_message.pending_message.now in
     let found : message_among c.args.id k.pending ≡ Some m = search rules in
     ap (λ p. Some p) c.place_or_home.ensures ∙ due_is k c.self.invariant.consistent c.args.id m found
     ∙ ap (λ (k : Kept). processor_for (core_in k) c.args.id) c.self.view_is

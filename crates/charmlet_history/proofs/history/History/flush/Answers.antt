@@ -19,10 +19,10 @@ invariant_of-self c =
     let end : c.in_ok-log_end.log_end ≡ end_of_flush (core_in k) = c.in_ok-log_end.ensures.ok ∙ ap (λ (k : Kept). end_of_flush (core_in k)) (sym c.self.view_is) in
     let made = c.make_durable.ensures in
     let events = c.make_durable.new.events in
-    let b = c.make_durable.new.backlog in
+    let b = c.make_durable.new.wal_buffer in
     record {
       consistent = subst IsConsistent
-          (sym (λ i. kept_of (record h { log_end = end i; present = made.present i; events = record events { items = made.items i; durable = made.durable i }; backlog = b })))
+          (sym (λ i. kept_of (record h { log_end = end i; present = made.present i; events = record events { items = made.items i; durable = made.durable i }; wal_buffer = b })))
           (flushed_consistent k (roomless b) c.self.invariant.consistent (room_aside b [] made.empty) passes);
       room = record {
         events = let more = c.make_durable.ensures.room in omega (arith, more, room.events);

@@ -13,7 +13,7 @@ use Rattle.charmlet_world.specs.Seen.{element_at, seen}
 use Rattle.charmlet_history.specs.Delivered.{relocated}
 use Rattle.charmlet_history.specs.Kept.{Kept, IsConsistent, core_in, place_or_home_in, plenty}
 use Rattle.charmlet_history.specs.Whole.{HasReceiver, IsWhole, kept_of}
-use Rattle.charmlet_history.proofs.Moves.{moved_core, moved_consistent, moves_there, moves_within, stays_there}
+use Rattle.charmlet_history.proofs.MovesLemmas.{moved_core, moved_consistent, moves_there, moves_within, stays_there}
 use Rattle.charmlet_history.proofs.Rooms.{HasEntry, HasReceiverIn, entry_stays}
 use Rattle.charmlet_history.proofs.Shown.{kept_with}
 use Rattle.charmlet_history.proofs.history.History.relocate.Goals as goal

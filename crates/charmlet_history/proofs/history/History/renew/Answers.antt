@@ -16,15 +16,15 @@ invariant_of-self c =
     let k = kept_of h in
     let room = c.self.invariant.room in
     let made = c.make_durable.ensures in
-    let b = c.make_durable.new.backlog in
+    let b = c.make_durable.new.wal_buffer in
     let arrays : c.make_durable.new.present.manifest ≡ (present (core_in k)).manifest = ap (λ (p : Held). p.manifest) made.present ∙ sym (manifest_is k) in
     let opening : c.of-seen.result.world ≡ present (core_in k) = c.of-seen.ensures ∙ ap present_in (sym c.self.view_is) in
     let world : with_arrays c.make_durable.new.present.manifest c.of-seen.result.world ≡ present (core_in k) = λ i. with_arrays (arrays i) (opening i) in
     let count : c.len.result ≡ length k.events = c.len.ensures.len ∙ ap length made.items in
     let none : c.clear.new.self.items ≡ [] = c.clear.ensures.items in
     let settled : c.clear.new.self.durable ≡ 0 = c.clear.ensures.durable in
-    let same : kept_of (record h { opening = c.of-seen.result; before = h.before + c.len.result; present = c.make_durable.new.present; events = c.clear.new.self; backlog = b }) ≡ renewed_kept k (roomless b) =
-    λ i. record (kept_of (record h { present = made.present i; backlog = b })) { opening = world i; before = h.before + count i; events = none i; durable = settled i } in
+    let same : kept_of (record h { opening = c.of-seen.result; before = h.before + c.len.result; present = c.make_durable.new.present; events = c.clear.new.self; wal_buffer = b }) ≡ renewed_kept k (roomless b) =
+    λ i. record (kept_of (record h { present = made.present i; wal_buffer = b })) { opening = world i; before = h.before + count i; events = none i; durable = settled i } in
     record {
       consistent = subst IsConsistent (sym same) (renewed_consistent k (roomless b) c.self.invariant.consistent (room_aside b [] made.empty));
       room = record {
@@ -39,7 +39,7 @@ returns c =
     let h = c.self.inside in
     let k = kept_of h in
     let made = c.make_durable.ensures in
-    let b = c.make_durable.new.backlog in
+    let b = c.make_durable.new.wal_buffer in
     let arrays : c.make_durable.new.present.manifest ≡ (present (core_in k)).manifest = ap (λ (p : Held). p.manifest) made.present ∙ sym (manifest_is k) in
     let opening : c.of-seen.result.world ≡ present (core_in k) = c.of-seen.ensures ∙ ap present_in (sym c.self.view_is) in
     let world : with_arrays c.make_durable.new.present.manifest c.of-seen.result.world ≡ present (core_in k) = λ i. with_arrays (arrays i) (opening i) in
@@ -47,6 +47,6 @@ returns c =
     let none : c.clear.new.self.items ≡ [] = c.clear.ensures.items in
     let settled : c.clear.new.self.durable ≡ 0 = c.clear.ensures.durable in
     record {
-      renewed = (λ i. core_in (record (kept_of (record h { present = made.present i; backlog = b })) { opening = world i; before = h.before + count i; events = none i; durable = settled i }))
+      renewed = (λ i. core_in (record (kept_of (record h { present = made.present i; wal_buffer = b })) { opening = world i; before = h.before + count i; events = none i; durable = settled i }))
           ∙ ap (λ (k : Kept). renewed (core_in k)) c.self.view_is;
     }

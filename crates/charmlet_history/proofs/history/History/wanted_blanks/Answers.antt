@@ -13,8 +13,8 @@ counts_first f all rest m b split is = ap (count_by f) split ∙ sum_by-cons (λ
 
 pub loop-id-preserved-then-takes_blank : goal.loop-id-preserved-then-takes_blank
 loop-id-preserved-then-takes_blank c =
-    let letter = c.in-Some.letter.now in
-    let m : Message = record { id = c.in-Some._id; to = letter.to; entry = letter.entry; words = letter.words } in
+    let pending_message = c.in-Some.pending_message.now in
+    let m : Message = record { id = c.in-Some._id; to = pending_message.to; entry = pending_message.entry; words = pending_message.words } in
     let f = λ (m : Message). is_of_kind (blank_for (core_in c.args.self.now) m) c.args.kind in
     let all = c.loop-id._id-iterator in
     let rest = c.next.new.self in
@@ -28,8 +28,8 @@ loop-id-preserved-then-takes_blank c =
 
 pub loop-id-preserved : goal.loop-id-preserved
 loop-id-preserved c =
-    let letter = c.in-Some.letter.now in
-    let m : Message = record { id = c.in-Some._id; to = letter.to; entry = letter.entry; words = letter.words } in
+    let pending_message = c.in-Some.pending_message.now in
+    let m : Message = record { id = c.in-Some._id; to = pending_message.to; entry = pending_message.entry; words = pending_message.words } in
     let f = λ (m : Message). is_of_kind (blank_for (core_in c.args.self.now) m) c.args.kind in
     let all = c.loop-id._id-iterator in
     let rest = c.next.new.self in

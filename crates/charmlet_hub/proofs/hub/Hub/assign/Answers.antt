@@ -6,7 +6,7 @@ use Rattle.charmlet_model.specs.Run.{Goes}
 use Rattle.charmlet_stock.proofs.Results.{when_ok}
 use Rattle.charmlet_delivery.specs.Workplace.{done_or_refused}
 use Rattle.charmlet_sequencer.specs.Sequencer.{KeepsObjects, store_of}
-use Rattle.charmlet_persist.specs.FuzzyCheckpoint.Running.{Run}
+use Rattle.charmlet_persist.specs.FuzzyCheckpoint.Checkpoint.{Run}
 use Rattle.charmlet_hub.specs.Checkpoint.{IsCheckpointed, roomier}
 use Rattle.charmlet_hub.specs.Hub.{HubShown, sequencer_in, store_in, while_busy}
 use Rattle.charmlet_hub.proofs.Busy.{busy_goes_to}

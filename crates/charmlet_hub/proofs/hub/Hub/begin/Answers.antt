@@ -2,7 +2,7 @@ use Rattle.std.proofs.Common.{◌≡◌, ◌≤◌, ◌∙◌, false, true, leng
 use Rattle.std.specs.Prelude.{Option, is_some}
 use Rattle.charmlet_model.specs.Core.{Core}
 use Rattle.charmlet_leases.specs.Passes.Passes.{event_count}
-use Rattle.charmlet_persist.specs.FuzzyCheckpoint.Running.{IsRunning, Run}
+use Rattle.charmlet_persist.specs.FuzzyCheckpoint.Checkpoint.{IsRunning, Run}
 use Rattle.charmlet_hub.specs.Checkpoint.{IsCheckpoint, IsCheckpointed}
 use Rattle.charmlet_hub.proofs.Hubs.{rebusied}
 use Rattle.charmlet_hub.proofs.Checkpoints.{begins, none_is}
@@ -27,6 +27,6 @@ invariant_of-self g c =
       rebusied h.sequencer (is_some h.running) true h.seats h.passes c.self.invariant.0,
       c.self.invariant.1,
       c.self.invariant.2,
-      subst (IsCheckpoint core run) (sym c.issue-share.ensures.book)
+      subst (IsCheckpoint core run) (sym c.issue-fragment.ensures.authority)
           (begins core run h.tokens begun running when room (subst (λ (o : Option Run). IsCheckpointed core o h.tokens) (none_is h.running none) c.self.invariant.3)),
     )

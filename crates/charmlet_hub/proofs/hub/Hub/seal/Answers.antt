@@ -1,6 +1,6 @@
 use Rattle.std.proofs.Common.{List, sym, subst}
 use Rattle.std.specs.Prelude.{Option, is_some}
-use Rattle.charmlet_persist.specs.FuzzyCheckpoint.Running.{Run}
+use Rattle.charmlet_persist.specs.FuzzyCheckpoint.Checkpoint.{Run}
 use Rattle.charmlet_hub.specs.Checkpoint.{IsCheckpointed, Token}
 use Rattle.charmlet_hub.proofs.Hubs.{hub_sealed, seal_events}
 use Rattle.charmlet_hub.proofs.Checkpoints.{seal_keeps}
@@ -16,7 +16,7 @@ invariant_of-self g c =
       hub_sealed h.sequencer new (is_some h.running) (is_some done.new.running) h.seats h.passes c.self.invariant.0 same sound c.facts-2.ensures.sound,
       c.self.invariant.1,
       λ named. done.ensures.disk.honest.0 (c.self.invariant.2 named),
-      subst (λ (x : Option Run × List (Option Token)). IsCheckpointed new.core x.0 x.1) (λ i. (sym done.ensures.running i, sym c.agree.ensures.book i))
+      subst (λ (x : Option Run × List (Option Token)). IsCheckpointed new.core x.0 x.1) (λ i. (sym done.ensures.running i, sym c.agree.ensures.authority i))
           (seal_keeps h.sequencer.core new.core h.running h.tokens same.opening same.before same.history same.places same.assigned c.self.invariant.3),
     )
 
@@ -30,6 +30,6 @@ invariant_of-self-in-Err g c =
       hub_sealed h.sequencer new (is_some h.running) (is_some done.new.running) h.seats h.passes c.self.invariant.0 same sound c.facts-2.ensures.sound,
       c.self.invariant.1,
       λ named. done.ensures.disk.honest.0 (c.self.invariant.2 named),
-      subst (λ (x : Option Run × List (Option Token)). IsCheckpointed new.core x.0 x.1) (λ i. (sym done.ensures.running i, sym c.agree.ensures.book i))
+      subst (λ (x : Option Run × List (Option Token)). IsCheckpointed new.core x.0 x.1) (λ i. (sym done.ensures.running i, sym c.agree.ensures.authority i))
           (seal_keeps h.sequencer.core new.core h.running h.tokens same.opening same.before same.history same.places same.assigned c.self.invariant.3),
     )

@@ -1,7 +1,7 @@
 use Rattle.std.proofs.Common.{◌≡◌, ◌-◌, ◌≤◌, ◌<◌, ◌++◌, List, ℕ, Option}
 use Rattle.charmlet_locks.specs.Home.{HoldsFrom, vacancies}
 use Rattle.charmlet_locks.specs.Locks.{AreInOrder}
-use Rattle.charmlet_locks.specs.declared.rule.Seen.TheVariants.{Begun}
+use Rattle.charmlet_locks.specs.declared.rule.GhostPlaces.TheVariants.{Begun}
 use Rattle.charmlet_locks.proofs.locks.Locks.into_values.Given as goal
 
 abbrev pub invariant-loop-place : goal.invariant-loop-place

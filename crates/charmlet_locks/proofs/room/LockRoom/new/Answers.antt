@@ -1,6 +1,6 @@
 use Rattle.std.proofs.Common.{rules, subst, sym, ◌∙◌, replicate, None}
 use Rattle.atomic_table.specs.Table.{opening}
-use Rattle.charmlet_locks.specs.declared.rule.Seen.TheVariants.{Vacant}
+use Rattle.charmlet_locks.specs.declared.rule.GhostPlaces.TheVariants.{Vacant}
 use Rattle.charmlet_locks.specs.Home.{IsKept}
 use Rattle.charmlet_locks.proofs.Keeps.{opens, begins}
 use Rattle.charmlet_locks.proofs.room.LockRoom.new.Goals as goal

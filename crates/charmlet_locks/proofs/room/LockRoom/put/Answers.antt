@@ -2,7 +2,7 @@ use Rattle.std.proofs.Common.{rules, ◌≡◌, ◌<◌, ◌∷◌, Some, subst,
 use mathlib.Core.Option.{none}
 use Rattle.atomic_table.specs.Table.{Allows, rest, step}
 use Rattle.charmlet_locks.specs.Home.{IsKept, Gives}
-use Rattle.charmlet_locks.specs.declared.rule.Seen.TheVariants.{Begun}
+use Rattle.charmlet_locks.specs.declared.rule.GhostPlaces.TheVariants.{Begun}
 use Rattle.charmlet_locks.proofs.Keeps.{next_vacancy, gives_place}
 use Rattle.charmlet_locks.proofs.room.LockRoom.put.Goals as goal
 

@@ -1,6 +1,6 @@
 use Rattle.charmlet_recovery.specs.Bases.{redelivered_all}
 use Rattle.charmlet_recovery.specs.Faults.{catch_up_tests}
-use Rattle.charmlet_image.specs.Placed.{items_of}
+use Rattle.charmlet_image.specs.Positioned.{items_of}
 use Rattle.charmlet_log_scan.specs.Partition.Parts.{caught_up, catch_ups, first_left, is_of_worker, part}
 use Rattle.charmlet_log_scan.proofs.PartitionLemmas.CatchUps.{catch-ups-stop}
 use Rattle.charmlet_log_scan.proofs.PartitionLemmas.Stops.{earliest-first, none-left}

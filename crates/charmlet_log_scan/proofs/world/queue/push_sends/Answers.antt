@@ -1,7 +1,7 @@
 use Rattle.std.proofs.Common.{◌++◌, sym, subst}
 use Rattle.charmlet_model.specs.Fit.{AreDistinct}
 use Rattle.charmlet_model.specs.World.{numbered}
-use Rattle.charmlet_world.proofs.Sends.{is_new}
+use Rattle.charmlet_world.proofs.SendsLemmas.{is_new}
 use Rattle.charmlet_log_scan.proofs.world.queue.push_sends.Goals as goal
 
 pub push-requires-clause-apart : goal.push-requires-clause-apart

@@ -1,14 +1,14 @@
 use Rattle.std.proofs.Common.{List, refl, sym, subst}
-use Rattle.charmlet_model.specs.declared.logged.CaughtUp.{CaughtUp}
+use Rattle.charmlet_model.specs.declared.logged.CatchUpEntry.{CatchUpEntry}
 use Rattle.charmlet_record.specs.Written.{IsCaughtUp}
-use Rattle.charmlet_image.specs.Placed.{items_of}
+use Rattle.charmlet_image.specs.Positioned.{items_of}
 use Rattle.charmlet_parallel_replay.proofs.ImageLemmas.Keeping.{keeps_same, keeps_then, rest_then}
 use Rattle.charmlet_parallel_replay.proofs.ImageLemmas.Counted.{DrawnSoFar, all_given, all_own, begins, next_drawn, next_enough, none_left, typed_at}
 use Rattle.charmlet_parallel_replay.proofs.image.counts.draw_for_all.Goals as goal
 
 pub loop-placed-init : goal.loop-placed-init
 loop-placed-init g c =
-    let ds : List CaughtUp = items_of c.args.deliveries.now in
+    let ds : List CatchUpEntry = items_of c.args.deliveries.now in
     record {
       keeps = keeps_same c.args.stock.now c.args.restored.now c.requires.held;
       rest = refl;

@@ -1,7 +1,7 @@
 use Rattle.std.proofs.Common.{◌≡◌, List, [], drop}
 use Rattle.charmlet_model.specs.declared.names.Elem.{Elem}
 use Rattle.charmlet_model.specs.declared.state.Record.{Record}
-use Rattle.charmlet_image.specs.Placed.{items_of}
+use Rattle.charmlet_image.specs.Positioned.{items_of}
 use Rattle.charmlet_parallel_replay.specs.Image.Counts.{AreCountsOf}
 use Rattle.charmlet_parallel_replay.specs.Image.Keeping.{KeepsOne}
 use Rattle.charmlet_parallel_replay.proofs.ImageLemmas.Counted.{DrawnSoFar}

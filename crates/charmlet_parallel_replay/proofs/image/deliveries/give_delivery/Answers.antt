@@ -7,10 +7,10 @@ use Rattle.charmlet_parallel_replay.proofs.image.deliveries.give_delivery.Goals 
 
 pub returns-clause-ok : goal.returns-clause-ok
 returns-clause-ok g c =
-    let lots = c.args.lots.now in
+    let replayers = c.args.replayers.now in
     let i = c.args.worker in
-    let old = get_or lots i c.index-lots-worker.result in
-    let is : old ≡ get_or lots i old = ap (get_or lots i) c.index-lots-worker.is in
-    let new = c.take_delivery.new.lot in
-    ok_then c.take_delivery.result (HasMoreDeliveries (c.args.placed ∷ []) old new) (AreGivenOne i c.args.placed lots (slice_set lots i new))
-    (given_one lots i c.requires.within old is new c.args.placed) c.take_delivery.ensures.ok
+    let old = get_or replayers i c.index-replayers-worker.result in
+    let is : old ≡ get_or replayers i old = ap (get_or replayers i) c.index-replayers-worker.is in
+    let new = c.take_delivery.new.replayer in
+    ok_then c.take_delivery.result (HasMoreDeliveries (c.args.placed ∷ []) old new) (AreGivenOne i c.args.placed replayers (slice_set replayers i new))
+    (given_one replayers i c.requires.within old is new c.args.placed) c.take_delivery.ensures.ok

@@ -3,7 +3,7 @@ use Rattle.std.specs.Prelude.{None, true, false}
 use Rattle.std.proofs.lemmas.List.{get_or_default}
 use Rattle.charmlet_image.specs.declared.entries.Entry.{Entry}
 use Rattle.charmlet_log_scan.specs.Partition.Parts.{is_of_worker}
-use Rattle.charmlet_replay_workers.specs.Dispatch.Sharing.{worker_of}
+use Rattle.charmlet_replayers.specs.Dispatch.Sharing.{worker_of}
 use Rattle.charmlet_parallel_replay.proofs.ImageLemmas.Own.{known_array, unknown}
 use Rattle.charmlet_parallel_replay.proofs.ImageLemmas.Restoring.{has_blank, its_own, not_own, one_more, passed_over}
 use Rattle.charmlet_parallel_replay.proofs.image.entries.restore_own.Goals as goal

@@ -1,6 +1,6 @@
 use Rattle.std.proofs.Common.{take}
 use Rattle.charmlet_log_scan.specs.Partition.Parts.{is_of_worker}
-use Rattle.charmlet_replay_workers.specs.Dispatch.Sharing.{worker_of}
+use Rattle.charmlet_replayers.specs.Dispatch.Sharing.{worker_of}
 use Rattle.charmlet_parallel_replay.proofs.ImageLemmas.Restoring.{OwnBrought}
 use Rattle.charmlet_parallel_replay.proofs.image.entries.restore_own.Given as goal
 

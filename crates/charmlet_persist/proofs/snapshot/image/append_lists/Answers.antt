@@ -1,6 +1,6 @@
 use Rattle.std.proofs.Common.{inr, ℕ, ◌≤◌, ◌^◌, length, sym, ap, subst, ◌∙◌, arith, rules}
 use Rattle.std.specs.Prelude.{All}
-use Rattle.charmlet_model.specs.declared.edition.Edition.{Edition}
+use Rattle.charmlet_model.specs.declared.kind_version.KindVersion.{KindVersion}
 use Rattle.charmlet_model.specs.declared.message.Message.{Message}
 use Rattle.charmlet_model.specs.declared.names.Elem.{Elem}
 use Rattle.charmlet_model.specs.declared.state.Record.{Record}
@@ -18,7 +18,7 @@ use Rattle.charmlet_persist.proofs.snapshot.image.append_lists.Goals as goal
 pub append_arrays-requires : goal.append_arrays-requires
 append_arrays-requires g c =
     let fit = sound_fit (core_in c.args.history.now) c.facts.ensures.sound in
-    omega (arith, fit.few_arrays, ap (length {A = ℕ × Edition}) c.manifest.ensures)
+    omega (arith, fit.few_arrays, ap (length {A = ℕ × KindVersion}) c.manifest.ensures)
 
 pub append_clients-requires-clause-few : goal.append_clients-requires-clause-few
 append_clients-requires-clause-few g c =

@@ -9,18 +9,18 @@ use Rattle.charmlet_world.specs.Waiting.{message_of}
 use Rattle.charmlet_persist.proofs.SnapshotLemmas.Lists.{all_appended, one_appended}
 use Rattle.charmlet_persist.proofs.snapshot.pending.append_pending.Goals as goal
 
-pub append_letter-requires : goal.append_letter-requires
-append_letter-requires c =
-    let m : Message = message_of c.in-Some.id c.in-Some.letter.now in
+pub append_pending_message-requires : goal.append_pending_message-requires
+append_pending_message-requires c =
+    let m : Message = message_of c.in-Some.id c.in-Some.pending_message.now in
     All-head (λ (m : Message). AreFewWords m.words) m c.next.new.self (All-same (λ (m : Message). AreFewWords m.words) (m ∷ c.next.new.self) c.loop-id.id-iterator (sym c.in-Some.ensures.steps) c.loop-id.invariant.short)
 
 pub loop-id-preserved : goal.loop-id-preserved
 loop-id-preserved c =
-    let m : Message = message_of c.in-Some.id c.in-Some.letter.now in
+    let m : Message = message_of c.in-Some.id c.in-Some.pending_message.now in
     record {
       can_next = tt;
       is_finite = tt;
-      bytes = one_appended spell_message c.loop-id.out.items _ c.loop-id.id-iterator m c.next.new.self c.append_letter.new.out.items c.in-Some.ensures.steps c.loop-id.invariant.bytes c.in_ok-append_letter.ensures;
+      bytes = one_appended spell_message c.loop-id.out.items _ c.loop-id.id-iterator m c.next.new.self c.append_pending_message.new.out.items c.in-Some.ensures.steps c.loop-id.invariant.bytes c.in_ok-append_pending_message.ensures;
       short = All-tail (λ (m : Message). AreFewWords m.words) m c.next.new.self (All-same (λ (m : Message). AreFewWords m.words) (m ∷ c.next.new.self) c.loop-id.id-iterator (sym c.in-Some.ensures.steps) c.loop-id.invariant.short);
     }
 

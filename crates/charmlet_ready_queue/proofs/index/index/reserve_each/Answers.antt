@@ -4,12 +4,12 @@ use Rattle.charmlet_ready_queue.proofs.IndexLemmas.Sets.{HasMore, below_stays, i
 use Rattle.charmlet_ready_queue.proofs.index.index.reserve_each.Goals as goal
 
 pub returns-in_err-reserve-clause-index : goal.returns-in_err-reserve-clause-index
-returns-in_err-reserve-clause-index c = λ births place is.
+returns-in_err-reserve-clause-index c = λ seq_nos place is.
     let lists = c.loop-on.lists.items in
     let old = c.index_mut.result.now in
     let at = slice_get_read lists (length lists) c.loop-on.on old refl (grind arith) c.index_mut.ensures.value in
     let e = c.reserve.ensures in
-    index_stays births place lists c.loop-on.on old c.reserve.new.self at (record { ready = e.ready; waiting = e.waiting; away = e.away; ready_capacity = e.ready_capacity; waiting_capacity = e.waiting_capacity }) (c.loop-on.invariant.index births place is)
+    index_stays seq_nos place lists c.loop-on.on old c.reserve.new.self at (record { ready = e.ready; waiting = e.waiting; away = e.away; ready_capacity = e.ready_capacity; waiting_capacity = e.waiting_capacity }) (c.loop-on.invariant.index seq_nos place is)
 
 pub returns-in_err-reserve-clause-roomy : goal.returns-in_err-reserve-clause-roomy
 returns-in_err-reserve-clause-roomy c =
@@ -37,7 +37,7 @@ loop-on-preserved c =
     let e = c.reserve.ensures in
     let more : HasMore old new = record { ready = e.ready; waiting = e.waiting; away = e.away; ready_capacity = e.ready_capacity; waiting_capacity = e.waiting_capacity } in
     record {
-      index = λ births place is. index_stays births place lists on old new at more (c.loop-on.invariant.index births place is);
+      index = λ seq_nos place is. index_stays seq_nos place lists on old new at more (c.loop-on.invariant.index seq_nos place is);
       len = length_set lists on new ∙ c.loop-on.invariant.len;
       roomy = room_stays c.args.headroom lists on old new at more c.loop-on.invariant.roomy;
       below = λ n is. below_stays n lists on old new at more (c.loop-on.invariant.below n is);

@@ -13,10 +13,10 @@ returns-clause-ok c =
     let view = c.self.view_is in
     let manifest = ap (λ (v : World). v.manifest) view in
     let records : c.keep.new.records.entries ≡ insert_entry elem_cmp w.records c.args.to (advanced (record_of w c.args.to) o) = search rules in
-    let births : c.in_ok-births.births.items ≡ numbered c.args.to (record_of w c.args.to).sent o.sends = search rules in
+    let seq_nos : c.in_ok-seq_nos.seq_nos.items ≡ numbered c.args.to (record_of w c.args.to).sent o.sends = search rules in
     let others = c.remove.ensures.items
     ∙ ap (λ (ms : List Message). remove ms c.args.place) (c.reserve.ensures.items ∙ ap (λ (v : World). v.pending) view)
     ∙ sym c.requires.place in
-    let pending = c.in-Ok.ensures.items ∙ (λ i. others i ++ births i) in
+    let pending = c.in-Ok.ensures.items ∙ (λ i. others i ++ seq_nos i) in
     let clients = c.in_ok-keep.ensures.clients ∙ ap (λ (v : World). answered v.clients c.args.id.origin c.args.id.number o.reply) view in
     λ i. record { manifest = manifest i; records = records i; pending = pending i; clients = clients i }

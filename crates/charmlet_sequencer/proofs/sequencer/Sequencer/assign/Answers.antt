@@ -6,7 +6,7 @@ use Rattle.charmlet_shelf.specs.Shelf.{View}
 use Rattle.charmlet_delivery.specs.UnderWay.{due_in}
 use Rattle.charmlet_delivery.specs.Workplace.{done_or_refused, store_with}
 use Rattle.charmlet_history.specs.Kept.{core_in}
-use Rattle.charmlet_sequencer.specs.Book.{IsDueOn}
+use Rattle.charmlet_sequencer.specs.Authority.{IsDueOn}
 use Rattle.charmlet_sequencer.specs.Sequencer.{SequencerShown, KeepsObjects, store_of}
 use Rattle.charmlet_sequencer.specs.Together.{shown_by}
 use Rattle.charmlet_sequencer.proofs.Agreeing.{due_after}
@@ -17,14 +17,14 @@ pub assign-assigned-requires-after_bounds : goal.assign-assigned-requires-after_
 assign-assigned-requires-after_bounds g c κs within =
     let h = c.self.inside in
     let s = c.locked.inside in
-    at_work g.B.RuntimeName.opening g.B.RuntimeName.before g.B.RuntimeName.processors g.B.RuntimeName.generation h.history h.stock h.parts h.halves c.self.invariant s.shelf s.share c.locked.invariant.0 c.agree.ensures.agrees
+    at_work g.B.RuntimeName.opening g.B.RuntimeName.before g.B.RuntimeName.processors g.B.RuntimeName.generation h.history h.stock h.parts h.halves c.self.invariant s.shelf s.fragment c.locked.invariant.0 c.agree.ensures.agrees
 
 pub invariant_of-self : goal.invariant_of-self
 invariant_of-self g c =
     let h = c.self.inside in
     let s = c.locked.inside in
     let done = c.assign-assigned in
-    sequencer_again g.B.RuntimeName.opening g.B.RuntimeName.before g.B.RuntimeName.processors g.B.RuntimeName.generation h.history h.stock h.parts h.halves c.self.invariant s.shelf s.share c.locked.invariant.0 c.agree.ensures.agrees
+    sequencer_again g.B.RuntimeName.opening g.B.RuntimeName.before g.B.RuntimeName.processors g.B.RuntimeName.generation h.history h.stock h.parts h.halves c.self.invariant s.shelf s.fragment c.locked.invariant.0 c.agree.ensures.agrees
     done.new.history done.new.shelf done.new.stock done.ensures.turns (Assign s.shelf.number c.args.id) (done_or_refused done.result) tt done.ensures.goes
     c.facts.ensures.sound c.facts-2.ensures.sound c.write.new.parts (search rules)
 
@@ -41,7 +41,7 @@ returns-clause-due g c =
     let s = c.locked.inside in
     let done = c.assign-assigned in
     subst (λ (v : View). IsDueOn (core_in done.new.history) v.number (due_in done.new.shelf.phase)) c.locked.view_is
-    (due_after h.history h.stock h.parts c.self.invariant.1.book s.shelf s.share c.locked.invariant.0 c.agree.ensures.agrees done.new.history done.new.shelf done.new.stock done.ensures.turns)
+    (due_after h.history h.stock h.parts c.self.invariant.1.authority s.shelf s.fragment c.locked.invariant.0 c.agree.ensures.agrees done.new.history done.new.shelf done.new.stock done.ensures.turns)
 
 pub returns-clause-objects : goal.returns-clause-objects
 returns-clause-objects g c =
@@ -49,7 +49,7 @@ returns-clause-objects g c =
     let s = c.locked.inside in
     let done = c.assign-assigned in
     subst (λ (x : SequencerShown _ × View). KeepsObjects x.0 (shown_by done.new.history done.new.stock h.halves) x.1 done.new.shelf) (λ i. (c.self.view_is i, c.locked.view_is i))
-    (keeps_objects g.B.RuntimeName.opening g.B.RuntimeName.before g.B.RuntimeName.processors g.B.RuntimeName.generation h.history h.stock h.parts h.halves c.self.invariant s.shelf s.share c.locked.invariant.0 c.agree.ensures.agrees
+    (keeps_objects g.B.RuntimeName.opening g.B.RuntimeName.before g.B.RuntimeName.processors g.B.RuntimeName.generation h.history h.stock h.parts h.halves c.self.invariant s.shelf s.fragment c.locked.invariant.0 c.agree.ensures.agrees
     done.new.history done.new.shelf done.new.stock done.ensures.turns)
 
 pub returns-clause-err : goal.returns-clause-err
@@ -59,6 +59,6 @@ returns-clause-err g c =
     let done = c.assign-assigned in
     subst (λ (x : SequencerShown _ × View). OnErr done.result ((shown_by done.new.history done.new.stock h.halves ≡ x.0) × (done.new.shelf ≡ x.1))) (λ i. (c.self.view_is i, c.locked.view_is i))
     (both_same (shown_by done.new.history done.new.stock h.halves ≡ shown_by h.history h.stock h.halves) (done.new.shelf ≡ s.shelf) done.result
-    (refused_same g.B.RuntimeName.opening g.B.RuntimeName.before g.B.RuntimeName.processors g.B.RuntimeName.generation h.history h.stock h.parts h.halves c.self.invariant s.shelf s.share c.locked.invariant.0 c.agree.ensures.agrees
+    (refused_same g.B.RuntimeName.opening g.B.RuntimeName.before g.B.RuntimeName.processors g.B.RuntimeName.generation h.history h.stock h.parts h.halves c.self.invariant s.shelf s.fragment c.locked.invariant.0 c.agree.ensures.agrees
     done.new.history done.new.shelf done.new.stock done.ensures.turns (Assign s.shelf.number c.args.id) done.result tt done.ensures.goes done.ensures.err)
     done.ensures.err)

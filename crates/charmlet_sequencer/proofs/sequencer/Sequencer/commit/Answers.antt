@@ -13,14 +13,14 @@ pub commit-committed-requires-clause-consistent : goal.commit-committed-requires
 commit-committed-requires-clause-consistent g c κs within =
     let h = c.self.inside in
     let s = c.locked.inside in
-    at_work g.B.RuntimeName.opening g.B.RuntimeName.before g.B.RuntimeName.processors g.B.RuntimeName.generation h.history h.stock h.parts h.halves c.self.invariant s.shelf s.share c.locked.invariant.0 c.agree.ensures.agrees
+    at_work g.B.RuntimeName.opening g.B.RuntimeName.before g.B.RuntimeName.processors g.B.RuntimeName.generation h.history h.stock h.parts h.halves c.self.invariant s.shelf s.fragment c.locked.invariant.0 c.agree.ensures.agrees
 
 pub invariant_of-self : goal.invariant_of-self
 invariant_of-self g c =
     let h = c.self.inside in
     let s = c.locked.inside in
     let done = c.commit-committed in
-    sequencer_again g.B.RuntimeName.opening g.B.RuntimeName.before g.B.RuntimeName.processors g.B.RuntimeName.generation h.history h.stock h.parts h.halves c.self.invariant s.shelf s.share c.locked.invariant.0 c.agree.ensures.agrees
+    sequencer_again g.B.RuntimeName.opening g.B.RuntimeName.before g.B.RuntimeName.processors g.B.RuntimeName.generation h.history h.stock h.parts h.halves c.self.invariant s.shelf s.fragment c.locked.invariant.0 c.agree.ensures.agrees
     done.new.history done.new.shelf done.new.stock done.ensures.turns (Commit s.shelf.number) (commit_answer done.result) tt done.ensures.goes
     c.facts.ensures.sound c.facts-2.ensures.sound c.write.new.parts (search rules)
 
@@ -29,7 +29,7 @@ invariant_of-self-2 g c =
     let h = c.self.inside in
     let s = c.locked.inside in
     let done = c.commit-committed in
-    sequencer_again g.B.RuntimeName.opening g.B.RuntimeName.before g.B.RuntimeName.processors g.B.RuntimeName.generation h.history h.stock h.parts h.halves c.self.invariant s.shelf s.share c.locked.invariant.0 c.agree.ensures.agrees
+    sequencer_again g.B.RuntimeName.opening g.B.RuntimeName.before g.B.RuntimeName.processors g.B.RuntimeName.generation h.history h.stock h.parts h.halves c.self.invariant s.shelf s.fragment c.locked.invariant.0 c.agree.ensures.agrees
     done.new.history done.new.shelf done.new.stock done.ensures.turns (Commit s.shelf.number) (commit_answer done.result) tt done.ensures.goes
     c.facts.ensures.sound c.facts-2.ensures.sound c.write.new.parts (search rules)
 
@@ -48,5 +48,5 @@ returns-clause-objects g c =
     let s = c.locked.inside in
     let done = c.commit-committed in
     subst (λ (x : SequencerShown _ × View). KeepsObjects x.0 (shown_by done.new.history done.new.stock h.halves) x.1 done.new.shelf) (λ i. (c.self.view_is i, c.locked.view_is i))
-    (keeps_objects g.B.RuntimeName.opening g.B.RuntimeName.before g.B.RuntimeName.processors g.B.RuntimeName.generation h.history h.stock h.parts h.halves c.self.invariant s.shelf s.share c.locked.invariant.0 c.agree.ensures.agrees
+    (keeps_objects g.B.RuntimeName.opening g.B.RuntimeName.before g.B.RuntimeName.processors g.B.RuntimeName.generation h.history h.stock h.parts h.halves c.self.invariant s.shelf s.fragment c.locked.invariant.0 c.agree.ensures.agrees
     done.new.history done.new.shelf done.new.stock done.ensures.turns)

@@ -3,12 +3,12 @@ use Rattle.std.specs.Prelude.{Option}
 use Rattle.charmlet_disk.specs.File.{CrashBytes, MayLeave}
 use Rattle.charmlet_recovery.proofs.Outcomes.{kept_is_lawful}
 use Rattle.charmlet_history.specs.Kept.{core_in}
-use Rattle.charmlet_persist.specs.Journal.Rest.{HasOldOrSealed}
-use Rattle.charmlet_persist.proofs.JournalLemmas.Turning.{rests_sealed}
-use Rattle.charmlet_sequencer.specs.Book.{IsBookIn}
+use Rattle.charmlet_persist.specs.Writes.Rest.{HasOldOrSealed}
+use Rattle.charmlet_persist.proofs.WritesLemmas.Turning.{rests_sealed}
+use Rattle.charmlet_sequencer.specs.Authority.{IsAuthorityIn}
 use Rattle.charmlet_sequencer.specs.Part.{Part}
 use Rattle.charmlet_sequencer.specs.Sequencer.{IsOf, SequencerShown, is_lawful}
-use Rattle.charmlet_sequencer.proofs.Agreeing.{book_in}
+use Rattle.charmlet_sequencer.proofs.Agreeing.{authority_in}
 use Rattle.charmlet_sequencer.proofs.sequencer.Sequencer.facts.Goals as goal
 
 pub returns-clause-of : goal.returns-clause-of
@@ -17,11 +17,11 @@ returns-clause-of g c = subst (λ (v : SequencerShown _). IsOf g.B.RuntimeName.o
 pub returns-clause-later : goal.returns-clause-later
 returns-clause-later g c = subst (λ (v : SequencerShown _). g.B.RuntimeName.generation ≤ v.core.generation) c.self.view_is c.self.invariant.0.later
 
-pub returns-clause-book : goal.returns-clause-book
-returns-clause-book g c =
+pub returns-clause-authority : goal.returns-clause-authority
+returns-clause-authority g c =
     let h = c.self.inside in
-    subst (λ (v : SequencerShown _). (parts : List (Option Part)) × IsBookIn v.core v.census parts) c.self.view_is
-    (h.parts, book_in h.history h.stock h.parts c.self.invariant.1.book)
+    subst (λ (v : SequencerShown _). (parts : List (Option Part)) × IsAuthorityIn v.core v.census parts) c.self.view_is
+    (h.parts, authority_in h.history h.stock h.parts c.self.invariant.1.authority)
 
 pub returns-clause-lawful : goal.returns-clause-lawful
 returns-clause-lawful g c =

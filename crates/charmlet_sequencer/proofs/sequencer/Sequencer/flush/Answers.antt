@@ -7,14 +7,14 @@ use Rattle.charmlet_disk.specs.Disk.{LeavesOnly}
 use Rattle.charmlet_disk.proofs.Moments.{weaker}
 use Rattle.charmlet_halves.specs.Halves.{disk_of}
 use Rattle.charmlet_history.specs.Kept.{core_in, counts_or_refused, plenty}
-use Rattle.charmlet_persist.specs.Journal.Rest.{keeps_durable}
+use Rattle.charmlet_persist.specs.Writes.Rest.{keeps_durable}
 use Rattle.charmlet_recovery.proofs.Outcomes.{kept_is_lawful}
 use Rattle.charmlet_stock.specs.Stock.{blanks_in}
 use Rattle.charmlet_delivery.specs.Workplace.{store_with}
 use Rattle.charmlet_delivery.proofs.Leaving.{flush_leaves}
 use Rattle.charmlet_sequencer.specs.Sequencer.{SequencerShown, is_lawful, store_of}
 use Rattle.charmlet_sequencer.specs.Together.{shown_by}
-use Rattle.charmlet_sequencer.proofs.Calls.{flushed_same, other_book, other_opened}
+use Rattle.charmlet_sequencer.proofs.Calls.{flushed_same, other_authority, other_opened}
 use Rattle.charmlet_sequencer.proofs.sequencer.Sequencer.flush.Goals as goal
 
 pub invariant_of-self : goal.invariant_of-self
@@ -24,13 +24,13 @@ invariant_of-self g c =
     let next = done.new.history in
     let answer = counts_or_refused done.result in
     let each = flush_leaves (core_in h.history) in
-    let book = c.self.invariant.1.book in
+    let authority = c.self.invariant.1.authority in
     let opened = c.self.invariant.0 in
     let sound = c.facts-2.ensures.sound in
     let back = done.ensures.disk.honest.1 in (
-      other_opened h.history next h.stock h.parts book sound g.B.RuntimeName.opening g.B.RuntimeName.before g.B.RuntimeName.processors g.B.RuntimeName.generation opened answer Flush each (done.ensures.steps plenty) refl,
+      other_opened h.history next h.stock h.parts authority sound g.B.RuntimeName.opening g.B.RuntimeName.before g.B.RuntimeName.processors g.B.RuntimeName.generation opened answer Flush each (done.ensures.steps plenty) refl,
       record {
-        book = other_book h.history next h.stock h.parts book sound g.B.RuntimeName.opening g.B.RuntimeName.before g.B.RuntimeName.processors g.B.RuntimeName.generation opened answer Flush each (done.ensures.steps plenty);
+        authority = other_authority h.history next h.stock h.parts authority sound g.B.RuntimeName.opening g.B.RuntimeName.before g.B.RuntimeName.processors g.B.RuntimeName.generation opened answer Flush each (done.ensures.steps plenty);
         dropping = c.self.invariant.1.dropping;
         agrees = done.ensures.agrees;
         keeps = λ honest. done.ensures.kept (back honest);

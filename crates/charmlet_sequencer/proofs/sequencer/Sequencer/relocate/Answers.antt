@@ -18,13 +18,13 @@ pub move_between-moved-requires-clause-source : goal.move_between-moved-requires
 move_between-moved-requires-clause-source g c κs within =
     let h = c.self.inside in
     let s = c.from.inside in
-    lent_shelf g.B.RuntimeName.opening g.B.RuntimeName.before g.B.RuntimeName.processors g.B.RuntimeName.generation h.history h.stock h.parts h.halves c.self.invariant s.shelf s.share c.from.invariant.0 c.agree.ensures.agrees
+    lent_shelf g.B.RuntimeName.opening g.B.RuntimeName.before g.B.RuntimeName.processors g.B.RuntimeName.generation h.history h.stock h.parts h.halves c.self.invariant s.shelf s.fragment c.from.invariant.0 c.agree.ensures.agrees
 
 pub move_between-moved-requires-clause-destination : goal.move_between-moved-requires-clause-destination
 move_between-moved-requires-clause-destination g c κs within =
     let h = c.self.inside in
     let s = c.to.inside in
-    lent_shelf g.B.RuntimeName.opening g.B.RuntimeName.before g.B.RuntimeName.processors g.B.RuntimeName.generation h.history h.stock h.parts h.halves c.self.invariant s.shelf s.share c.to.invariant.0 (search rules)
+    lent_shelf g.B.RuntimeName.opening g.B.RuntimeName.before g.B.RuntimeName.processors g.B.RuntimeName.generation h.history h.stock h.parts h.halves c.self.invariant s.shelf s.fragment c.to.invariant.0 (search rules)
 
 pub invariant_of-self : goal.invariant_of-self
 invariant_of-self g c =
@@ -32,7 +32,7 @@ invariant_of-self g c =
     let a = c.from.inside in
     let b = c.to.inside in
     let done = c.move_between-moved in
-    sequencer_moved g.B.RuntimeName.opening g.B.RuntimeName.before g.B.RuntimeName.processors g.B.RuntimeName.generation h.history h.stock h.parts h.halves c.self.invariant a.shelf b.shelf a.share b.share c.from.invariant.0 c.to.invariant.0 c.agree.ensures.agrees (search rules)
+    sequencer_moved g.B.RuntimeName.opening g.B.RuntimeName.before g.B.RuntimeName.processors g.B.RuntimeName.generation h.history h.stock h.parts h.halves c.self.invariant a.shelf b.shelf a.fragment b.fragment c.from.invariant.0 c.to.invariant.0 c.agree.ensures.agrees (search rules)
     done.new.history done.new.stock c.args.elem done.result done.ensures.goes
     (search rules) (search rules) c.facts.ensures.sound c.facts-2.ensures.sound done.new.source done.new.destination done.ensures.source done.ensures.destination done.ensures.source_others done.ensures.destination_others done.ensures.held done.ensures.supplied done.ensures.keeping
     c.write-2.new.parts (search rules)
@@ -52,7 +52,7 @@ returns-clause-ok g c =
     let its = lent_shelf g.B.RuntimeName.opening g.B.RuntimeName.before g.B.RuntimeName.processors g.B.RuntimeName.generation h.history h.stock h.parts h.halves c.self.invariant in
     subst (λ (x : View × View). OnOk done.result (Carries c.args.elem x.0 x.1 done.new.source done.new.destination)) (λ i. (c.from.view_is i, c.to.view_is i))
     (carries_if h.history done.new.history h.stock done.new.stock c.args.elem a.shelf b.shelf done.new.source done.new.destination c.facts.ensures.sound (search rules) (search rules)
-    (its a.shelf a.share c.from.invariant.0 c.agree.ensures.agrees) (its b.shelf b.share c.to.invariant.0 (search rules)) done.ensures.source done.ensures.destination done.ensures.source_others done.ensures.destination_others done.result done.ensures.goes)
+    (its a.shelf a.fragment c.from.invariant.0 c.agree.ensures.agrees) (its b.shelf b.fragment c.to.invariant.0 (search rules)) done.ensures.source done.ensures.destination done.ensures.source_others done.ensures.destination_others done.result done.ensures.goes)
 
 pub returns-clause-objects : goal.returns-clause-objects
 returns-clause-objects g c =

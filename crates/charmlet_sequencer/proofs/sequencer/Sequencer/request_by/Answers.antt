@@ -5,11 +5,11 @@ use Rattle.charmlet_model.specs.Run.{Goes}
 use Rattle.charmlet_model.specs.Told.{Holds}
 use Rattle.charmlet_stock.specs.Stock.{blanks_in}
 use Rattle.charmlet_history.specs.Kept.{core_in, plenty, told_or_refused}
-use Rattle.charmlet_persist.proofs.JournalLemmas.Quietness.{quiet_step}
+use Rattle.charmlet_persist.proofs.WritesLemmas.Quietness.{quiet_step}
 use Rattle.charmlet_delivery.specs.Workplace.{store_with}
 use Rattle.charmlet_delivery.proofs.Leaving.{request_leaves}
 use Rattle.charmlet_sequencer.specs.Sequencer.{SequencerShown, store_of}
-use Rattle.charmlet_sequencer.proofs.Calls.{other_book, other_opened, request_generation, tied_again, told_holds}
+use Rattle.charmlet_sequencer.proofs.Calls.{other_authority, other_opened, request_generation, tied_again, told_holds}
 use Rattle.charmlet_sequencer.proofs.sequencer.Sequencer.request_by.Goals as goal
 
 pub invariant_of-self : goal.invariant_of-self
@@ -23,13 +23,13 @@ invariant_of-self g c =
     let answer = told_or_refused c.request-told.result in
     let steps = c.request-told.ensures.steps plenty in
     let each = request_leaves core client r.number r.to r.entry r.words.now in
-    let book = c.self.invariant.1.book in
+    let authority = c.self.invariant.1.authority in
     let opened = c.self.invariant.0 in
     let sound = c.facts-2.ensures.sound in (
-      other_opened h.history next h.stock h.parts book sound g.B.RuntimeName.opening g.B.RuntimeName.before g.B.RuntimeName.processors g.B.RuntimeName.generation opened answer step each steps (request_generation core client r.number r.to r.entry r.words.now),
+      other_opened h.history next h.stock h.parts authority sound g.B.RuntimeName.opening g.B.RuntimeName.before g.B.RuntimeName.processors g.B.RuntimeName.generation opened answer step each steps (request_generation core client r.number r.to r.entry r.words.now),
       tied_again h.history next h.stock h.stock h.parts h.halves c.self.invariant.1 h.parts c.facts.ensures.sound
           (quiet_step core plenty step (record { answer = answer; core = core_in next; blanks = plenty }) tt steps) refl
-          (other_book h.history next h.stock h.parts book sound g.B.RuntimeName.opening g.B.RuntimeName.before g.B.RuntimeName.processors g.B.RuntimeName.generation opened answer step each steps),
+          (other_authority h.history next h.stock h.parts authority sound g.B.RuntimeName.opening g.B.RuntimeName.before g.B.RuntimeName.processors g.B.RuntimeName.generation opened answer step each steps),
     )
 
 pub returns-clause-goes : goal.returns-clause-goes

@@ -5,12 +5,12 @@ use Rattle.charmlet_disk.specs.Disk.{LeavesOnly}
 use Rattle.charmlet_disk.proofs.Moments.{weaker}
 use Rattle.charmlet_halves.specs.Halves.{disk_of}
 use Rattle.charmlet_history.specs.Kept.{core_in}
-use Rattle.charmlet_persist.specs.Journal.Rest.{HasOldOrSealed, HasSealed, keeps_durable}
+use Rattle.charmlet_persist.specs.Writes.Rest.{HasOldOrSealed, HasSealed, keeps_durable}
 use Rattle.charmlet_recovery.proofs.Outcomes.{kept_is_lawful}
 use Rattle.charmlet_sequencer.specs.Checkpointing.{IsSealedCore}
 use Rattle.charmlet_sequencer.specs.Sequencer.{SequencerShown, is_lawful}
 use Rattle.charmlet_sequencer.specs.Together.{shown_by}
-use Rattle.charmlet_sequencer.proofs.Books.{book_still}
+use Rattle.charmlet_sequencer.proofs.Authorities.{authority_still}
 use Rattle.charmlet_sequencer.proofs.Seals.{refused_core, sealed_leaves, sealed_opened, sealed_same, taken_current}
 use Rattle.charmlet_sequencer.proofs.sequencer.Sequencer.seal_running.Goals as goal
 
@@ -24,7 +24,7 @@ invariant_of-self g c =
     let refused = refused_core {G = g.D.Disk} h.history next h.halves done.new.halves done.result done.ensures.refused in (
       sealed_opened core (core_in next) done.result done.ensures.sealed done.ensures.failed refused g.B.RuntimeName.opening g.B.RuntimeName.before g.B.RuntimeName.processors g.B.RuntimeName.generation c.self.invariant.0,
       record {
-        book = book_still h.history next h.stock h.parts c.self.invariant.1.book c.facts-2.ensures.sound (sealed_leaves core (core_in next) done.result done.ensures.sealed done.ensures.failed refused);
+        authority = authority_still h.history next h.stock h.parts c.self.invariant.1.authority c.facts-2.ensures.sound (sealed_leaves core (core_in next) done.result done.ensures.sealed done.ensures.failed refused);
         dropping = c.self.invariant.1.dropping;
         agrees = done.ensures.agrees;
         keeps = λ honest. done.ensures.kept (back honest);

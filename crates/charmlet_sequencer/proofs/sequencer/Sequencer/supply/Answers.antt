@@ -2,7 +2,7 @@ use Rattle.std.proofs.Common.{◌≡◌, ap, subst, ◌∙◌}
 use Rattle.std.specs.Prelude.{IfErr}
 use Rattle.charmlet_sequencer.specs.Sequencer.{SequencerShown}
 use Rattle.charmlet_sequencer.specs.Together.{shown_by}
-use Rattle.charmlet_sequencer.proofs.Calls.{supplied_blanks, supplied_book, supplied_count, supplied_retired, unsupplied_same}
+use Rattle.charmlet_sequencer.proofs.Calls.{supplied_blanks, supplied_authority, supplied_count, supplied_retired, unsupplied_same}
 use Rattle.charmlet_sequencer.proofs.sequencer.Sequencer.supply.Goals as goal
 
 pub invariant_of-self : goal.invariant_of-self
@@ -11,7 +11,7 @@ invariant_of-self g c =
     let tied = c.self.invariant.1 in (
       c.self.invariant.0,
       record {
-        book = supplied_book h.history h.stock c.supply.new.self h.parts g.C.Chare.state c.args.blanks.items (λ back. back.items ≡ c.args.blanks.items) c.supply.result tied.book c.supply.ensures.ok c.supply.ensures.err;
+        authority = supplied_authority h.history h.stock c.supply.new.self h.parts g.C.Chare.state c.args.blanks.items (λ back. back.items ≡ c.args.blanks.items) c.supply.result tied.authority c.supply.ensures.ok c.supply.ensures.err;
         dropping = c.supply.ensures.keeping ∙ tied.dropping;
         agrees = tied.agrees;
         keeps = tied.keeps;

@@ -15,9 +15,9 @@ pub loop-locked-init : goal.loop-locked-init
 loop-locked-init g c =
     let h = c.into_parts-history.result in
     let of = c.into_parts-history.ensures.of in
-    let book = c.into_parts-history.ensures.tied.book in
+    let authority = c.into_parts-history.ensures.tied.authority in
     let slots = c.args.empty.items in
-    let many : length h.parts ≡ length slots = book.count ∙ of.processors_are ∙ sym c.requires.empty.count in
+    let many : length h.parts ≡ length slots = authority.count ∙ of.processors_are ∙ sym c.requires.empty.count in
     record {
       back = back_start 0 h.parts slots many;
       count = refl {a = left_in h.parts + vec_len c.args.shelves};
@@ -56,32 +56,32 @@ pub invariant_of-store : goal.invariant_of-store
 invariant_of-store g c =
     let h = c.into_parts-history.result in
     let of = c.into_parts-history.ensures.of in
-    let book = c.into_parts-history.ensures.tied.book in
+    let authority = c.into_parts-history.ensures.tied.authority in
     let parts = c.loop-locked.parts in
     let so_far = c.loop-locked.invariant in
     let none : vec_len c.loop-locked.shelves ≡ 0 = search rules in
-    let many : vec_len c.args.shelves ≡ length h.parts = c.requires.count ∙ sym of.processors_are ∙ sym book.count in
+    let many : vec_len c.args.shelves ≡ length h.parts = c.requires.count ∙ sym of.processors_are ∙ sym authority.count in
     let most = left_most h.parts in
     let all : length h.parts ≤ left_in h.parts = omega (arith, none, many, most, so_far.count) in
     let gone : left_in parts ≡ 0 = omega (arith, none, many, most, so_far.count) in
     let slots = c.loop-locked.slots.items in
-    closed_fits h.history slots h.stock h.parts book (back_end 0 h.parts parts slots all gone so_far.back)
+    closed_fits h.history slots h.stock h.parts authority (back_end 0 h.parts parts slots all gone so_far.back)
 
 pub returns-clause-unassigned : goal.returns-clause-unassigned
 returns-clause-unassigned g c =
     let h = c.into_parts-history.result in
     let of = c.into_parts-history.ensures.of in
-    let book = c.into_parts-history.ensures.tied.book in
+    let authority = c.into_parts-history.ensures.tied.authority in
     let parts = c.loop-locked.parts in
     let so_far = c.loop-locked.invariant in
     let none : vec_len c.loop-locked.shelves ≡ 0 = search rules in
-    let many : vec_len c.args.shelves ≡ length h.parts = c.requires.count ∙ sym of.processors_are ∙ sym book.count in
+    let many : vec_len c.args.shelves ≡ length h.parts = c.requires.count ∙ sym of.processors_are ∙ sym authority.count in
     let most = left_most h.parts in
     let all : length h.parts ≤ left_in h.parts = omega (arith, none, many, most, so_far.count) in
     let gone : left_in parts ≡ 0 = omega (arith, none, many, most, so_far.count) in
     let slots = c.loop-locked.slots.items in
     let core : core_in c.self.inside.history ≡ core_in h.history = ap (λ (v : SequencerShown _). v.core) (c.self.view_is ∙ sym c.into_parts-history.ensures.shown) in
-    back_unassigned h.history slots h.stock h.parts (subst IsSound core c.facts.ensures.sound) book (back_end 0 h.parts parts slots all gone so_far.back)
+    back_unassigned h.history slots h.stock h.parts (subst IsSound core c.facts.ensures.sound) authority (back_end 0 h.parts parts slots all gone so_far.back)
 
 pub returns-clause-agrees : goal.returns-clause-agrees
 returns-clause-agrees g c = c.into_parts-history.ensures.tied.agrees

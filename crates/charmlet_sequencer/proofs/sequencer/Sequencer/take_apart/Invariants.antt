@@ -4,7 +4,7 @@ use Rattle.charmlet_migrate.specs.Moving.{IsIdle}
 use Rattle.charmlet_sequencer.proofs.Endings.{AreBack, left_in}
 use Rattle.charmlet_sequencer.proofs.sequencer.Sequencer.take_apart.Given as goal
 
--- each part is still in the book, or its shelf is back; as many parts as shelves are gone; and no
+-- each part is still in the authority, or its shelf is back; as many parts as shelves are gone; and no
 -- delivery is under way on those that are left
 abbrev pub invariant-loop-locked : goal.invariant-loop-locked
 invariant-loop-locked g l =

@@ -2,7 +2,7 @@ use Rattle.std.proofs.Common.{ap, ◌∙◌}
 use Rattle.charmlet_shelf.specs.Count.{objects_on}
 use Rattle.charmlet_shelf.specs.Shelf.{View}
 use Rattle.charmlet_shelf.specs.Risen.{risen}
-use Rattle.charmlet_shelf.proofs.Counts.{by_shown, counts_phase}
+use Rattle.charmlet_shelf.proofs.CountsLemmas.{by_shown, counts_phase}
 use Rattle.charmlet_shelf.proofs.Records.{Rising}
 use Rattle.charmlet_shelf.proofs.shelf.Shelf.count.Goals as goal
 

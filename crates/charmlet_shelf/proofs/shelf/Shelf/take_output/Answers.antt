@@ -1,6 +1,6 @@
 use Rattle.std.proofs.Common.{◌≡◌, sym, ap, subst}
 use Rattle.charmlet_shelf.specs.Due.{Due, record_after}
-use Rattle.charmlet_shelf.specs.Outcome.{Performed}
+use Rattle.charmlet_shelf.specs.PerformedDelivery.{Performed}
 use Rattle.charmlet_shelf.specs.Shelf.{Holds, ShowsPhase}
 use Rattle.charmlet_shelf.specs.Risen.{risen}
 use Rattle.charmlet_shelf.proofs.shelf.Shelf.take_output.Goals as goal

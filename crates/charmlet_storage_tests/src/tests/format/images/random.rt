@@ -12,7 +12,8 @@ use charmlet_image::{
     write_arrays, write_client, write_entry, write_header,
 };
 use charmlet_model::{
-    CaughtUp, ClientRow, Edition, Effect, Elem, Manifest, Message, MsgId, Origin, Window, Words,
+    CatchUpEntry, ClientRow, Effect, Elem, KindVersion, Manifest, Message, MsgId, Origin, Window,
+    Words,
 };
 use charmlet_record::{
     OPEN, append_batch, append_caught_up, append_message, batch_size, write_u32,
@@ -24,14 +25,14 @@ use std::fmt::Debug;
 use std::process::Abort;
 
 // An array of each kind in each of its versions.
-const ARRAYS: [(u16, Edition); 7] = [
-    (0, Edition::Counter),
-    (1, Edition::Ring),
-    (2, Edition::Account),
-    (3, Edition::Sum),
-    (4, Edition::Tree),
-    (5, Edition::Tape),
-    (6, Edition::FirstCounter),
+const ARRAYS: [(u16, KindVersion); 7] = [
+    (0, KindVersion::Counter),
+    (1, KindVersion::Ring),
+    (2, KindVersion::Account),
+    (3, KindVersion::Sum),
+    (4, KindVersion::Tree),
+    (5, KindVersion::Tape),
+    (6, KindVersion::FirstCounter),
 ];
 
 // A reply, or none.
@@ -83,15 +84,15 @@ fn some_packed(rng: &mut Pcg32) -> [u8; 36] {
     packed
 }
 
-// The first of these bytes, as many as an object of this edition packs to.
-fn packed_of(edition: Edition, packed: &[u8; 36]) -> &[u8]
+// The first of these bytes, as many as an object of this kind version packs to.
+fn packed_of(kind_version: KindVersion, packed: &[u8; 36]) -> &[u8]
     ensures { length result.now ≤ 36 }
 {
-    match edition {
-        Edition::FirstCounter | Edition::Account | Edition::Tree => &packed[4..12],
-        Edition::Counter | Edition::Ring => &packed[4..20],
-        Edition::Sum => &packed[4..36],
-        Edition::Tape => &packed[..],
+    match kind_version {
+        KindVersion::FirstCounter | KindVersion::Account | KindVersion::Tree => &packed[4..12],
+        KindVersion::Counter | KindVersion::Ring => &packed[4..20],
+        KindVersion::Sum => &packed[4..36],
+        KindVersion::Tape => &packed[..],
     }
 }
 
@@ -101,7 +102,7 @@ fn note<T: Debug>(rt: &impl Abort, said: &mut String, value: &T) {
 }
 
 // Notes the arrays, each with its kind and version.
-fn note_arrays(rt: &impl Abort, said: &mut String, arrays: &[(u16, Edition)]) {
+fn note_arrays(rt: &impl Abort, said: &mut String, arrays: &[(u16, KindVersion)]) {
     for array in arrays {
         note(rt, said, array);
     }
@@ -202,7 +203,7 @@ fn append_catch_up(
     append_count(rt, out, 5);
     for received in 1..6 {
         let message = some_message(rt, rng, 1);
-        let delivery = CaughtUp {
+        let delivery = CatchUpEntry {
             message,
             received,
             effect: Effect::Constructed,
@@ -219,11 +220,11 @@ fn append_two(
     out: &mut Vec<u8>,
     said: &mut String,
     array: u16,
-    edition: Edition,
+    kind_version: KindVersion,
 ) {
     let packed = some_packed(rng);
     let there = Elem { array, index: 7 };
-    let bytes = packed_of(edition, &packed);
+    let bytes = packed_of(kind_version, &packed);
     append_entry(rt, rng, out, said, there, Some(bytes));
     let gone = Elem {
         array,
@@ -235,8 +236,8 @@ fn append_two(
 // Appends two elements of each array.
 fn append_entries(rt: &impl Abort, rng: &mut Pcg32, out: &mut Vec<u8>, said: &mut String) {
     append_count(rt, out, 14);
-    for (array, edition) in &ARRAYS {
-        append_two(rt, rng, out, said, *array, *edition);
+    for (array, kind_version) in &ARRAYS {
+        append_two(rt, rng, out, said, *array, *kind_version);
     }
 }
 

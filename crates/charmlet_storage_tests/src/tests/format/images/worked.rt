@@ -4,8 +4,8 @@ ghost use Rattle.charmlet_record.specs.Reading.{read_log};
 use super::stores::{CAUGHT_STORE, FLUSHED_STORE, IMAGE_STORE, NEW_STORE, WAITING_STORE};
 use crate::tests::format::{are_bytes, is_count};
 use charmlet_image::{HalfView, KnownLog, LogBatches, Mark, OpenHalf, read_half, reread_half};
-use charmlet_model::{Edition, Effect, Logged, Origin};
-use charmlet_record::Placed;
+use charmlet_model::{Effect, KindVersion, Logged, Origin};
+use charmlet_record::Positioned;
 use std::alloc::AllocGlobal;
 use std::process::Abort;
 
@@ -40,9 +40,9 @@ fn is_number(rt: &impl Abort, found: u64, wanted: u64) {
 }
 
 // The header has this mark, and the counters of array 0 are of this version.
-fn has_mark(rt: &impl Abort, half: &OpenHalf<'_>, mark: Mark, edition: Edition) {
+fn has_mark(rt: &impl Abort, half: &OpenHalf<'_>, mark: Mark, kind_version: KindVersion) {
     assert_eq!(rt; half.header.mark, mark);
-    assert_eq!(rt; half.image.manifest.edition_of(0), Some(edition));
+    assert_eq!(rt; half.image.manifest.kind_version_of(0), Some(kind_version));
 }
 
 // The image has this many clients and elements.
@@ -64,7 +64,7 @@ fn has_log_at(rt: &impl Abort, half: &OpenHalf<'_>, begins: u64) {
 
 // An image with no clients and no elements, and a log with no events.
 fn is_new(rt: &impl Abort, half: &OpenHalf<'_>) {
-    has_mark(rt, half, Mark::Third, Edition::Counter);
+    has_mark(rt, half, Mark::Third, KindVersion::Counter);
     is_number(rt, half.header.generation, 1);
     is_number(rt, u64::from(half.header.size), 26);
     has_rows(rt, half, 0, 0);
@@ -79,12 +79,12 @@ fn new_store_is_read(rt: HostRuntime) {
 }
 
 // Two events, with this many bytes left at each.
-pub fn are_events(rt: &impl Abort, events: &[Placed<Logged>], first: usize, second: usize) {
+pub fn are_events(rt: &impl Abort, events: &[Positioned<Logged>], first: usize, second: usize) {
     let [earlier, later] = events else {
         panic!(rt; "not two events");
     };
-    is_count(rt, earlier.left, first);
-    is_count(rt, later.left, second);
+    is_count(rt, earlier.bytes_left, first);
+    is_count(rt, later.bytes_left, second);
 }
 
 // The only batch of a log has two events, with this many bytes left at each.
@@ -121,7 +121,7 @@ fn log_is_read_once_more(rt: HostRuntime) {
 
 // One client that made a request, and one element that received it.
 fn is_image(rt: &impl Abort, half: &OpenHalf<'_>) {
-    has_mark(rt, half, Mark::Third, Edition::Counter);
+    has_mark(rt, half, Mark::Third, KindVersion::Counter);
     is_number(rt, half.header.generation, 2);
     is_number(rt, half.header.events, 2);
     is_number(rt, half.log.ends, 116);
@@ -151,13 +151,13 @@ fn image_is_read(rt: HostRuntime) {
 
 // Two deliveries were made while the image was taken.
 fn is_caught(rt: &impl Abort, half: &OpenHalf<'_>) {
-    has_mark(rt, half, Mark::First, Edition::FirstCounter);
+    has_mark(rt, half, Mark::First, KindVersion::FirstCounter);
     has_rows(rt, half, 2, 2);
     let [caught, skipped] = half.image.caught_up.as_slice() else {
         panic!(rt; "not two deliveries");
     };
-    is_count(rt, caught.left, 93);
-    is_count(rt, skipped.left, 47);
+    is_count(rt, caught.bytes_left, 93);
+    is_count(rt, skipped.bytes_left, 47);
     is_number(rt, skipped.item.received, 2);
     assert_eq!(rt; skipped.item.effect, Effect::Stayed);
 }
@@ -171,15 +171,15 @@ fn catch_up_list_is_read(rt: HostRuntime) {
 
 // Two messages are pending, and an element is gone.
 fn is_waiting(rt: &impl Abort, half: &OpenHalf<'_>) {
-    has_mark(rt, half, Mark::Second, Edition::FirstCounter);
+    has_mark(rt, half, Mark::Second, KindVersion::FirstCounter);
     let [first, second] = half.image.pending.as_slice() else {
         panic!(rt; "not two messages");
     };
     assert_eq!(rt; first.item.id.origin, Origin::Client(7));
     is_number(rt, first.item.id.number, 2);
     is_number(rt, second.item.id.number, 3);
-    is_count(rt, first.left, 149);
-    is_count(rt, second.left, 112);
+    is_count(rt, first.bytes_left, 149);
+    is_count(rt, second.bytes_left, 112);
     let Some(gone) = half.image.entries.last() else {
         panic!(rt; "no element");
     };

@@ -26,7 +26,7 @@ fn first_fault(rt: &(impl AllocGlobal + Abort), bytes: &[u8]) -> Option<usize> {
     let mut reader = Reader::new(bytes);
     match read_log(&mut reader, rt.alloc(), &manifest) {
         Ok(_) => None,
-        Err(ReadError::Damaged(Fault { left })) => Some(left),
+        Err(ReadError::Damaged(Fault { bytes_left: left })) => Some(left),
         Err(ReadError::Memory) => panic!(rt; "out of memory"),
     }
 }

@@ -1,7 +1,7 @@
 ghost use Rattle.std.specs.Prelude.{◌≡◌, All, length};
 ghost use Rattle.charmlet_record.specs.Limits.{IsShort};
 
-use super::backlog::delivery;
+use super::wal_buffer::delivery;
 use super::worked::FIRST_FLUSH;
 use crate::tests::format::images::worked::are_events;
 use crate::tests::format::is_count;

@@ -2,7 +2,7 @@ ghost use Rattle.charmlet_record.specs.Limits.{AreFewWords, IsShort};
 
 use crate::tests::format::{are_bytes, is_count, is_text};
 use charmlet_model::{
-    CaughtUp, Effect, Elem, Logged, Manifest, Message, MsgId, Origin, Outgoing, Sends, Words,
+    CatchUpEntry, Effect, Elem, Logged, Manifest, Message, MsgId, Origin, Outgoing, Sends, Words,
 };
 use charmlet_record::{
     OPEN, Reader, append_batch, append_caught_up, append_event, append_message, batch_size,
@@ -167,8 +167,8 @@ fn first_flush_is_read(rt: HostRuntime) {
     is_text(
         &rt,
         &log_in(&rt, &FIRST_FLUSH),
-        "[Placed { left: 65, item: Accept { client: 7, number: 1, to: Elem { array: 0, index: 0 }, entry: 65535, words: Words { items: [5] } } }, \
-         Placed { left: 28, item: Deliver { id: MsgId { origin: Client(7), number: 1 }, received: 1, effect: Constructed, sends: Sends { items: [] } } }]",
+        "[Positioned { bytes_left: 65, item: Accept { client: 7, number: 1, to: Elem { array: 0, index: 0 }, entry: 65535, words: Words { items: [5] } } }, \
+         Positioned { bytes_left: 28, item: Deliver { id: MsgId { origin: Client(7), number: 1 }, received: 1, effect: Constructed, sends: Sends { items: [] } } }]",
     );
 }
 
@@ -213,7 +213,7 @@ fn caught_up_bytes(rt: &(impl AllocGlobal + Abort)) -> Vec<u8> {
         entry: 0,
         words: word(rt, 1),
     };
-    let delivery = CaughtUp {
+    let delivery = CatchUpEntry {
         message,
         received: 2,
         effect: Effect::Stayed,
@@ -229,7 +229,7 @@ fn catch_up_delivery_has_46_bytes(rt: HostRuntime) {
     is_text(
         &rt,
         &caught_up_in(&rt, &CATCH_UP),
-        "CaughtUp { message: Message { id: MsgId { origin: Client(8), number: 2 }, to: Elem { array: 0, index: 1 }, entry: 0, words: Words { items: [1] } }, received: 2, effect: Stayed }",
+        "CatchUpEntry { message: Message { id: MsgId { origin: Client(8), number: 2 }, to: Elem { array: 0, index: 1 }, entry: 0, words: Words { items: [1] } }, received: 2, effect: Stayed }",
     );
     are_bytes(&rt, &caught_up_bytes(&rt), &CATCH_UP);
 }

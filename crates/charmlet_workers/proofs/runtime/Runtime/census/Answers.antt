@@ -11,4 +11,4 @@ returns g c =
     let same : c.census.result ≡ hub.census = c.census.ensures ∙ ap (λ (h : HubShown _). h.census) (c.deref-2.ensures ∙ sym c.deref.ensures) in
     subst (λ (v : RuntimeShown). WereCounted v c.census.result) c.self.view_is
     (subst (λ census. WereCounted _ census) (sym same)
-    (record { core = hub.core; moment = record { of = record { of = facts.of; later = facts.later }; sound = facts.sound }; was = tally_of hub.core hub.census facts.book.0 facts.sound facts.book.1 }))
+    (record { core = hub.core; moment = record { of = record { of = facts.of; later = facts.later }; sound = facts.sound }; was = tally_of hub.core hub.census facts.authority.0 facts.sound facts.authority.1 }))

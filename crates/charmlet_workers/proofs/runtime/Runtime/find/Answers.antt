@@ -3,7 +3,7 @@ use Rattle.std.specs.Prelude.{IfErr}
 use Rattle.charmlet_history.specs.Kept.{core_in}
 use Rattle.charmlet_hub.specs.Hub.{HubShown}
 use Rattle.charmlet_workers.specs.Runtime.{RuntimeShown, WasSeen}
-use Rattle.charmlet_workers.proofs.Looks.{err_seen}
+use Rattle.charmlet_workers.proofs.LooksLemmas.{err_seen}
 use Rattle.charmlet_workers.proofs.runtime.Runtime.find.Goals as goal
 
 pub returns-clause-seen : goal.returns-clause-seen

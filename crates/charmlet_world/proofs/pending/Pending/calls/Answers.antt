@@ -25,4 +25,4 @@ returns c =
     let counted = c.self.invariant.counted to in
     let young : AllByRecursion (λ (d : Call). d.number ≤ c.receiver-receiver.result.youngest) (calls_in to es) = subst (λ (r : Receiver). AllByRecursion (λ (d : Call). d.number ≤ r.youngest) (calls_in to es)) (sym rec) counted.youngest in
     c.new.ensures ∙ sym (calls_before to c.receiver-receiver.result.youngest c.end_of-end.result es young c.end_of-end.ensures) ∙ calls_are to es
-    ∙ ap (λ (w : Waiting). calls_down to w.births w.messages) c.self.view_is
+    ∙ ap (λ (w : Waiting). calls_down to w.seq_nos w.messages) c.self.view_is

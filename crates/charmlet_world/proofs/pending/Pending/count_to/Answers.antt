@@ -10,4 +10,4 @@ returns c =
     let es = c.self.inside.envelopes.entries in
     let to = c.args.to in
     ap (λ (r : Receiver). r.count) c.receiver.ensures ∙ (c.self.invariant.counted to).count ∙ ap length (calls_are to es)
-    ∙ ap (λ (w : Waiting). length (calls_down to w.births w.messages)) c.self.view_is
+    ∙ ap (λ (w : Waiting). length (calls_down to w.seq_nos w.messages)) c.self.view_is

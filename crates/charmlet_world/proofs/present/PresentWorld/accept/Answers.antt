@@ -4,16 +4,16 @@ use Rattle.charmlet_model.specs.declared.event.Event.TheVariants.{Accept}
 use Rattle.charmlet_world.specs.Changed.{accepted}
 use Rattle.charmlet_world.specs.Seen.{Held, Seen, Shows, seen}
 use Rattle.charmlet_world.specs.Standing.{risen}
-use Rattle.charmlet_world.specs.Tied.{Dispatched}
+use Rattle.charmlet_world.specs.Tied.{Scheduled}
 use Rattle.charmlet_world.proofs.Showing.{accepted_shows}
 use Rattle.charmlet_world.proofs.present.PresentWorld.accept.Goals as goal
 
 pub returns-clause-ok : goal.returns-clause-ok
 returns-clause-ok c =
     let own = c.self.inside in
-    let processors = ap (λ (d : Dispatched). d.processors) c.expect_oldest.ensures ∙ c.push.ensures.processors ∙ c.in_ok-reserve.ensures.processors in
-    let rows = ap (λ (d : Dispatched). risen d.rows) c.expect_oldest.ensures ∙ ap risen c.push.ensures.rows ∙ ap risen c.in_ok-reserve.ensures.rows in
-    let pending = ap (λ (d : Dispatched). d.pending) c.expect_oldest.ensures ∙ c.push.ensures.pending ∙ ap (λ ms. ms ++ request c.args.client c.args.number c.args.to c.args.entry c.args.words ∷ []) c.in_ok-reserve.ensures.pending in
+    let processors = ap (λ (d : Scheduled). d.processors) c.hint_head.ensures ∙ c.push.ensures.processors ∙ c.in_ok-reserve.ensures.processors in
+    let rows = ap (λ (d : Scheduled). risen d.rows) c.hint_head.ensures ∙ ap risen c.push.ensures.rows ∙ ap risen c.in_ok-reserve.ensures.rows in
+    let pending = ap (λ (d : Scheduled). d.pending) c.hint_head.ensures ∙ c.push.ensures.pending ∙ ap (λ ms. ms ++ request c.args.client c.args.number c.args.to c.args.entry c.args.words ∷ []) c.in_ok-reserve.ensures.pending in
     (λ i. record { manifest = own.manifest; processors = processors i; elements = rows i; pending = pending i; clients = c.in_ok-note_request.ensures.ok i })
     ∙ ap (λ (h : Held). accepted (seen h) c.args.client c.args.number c.args.to c.args.entry c.args.words) c.self.view_is
 

@@ -10,14 +10,14 @@ use Rattle.charmlet_world.proofs.present.PresentWorld.assign.Goals as goal
 
 pub returns-clause-slot : goal.returns-clause-slot
 returns-clause-slot c =
-    let m : Message = message_of c.args.id c.in-Some.letter.now in
+    let m : Message = message_of c.args.id c.in-Some.pending_message.now in
     let is = c.in-Some.ensures ∙ ap (message_among c.args.id) (c.pending.ensures ∙ c.in_ok-reserve.ensures.pending) in
     to_some c.args.self.now _ c.self.view_is c.args.id m is (λ h m. IsSlot c.slot_for.new.self.rows c.in_ok-slot.slot m.to)
     c.in_ok-slot.ensures.slot
 
 pub returns-clause-seen : goal.returns-clause-seen
 returns-clause-seen c =
-    let m : Message = message_of c.args.id c.in-Some.letter.now in
+    let m : Message = message_of c.args.id c.in-Some.pending_message.now in
     let is = c.in-Some.ensures ∙ ap (message_among c.args.id) (c.pending.ensures ∙ c.in_ok-reserve.ensures.pending) in
     let own = c.self.inside in
     let put = c.in_ok-slot.ensures.risen ∙ ap (λ rows. with_entry (risen rows) m.to) c.in_ok-reserve.ensures.rows in
@@ -34,11 +34,11 @@ returns-clause-slots c = λ i x e at.
 pub returns-clause-world : goal.returns-clause-world
 returns-clause-world c = λ w shows.
     let own = c.self.inside in
-    let x = c.in-Some.letter.now.to in
+    let x = c.in-Some.pending_message.now.to in
     let put = c.in_ok-slot.ensures.risen ∙ ap (λ rows. with_entry (risen rows) x) c.in_ok-reserve.ensures.rows in
     let processors = c.in_ok-slot.ensures.processors ∙ c.in_ok-reserve.ensures.processors in
     let pending = c.in_ok-slot.ensures.pending ∙ c.in_ok-reserve.ensures.pending in
-    let before : Seen = record { manifest = own.manifest; processors = own.dispatch.processors; elements = risen own.dispatch.rows; pending = own.dispatch.pending; clients = own.clients.entries } in
+    let before : Seen = record { manifest = own.manifest; processors = own.scheduler.processors; elements = risen own.scheduler.rows; pending = own.scheduler.pending; clients = own.clients.entries } in
     subst (λ (k : Seen). Shows k w)
     (λ i. record { manifest = own.manifest; processors = sym processors i; elements = sym put i; pending = sym pending i; clients = own.clients.entries })
     (entry_shows before w (subst (λ (h : Held). Shows (seen h) w) (sym c.self.view_is) shows) x)

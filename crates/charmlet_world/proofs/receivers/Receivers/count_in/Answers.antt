@@ -9,7 +9,7 @@ returns-clause-count c =
     let x = c.args.elem in
     let es = c.self.inside.table.entries in
     let mid = c.index_for-index.new.table.entries in
-    let w : Receiver = record { count = c.at-receiver.result.count + 1; youngest = c.args.born } in
+    let w : Receiver = record { count = c.at-receiver.result.count + 1; youngest = c.args.seq } in
     let found = c.index_for-index.ensures.found in
     let was = value_is x (receiver_in es x) c.at-receiver.result mid c.index_for-index.result found c.at-receiver.ensures in
     ap (λ (r : Receiver). r.count) (own_changed x w mid c.set.new.table.entries (λ y. c.set.ensures.changed x y (receiver_in es x) found))
@@ -20,7 +20,7 @@ returns-clause-youngest c =
     let x = c.args.elem in
     let es = c.self.inside.table.entries in
     let mid = c.index_for-index.new.table.entries in
-    let w : Receiver = record { count = c.at-receiver.result.count + 1; youngest = c.args.born } in
+    let w : Receiver = record { count = c.at-receiver.result.count + 1; youngest = c.args.seq } in
     ap (λ (r : Receiver). r.youngest) (own_changed x w mid c.set.new.table.entries (λ y. c.set.ensures.changed x y (receiver_in es x) c.index_for-index.ensures.found))
 
 pub returns-clause-others : goal.returns-clause-others
@@ -28,6 +28,6 @@ returns-clause-others c = λ y other.
     let x = c.args.elem in
     let es = c.self.inside.table.entries in
     let mid = c.index_for-index.new.table.entries in
-    let w : Receiver = record { count = c.at-receiver.result.count + 1; youngest = c.args.born } in
+    let w : Receiver = record { count = c.at-receiver.result.count + 1; youngest = c.args.seq } in
     other_changed x y w mid c.set.new.table.entries (λ z. c.set.ensures.changed x z (receiver_in es x) c.index_for-index.ensures.found) other
     ∙ c.index_for-index.ensures.same y ∙ ap (λ (r : Received). receiver_in r.entries y) c.self.view_is

@@ -3,4 +3,4 @@ use Rattle.charmlet_ready_queue.specs.Index.Index.{Indexed, IsIndexOf}
 use Rattle.charmlet_ready_queue.proofs.index.index.Index.oldest_on.Goals as goal
 
 pub returns-clause-index : goal.returns-clause-index
-returns-clause-index g c = λ births place is within. c.oldest_of.ensures.index births place (subst (λ (v : Indexed). IsIndexOf births place v.lists) (sym c.self.view_is) is) (subst (λ (v : Indexed). c.args.on < length v.lists) (sym c.self.view_is) within)
+returns-clause-index g c = λ seq_nos place is within. c.oldest_of.ensures.index seq_nos place (subst (λ (v : Indexed). IsIndexOf seq_nos place v.lists) (sym c.self.view_is) is) (subst (λ (v : Indexed). c.args.on < length v.lists) (sym c.self.view_is) within)

@@ -6,4 +6,4 @@ pub invariant_of-self : goal.invariant_of-self
 invariant_of-self c = record { numbers = c.self.invariant.numbers; roomy = c.reserve_one.ensures.roomy; below = c.reserve_one.ensures.below c.self.inside.next c.self.invariant.below }
 
 pub returns-clause-index : goal.returns-clause-index
-returns-clause-index c = λ births place is. c.reserve_one.ensures.index births place (subst (λ (v : Indexed). IsIndexOf births place v.lists) (sym c.self.view_is) is)
+returns-clause-index c = λ seq_nos place is. c.reserve_one.ensures.index seq_nos place (subst (λ (v : Indexed). IsIndexOf seq_nos place v.lists) (sym c.self.view_is) is)

@@ -31,8 +31,8 @@ invariant_of-self c = record {
 }
 
 pub returns-clause-index : goal.returns-clause-index
-returns-clause-index c = λ births place is climbs there here.
-    shifted_index births place c.args.number c.args.from c.args.into c.self.inside.lists.items c.take_from.new.lists.items c.put_in.new.lists.items climbs there here (subst (λ (v : Indexed). IsIndexOf births place v.lists) (sym c.self.view_is) is) c.take_from.ensures.each c.put_in.ensures.each
+returns-clause-index c = λ seq_nos place is climbs there here.
+    shifted_index seq_nos place c.args.number c.args.from c.args.into c.self.inside.lists.items c.take_from.new.lists.items c.put_in.new.lists.items climbs there here (subst (λ (v : Indexed). IsIndexOf seq_nos place v.lists) (sym c.self.view_is) is) c.take_from.ensures.each c.put_in.ensures.each
 
 pub returns-clause-room : goal.returns-clause-room
 returns-clause-room c = λ p k had.

@@ -22,5 +22,5 @@ invariant_of-self c =
     }
 
 pub returns-clause-index : goal.returns-clause-index
-returns-clause-index c = λ births place is climbs there here.
-    without_index births place c.args.number c.args.at c.self.inside.lists.items c.take_from.new.lists.items climbs there here (subst (λ (v : Indexed). IsIndexOf births place v.lists) (sym c.self.view_is) is) c.take_from.ensures.each
+returns-clause-index c = λ seq_nos place is climbs there here.
+    without_index seq_nos place c.args.number c.args.at c.self.inside.lists.items c.take_from.new.lists.items climbs there here (subst (λ (v : Indexed). IsIndexOf seq_nos place v.lists) (sym c.self.view_is) is) c.take_from.ensures.each

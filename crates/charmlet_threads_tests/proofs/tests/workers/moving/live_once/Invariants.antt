@@ -2,16 +2,16 @@ use Rattle.charmlet_locks.specs.GhostAuth.Naming.{table_of}
 use Rattle.charmlet_engine.specs.Engine.{core_of}
 use Rattle.charmlet_threads_tests.proofs.tests.workers.moving.live_once.Given as goal
 
--- the book of shelves that was just made
-abbrev pub ghosts-live_named-B-BookName : goal.ghosts-live_named-B-BookName
-ghosts-live_named-B-BookName g a = record { table = table_of a.books.parts }
+-- the authority of shelves that was just made
+abbrev pub ghosts-live_named-B-AuthorityName : goal.ghosts-live_named-B-AuthorityName
+ghosts-live_named-B-AuthorityName g a = record { table = table_of a.authorities.parts }
 
--- the other two books, and the engine's store
+-- the other two authorities, and the engine's store
 abbrev pub ghosts-live_named-B-RuntimeName : goal.ghosts-live_named-B-RuntimeName
 ghosts-live_named-B-RuntimeName g a = record {
-  seats = table_of a.books.seats;
-  passes = table_of a.books.passes;
-  checkpoints = table_of a.books.checkpoints;
+  seats = table_of a.authorities.seats;
+  passes = table_of a.authorities.passes;
+  checkpoints = table_of a.authorities.checkpoints;
   opening = (core_of a.begun).opening;
   before = (core_of a.begun).before;
   processors = (core_of a.begun).processors;

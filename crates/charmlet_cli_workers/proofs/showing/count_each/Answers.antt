@@ -1,9 +1,0 @@
-use Rattle.charmlet_lines.specs.Shown.{IsWhole}
-use Rattle.charmlet_lines.proofs.Enough.{by_kind}
-use Rattle.charmlet_cli_workers.specs.Said.{counted_by}
-use Rattle.charmlet_cli_workers.proofs.showing.count_each.Goals as goal
-
-pub returns-clause-whole : goal.returns-clause-whole
-returns-clause-whole c =
-    by_kind (λ kind. IsWhole (counted_by c.args.census.now kind)) c.count.ensures.whole c.count-2.ensures.whole c.count-3.ensures.whole c.count-4.ensures.whole c.count-5.ensures.whole
-    c.count-6.ensures.whole

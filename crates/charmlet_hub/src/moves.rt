@@ -1,0 +1,93 @@
+//! Moves of elements between two shelves that are lent to a hub.
+
+ghost use Rattle.std.specs.Prelude.{◌≡◌, ◌≢◌, ℕ, false, true, Ok, Some, IfErr, IfOk, OnErr, OnOk};
+ghost use Rattle.charmlet_model.specs.declared.names.Elem as elems;
+ghost use Rattle.charmlet_model.specs.Core as core;
+ghost use Rattle.charmlet_model.specs.Core.{Refuses, place_of};
+ghost use Rattle.charmlet_model.specs.Run.{Goes};
+ghost use Rattle.charmlet_delivery.specs.Workplace.{done_or_refused};
+ghost use Rattle.charmlet_sequencer.specs.Relocating.{Carries, IsAway, KeepsObjectsOfBoth, StaysOrLeaves};
+ghost use Rattle.charmlet_hub.specs.Hub.{sequencer_in, store_in};
+
+use crate::hub::Hub;
+use charmlet_chare::Chare;
+use charmlet_disk::Disk;
+use charmlet_model::{Elem, Refusal};
+use charmlet_sequencer::{ProcessorState, RuntimeName};
+
+impl<D: Disk, C: Chare, B: RuntimeName> Hub<D, C, B> {
+    /// The processor that an element has to leave for a move to this one, or `None` if the element
+    /// is there already: then the move is done, and nothing changes. It needs no shelf. An element
+    /// that has to leave is [relocated](Self::relocate), and there it is asked whether a message is
+    /// assigned to one of the two processors.
+    ///
+    /// The refusal, which is the move's, is the first that applies of `Halted`, `Checkpointing`,
+    /// `BadPes` and `Absent`. It takes no memory.
+    pub fn locate_for_move(&self, elem: Elem, processor: u16) -> Result<Option<u16>, Refusal>
+        ensures ok { IfOk result (λ source. StaysOrLeaves (store_in self.now) elem processor
+            source) }
+        ensures running { OnOk result (self.now.core.halted ≡ false) }
+        ensures err { IfErr result (λ refusal. Goes (store_in self.now)
+            (core.Move elem processor) (Refuses refusal) (store_in self.now)) }
+        ensures away { (place : ℕ) → IsAway self.now.core elem place processor →
+            self.now.core.halted ≡ false → self.now.busy ≡ false → result ≡ Ok (Some place) }
+    {
+        if self.running.is_some() {
+            return Err(self.busy_refusal());
+        }
+        self.sequencer.facts();
+        self.sequencer.locate_for_move(elem, processor)
+    }
+
+    /// Why a move is refused while a checkpoint runs: `Halted`; otherwise `Checkpointing`.
+    fn busy_refusal(&self) -> Refusal
+        requires { self.now.busy ≡ true }
+        ensures { (elem : elems.Elem) (processor : ℕ) → Goes (store_in self.now)
+            (core.Move elem processor) (Refuses result) (store_in self.now) }
+    {
+        if self.sequencer.history().is_halted() {
+            Refusal::Halted
+        } else {
+            Refusal::Checkpointing
+        }
+    }
+
+    /// Moves an element, which stands on the one shelf, to the other. A blank of its kind is taken
+    /// from the stock, is set to its version, gets its state, and stands on the other shelf, with
+    /// the element's two counts; then the element's place changes; only then its old object leaves
+    /// its shelf and is retired. Where the element stands is seen by
+    /// [`where_is`](charmlet_history::History::where_is), since it may have moved before both
+    /// shelves were locked.
+    ///
+    /// The refusal is the first that applies of `Halted`, `Checkpointing`, `Uncommitted` where one
+    /// of the two processors has an assigned message, `NoBlank` and `Memory`. Then all is as
+    /// before.
+    pub fn relocate(
+        &mut self,
+        from: &mut ProcessorState<C, B>,
+        to: &mut ProcessorState<C, B>,
+        elem: Elem,
+    ) -> Result<(), Refusal>
+        requires place { place_of self.old.core elem ≡ Some from.old.number }
+        requires apart { from.old.number ≢ to.old.number }
+        ensures goes { Goes (store_in self.old) (core.Move elem to.old.number)
+            (done_or_refused result) (store_in self.new) }
+        ensures ok { OnOk result (Carries elem from.old to.old from.new to.new) }
+        ensures from { from.new ≡ record from.old { records = from.new.records } }
+        ensures to { to.new ≡ record to.old { records = to.new.records } }
+        ensures objects { KeepsObjectsOfBoth (sequencer_in self.old) (sequencer_in self.new)
+            from.old to.old from.new to.new }
+        ensures rest { self.new
+            ≡ record self.old { core = self.new.core; census = self.new.census } }
+        ensures err { OnErr result ((self.new ≡ self.old) × (from.new ≡ from.old)
+            × (to.new ≡ to.old)) }
+    {
+        if self.running.is_some() {
+            return Err(self.busy_refusal());
+        }
+        self.sequencer.facts();
+        let moved = self.sequencer.relocate(from, to, elem);
+        self.sequencer.facts();
+        moved
+    }
+}

@@ -1,5 +1,0 @@
-use Rattle.charmlet_leases.proofs.PassesLemmas.Requests.{none_current}
-use Rattle.charmlet_leases.proofs.passes.book.PassBook.new.Goals as goal
-
-pub returns-clause-current : goal.returns-clause-current
-returns-clause-current g c = λ core new. none_current _ c.args.book core c.requires new

@@ -1,7 +1,0 @@
-use Rattle.std.proofs.Common.{◌≡◌, ℕ, List, take}
-use Rattle.charmlet_requests.specs.Handlers.{handler_of}
-use Rattle.charmlet_lines.specs.Named.{named_by}
-use Rattle.charmlet_lines.proofs.asking.handlers_of.Given as goal
-
-abbrev pub invariant-loop-line : goal.invariant-loop-line
-invariant-loop-line l = (name : List ℕ) → handler_of l.handlers name ≡ named_by (take l.line-index l.lines) name

@@ -1,6 +1,0 @@
-use Rattle.std.specs.Fmt.{digits}
-use Rattle.charmlet_lines.proofs.writing.write_memory_refused.Goals as goal
-
-pub returns : goal.returns
-unfolding digits
-returns g c = c.write_bytes.ensures

@@ -1,5 +1,0 @@
-use Rattle.std.proofs.Common.{length}
-use Rattle.charmlet_parallel_replay.proofs.rounds.forgetting.+forget_replies.Given as goal
-
-abbrev pub decreases-forget_replies : goal.decreases-forget_replies
-decreases-forget_replies g l = length l.lots.now

@@ -1,0 +1,9 @@
+//! Several replayers replay a log, and answer what one would.
+
+mod chunks;
+mod forget;
+mod log_round;
+mod replay_error;
+
+pub use crate::log::log_round::replay_log_parallel;
+pub use crate::log::replay_error::ReplayError;

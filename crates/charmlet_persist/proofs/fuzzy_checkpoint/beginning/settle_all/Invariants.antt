@@ -1,8 +1,0 @@
-use Rattle.std.proofs.Common.{◌≡◌, []}
-use Rattle.charmlet_shelf.specs.Risen.{risen}
-use Rattle.charmlet_persist.specs.FuzzyCheckpoint.Running.{with_all_left}
-use Rattle.charmlet_persist.proofs.fuzzy_checkpoint.beginning.settle_all.Given as goal
-
--- the elements that are left settle what all of them do
-abbrev pub invariant-loop-elem : goal.invariant-loop-elem
-invariant-loop-elem l = with_all_left (risen l.table.entries) l.elem-iterator ≡ with_all_left [] l.left.entries

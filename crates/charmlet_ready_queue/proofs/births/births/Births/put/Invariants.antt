@@ -1,4 +1,0 @@
-use Rattle.charmlet_ready_queue.proofs.births.births.Births.put.Given as goal
-
-abbrev pub ghosts-put_counted : goal.ghosts-put_counted
-ghosts-put_counted a = record { name = a.blank.name; parts = a.blank.parts }

@@ -1,4 +1,0 @@
-pub mod RepliesLemmas
-pub mod WorkerLemmas
-pub mod SharesLemmas
-pub mod DispatchLemmas

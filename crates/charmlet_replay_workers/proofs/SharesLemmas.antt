@@ -1,3 +1,0 @@
--- Sums over workers.
-pub mod Sums
-pub mod AddUp

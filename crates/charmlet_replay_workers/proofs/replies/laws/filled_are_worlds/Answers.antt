@@ -1,5 +1,0 @@
-use Rattle.charmlet_replay_workers.proofs.RepliesLemmas.Whole.{filled-are-worlds}
-use Rattle.charmlet_replay_workers.proofs.replies.laws.filled_are_worlds.Goals as goal
-
-pub returns : goal.returns
-returns c = filled-are-worlds

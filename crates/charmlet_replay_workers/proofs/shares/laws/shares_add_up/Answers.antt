@@ -1,6 +1,0 @@
-use Rattle.charmlet_replay_workers.proofs.SharesLemmas.AddUp.{catch-ups-add-up, records-add-up, tasks-add-up}
-use Rattle.charmlet_replay_workers.proofs.SharesLemmas.Sums.{together-is-sum}
-use Rattle.charmlet_replay_workers.proofs.shares.laws.shares_add_up.Goals as goal
-
-pub returns : goal.returns
-returns c = record { sum = together-is-sum; records = records-add-up; catch_ups = catch-ups-add-up; tasks = tasks-add-up }

@@ -1,0 +1,4 @@
+pub mod RepliesLemmas
+pub mod ReplayerLemmas
+pub mod SharesLemmas
+pub mod DispatchLemmas

@@ -1,0 +1,3 @@
+-- Sums over replayers.
+pub mod Sums
+pub mod AddUp

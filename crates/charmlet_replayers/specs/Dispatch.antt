@@ -1,0 +1,5 @@
+-- The definitions that contracts cite.
+pub mod Blank
+pub mod Dispatched
+pub mod Keeping
+pub mod Sharing

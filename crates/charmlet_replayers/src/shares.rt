@@ -1,0 +1,3 @@
+//! Shares: what each of several replayers needs of blanks, and what that is together.
+
+pub mod laws;

@@ -1,7 +1,0 @@
-use Rattle.std.proofs.Common.{take}
-use Rattle.charmlet_restoring.proofs.Entries.{Brought}
-use Rattle.charmlet_restoring.proofs.restored.Restored.restore_all.Given as goal
-
--- the entries so far came back
-abbrev pub invariant-loop-entry : goal.invariant-loop-entry
-invariant-loop-entry g l = Brought l.manifest l.fn.self (take l.entry-index l.entries) l.self

@@ -1,4 +1,0 @@
-use Rattle.charmlet_serving.proofs.running.run_over.Goals as goal
-
-pub returns : goal.returns
-returns g c = record { left = c.into_disk-disk.ensures.left; honest = c.into_disk-disk.ensures.honest }

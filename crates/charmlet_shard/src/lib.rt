@@ -1,0 +1,10 @@
+//! Elements that come back, of an image and of its catch-up list: objects on shelves again.
+#![tactic(auto)]
+
+mod homes;
+mod receivers;
+mod restored_shard;
+mod stopped;
+
+pub use crate::restored_shard::RestoredShard;
+pub use crate::stopped::Stopped;

@@ -1,7 +1,0 @@
--- It owns nothing, so threads may share it.
-use denote.Param.Send.{IsSync, part_keyless}
-use Rattle.charmlet_shelf.specs.contracts.seen.SeenState.{the_row}
-use Rattle.charmlet_shelf.proofs.seen.SeenState.TheSendSync.Send.{send}
-
-pub sync : IsSync the_row
-sync = record { shared = λ d b o κ q. part_keyless the_row send q d b o }

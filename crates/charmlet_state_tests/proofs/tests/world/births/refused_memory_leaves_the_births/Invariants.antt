@@ -1,4 +1,0 @@
-use Rattle.charmlet_state_tests.proofs.tests.world.births.refused_memory_leaves_the_births.Given as goal
-
-abbrev pub ghosts-refuse : goal.ghosts-refuse
-ghosts-refuse g a = record { name = a.blank.name; parts = a.blank.parts }
