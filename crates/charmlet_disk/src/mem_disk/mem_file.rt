@@ -122,8 +122,8 @@ impl MemFile {
         Ok(())
     }
 
-    /// Makes sure what a read gives. It copies what was written since the last sync, and takes no
-    /// memory.
+    /// Makes all bytes of the file durable. It copies what was written since the last sync, and
+    /// takes no memory.
     pub fn make_sure(&mut self)
         requires { IsSound (file_of self.old) }
         ensures { file_of self.new ≡ clean (file_of self.old).now }
@@ -134,7 +134,7 @@ impl MemFile {
         self.ranges.clear();
     }
 
-    /// Becomes what a crash leaves. It takes no memory.
+    /// Turns the file into what a crash leaves of it. It takes no memory.
     pub fn leave(&mut self, choice: CrashChoice)
         requires { IsSound (file_of self.old) }
         ensures { file_of self.new ≡ clean (left_by choice (file_of self.old)) }
@@ -149,7 +149,7 @@ impl MemFile {
         }
     }
 
-    // Becomes what was sure.
+    // Goes back to the bytes at the last sync.
     fn go_back(&mut self)
         requires { IsSound (file_of self.old) }
         ensures { file_of self.new ≡ clean (file_of self.old).sure }
