@@ -7,8 +7,8 @@ use arrayvec::ArrayVec;
 use std::alloc::{AllocError, Global};
 use std::marker::Model;
 
-/// Up to eight items, the oldest first: each is the reply to a request, or `None` until there is
-/// one. A contract sees the list. Only `copy` takes memory.
+/// The replies to a client's last requests: up to eight items, the oldest first. Each item is a
+/// reply, or `None` until there is one. A contract sees the list. Only `copy` takes memory.
 #[derive(Debug)]
 pub struct Window {
     items: ArrayVec<Option<Words>, 8>,
