@@ -4,7 +4,7 @@ use charmlet_model::Refusal;
 use std::alloc::Global;
 use std::collections::BTreeMap;
 
-/// What a handler's name stands for: an array, and an entry of its elements.
+/// The meaning of a handler's name: an array, and an entry of its elements.
 #[derive(Clone, Copy, Debug, PartialEq, Eq)]
 pub struct Handler {
     pub array: u16,
