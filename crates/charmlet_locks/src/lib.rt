@@ -1,8 +1,8 @@
-//! A lock for each of several places, whose value is known to have the number of its place.
+//! Locks for several places, whose values are known to have the numbers of their places.
 //!
-//! A value has a number, which only contracts see. Whoever takes the lock of a place finds a value
-//! of that number, and the value that is given back there has that number again. So who locks a
-//! place never has to look whether the right value lies there.
+//! A value has a number, which only contracts see. A thread that takes a place's lock finds a value
+//! of that number, and gives a value of that number back. So it never has to check that the right
+//! value lies there.
 #![tactic(auto)]
 
 mod ghost_auth;
