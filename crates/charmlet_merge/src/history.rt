@@ -1,4 +1,4 @@
-//! What a scan over a log kept becomes the opening of a history, once the replies that it
+//! Merge of a log scan's world into the opening of a history, once the replies that the scan
 //! doesn't know are put into its rows.
 
 ghost use Rattle.std.specs.Prelude.{◌≡◌, IfOk};
@@ -18,9 +18,9 @@ use charmlet_world::Element;
 use std::alloc::{AllocError, Global};
 use std::collections::BTreeMap;
 
-/// The opening with a fit world, given its arrays, its clients' rows, what is kept of each of its
-/// elements, and what a scan over a log kept, whose pending messages are those of the world. It
-/// fails only when out of memory.
+/// The opening with a fit world, given its arrays, its clients' rows, the place and counts of each
+/// of its elements, and the world of a log scan, which has the same pending messages. It fails only
+/// when out of memory.
 pub fn history_opening(
     alloc: Global,
     seen: GhostWorld,
