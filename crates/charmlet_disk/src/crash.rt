@@ -21,7 +21,7 @@ pub enum CrashChoice {
 }
 
 impl CrashChoice {
-    /// All six.
+    /// All six choices of a crash.
     pub const ALL: [CrashChoice; 6] = [
         CrashChoice::Old,
         CrashChoice::New,

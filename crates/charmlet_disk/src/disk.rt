@@ -8,7 +8,7 @@ ghost use Rattle.charmlet_model.specs.declared.refusal.Refusal.TheVariants.{Devi
 
 use charmlet_model::{Half, Refusal};
 
-/// A failure of the device. Nothing more is known: the disk's `failures` counts it.
+/// A failure of the device, of which no more is known: the disk's `failures` counts it.
 #[derive(Clone, Copy, Debug, PartialEq, Eq)]
 pub struct DeviceFault;
 
