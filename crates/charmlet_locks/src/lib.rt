@@ -1,8 +1,5 @@
-//! Locks for several places, whose values are known to have the numbers of their places.
-//!
-//! A value has a number, which only contracts see. A thread that takes a place's lock finds a value
-//! of that number, and gives a value of that number back. So it never has to check that the right
-//! value lies there.
+//! Numbered locks, each over a value that is known to have the number of its place; and ghost
+//! authorities, whose fragments under different locks are known to agree without a comparison.
 #![tactic(auto)]
 
 mod ghost_auth;
