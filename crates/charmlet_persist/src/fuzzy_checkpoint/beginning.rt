@@ -15,8 +15,8 @@ use std::alloc::{AllocError, Global};
 use std::collections::BTreeMap;
 
 impl FuzzyCheckpoint {
-    /// Begins a checkpoint, with room for `deliveries` deliveries, which is at least the number of
-    /// assigned messages. An absent element is captured by its record now, if it has one. There is
+    /// Begins a checkpoint, with room for `deliveries` deliveries, the number of messages that are
+    /// assigned already. An absent element is captured by its record now, if it has one. There is
     /// room for the other elements. It fails only when out of memory.
     pub fn begin(alloc: Global, history: &History, deliveries: usize) -> Result<Self, AllocError>
         ensures begun { IfOk result (λ running. running ≡ begun_in history.now deliveries) }
