@@ -33,7 +33,7 @@ pub struct Worked {
     pub refusal: Option<Refusal>,
 }
 
-/// Of how many turns without a ticket one asks the hub.
+/// The number of turns without a ticket in which the hub is asked once.
 pub const IDLE_TURNS: u64 = 16;
 
 /// The fewest times that a worker spins after a try of the hub's lock.
