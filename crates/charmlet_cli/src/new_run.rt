@@ -86,7 +86,8 @@ impl<C: Chare> From<RunError<C>> for ExitReason {
     }
 }
 
-/// How a script was run: the disk, which comes back in any case, and whether each line was run.
+/// The result of a script's run: the disk, which comes back in any case, and whether each line was
+/// run.
 #[derive(Drop)]
 pub struct Ran<D: Disk, C: Chare> {
     pub disk: D,

@@ -46,7 +46,8 @@ use std::thread::Threads;
 pub enum FindError {
     /// No store is found, for this reason. Only its line was written.
     Refused(Refusal),
-    /// That line couldn't be written: the output failed, or there was no memory for its text.
+    /// The refusal's line couldn't be written: the output failed, or there was no memory for its
+    /// text.
     Output(io::Error),
 }
 
