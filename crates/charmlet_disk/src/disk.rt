@@ -34,7 +34,8 @@ pub trait Disk: Send + Drop {
     /// The disk keeps what the clauses below say of an honest disk.
     ghost honest: { Self → Type 0 };
 
-    /// Each half: what a read gives, what is sure, and what was written since the last sync.
+    /// Each half: what a read gives, which bytes are durable, and which ranges were written since
+    /// the last sync.
     ghost file: { Self → Half → File };
 
     /// The moment, as a number that does not fall.
