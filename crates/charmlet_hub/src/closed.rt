@@ -36,7 +36,7 @@ pub struct Closed<D: Disk, C: Chare> {
     pub own: DeliveryIds,
 }
 
-/// A hub that wasn't closed, why not, and all that was handed in.
+/// A hub that wasn't closed, why not, and everything that was handed in.
 #[derive(Drop)]
 pub struct NotClosed<D: Disk, C: Chare, B: RuntimeName> {
     pub refusal: Refusal,
