@@ -74,7 +74,7 @@ impl<D: Drop> UnnamedAuthority<D> {
         Ok(UnnamedAuthority { table, seat })
     }
 
-    /// Names the authority; its fragments bear the name, too. It has no value yet.
+    /// Names the authority, so that its fragments are known to be its own. It has no value yet.
     pub fn named<B: AuthorityName>(self) -> Authority<D, B>
         requires { table_of self ≡ B.table }
         ensures { result ≡ [] }
