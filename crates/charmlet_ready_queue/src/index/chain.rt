@@ -10,8 +10,8 @@ pub struct Call {
     pub constructs: bool,
 }
 
-/// An iteration over the sequence numbers of messages to one element. It moves fewest numbers if
-/// they come in rising or in falling order.
+/// An iteration over the sequence numbers of messages to one element. Changes move the fewest
+/// numbers if they come in rising or in falling order.
 pub trait Chain {
     /// The sequence numbers that are left.
     ghost left: { Self → List ACall };

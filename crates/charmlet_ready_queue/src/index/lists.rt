@@ -72,7 +72,7 @@ impl Lists {
         }
     }
 
-    /// Puts a sequence number in its place of one list, where there is room.
+    /// Puts a sequence number in its place in one list. There has to be room for it.
     pub(crate) fn put(&mut self, number: u64, is_ready: bool)
         requires { IsRoomy 1 self.old }
         ensures ready { self.new.ready.seq_nos ≡ (if is_ready
@@ -90,7 +90,7 @@ impl Lists {
         }
     }
 
-    /// Adds the last sequence number of all to one list, where there is room.
+    /// Adds the last sequence number of all to one list. There has to be room for it.
     pub(crate) fn push(&mut self, number: u64, is_ready: bool)
         requires roomy { IsRoomy 1 self.old }
         requires last { IsBelow number self.old }
