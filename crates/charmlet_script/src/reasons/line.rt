@@ -24,7 +24,8 @@ pub(crate) enum LineFault<'a> {
         word: &'a [u8],
         fault: BeginningFault<'a>,
     },
-    /// There are too few words, and this one contains a byte that only looks like a space.
+    /// There are too few words, and this one contains a byte that looks like a space, or like
+    /// nothing at all.
     OneWord {
         word: &'a [u8],
         no_space: NoSpace,
@@ -43,7 +44,7 @@ pub(crate) enum LineFault<'a> {
     },
 }
 
-/// The words that may have been meant, if there are any.
+/// The word that may have been meant, if there is one.
 #[derive(Clone, Copy, Debug)]
 pub(crate) struct Meant<'a>(pub Option<&'a [u8]>);
 

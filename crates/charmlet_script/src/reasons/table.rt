@@ -20,9 +20,9 @@ pub(crate) enum Form {
 /// Why some scripts can't have a line that others can.
 #[derive(Clone, Copy, Debug, PartialEq, Eq)]
 pub(crate) enum Absence {
-    /// A store that comes back has its arrays.
+    /// A restarted store has its arrays.
     ArraysAreKept,
-    /// The command line says on how many processors a store comes back.
+    /// The command line says on how many processors a store is restarted.
     ProcessorsAreGiven,
     /// Workers deliver what they find.
     WorkersDeliver,

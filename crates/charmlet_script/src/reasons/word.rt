@@ -126,7 +126,7 @@ pub(crate) fn word_fault<'a>(
     }
 }
 
-/// The first byte of a word that only looks like a space, if there is one.
+/// A byte of a word that looks like a space, or like nothing at all, if there is one.
 pub(crate) fn no_space_in(word: &[u8]) -> Option<NoSpace> {
     if word.contains(&b'\r') {
         Some(NoSpace::Return)
