@@ -29,10 +29,10 @@ pub trait RuntimeName: AuthorityName {
     /// How many processors there are.
     ghost processors: { ℕ };
 
-    /// The generation at which it opened.
+    /// The generation at which the store opened.
     ghost generation: { ℕ };
 
-    /// That the disk with which it opened is honest.
+    /// The fact that the disk with which the store opened is honest.
     ghost honest: { Type 0 };
 }
 
