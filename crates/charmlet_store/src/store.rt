@@ -65,8 +65,8 @@ pub struct StoreParts<C: Chare> {
     pub stock: Stock<C>,
 }
 
-// Written by hand, so that dropping all that a store has is proved here, and not in each crate that
-// drops one.
+// Written by hand, so that dropping all its fields is proved here, and not in each crate that drops
+// a store.
 impl<C: Chare> Drop for Store<C> {
     fn drop(self) {
         let Store {
