@@ -10,7 +10,7 @@ use std::io;
 #[derive(Clone, Copy, Debug, PartialEq, Eq)]
 pub enum Failed {
     Refused(Refusal),
-    /// No store came back, but so many blanks.
+    /// No store was restarted, but this many blanks came back.
     NotRestarted(Refusal, u64),
     /// The line lacks this.
     Lacks(&'static str),
@@ -55,7 +55,7 @@ impl From<DeviceFault> for Failed {
     }
 }
 
-/// What is printed is kept in memory at first.
+/// The output is kept in memory at first.
 impl From<io::Error> for Failed {
     fn from(_error: io::Error) -> Failed {
         Failed::MEMORY
