@@ -44,7 +44,7 @@ pub struct PresentWorld {
     manifest: Manifest,
     scheduler: Scheduler,
     clients: BTreeMap<u32, Client>,
-    /// How many deliveries have room for all that they may send.
+    /// How many deliveries have room for everything that they may send.
     promised: usize,
 }
 
