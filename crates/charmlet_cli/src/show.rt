@@ -48,10 +48,10 @@ impl From<ShowError> for ExitReason {
     }
 }
 
-/// Shows the findings in the two halves of a disk: the taken half, with its generation, how many
-/// events came before its image and how many its log has; then each array with its kind and its
-/// version; then how many blank objects of each kind a restart needs, if it needs any. It only
-/// reads the disk.
+/// Shows the findings in the two halves of a disk, and only reads the disk. It shows the taken
+/// half, with its generation, how many events came before its image and how many its log has; then
+/// each array with its kind and its version; then how many blank objects of each kind a restart
+/// needs, if it needs any.
 ///
 /// If no store is found, the refusal's line is written: `Damaged`, `NothingHere`, `Memory` or
 /// `Device`, as [`charmlet_engine::manifest`] has them. `ShowError` says what each error means.
