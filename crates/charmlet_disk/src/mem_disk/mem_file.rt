@@ -6,7 +6,8 @@ use crate::CrashChoice;
 use crate::mem_disk::ranges::{copy, end_of, fill, halve};
 use std::alloc::{AllocError, Global};
 
-/// One file: what a read gives, its bytes at the last sync, and where it was written since.
+/// A file in memory: the bytes that a read gives, its bytes at the last sync, and the ranges that
+/// were written since.
 #[derive(Drop)]
 pub struct MemFile {
     bytes: Vec<u8>,
@@ -108,7 +109,7 @@ impl MemFile {
         self.ranges.is_empty()
     }
 
-    /// Writes. When out of memory, the file stays as it is.
+    /// Writes bytes at an offset. When out of memory, the file stays as it is.
     pub fn write(&mut self, offset: usize, bytes: &[u8]) -> Result<(), AllocError>
         requires { offset ≤ length (file_of self.old).now }
         ensures ok { OnOk result (file_of self.new ≡ wrote offset bytes.now (file_of self.old)) }
