@@ -57,9 +57,9 @@ impl<D: Disk, C: Chare> Engine<D, C> {
         (store, halves)
     }
 
-    /// States the facts that hold of every engine: its history was made by events, each in its
-    /// turn; its stock drops retired objects; on an honest disk a crash now leaves the world after
-    /// some of the history, including all durable events; and doing nothing counts as a step that
+    /// States the facts that hold of every engine. Its history was made by events, each in its
+    /// turn; its stock drops retired objects. On an honest disk a crash now leaves the world after
+    /// some of the history, including all durable events. Doing nothing counts as a step that
     /// changes nothing.
     pub fn facts(&self)
         ensures sound { IsSound (core_of self.now) }

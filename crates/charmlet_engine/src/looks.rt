@@ -158,10 +158,10 @@ impl<D: Disk, C: Chare> Engine<D, C> {
         self.store.history.event_count()
     }
 
-    /// The bytes that a checkpoint would write after an open gate: an image of the present world,
-    /// of the next generation and with a count of all events, and a log that has no batch yet.
-    /// Nothing changes, and it makes no call of the disk. `Memory` if out of memory; `ImageFull` if
-    /// the next generation would be past 2^40, or the file past 2^31 bytes.
+    /// The bytes that a checkpoint would write after an open gate. They are an image of the present
+    /// world, of the next generation and with a count of all events, and a log that has no batch
+    /// yet. Nothing changes, and it makes no call of the disk. `Memory` if out of memory;
+    /// `ImageFull` if the next generation would be past 2^40, or the file past 2^31 bytes.
     pub fn image(&mut self) -> Result<Vec<u8>, Refusal>
         ensures same { self.new ≡ self.old }
         ensures advances { Advances D.Disk self.old self.new }

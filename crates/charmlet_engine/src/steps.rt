@@ -22,10 +22,11 @@ use charmlet_persist::{checkpoint, flush};
 use std::alloc::AllocError;
 
 impl<D: Disk, C: Chare> Engine<D, C> {
-    /// Runs one step. A refusal is an answer, and changes nothing, except `Device`: then the engine
-    /// is halted. After a checkpoint the taken half has an image of all events and a log without a
-    /// batch. A crash in a checkpoint leaves the world after the durable events, as it was, or the
-    /// present world at the next generation, if the engine wasn't halted. A flush takes no memory.
+    /// Runs one step, and answers it. A refusal is an answer, and changes nothing, except `Device`:
+    /// then the engine is halted. After a checkpoint the taken half has an image of all events and
+    /// a log without a batch. A crash in a checkpoint leaves the world after the durable events, as
+    /// it was, or the present world at the next generation, if the engine wasn't halted. A flush
+    /// takes no memory.
     ///
     /// On an honest disk a crash at any moment of the call leaves files that recover to the world
     /// after some of the history, including all events that were durable before; and from then on
