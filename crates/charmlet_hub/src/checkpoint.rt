@@ -156,9 +156,9 @@ impl<D: Disk, C: Chare, B: RuntimeName> Hub<D, C, B> {
         Ok(())
     }
 
-    /// Ends the checkpoint, to which each shelf was handed in: makes all events durable by an image
-    /// that means the present world, which replaces the store in the spare half, and answers its
-    /// generation. The image has each element as it was at a moment since the checkpoint began, and
+    /// Ends the checkpoint, to which each shelf was handed in, and answers its generation. It makes
+    /// all events durable by an image that means the present world, which replaces the store in the
+    /// spare half. The image has each element as it was at a moment since the checkpoint began, and
     /// the deliveries since then. On an honest disk that half is then the taken one: it counts all
     /// events, and its log has no batch yet, and ends where the history says. No client is told
     /// anything.
