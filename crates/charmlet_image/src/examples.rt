@@ -8,7 +8,7 @@ pub fn new_stores_are_read()
     ensures { NewStores }
 {}
 
-/// The same store under the second mark opens, with version 1. Cut to one byte it is closed; nine
+/// The new store under the second mark opens, with version 1. Cut to one byte it is closed; nine
 /// longer cuts are damaged at the field that runs past the end.
 pub fn older_stores_are_read()
     ensures { OlderStores }
