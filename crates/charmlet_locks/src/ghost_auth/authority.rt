@@ -45,8 +45,8 @@ impl<D: Drop, B: AuthorityName> Model for Authority<D, B> {
         × (s.seat.me.1 ≡ []) × (s.seat.me.0.keeps ≡ true) };
 }
 
-/// One of an authority's values. A contract sees its place in the authority, and the value, which
-/// has no bytes.
+/// A fragment of an authority, with one of its values. A contract sees its place in the authority,
+/// and the value, which has no bytes.
 #[derive(Drop)]
 pub struct Fragment<D, B: AuthorityName> {
     badge: Badge<View<D>>,
