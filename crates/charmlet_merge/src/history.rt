@@ -18,9 +18,9 @@ use charmlet_world::Element;
 use std::alloc::{AllocError, Global};
 use std::collections::BTreeMap;
 
-/// The opening with a fit world, given its arrays, its clients' rows, the place and counts of each
-/// of its elements, and the world of a log scan, which has the same pending messages. It fails only
-/// when out of memory.
+/// The opening with a fit world, from a log scan's world, which has the same pending messages. Its
+/// arrays, its clients' rows, and the place and counts of each of its elements are given too. It
+/// fails only when out of memory.
 pub fn history_opening(
     alloc: Global,
     seen: GhostWorld,
