@@ -77,7 +77,7 @@ impl Window {
         self.items[place] = Some(reply);
     }
 
-    /// Appends an item. There have to be fewer than eight.
+    /// Appends an item to the window. There have to be fewer than eight.
     pub fn push(&mut self, item: Option<Words>)
         requires { length self.old < 8 }
         ensures { self.new ≡ self.old ++ item ∷ [] }
@@ -104,7 +104,7 @@ impl Window {
         Ok(copy)
     }
 
-    /// Removes all items.
+    /// Removes all items of the window.
     pub fn clear(&mut self)
         ensures { self.new ≡ [] }
     {
