@@ -18,11 +18,11 @@ use std::alloc::Global;
 const CLOSED: u8 = 0;
 
 impl FuzzyCheckpoint {
-    /// Encodes the checkpoint as a half file after its open gate: a header of the next generation,
-    /// the image, and the closed gate of a log that has no batch yet. Each present element is
-    /// captured. The header counts all events, including those that aren't durable. `Memory` if out
-    /// of memory; `ImageFull` if the next generation would be past 2^40, or the file past 2^31
-    /// bytes. In any case the checkpoint is unchanged.
+    /// Encodes the checkpoint as a half file after its open gate. The bytes are a header of the
+    /// next generation, the image, and the closed gate of a log that has no batch yet. Each present
+    /// element is captured. The header counts all events, including those that aren't durable.
+    /// `Memory` if out of memory; `ImageFull` if the next generation would be past 2^40, or the
+    /// file past 2^31 bytes. In any case the checkpoint is unchanged.
     pub fn encode(&mut self, alloc: Global, history: &History) -> Result<Vec<u8>, Refusal>
         requires running { IsRunning (core_in history.now) self.old }
         requires captured { AreAllCaptured (core_in history.now) self.old }

@@ -26,11 +26,12 @@ use std::alloc::{AllocError, Global};
 /// The closed gate after an image, where a log without batches ends.
 const CLOSED: u8 = 0;
 
-/// Encodes a checkpoint as a half file after its open gate: a header of the next generation, the
-/// image of the present world, and the closed gate of a log that has no batch yet. The header
-/// counts all events, including those that aren't durable. The shelves show the present world, and
-/// no delivery is under way. `Memory` if out of memory; `ImageFull` if the next generation would be
-/// past 2^40, or the file past 2^31 bytes. The history and the shelves are unchanged.
+/// Encodes a checkpoint as a half file after its open gate. The bytes are a header of the next
+/// generation, the image of the present world, and the closed gate of a log that has no batch yet.
+/// The header counts all events, including those that aren't durable. The shelves show the present
+/// world, and no delivery is under way. `Memory` if out of memory; `ImageFull` if the next
+/// generation would be past 2^40, or the file past 2^31 bytes. The history and the shelves are
+/// unchanged.
 pub fn image_of<C: Chare>(
     alloc: Global,
     history: &History,
