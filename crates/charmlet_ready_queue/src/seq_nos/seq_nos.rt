@@ -36,7 +36,7 @@ impl Model for SeqNos {
 }
 
 impl SeqNos {
-    /// No sequence numbers. It takes no memory.
+    /// An empty list of sequence numbers. It takes no memory.
     pub fn new(alloc: Global) -> Self
         ensures { result.seq_nos ≡ [] }
     {
