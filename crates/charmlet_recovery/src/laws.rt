@@ -121,9 +121,9 @@ pub fn lawful_outcomes_stay_lawful()
     ensures told { ToldIsRecovered }
 {}
 
-/// A restart is refused only for these causes, in this order: nothing is there, a half breaks the
-/// format, blanks are missing (the lowest such kind is named), or a record has a fault. If the
-/// files recover to a world, it is refused only for missing blanks.
+/// A restart is refused only for one of four causes. They are in this order: nothing is there, a
+/// half breaks the format, blanks are missing (the lowest such kind is named), or a record has a
+/// fault. If the files recover to a world, it is refused only for missing blanks.
 pub fn restarts_are_refused_for_cause()
     ensures short { LeastShortIsFound }
     ensures taken { RestartsAreTaken }
