@@ -25,7 +25,7 @@ impl Handlers {
     ghost use Rattle.charmlet_requests.specs.Handlers.{handler_of};
     ghost use Rattle.charmlet_model.specs.declared.refusal.Refusal.TheVariants as refusals;
 
-    /// No handlers. It takes no memory.
+    /// A table with no handlers. It takes no memory.
     pub fn new(alloc: Global) -> Self
         ensures { (name : List ℕ) → handler_of result name ≡ None }
     {
