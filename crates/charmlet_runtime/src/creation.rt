@@ -23,7 +23,7 @@ use std::alloc::Global;
 
 impl<D: Disk, C: Chare> RuntimeBuilder<D, C> {
     /// Makes a store with these arrays and this number of processors on a settled disk with no open
-    /// half, as [`Engine::create`] does: nothing has happened in it, all of it is durable, and its
+    /// half, as [`Engine::create`] does. Nothing has happened in it, all of it is durable, and its
     /// stock is empty. An engine's promises about a creation hold here word for word.
     ///
     /// The refusals are in their order `BadPes`, `AlreadyHere`, `Memory` and `Device`. Each hands
