@@ -58,9 +58,9 @@ impl<D: Disk, C: Chare, B: RuntimeName> Sequencer<D, C, B> {
         told
     }
 
-    /// Shows that the shelf is a processor's, that it has the records of its elements in the world
-    /// after the history, and that its delivery under way is the one that is assigned. Nothing is
-    /// compared, and nothing changes.
+    /// Shows that the shelf and the sequencer agree. The shelf is a processor's, it has the records
+    /// of its elements in the world after the history, and its delivery under way is the one that
+    /// is assigned. Nothing is compared, and nothing changes.
     pub fn agree(&mut self, locked: &mut ProcessorState<C, B>)
         ensures on { locked.old.number < self.old.core.processors }
         ensures shows { ShowsOn locked.old.number locked.old.records self.old.core.places
