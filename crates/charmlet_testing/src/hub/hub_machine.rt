@@ -31,7 +31,7 @@ pub struct Authorities {
 }
 
 impl Authorities {
-    /// New authorities. It fails only when out of memory.
+    /// New authorities of a hub. It fails only when out of memory.
     pub fn new(alloc: Global) -> Result<Authorities, AllocError> {
         let parts = UnnamedAuthority::new(alloc)?;
         let seats = UnnamedAuthority::new(alloc)?;

@@ -190,7 +190,7 @@ impl Chare for Object {
     }
 }
 
-/// This many blanks of each of these kinds. It fails only when out of memory.
+/// Makes this many blanks of each of these kinds. It fails only when out of memory.
 pub fn blanks(
     alloc: Global,
     tally: &Arc<Tally>,

@@ -19,7 +19,7 @@ pub enum Failed {
 }
 
 impl Failed {
-    /// Memory was refused.
+    /// The failure of refused memory.
     pub const MEMORY: Failed = Failed::Refused(Refusal::Memory);
 
     /// Whether memory was refused.
