@@ -19,10 +19,10 @@ use std::alloc::AllocError;
 use std::sync::Wait;
 
 impl<D: Disk, C: Chare, B: RuntimeName> Runtime<D, C, B> {
-    /// Makes all events durable by an image that means the present world, which replaces the store
-    /// in the spare half, and answers its generation, which is later than the one at which the
-    /// runtime opened. It takes the lock of one shelf after another, for as long as packing its
-    /// elements takes, and then the hub's, under which it writes. Meanwhile others work: requests,
+    /// Makes all events durable by an image of the present world, and answers its generation, which
+    /// is later than the one at which the runtime opened. The image replaces the store in the spare
+    /// half. It takes the lock of one shelf after another, for as long as packing its elements
+    /// takes, and then the hub's, under which it writes. Meanwhile others work: requests,
     /// deliveries, questions and flushes go on, but moves and other checkpoints are refused
     /// `Checkpointing`. A performed delivery on a shelf that isn't committed is committed first. No
     /// client is told anything.
