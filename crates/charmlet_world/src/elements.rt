@@ -53,7 +53,7 @@ impl Model for Elements {
 }
 
 impl Elements {
-    /// No elements. It takes no memory.
+    /// A table with no elements. It takes no memory.
     pub fn new(alloc: Global) -> Self
         ensures { result.entries ≡ [] }
     {
@@ -63,7 +63,7 @@ impl Elements {
         }
     }
 
-    /// No elements, and room for `count` of them. It fails only when out of memory.
+    /// A table with no elements, and room for `count` of them. It fails only when out of memory.
     fn with_room(alloc: Global, count: usize) -> Result<Self, AllocError>
         ensures { IfOk result (λ elements. elements.entries ≡ []) }
     {
@@ -72,7 +72,7 @@ impl Elements {
         Ok(Elements { rows, expected: 0 })
     }
 
-    /// The elements of this tree. It fails only when out of memory.
+    /// The table of this tree's elements. It fails only when out of memory.
     pub fn of_tree(alloc: Global, tree: BTreeMap<Elem, Element>) -> Result<Self, AllocError>
         ensures { IfOk result (λ elements. risen elements.entries ≡ tree.entries) }
     {

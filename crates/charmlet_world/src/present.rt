@@ -434,8 +434,8 @@ impl PresentWorld {
         self.scheduler.hint_head();
     }
 
-    /// Sets a present element's place to the processor. It takes no memory if no message to it is
-    /// pending. If memory is refused, nothing changes.
+    /// Moves a present element to the processor. It takes no memory if no message to it is pending.
+    /// If memory is refused, nothing changes.
     pub fn relocate(&mut self, elem: Elem, processor: u16) -> Result<(), AllocError>
         requires there { is_some (element_at (seen self.old).elements elem).place ≡ true }
         requires processor { processor < self.old.processors }

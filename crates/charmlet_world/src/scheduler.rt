@@ -293,8 +293,8 @@ impl Scheduler {
         Removed { message, at_home }
     }
 
-    /// Sets a present element's place to the processor. It takes no memory if no message to it is
-    /// pending. If memory is refused, nothing changes.
+    /// Moves a present element to the processor. It takes no memory if no message to it is pending.
+    /// If memory is refused, nothing changes.
     pub(crate) fn relocate(&mut self, elem: Elem, processor: u16) -> Result<(), AllocError>
         requires there { is_some (element_at (risen self.old.rows) elem).place ≡ true }
         requires processor { processor < self.old.processors }
