@@ -120,8 +120,8 @@ fn open(rt: &HostRuntime, path: &str, is_lost: &mut bool) -> io::Result<Option<F
     Ok(Some(file))
 }
 
-// Syncs a file that was found. The system reports an earlier failed write that it told nobody of
-// now, and not again, so then the disk is lost.
+// Syncs a file that was found. If an earlier write failed and nobody was told yet, the system
+// reports the failure now, and not again; so then the disk is lost.
 fn sync_found(file: &File, is_lost: &mut bool) -> io::Result<()>
     ensures failed { IsErr result → IsTrue is_lost.new }
     ensures kept { IsTrue is_lost.old → IsTrue is_lost.new }
