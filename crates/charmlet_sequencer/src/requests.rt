@@ -24,8 +24,8 @@ use charmlet_locks::AuthorityName;
 use charmlet_model::{Refusal, Told};
 
 impl<D: Disk, C: Chare, B: RuntimeName> Sequencer<D, C, B> {
-    /// Accepts a request of the pass's client, unless it repeats one in the client's window, and
-    /// tells the client what is durable of it. The refusals are those of
+    /// Accepts a request of the pass's client, and tells the client what is durable of it. A repeat
+    /// of a request in the client's window adds nothing. The refusals are those of
     /// [`charmlet_history::History::request`], in their order. If it isn't refused, the pass and
     /// its authority record that it was accepted, and the answer. The answer is no less than the
     /// pass knew, and has no other words. A refusal changes nothing.
