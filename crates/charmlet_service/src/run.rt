@@ -28,7 +28,7 @@ use std::marker::Brand;
 use std::sync::Wait;
 use std::thread::Threads;
 
-/// The disk of a runtime after its clients were served, and how each client ended.
+/// The disk of a runtime after its clients were served, and the results of the clients.
 #[derive(Drop)]
 pub struct Ran<D: Drop, A: Drop> {
     pub disk: D,
