@@ -21,11 +21,10 @@ use std::sync::Wait;
 
 impl<D: Disk, C: Chare, B: RuntimeName> Runtime<D, C, B> {
     /// Accepts a request of the pass's client, and tells the client what is durable of it, in one
-    /// hold of the hub. A request that repeats one in the client's window, which has at most the
-    /// last eight, isn't accepted again. The refusals are those of
-    /// [`charmlet_history::History::request`], in their order. If it isn't refused, the pass
-    /// records that it was accepted, and the answer. The answer is no less than the pass knew, and
-    /// has no other words. A refusal changes nothing.
+    /// hold of the hub. A repeat of a request in the client's window, which has at most the last
+    /// eight, adds nothing. The refusals are those of [`charmlet_history::History::request`], in
+    /// their order. If it isn't refused, the pass records that it was accepted, and the answer. The
+    /// answer is no less than the pass knew, and has no other words. A refusal changes nothing.
     pub fn request<R: Wait>(
         &self,
         rt: &R,
