@@ -20,7 +20,8 @@ use std::sync::Wait;
 const SPINS: u32 = 100;
 
 /// A lock for each place, counted from 0. Under the lock of a place lies a value with the number of
-/// that place. Threads share the locks by reference. A contract sees how many there are.
+/// that place, so a thread that takes the lock never has to check that the right value lies there.
+/// Threads share the locks by reference. A contract sees how many there are.
 #[derive(Drop)]
 pub struct Locks<T: Drop, N: Numbering<T>> {
     table: Places<T, N>,
