@@ -16,6 +16,9 @@ use std::marker::Model;
 /// A new runtime with threads that has no name yet: an engine in which nothing has happened since
 /// it was made. A contract sees the engine. [`open_reopened`](crate::open_reopened) opens a
 /// restored store instead.
+///
+/// The call that makes a runtime's authorities picks its name: for a new store before the store is
+/// made, and for a restored one after it was read and before anything is written.
 #[derive(Drop)]
 pub struct RuntimeBuilder<D: Disk, C: Chare> {
     pub(crate) engine: Engine<D, C>,
