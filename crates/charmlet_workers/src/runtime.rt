@@ -22,6 +22,10 @@ use std::sync::{Mutex, Wait};
 /// A shelf for each processor, and the hub, each under its lock. A contract sees the world with
 /// which the runtime opened, how many events came before it, how many processors there are, and the
 /// generation at which it opened: they are the hub's, and take no bytes.
+///
+/// The calls of the hub and of its shelves state what changes under the locks. The runtime's own
+/// contracts tell of a change only the part in the caller's own seat or pass, and, once everything
+/// is closed, the whole.
 #[derive(Drop)]
 pub struct Runtime<D: Disk, C: Chare, B: RuntimeName> {
     /// The lock of each processor's shelf. Processors count from 0, and each shelf lies under its
