@@ -464,12 +464,12 @@ fn command_in<'a>(matches: &ArgMatches<'a>) -> Option<Command<'a>>
     }
 }
 
-/// The command that the words ask for; the first word is the program's name. The commands are `run
-/// SCRIPT`, with or without `--dir DIR`, `--workers` and `--strict`; `show DIR`; `restart DIR
-/// SCRIPT`, with or without `--pes N`, `--workers` and `--strict`; and `lab SCRIPT`. N is a 16-bit
-/// number, and 1 if it isn't given. Every other line, including a call for help, is answered by
-/// `CommandError::Line`, with clap's text and a kind of error that clap finds in the words, and
-/// lack of memory by `CommandError::Memory`.
+/// The command that the words ask for; the first word is the program's name. The commands are
+/// `run SCRIPT`, with or without `--dir DIR`, `--workers` and `--strict`; `show DIR`;
+/// `restart DIR SCRIPT`, with or without `--pes N`, `--workers` and `--strict`; and `lab SCRIPT`. N
+/// is a 16-bit number, and 1 if it isn't given. Every other line, including a call for help, is
+/// answered by `CommandError::Line`, with clap's text and a kind of error that clap finds in the
+/// words, and lack of memory by `CommandError::Memory`.
 pub fn command_of<'a, S: AsStr>(alloc: Global, words: &'a [S]) -> Result<Command<'a>, CommandError>
     ensures ok { IfOk result (Asks (map S.text words.entry.now)) }
     ensures err { IfErr result (AsksNothing (map S.text words.entry.now)) }
