@@ -12,22 +12,22 @@ pub(crate) type Object = Box<dyn Chare + Send>;
 
 /// A task that needs blank objects.
 pub(crate) trait Task: Drop {
-    /// What it returns.
+    /// The type of the task's answer.
     type Answer: Drop;
 
-    /// When it may begin.
+    /// The condition under which the task may begin.
     ghost may_begin: { Self → Type 0 };
 
-    /// What its answer means.
+    /// The meaning of the task's answer.
     ghost answers: { Self → Self.Answer → Type 0 } = { λ _ _. ⊤ };
 
-    /// How many blanks of a kind the elements of a store that comes back need.
+    /// How many blanks of a kind the elements of a restarted store need.
     fn blanks(&self, kind: Kind) -> u64;
 
-    /// How many blanks of a kind the lines of its script supply.
+    /// How many blanks of a kind the lines of the task's script supply.
     fn supplies(&self, kind: Kind) -> u64;
 
-    /// Does it, with these blanks.
+    /// Does the task, with these blanks.
     fn begin(self, blanks: Vec<Object>, supplies: Vec<Object>) -> Self::Answer
         requires { may_begin self }
         ensures { answers self result };
@@ -45,7 +45,7 @@ macro_rules! boxed {
 
 /// A new boxed blank object of a kind, or the error of lacking memory. It is a macro, since the
 /// checker has each function make the boxes of a `dyn` type that it needs, and none can return
-/// them. It has no `?`, since each would drop all that its function owns there.
+/// them. It has no `?`, since each `?` would drop everything that its function owns there.
 macro_rules! blank {
     ($alloc:expr, $kind:expr) => {{
         let blank: Option<Object> = match $kind {

@@ -1,4 +1,4 @@
-//! What standard error says beside the line that says why the program stops.
+//! The text on standard error besides the line that says why the program stops.
 
 use charmlet_cli::{Spare, Wanted};
 use charmlet_model::Kind;
@@ -6,7 +6,7 @@ use charmlet_script::{RestartScript, ScriptText, Setting, explain, nearest};
 use std::io;
 use std::io::ErrorKind;
 
-/// What is known of a failure beyond the line that tells of it.
+/// The known cause of a failure, beyond the line that reports it.
 #[derive(Drop)]
 pub(crate) enum Cause<'a> {
     /// The disk in this folder failed.
@@ -21,7 +21,7 @@ pub(crate) enum Cause<'a> {
     },
     /// Standard output failed.
     Output(io::Error),
-    /// The command line's first word is no command, and near to this one.
+    /// The command line's first word isn't a command, but near to this one.
     Mistyped(&'static str),
 }
 
@@ -56,8 +56,8 @@ pub(crate) fn note_folder<'a>(
     }
 }
 
-/// Writes on standard error which constructions that were pending when a store came back find no
-/// blank, since its script supplies fewer.
+/// Writes on standard error which constructions that were pending at a restart find no blank, since
+/// the script supplies fewer.
 pub(crate) fn warn_of_constructions(
     rt: HostRuntime,
     constructions: Option<Wanted>,
@@ -81,7 +81,8 @@ pub(crate) fn warn_of_constructions(
     }
 }
 
-/// Writes on standard error what an operator should know of the half in a folder that isn't taken.
+/// Writes on standard error the facts about a folder's half that isn't taken which an operator
+/// should know.
 pub(crate) fn warn_of_spare(rt: HostRuntime, folder: &str, spare: Spare) {
     let _warned = match spare {
         Spare::Sound => Ok(()),
@@ -97,7 +98,7 @@ pub(crate) fn warn_of_spare(rt: HostRuntime, folder: &str, spare: Spare) {
 }
 
 impl Cause<'_> {
-    /// Writes it on standard error. Where that fails, or there is no memory for the reason of a
+    /// Writes the cause on standard error. If that fails, or there is no memory for the reason of a
     /// malformed line, nothing more is said.
     pub(crate) fn tell(&self, rt: HostRuntime) {
         let _told = match self {
@@ -117,8 +118,8 @@ impl Cause<'_> {
         };
     }
 
-    /// Whether it is that nobody reads standard output any more. Then nothing is said, as by
-    /// programs that a signal ends then.
+    /// Whether the cause is that nobody reads standard output any more. Then nothing is said, as by
+    /// programs that a signal ends in that case.
     pub(crate) fn is_closed_pipe(&self) -> bool {
         matches!(self, Cause::Output(error) if error.kind() == ErrorKind::BrokenPipe)
     }

@@ -19,7 +19,7 @@ use std::time::Instant;
 #[derive(Drop)]
 struct Progress {
     rt: HostRuntime,
-    /// When it was last written, or when the laboratory began; `None` if nothing is written.
+    /// The time of the last output, or of the laboratory's beginning; `None` if nothing is written.
     last: Option<Instant>,
     is_shown: bool,
 }
@@ -38,7 +38,7 @@ impl Progress {
         }
     }
 
-    /// Clears what was written.
+    /// Clears the earlier output.
     fn clear(&self) {
         if self.is_shown {
             let _cleared = eprint!(self.rt; "\r\x1b[K");
@@ -47,7 +47,7 @@ impl Progress {
 }
 
 impl Watch for Progress {
-    /// Writes what was found so far, over what was written before.
+    /// Writes the counts so far, over the earlier output.
     fn tell(&mut self, line: &LabLine) {
         let Some(last) = &self.last else {
             return;
@@ -62,7 +62,7 @@ impl Watch for Progress {
     }
 }
 
-/// Writes what the laboratory found.
+/// Writes the laboratory's result.
 fn tell_found<W: Write>(
     alloc: Global,
     found: Result<LabLine, Refusal>,
@@ -85,7 +85,7 @@ fn tell_found<W: Write>(
     }
 }
 
-/// Tries the crashes of a script, and writes what was found on standard output. Restarts replay in
+/// Tries the crashes of a script, and writes the result on standard output. Restarts replay in
 /// threads of `threads`.
 pub(crate) fn lab<'a, R: Threads + Sync>(
     rt: HostRuntime,

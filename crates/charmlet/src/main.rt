@@ -1,5 +1,5 @@
-//! `charmlet`: runs scripts over a store of migratable objects, a new one or one that comes back,
-//! shows one, and tries the crashes of a script.
+//! `charmlet`: runs scripts over a new or restarted store of migratable objects, shows a store, and
+//! tries the crashes of a script.
 #![tactic(auto)]
 
 mod blanks;
@@ -57,7 +57,7 @@ fn show_disk<W: Write>(
     Ok(())
 }
 
-/// The same, on standard output.
+/// Shows the store in the two files of a folder, on standard output.
 fn show<'a>(
     rt: HostRuntime,
     dir: &'a str,
@@ -73,8 +73,8 @@ fn words(rt: HostRuntime) -> io::Result<Vec<String>> {
     Ok(env::args(&rt)?.collect(rt.alloc())?)
 }
 
-/// Does what the words of the command line ask for. Workers run in threads of `threads`. What is
-/// known of a failure is noted.
+/// Does what the words of the command line ask for. Workers run in threads of `threads`. The cause
+/// of a failure is noted, if it is known.
 fn charmlet<'a, R: Threads + Wait + Sync>(
     rt: HostRuntime,
     threads: &R,

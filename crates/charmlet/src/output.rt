@@ -6,22 +6,22 @@ use std::io;
 use std::io::{IsTerminal, Write};
 
 /// How many bytes of output are held back until there are more, or until the writer is flushed: a
-/// block where a file or another program reads them, and none where a terminal shows them.
+/// block if the output goes to a file or another program, and none if it goes to a terminal.
 pub(crate) fn block(rt: HostRuntime) -> usize {
     if rt.stdout().is_terminal() { 0 } else { 8192 }
 }
 
-/// How the lines begin that tell why no store is opened, and that no line of a script is answered
-/// by: `Damaged`, `NothingHere` and `AlreadyHere`.
+/// The beginnings of the lines that say why no store is opened: `Damaged`, `NothingHere` and
+/// `AlreadyHere`. No line of a script is answered by them.
 const OPENINGS: [&[u8]; 3] = [b"refused 14 ", b"refused 15 ", b"refused 20 "];
 
-/// Whether a line of the output tells that a line of the script is refused.
+/// Whether a line of the output says that a line of the script is refused.
 fn is_refusal(line: &[u8]) -> bool {
     line.starts_with(b"refused ") && !OPENINGS.iter().any(|opening| line.starts_with(opening))
 }
 
-/// An output that notes why it first failed. A strict one also fails at the first refusal, once it
-/// is written, so that no later line is run.
+/// An output that notes the cause of its first failure. A strict output also fails at the first
+/// refusal, once it is written, so that no later line is run.
 #[derive(Drop)]
 pub(crate) struct Output<W: Write> {
     writer: W,
@@ -43,7 +43,7 @@ impl<W: Write + Drop> Output<W> {
         }
     }
 
-    /// What the writer answered, noted if it is the first failure.
+    /// The writer's answer, noted if it is the first failure.
     fn noted<T: Drop>(&mut self, done: io::Result<T>) -> io::Result<T>
         ensures { result ≡ done }
     {
@@ -53,7 +53,7 @@ impl<W: Write + Drop> Output<W> {
         done
     }
 
-    /// How what was run ends, once all that it printed is written. Why that failed is noted.
+    /// Ends a run, once its whole output is written. The cause is noted if that fails.
     pub(crate) fn end(
         mut self,
         ran: Result<(), ExitReason>,

@@ -1,4 +1,4 @@
-//! Runs of scripts over a store, a new one or one that comes back.
+//! Runs of scripts over a new or restarted store.
 
 ghost use Rattle.std.specs.Thread.{IsSync};
 ghost use Rattle.charmlet_disk.specs.AnyDisk.AnyDisk.{files_of, is_honest};
@@ -20,18 +20,18 @@ use std::io;
 use std::io::{BufWriter, Write};
 use std::thread::Threads;
 
-/// How a script was run.
+/// The end of a script's run.
 #[derive(Drop)]
 pub(crate) struct Ended {
     pub(crate) result: Result<(), ExitReason>,
     /// Why its disk failed first, if it did.
     pub(crate) failure: Option<io::Error>,
-    /// How many blanks of each kind the messages want that were pending when its store came back.
+    /// How many blanks of each kind were wanted by the messages that were pending at the restart.
     pub(crate) constructions: Option<Wanted>,
 }
 
 impl Ended {
-    /// A script that wasn't run, since no store comes back.
+    /// The end of a script that wasn't run, since no store was restarted.
     pub(crate) fn before_its_lines(stop: ExitReason, failure: Option<io::Error>) -> Ended {
         Ended {
             result: Err(stop),
@@ -101,7 +101,7 @@ fn run_in<W: Write>(
 }
 
 /// Reads a script, and then runs it over a new store in the two files of a folder, or in memory
-/// without one; where it is strict, up to the first refused line.
+/// without one. If it is strict, it runs up to the first refused line.
 pub(crate) fn run<'a>(
     rt: HostRuntime,
     path: &'a str,
@@ -117,7 +117,7 @@ pub(crate) fn run<'a>(
     output.end(ran, cause)
 }
 
-/// How a script was run. Why the disk in its folder failed is noted.
+/// The end of a script's run. Why the disk in its folder failed is noted.
 pub(crate) fn ended_in<'a>(
     ran: Result<Ended, ExitReason>,
     dir: Option<&'a str>,
@@ -134,7 +134,7 @@ pub(crate) fn ended_in<'a>(
     result
 }
 
-/// A run of a script over the store on this disk, which comes back on this number of processors,
+/// A run of a script over the store on this disk, which is restarted on this number of processors,
 /// with the blanks that the restart wants, in threads of `threads`.
 #[derive(Drop)]
 struct ScriptRestart<'a, R: Threads + Sync, W: Write> {
@@ -185,7 +185,7 @@ impl<R: Threads + Sync, W: Write> Task for ScriptRestart<'_, R, W> {
     }
 }
 
-/// Runs a script over the store in the two files of a folder, which comes back on `processors`
+/// Runs a script over the store in the two files of a folder, which is restarted on `processors`
 /// processors, by as many workers in threads of `threads`.
 fn restart_in<R: Threads + Sync, W: Write>(
     rt: HostRuntime,
@@ -222,9 +222,9 @@ fn restart_in<R: Threads + Sync, W: Write>(
     Ok(with_blanks(alloc, restart)?)
 }
 
-/// Reads a script, and then runs it over the store in the two files of a folder, which comes back
-/// on `processors` processors, by as many workers in threads of `threads`; where it is strict, up
-/// to the first refused line.
+/// Reads a script, and then runs it over the store in the two files of a folder, which is restarted
+/// on `processors` processors, by as many workers in threads of `threads`. If it is strict, it runs
+/// up to the first refused line.
 pub(crate) fn restart<'a, R: Threads + Sync>(
     rt: HostRuntime,
     threads: &R,
@@ -245,7 +245,7 @@ pub(crate) fn restart<'a, R: Threads + Sync>(
     end
 }
 
-/// Writes that no store comes back, since the disk failed.
+/// Writes that no store is restarted, since the disk failed.
 pub(crate) fn refuse_restart<W: Write>(alloc: Global, writer: &mut W) -> ExitReason {
     match write_line(alloc, writer, &Answer::Refused(Refusal::Device)) {
         Ok(()) => ExitReason::NotRestarted(Refusal::Device),
@@ -253,7 +253,7 @@ pub(crate) fn refuse_restart<W: Write>(alloc: Global, writer: &mut W) -> ExitRea
     }
 }
 
-/// How many blanks of each kind the messages want that were pending when a store came back.
+/// How many blanks of each kind were wanted by the messages that were pending at a restart.
 pub(crate) fn constructions_in(ran: &Result<Ended, ExitReason>) -> Option<Wanted> {
     match ran {
         Ok(ended) => ended.constructions,

@@ -20,7 +20,7 @@ use std::io::{BufWriter, Write};
 use std::sync::Wait;
 use std::thread::Threads;
 
-/// How workers ran a script, and why its disk failed first, if it came back and did.
+/// The end of a script's run by workers, and why its disk failed first, if it came back and did.
 fn ended_by_workers<T: Drop>(ran: RanByWorkers<AnyDisk, T>) -> Ended {
     let RanByWorkers {
         disk,
@@ -100,7 +100,7 @@ fn run_in<R: Threads + Wait + Sync, W: Write>(
 }
 
 /// Reads a script, and then runs it by workers over a new store in the two files of a folder, or in
-/// memory without one; where it is strict, up to the first refused line.
+/// memory without one. If it is strict, it runs up to the first refused line.
 pub(crate) fn run_by_workers<'a, R: Threads + Wait + Sync>(
     rt: HostRuntime,
     threads: &R,
@@ -117,7 +117,7 @@ pub(crate) fn run_by_workers<'a, R: Threads + Wait + Sync>(
     output.end(ran, cause)
 }
 
-/// A run of a script by workers over the store on this disk, which comes back on this number of
+/// A run of a script by workers over the store on this disk, which is restarted on this number of
 /// processors, with the blanks that the restart wants.
 #[derive(Drop)]
 struct WorkersRestart<'a, R: Threads + Wait + Sync, W: Write> {
@@ -160,7 +160,7 @@ impl<R: Threads + Wait + Sync, W: Write> Task for WorkersRestart<'_, R, W> {
     }
 }
 
-/// Runs a script by workers over the store in the two files of a folder, which comes back on
+/// Runs a script by workers over the store in the two files of a folder, which is restarted on
 /// `processors` processors.
 fn restart_in<R: Threads + Wait + Sync, W: Write>(
     rt: HostRuntime,
@@ -198,7 +198,7 @@ fn restart_in<R: Threads + Wait + Sync, W: Write>(
 }
 
 /// Reads a script, and then runs it by workers over the store in the two files of a folder, which
-/// comes back on `processors` processors; where it is strict, up to the first refused line.
+/// is restarted on `processors` processors. If it is strict, it runs up to the first refused line.
 pub(crate) fn restart_by_workers<'a, R: Threads + Wait + Sync>(
     rt: HostRuntime,
     threads: &R,

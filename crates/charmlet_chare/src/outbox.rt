@@ -3,7 +3,7 @@ use charmlet_model::{Elem, MAX_SENDS, MAX_WORDS, Outgoing, Sends, Words};
 use std::alloc::{AllocError, Global};
 use std::marker::Model;
 
-/// Where an entry puts what it sends and replies. A contract sees the `Output`.
+/// The place for an entry's sends and its reply. A contract sees the `Output`.
 #[derive(Drop)]
 pub struct Outbox {
     alloc: Global,
@@ -40,9 +40,9 @@ impl Outbox {
         }
     }
 
-    /// Sends a message to an element, after those sent before. An entry sends at most `MAX_SENDS`,
-    /// each of at most `MAX_WORDS` words. It fails only when out of memory, and the outbox is then
-    /// unchanged.
+    /// Sends a message to an element, after the earlier ones. An entry sends at most `MAX_SENDS`
+    /// messages, each of at most `MAX_WORDS` words. It fails only when out of memory, and the
+    /// outbox is then unchanged.
     pub fn send(&mut self, to: Elem, entry: u16, words: &[u64]) -> Result<(), AllocError>
         requires room { length self.old.sends < MAX_SENDS }
         requires short { length words.now ≤ MAX_WORDS }
@@ -65,7 +65,7 @@ impl Outbox {
         Ok(())
     }
 
-    /// Has the object destroyed once its entry ends.
+    /// Marks the object for destruction at the end of its entry.
     pub fn destroy(&mut self)
         ensures { self.new ≡ record self.old { is_destroyed = true } }
     {
@@ -79,7 +79,7 @@ impl Outbox {
         self.sends.as_slice()
     }
 
-    /// The words of the reply; with no reply there are none.
+    /// The words of the reply, which are none if there is no reply.
     pub fn reply_words(&self) -> &[u64]
         ensures { result.now ≡ self.now.reply }
     {
@@ -93,7 +93,7 @@ impl Outbox {
         self.is_destroyed
     }
 
-    /// What was sent and replied. It takes no memory.
+    /// Turns the outbox into the output of the entry. It takes no memory.
     pub fn into_output(self) -> Output
         ensures { result ≡ self }
     {

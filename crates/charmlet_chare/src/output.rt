@@ -1,7 +1,7 @@
 use charmlet_model::{Sends, Words};
 
-/// What one entry gives besides the object's state: the messages that it sends, in order, the reply
-/// to the client, if one asked, and whether the object is destroyed.
+/// The output of one entry besides the object's state: its sends, in order, the reply, if a client
+/// asked, and whether the object is destroyed.
 #[derive(Debug, Drop)]
 pub struct Output {
     pub sends: Sends,

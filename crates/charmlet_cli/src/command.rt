@@ -1,4 +1,4 @@
-//! The command line of `charmlet`: what its words ask for.
+//! The command line of `charmlet`, and the command that it asks for.
 
 ghost use Rattle.std.specs.Prelude.{◌≡◌, map, IfOk, IfErr, option_map, option_and_then, false};
 ghost use Rattle.clap.specs.Matches.{found_of};
@@ -12,7 +12,7 @@ use std::alloc::{AllocError, Global};
 use std::convert::AsStr;
 use thiserror::Error;
 
-/// What a command line asks for.
+/// The command that a command line asks for.
 #[derive(Clone, Copy, Debug, PartialEq, Eq)]
 pub enum Command<'a> {
     /// Run the script in the file `script`, over a store in the folder `dir`, or in memory without
@@ -23,7 +23,7 @@ pub enum Command<'a> {
         workers: bool,
         strict: bool,
     },
-    /// Show what stands in the store in the folder `dir`.
+    /// Show the store in the folder `dir`.
     Show {
         dir: &'a str,
     },
@@ -235,7 +235,7 @@ script is malformed then";
 
 const STRICT_HELP: &str = "End with status 1 at the first line that is refused";
 
-/// A word that has to be there.
+/// Makes a word of the command line required.
 fn needed<'a>(word: Arg<'a>) -> Arg<'a>
     ensures reads { rule_of result ≡ needed_word (rule_of word.entry) }
     ensures local { result.global ≡ word.entry.global }
@@ -387,15 +387,15 @@ fn parser<'a>(alloc: Global) -> Result<clap::Command<'a>, AllocError>
         .subcommand(lab_parser(alloc)?)
 }
 
-/// Whether a flag of a line is on. (Of other words than `true` and `false` clap's own call for it
-/// says nothing.)
+/// Whether a flag of a line is on. (Clap's own call for it is specified only for the words `true`
+/// and `false`.)
 fn is_on(values: &ArgMatches<'_>, flag: &str) -> bool
     ensures { result ≡ is_on flag.now (rows_of (found_of values.now)) }
 {
     values.get_one::<bool>(flag).unwrap_or(false)
 }
 
-/// The run that the values of its line name.
+/// The `run` command with the values of its line.
 fn run_in<'a>(values: &ArgMatches<'a>) -> Option<Command<'a>>
     ensures { option_map asked_in result ≡ run_of (rows_of (found_of values.now)) }
 {
@@ -411,7 +411,7 @@ fn run_in<'a>(values: &ArgMatches<'a>) -> Option<Command<'a>>
     })
 }
 
-/// The showing that the values of its line name.
+/// The `show` command with the values of its line.
 fn show_in<'a>(values: &ArgMatches<'a>) -> Option<Command<'a>>
     ensures { option_map asked_in result ≡ show_of (rows_of (found_of values.now)) }
 {
@@ -419,7 +419,7 @@ fn show_in<'a>(values: &ArgMatches<'a>) -> Option<Command<'a>>
     Some(Command::Show { dir })
 }
 
-/// The restart that the values of its line name.
+/// The `restart` command with the values of its line.
 fn restart_in<'a>(values: &ArgMatches<'a>) -> Option<Command<'a>>
     ensures { option_map asked_in result ≡ restart_of (rows_of (found_of values.now)) }
 {
@@ -437,7 +437,7 @@ fn restart_in<'a>(values: &ArgMatches<'a>) -> Option<Command<'a>>
     })
 }
 
-/// The laboratory's script that the values of its line name.
+/// The `lab` command with the values of its line.
 fn lab_in<'a>(values: &ArgMatches<'a>) -> Option<Command<'a>>
     ensures { option_map asked_in result ≡ lab_of (rows_of (found_of values.now)) }
 {
@@ -464,12 +464,12 @@ fn command_in<'a>(matches: &ArgMatches<'a>) -> Option<Command<'a>>
     }
 }
 
-/// What the words ask for; the first is the program's name. Only `run SCRIPT`, with or without
-/// `--dir DIR`, `--workers` and `--strict`, `show DIR`, `restart DIR SCRIPT`, with or without
-/// `--pes N`, `--workers` and `--strict`, and `lab SCRIPT` are commands. N is a 16-bit number, and
-/// 1 if it isn't given. Every other line, including a call for help, is answered by
-/// `CommandError::Line`, with clap's text and a kind of error that clap finds in the words, and
-/// lack of memory by `CommandError::Memory`.
+/// The command that the words ask for; the first word is the program's name. The commands are
+/// `run SCRIPT`, with or without `--dir DIR`, `--workers` and `--strict`; `show DIR`;
+/// `restart DIR SCRIPT`, with or without `--pes N`, `--workers` and `--strict`; and `lab SCRIPT`. N
+/// is a 16-bit number, and 1 if it isn't given. Every other line, including a call for help, is
+/// answered by `CommandError::Line`, with clap's text and a kind of error that clap finds in the
+/// words, and lack of memory by `CommandError::Memory`.
 pub fn command_of<'a, S: AsStr>(alloc: Global, words: &'a [S]) -> Result<Command<'a>, CommandError>
     ensures ok { IfOk result (Asks (map S.text words.entry.now)) }
     ensures err { IfErr result (AsksNothing (map S.text words.entry.now)) }

@@ -1,4 +1,4 @@
-//! The desk where clients ask: the registered handlers, and the clients' passes.
+//! The desk of a run: the registered handlers, and the clients' passes.
 
 ghost use Rattle.std.specs.Prelude.{◌≡◌, ℕ, List, IfOk, IfSome};
 ghost use Rattle.charmlet_model.specs.declared.names.Elem as names;
@@ -20,9 +20,9 @@ use charmlet_script_output::{Call, handlers_of};
 use std::alloc::{AllocError, Global};
 use std::collections::BTreeMap;
 
-/// The handlers of a script, and the passes of its clients. Each client has one from its first
-/// request or question on. If there is no memory for it, the client goes without one, and has the
-/// same answers.
+/// The handlers of a script, and the passes of its clients. Each client has a pass from its first
+/// request or question on. If there is no memory for a pass, the client goes without one, and has
+/// the same answers.
 #[derive(Drop)]
 pub(crate) struct Desk {
     handlers: Handlers,

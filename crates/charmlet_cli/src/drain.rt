@@ -18,7 +18,7 @@ use std::io::Write;
 /// Delivers the oldest message that can be delivered, up to `most` times, and then writes how many
 /// it delivered and how many are still pending. A refused delivery ends it, and is written too.
 /// Fails as `write_line` does, after all deliveries. The writer is flushed before, since deliveries
-/// may take long; where that fails the next flush tells it.
+/// may take long; if that flush fails, the next one reports it.
 pub fn drain_line<D: Disk, C: Chare, W: Write>(
     alloc: Global,
     engine: &mut Engine<D, C>,

@@ -1,4 +1,4 @@
-//! How the program ends: its exit status, and what it says on standard error.
+//! The end of the program: its exit status, and its text on standard error.
 
 ghost use Rattle.std.specs.Prelude.{◌≡◌, IfErr, IsOk, OnOk};
 ghost use Rattle.charmlet_cli.specs.Failure.{Says, exit_status};
@@ -31,7 +31,7 @@ impl Failure {
         }
     }
 
-    /// Writes why, clap's text as it is, and a stop in a line. It takes no memory.
+    /// Writes the reason: clap's text as it is, or a stop in a line. It takes no memory.
     fn say<W: Write>(&self, errors: &mut W) -> io::Result<()>
         ensures { OnOk result (Says self.now (W.contents errors.old) (W.contents errors.new)) }
     {

@@ -1,4 +1,4 @@
-//! The lines that show what is found in two halves.
+//! The lines that show the findings in two halves.
 
 use charmlet_model::{Half, Kind, KindVersion};
 use std::fmt;

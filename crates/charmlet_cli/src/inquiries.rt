@@ -1,4 +1,4 @@
-//! Running lines that show something of an engine, and change nothing.
+//! Lines that show something of an engine, and change nothing.
 
 ghost use Rattle.std.specs.Prelude.{◌≡◌, map, IfOk, IsOk, None};
 ghost use Rattle.charmlet_model.specs.declared.kind.Kind as kinds;
@@ -40,7 +40,7 @@ pub fn state_line<D: Disk, C: Chare, W: Write>(
     write_line(alloc, writer, &shown)
 }
 
-/// What a line shows of an element. It fails only when out of memory, and only if the element is
+/// The `state` line of an element. It fails only when out of memory, and only if the element is
 /// there.
 fn shown<D: Disk, C: Chare>(
     alloc: Global,
@@ -73,7 +73,7 @@ pub fn pending_line<D: Disk, C: Chare, W: Write>(
     write_line(alloc, writer, &PendingIds(ids.as_slice()))
 }
 
-/// Writes a line for each kind that objects were supplied of, with where they are. Fails as
+/// Writes a line for each kind of which objects were supplied, with where they are. Fails as
 /// `write_line` does, and the lines before stay written.
 pub fn census_line<D: Disk, C: Chare, W: Write>(
     alloc: Global,

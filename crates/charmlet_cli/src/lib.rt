@@ -1,5 +1,5 @@
-//! Runs scripts, line by line, over a new store or one that comes back, shows a store, and decides
-//! how the program ends.
+//! Runs of scripts over an engine, new or restarted, line by line; the showing of a store; the
+//! command line; and the end of the program.
 #![tactic(auto)]
 
 mod command;

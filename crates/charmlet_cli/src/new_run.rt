@@ -1,4 +1,4 @@
-//! Runs of scripts.
+//! Runs of scripts over a new store.
 
 ghost use Rattle.std.specs.Prelude.{◌≡◌, ◌+◌, ◌≤◌, ℕ, List, Some, OnOk, OnErr, IfErr, IfOk};
 ghost use Rattle.charmlet_model.specs.declared.kind.Kind.{Kind};
@@ -48,7 +48,7 @@ pub enum RunError<C: Chare> {
     TooFewBlanks(Vec<C>),
     /// The store wasn't created, for this reason. Only its line was written, and no line was run.
     NotCreated(Refusal),
-    /// Out of memory before the store was to be created. Nothing was written.
+    /// Memory ran out before the store was created. Nothing was written.
     Memory,
     /// A line couldn't be written: the output failed, or there was no memory for its text. A
     /// beginning of what the script prints was written.
@@ -86,18 +86,19 @@ impl<C: Chare> From<RunError<C>> for ExitReason {
     }
 }
 
-/// How a script was run: the disk, which comes back in any case, and whether each line was run.
+/// The result of a script's run: the disk, which comes back in any case, and whether each line was
+/// run.
 #[derive(Drop)]
 pub struct Ran<D: Disk, C: Chare> {
     pub disk: D,
     pub result: Result<(), RunError<C>>,
 }
 
-/// Makes the script's store on a disk, runs its lines there, and writes what they print: all that a
-/// line prints is written before the next line is run. The writer is flushed after each flush and
-/// each checkpoint, and before each drain, and not at the end. `blanks` are the objects that the
-/// script's lines supply; any more are dropped at the end. A refusal is an answer, and the run goes
-/// on. The disk has to be settled, and comes back in any case.
+/// Makes the script's store on a disk, runs its lines there, and writes their output: everything
+/// that a line prints is written before the next line is run. The writer is flushed after each
+/// flush and each checkpoint, and before each drain, and not at the end. `blanks` are the objects
+/// that the script's lines supply; any more are dropped at the end. A refusal is an answer, and the
+/// run goes on. The disk has to be settled, and comes back in any case.
 ///
 /// No store is made if the script's number of processors is outside 1 to 64, `BadPes`; a half of
 /// the disk is open, `AlreadyHere`; it is out of memory, `Memory`; or the device fails, `Device`.
@@ -105,8 +106,8 @@ pub struct Ran<D: Disk, C: Chare> {
 ///
 /// On an honest disk a crash at any moment of the run leaves files that recover to nothing, or to
 /// the world after some of the run's history. From the end of each line on, that world has all
-/// events that were durable then: what a line has told, or counted as durable, stays so. The same
-/// holds from the run's end on, whether each line was run or not.
+/// events that were durable then: whatever a line has told, or counted as durable, stays so. The
+/// same holds from the run's end on, whether each line was run or not.
 ///
 /// The disk's count of failures grows by one for each `Device` answer, and for nothing else. The
 /// disk is as honest as before.
@@ -138,8 +139,8 @@ pub fn run_script<D: Disk, C: Chare, W: Write>(
     }
 }
 
-/// What a run of a script begins with: the arrays of its store, its handlers, and the blanks that
-/// it supplies.
+/// The beginning of a script's run: the arrays of its store, its handlers, and the blanks that it
+/// supplies.
 #[derive(Drop)]
 struct Prepared<C: Chare> {
     manifest: Manifest,
@@ -310,7 +311,7 @@ fn run_line<D: Disk, C: Chare, W: Write>(
     }
 }
 
-/// Takes a client's request to a named handler.
+/// Answers a client's request to a named handler.
 fn answer_to_call<D: Disk, C: Chare>(
     engine: &mut Engine<D, C>,
     desk: &mut Desk,
@@ -327,7 +328,7 @@ fn answer_to_call<D: Disk, C: Chare>(
     told_answer(desk.call(engine, call))
 }
 
-/// Runs one step. What clients ask goes by their passes.
+/// Runs one step. Clients' requests and questions go by their passes.
 fn answer_to<D: Disk, C: Chare>(engine: &mut Engine<D, C>, desk: &mut Desk, step: &Step) -> Answer
     ensures answered { IsAnswered D.Disk step.now result (ledger_in engine.old)
         (ledger_in engine.new) }

@@ -1,4 +1,4 @@
-//! Scripts over a store that comes back.
+//! Runs of scripts over a restarted store.
 
 ghost use Rattle.std.specs.Prelude.{◌≡◌, ◌≤◌, ℕ, List, Err, None, IfErr, IfOk, IfSome, IsSome, OnErr, OnOk, Result, false, true};
 ghost use Rattle.charmlet_model.specs.declared.half.Half.TheVariants as halves;
@@ -46,22 +46,23 @@ use std::thread::Threads;
 pub enum FindError {
     /// No store is found, for this reason. Only its line was written.
     Refused(Refusal),
-    /// That line couldn't be written: the output failed, or there was no memory for its text.
+    /// The refusal's line couldn't be written: the output failed, or there was no memory for its
+    /// text.
     Output(io::Error),
 }
 
-/// Why a script wasn't run to its last line over a store that was to come back.
+/// Why a script wasn't run to its last line over a restarted store.
 #[derive(Drop)]
 pub enum RestartError<C: Chare> {
     /// There are fewer objects of a kind than the script supplies. All objects come back, those for
     /// the restart first, and nothing was written.
     TooFewBlanks(Vec<C>, Vec<C>),
-    /// No store came back, for this reason. Only its line was written, and no line was run.
+    /// No store was restarted, for this reason. Only its line was written, and no line was run.
     NotRestarted(Refusal),
-    /// Out of memory before the store was to come back. Nothing was written.
+    /// Memory ran out before the restart. Nothing was written.
     Memory,
     /// A line couldn't be written: the output failed, or there was no memory for its text. A
-    /// beginning of what is printed was written.
+    /// beginning of the output was written.
     Output(io::Error),
 }
 
@@ -95,21 +96,21 @@ impl<C: Chare> From<RestartError<C>> for ExitReason {
     }
 }
 
-/// How a script was run over a store that was to come back.
+/// The result of a script's run over a restarted store.
 #[derive(Drop)]
 pub struct Restarted<D: Disk, C: Chare> {
     /// The disk, which comes back in any case.
     pub disk: D,
     /// Whether each line was run.
     pub result: Result<(), RestartError<C>>,
-    /// How many blanks of each kind the messages want that were pending when the store came back,
-    /// before any line was run: those that construct an element which wasn't there. `None` if no
-    /// store came back.
+    /// How many blanks of each kind were wanted by the messages that were pending when the store
+    /// was restarted, before any line was run: those that construct an element that wasn't there.
+    /// `None` if no store was restarted.
     pub constructions: Option<Wanted>,
 }
 
-/// How many blank objects of each kind a restart of the store on this disk needs, on this number of
-/// processors. It only reads the disk, and writes nothing.
+/// Finds how many blank objects of each kind a restart of the store on this disk needs, on this
+/// number of processors. It only reads the disk, and writes nothing to it.
 ///
 /// If no store is found, the refusal's line is written: `BadPes` if there aren't 1 to 64
 /// processors, before anything is read; otherwise `Damaged`, `NothingHere`, `Memory` or `Device`,
@@ -148,27 +149,27 @@ pub fn find_blanks<D: Disk, W: Write>(
     }
 }
 
-/// Goes on with the store on a disk, whatever a crash left there, on this number of processors, and
-/// runs a script's lines. First it writes the generation that the store goes on at, how many events
-/// came back, and the number of processors; then what the lines print: all that a line prints is
-/// written before the next line is run. `blanks` are the objects that the store's elements are made
-/// from, as many as [`find_blanks`] says; any more go to its stock. `supplies` are those that the
-/// script's lines supply; any more are dropped at the end. A refusal is an answer, and the run goes
-/// on. The disk comes back in any case.
+/// Restarts the store of a disk, whatever a crash left there, on this number of processors, and
+/// runs a script's lines. First it writes the generation at which the store goes on, how many
+/// events it has, and the number of processors; then the lines' output: everything that a line
+/// prints is written before the next line is run. `blanks` are the objects from which the store's
+/// elements are made, as many as [`find_blanks`] says; any more go to its stock. `supplies` are
+/// those that the script's lines supply; any more are dropped at the end. A refusal is an answer,
+/// and the run goes on. The disk comes back in any case.
 ///
 /// If the taken half has all its kinds in their newest versions, the restart writes nothing to the
 /// disk, and the store goes on at its generation. Otherwise an image of the store in the newest
-/// versions replaces it, at the next generation, as [`Engine::restart`] says; a crash meanwhile
-/// leaves what one before the restart might have left, or files that recover to the same world.
+/// versions replaces it, at the next generation, as [`Engine::restart`] says. A crash meanwhile
+/// leaves what a crash before the restart might have left, or files that recover to the same world.
 ///
-/// No store comes back for the reasons of [`Engine::restart`], in its order. Then the refusal is
+/// A restart is refused for the reasons of [`Engine::restart`], in its order. Then the refusal is
 /// written, no line is run, and all objects are dropped. The disk is unchanged, unless the device
 /// failed while that image was being written.
 ///
 /// After a crash at any moment of an earlier run on this disk, the store has the world after some
-/// of what had happened, with all that was durable, and what clients were told before is true. As
-/// in [`crate::run_script`], from the end of each line on, a crash leaves files with all events
-/// that were durable then.
+/// of what had happened, including everything that was durable, and what clients were told before
+/// is true. As in [`crate::run_script`], from the end of each line on, a crash leaves files with
+/// all events that were durable then.
 ///
 /// The disk's count of failures grows by one for each `Device` answer, and for nothing else. The
 /// disk is as honest as before. `RestartError` says what each error means. How many blanks the
@@ -214,7 +215,7 @@ pub fn restart_script<R: Threads + Sync, D: Disk, C: Chare, W: Write>(
     }
 }
 
-/// What a restart for a script begins with: the objects that the store's elements are made from,
+/// The beginning of a restart for a script: the objects from which the store's elements are made,
 /// those that the script's lines supply, and its handlers.
 #[derive(Drop)]
 struct Prepared<C: Chare> {
@@ -250,7 +251,7 @@ fn prepare<C: Chare>(
     })
 }
 
-/// Brings the store back and runs lines over it, or writes why none came back.
+/// Restarts the store and runs lines over it, or writes why the restart was refused.
 fn restart_with<R: Threads + Sync, D: Disk, C: Chare, W: Write>(
     rt: &R,
     alloc: Global,
@@ -327,7 +328,7 @@ fn restart_with<R: Threads + Sync, D: Disk, C: Chare, W: Write>(
     }
 }
 
-/// Writes the line of a store that came back, and runs lines over it.
+/// Writes the line of a restarted store, and runs lines over it.
 fn run_restarted<D: Disk, C: Chare, W: Write>(
     alloc: Global,
     engine: &mut Engine<D, C>,

@@ -1,4 +1,4 @@
-//! Showing a store that is in two halves.
+//! The showing of a store that is in two halves.
 
 ghost use Rattle.std.specs.Prelude.{◌≡◌, IfOk, Result};
 ghost use Rattle.std.specs.List.{flat_map};
@@ -27,10 +27,10 @@ use std::io::Write;
 /// Why a store isn't shown.
 #[derive(Debug, Drop)]
 pub enum ShowError {
-    /// Nothing is found, for this reason. Only its line was written.
+    /// No store is found, for this reason. Only its line was written.
     Refused(Refusal),
     /// A line couldn't be written: the output failed, or there was no memory for its text. A
-    /// beginning of what is shown was written.
+    /// beginning of the output was written.
     Output(io::Error),
 }
 
@@ -48,12 +48,12 @@ impl From<ShowError> for ExitReason {
     }
 }
 
-/// Shows what is found in the two halves of a disk: the taken half, with its generation, how many
-/// events came before its image and how many its log has; then each array with its kind and its
-/// version; then how many blank objects of each kind a restart needs, if it needs any. It only
-/// reads the disk.
+/// Shows the findings in the two halves of a disk, and only reads the disk. It shows the taken
+/// half, with its generation, how many events came before its image and how many its log has; then
+/// each array with its kind and its version; then how many blank objects of each kind a restart
+/// needs, if it needs any.
 ///
-/// If nothing is found, the refusal's line is written: `Damaged`, `NothingHere`, `Memory` or
+/// If no store is found, the refusal's line is written: `Damaged`, `NothingHere`, `Memory` or
 /// `Device`, as [`charmlet_engine::manifest`] has them. `ShowError` says what each error means.
 pub fn show_store<D: Disk, W: Write>(
     alloc: Global,
@@ -83,14 +83,14 @@ pub fn show_store<D: Disk, W: Write>(
     }
 }
 
-/// What is found, with its arrays in a list.
+/// The findings, with the arrays in a list.
 #[derive(Drop)]
 struct Listed {
     found: Found,
     arrays: Vec<(u16, KindVersion)>,
 }
 
-/// What is found in the two halves of a disk, and the list of its arrays. The refusals are those of
+/// The findings in the two halves of a disk, and the list of the arrays. The refusals are those of
 /// [`charmlet_engine::manifest`].
 fn list_found<D: Disk>(alloc: Global, disk: &mut D) -> Result<Listed, Refusal>
     ensures found { D.honest disk.old → IsFoundIn (D.file disk.old halves.Zero).now
@@ -114,7 +114,7 @@ fn list_found<D: Disk>(alloc: Global, disk: &mut D) -> Result<Listed, Refusal>
     }
 }
 
-/// Writes what is found. Fails as `write_line` does, and the lines before stay written.
+/// Writes the findings. Fails as `write_line` does, and the lines before stay written.
 fn write_found<W: Write>(alloc: Global, writer: &mut W, listed: &Listed) -> io::Result<()>
     requires { listed.now.arrays.items ≡ listed.now.found.manifest }
     ensures { Writes result (W.contents writer.old) (W.contents writer.new)

@@ -12,20 +12,20 @@ use charmlet_model::Half;
 /// How many bytes a half has from its first gate to the end of its header.
 const START: usize = 1 + HEADER_SIZE;
 
-/// What an operator should know of the half that isn't taken.
+/// The facts about the half that isn't taken which an operator should know.
 #[derive(Clone, Copy, Debug, PartialEq, Eq)]
 pub enum Spare {
     /// Nothing: it has no header, or one of an earlier generation; or no half is taken.
     Sound,
-    /// It is closed, and its header has a later generation than the taken half: a checkpoint was
-    /// cut off before it took the place of that one, or the first byte changed since.
+    /// The half is closed, and its header has a later generation than the taken half's: a
+    /// checkpoint was cut off before it replaced the taken half, or the first byte changed since.
     Later { half: Half, generation: u64 },
-    /// It isn't as the format says at this offset, in its first byte or its header: its writing was
+    /// The half breaks the format at this offset, in its first byte or its header: its writing was
     /// cut off, or it changed since.
     Damaged { half: Half, offset: u64 },
 }
 
-/// How a half begins, and how it would if its first gate were open.
+/// The beginning of a half, as it is, and as it would be with an open first gate.
 #[derive(Clone, Copy)]
 pub struct Start {
     /// The first byte, which is 0 if there is none.
@@ -35,7 +35,7 @@ pub struct Start {
 }
 
 /// Reads the first 25 bytes of a half into `start`, or all of it if it has fewer, and returns how
-/// many it read. Two calls of the disk, which change nothing.
+/// many it read. It makes two calls of the disk, which change nothing.
 fn read_start<D: Disk>(
     disk: &mut D,
     half: Half,
@@ -53,7 +53,7 @@ fn read_start<D: Disk>(
     Ok(size)
 }
 
-/// How a half begins that has these first bytes. It opens its first gate there.
+/// The beginning of a half with these first bytes. It opens the first gate in these bytes.
 fn start_of(first: &mut [u8]) -> Start
     ensures { (bytes : List ℕ) → first.old ≡ take 25 bytes → result ≡ start_in bytes }
 {
@@ -75,7 +75,7 @@ fn start_of(first: &mut [u8]) -> Start
     }
 }
 
-/// How a half begins. Two calls of the disk, which change nothing.
+/// Looks at the beginning of a half. It makes two calls of the disk, which change nothing.
 fn look_at<D: Disk>(disk: &mut D, half: Half) -> Result<Start, DeviceFault>
     ensures start { D.honest disk.old →
         IfOk result (λ start. start ≡ start_in (D.file disk.old half).now) }
@@ -87,7 +87,7 @@ fn look_at<D: Disk>(disk: &mut D, half: Half) -> Result<Start, DeviceFault>
     Ok(start_of(&mut first[..size]))
 }
 
-/// What the half is that isn't taken, beside one of this generation.
+/// Judges the half that isn't taken, beside a taken one of this generation.
 fn judged(half: Half, start: Start, generation: u64) -> Spare
     ensures { result ≡ judged half start generation }
 {
@@ -104,7 +104,7 @@ fn judged(half: Half, start: Start, generation: u64) -> Spare
     }
 }
 
-/// What the half is that isn't taken, if one half is taken and the other one is closed.
+/// Judges the half that isn't taken, if one half is taken and the other one is closed.
 fn judged_both(zero: Start, one: Start) -> Spare
     ensures { result ≡ judged_both zero one zero.beginning one.beginning }
 {
@@ -115,8 +115,8 @@ fn judged_both(zero: Start, one: Start) -> Spare
     }
 }
 
-/// What an operator should know of the half that isn't taken. Four calls of the disk at most, which
-/// change nothing.
+/// Looks at the half that isn't taken, for the facts that an operator should know. It makes at most
+/// four calls of the disk, which change nothing.
 pub fn look_at_spare<D: Disk>(disk: &mut D) -> Result<Spare, DeviceFault>
     ensures spare { D.honest disk.old → IfOk result (λ spare. spare
         ≡ spare_in (D.file disk.old halves.Zero).now (D.file disk.old halves.One).now) }

@@ -12,11 +12,12 @@ use std::alloc::Global;
 use std::collections::BTreeMap;
 use std::sync::Wait;
 
-/// The passes of the clients that lines have named so far. Each is lent at its client's first line.
+/// The passes of the clients that lines have named so far. Each pass is lent at its client's first
+/// line.
 #[derive(Drop)]
 pub(crate) struct Clients<B: RuntimeName> {
     pub(crate) passes: Vec<ClientPass<PassesOf<B>>>,
-    /// Where the pass of a client stands among them. A place without the client's pass is no place.
+    /// The index of each client's pass. An index at which another pass stands doesn't count.
     pub(crate) places: BTreeMap<u32, usize>,
 }
 
@@ -29,7 +30,7 @@ impl<B: RuntimeName> Clients<B> {
     ghost use Rattle.charmlet_cli_workers.specs.Heard.{AreAccepted, AreLater, AreTidy, HaveNone, IsAsked, IsAskingCauseBy, IsHeard, IsPassOf, IsReached, IsToldBy, KnowTheSame, accepts_by};
     ghost use Rattle.charmlet_cli_workers.specs.Said.{IsStatusCause};
 
-    /// No client yet. It takes no memory.
+    /// No clients yet. It takes no memory.
     pub(crate) fn new(alloc: Global) -> Self
         ensures passes { result.passes.items ≡ [] }
         ensures tidy { AreTidy result.passes.items result.places.entries }
@@ -49,7 +50,7 @@ impl<B: RuntimeName> Clients<B> {
         passes
     }
 
-    /// A client's request, by its pass. `Memory` where there is none for a pass; otherwise the
+    /// Makes a client's request by its pass. `Memory` if there is none for a pass; otherwise the
     /// refusals of [`Runtime::request`].
     pub(crate) fn request<D: Disk, C: Chare, R: Wait>(
         &mut self,
@@ -84,8 +85,8 @@ impl<B: RuntimeName> Clients<B> {
         }
     }
 
-    /// Tells a client by its pass what is durable of its request. `Memory` where there is none for
-    /// a pass; otherwise the refusals of [`Runtime::status`].
+    /// Tells a client by its pass what is durable of its request. `Memory` if there is none for a
+    /// pass; otherwise the refusals of [`Runtime::status`].
     pub(crate) fn status<D: Disk, C: Chare, R: Wait>(
         &mut self,
         rt: &R,
@@ -133,8 +134,8 @@ impl<B: RuntimeName> Clients<B> {
         runtime.flush(rt, self.passes.as_mut_slice())
     }
 
-    /// The place of a client's pass, which is lent if the client has none yet. `Memory` where there
-    /// is none for it.
+    /// The index of a client's pass, which is lent if the client has none yet. `Memory` if there is
+    /// none for it.
     fn place_of<D: Disk, C: Chare, R: Wait>(
         &mut self,
         rt: &R,
@@ -156,7 +157,7 @@ impl<B: RuntimeName> Clients<B> {
         }
     }
 
-    /// The place of a client's pass, if the client has one.
+    /// The index of a client's pass, if the client has one.
     fn find(&self, client: u32) -> Option<usize>
         requires tidy { AreTidy self.now.passes.items self.now.places.entries }
         ensures place { IfSome result (IsPassOf client self.now.passes.items) }
@@ -183,8 +184,8 @@ impl<B: RuntimeName> Clients<B> {
         }
     }
 
-    /// Lends a client that has none its pass, which comes last. There is room for it before it is
-    /// lent, so that none is lost.
+    /// Lends its pass to a client that has none, and puts it last. Room is made before the pass is
+    /// lent, so that no pass is lost.
     fn lend<D: Disk, C: Chare, R: Wait>(
         &mut self,
         rt: &R,

@@ -20,11 +20,11 @@ use std::io::Write;
 use std::sync::Wait;
 use std::thread::Threads;
 
-/// Each worker takes so many turns, in a thread of its own. Once all have ended it is written how
+/// Has each worker take `turns` turns, in a thread of its own. Once all have ended it writes how
 /// many messages they delivered together, and how many are still pending. If a worker was refused,
-/// the refusal is written too; if more were, that of the least processor. Fails as `write_line`
-/// does, after all deliveries. The writer is flushed before, since deliveries may take long; where
-/// that fails the next flush tells it.
+/// the refusal is written too; if several were, that of the least processor. Fails as `write_line`
+/// does, after all deliveries. The writer is flushed before, since deliveries may take long; if
+/// that flush fails, the next one reports it.
 pub(crate) fn drain_line<
     D: Disk,
     C: Chare,
@@ -73,7 +73,7 @@ fn delivered_by<B: RuntimeName>(slots: &[WorkerSlot<B>]) -> u32
     count
 }
 
-/// The refusal that ended the work of the first of these workers that was refused.
+/// The refusal of the first of these workers that was refused.
 fn first_refusal<B: RuntimeName>(slots: &[WorkerSlot<B>]) -> Option<Refusal>
     ensures { ((i : ℕ) (d : _) → i < length slots.now →
         IfSome (slice_index_or slots.now i d).worked.refusal

@@ -1,4 +1,4 @@
-//! Running lines that show something of a runtime, and change nothing.
+//! Lines that show something of a runtime, and change nothing.
 
 ghost use Rattle.std.specs.Prelude.{◌≡◌, map};
 ghost use Rattle.charmlet_model.specs.declared.kind.Kind as kinds;
@@ -22,8 +22,8 @@ use std::io;
 use std::io::Write;
 use std::sync::Wait;
 
-/// Writes where the element stands and its state, or why it can't be seen: out of memory, or halted
-/// with a delivery that isn't committed on its processor. Fails as `write_line` does.
+/// Writes where the element stands and its state, or why it can't be shown: out of memory, or
+/// halted with a delivery on its processor that isn't committed. Fails as `write_line` does.
 pub(crate) fn state_line<D: Disk, C: Chare, B: RuntimeName, W: Write, R: Wait>(
     rt: &R,
     alloc: Global,
@@ -60,7 +60,7 @@ pub(crate) fn pending_line<D: Disk, C: Chare, B: RuntimeName, W: Write, R: Wait>
     }
 }
 
-/// Writes a line for each kind that objects were supplied of, with where they are. Fails as
+/// Writes a line for each kind of which objects were supplied, with where they are. Fails as
 /// `write_line` does, and the lines before stay written.
 pub(crate) fn census_line<D: Disk, C: Chare, B: RuntimeName, W: Write, R: Wait>(
     rt: &R,

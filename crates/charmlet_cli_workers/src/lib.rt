@@ -1,7 +1,6 @@
-//! Runs scripts over runtimes with threads, a new store or one that comes back.
-//!
-//! Each line is run to its end before the next one begins. A `drain` line has a worker on each
-//! processor, in a thread of its own; all other lines are run by the caller's thread.
+//! Runs of scripts over a runtime with threads, new or restarted. Each line is run to its end
+//! before the next one begins. A `drain` line has a worker on each processor, in a thread of its
+//! own; all other lines are run by the caller's thread.
 #![tactic(auto)]
 
 mod clients;

@@ -154,7 +154,7 @@ fn run_line<D: Disk, C: Chare, B: RuntimeName + Send + Sync, W: Write, R: Thread
     }
 }
 
-/// Takes a client's request to a named handler, by its pass. A repeat is answered before the name
+/// Makes a client's request to a named handler, by its pass. A repeat is answered before the name
 /// is looked up.
 fn call_handler<D: Disk, C: Chare, B: RuntimeName, R: Wait>(
     rt: &R,
@@ -190,7 +190,7 @@ fn call_handler<D: Disk, C: Chare, B: RuntimeName, R: Wait>(
     clients.request(rt, runtime, call.client, &request)
 }
 
-/// Runs one step, which isn't a delivery. What clients ask goes by their passes.
+/// Runs one step, which isn't a delivery. Clients' requests and questions go by their passes.
 fn answer_to<D: Disk, C: Chare, B: RuntimeName, R: Wait>(
     rt: &R,
     alloc: Global,

@@ -38,19 +38,19 @@ use std::sync::Wait;
 use std::thread::Threads;
 
 /// Makes the script's store on a disk, as `run_script` of `charmlet_cli` does, and runs its lines
-/// there over a runtime with threads, a worker for each processor.
+/// there over a runtime with threads, with a worker for each processor.
 ///
 /// A `drain N` line starts a thread for each processor, in which its worker takes N turns, and ends
-/// once all of them have: it prints how many messages they delivered together and how many are
-/// still pending, and then, if a worker was refused, that refusal; if more were, that of the least
-/// processor. All other lines are run by the calling thread, and print what they print over an
-/// engine. What clients ask goes by their passes: each is lent at its client's first line, and
-/// all of them are told of each flush.
+/// once all of them have. It prints how many messages they delivered together and how many are
+/// still pending, and then, if a worker was refused, that refusal; if several were, that of the
+/// least processor. All other lines are run by the calling thread, and print the same as over an
+/// engine. Clients' requests and questions go by their passes: each pass is lent at its client's
+/// first line, and all of them are told of each flush.
 ///
 /// The disk that comes back has a store that went on from the new one. Each line has printed an
-/// answer of its own form, or a refusal, with its cause as far as the lines and the arrays say it.
-/// What it told a client is true of that store whichever events a crash leaves, all durable ones
-/// among them, and no less than follows from what the client was told before; and a request that
+/// answer of its own form, or a refusal, with its cause as far as the lines and the arrays tell it.
+/// What it told a client is true of that store whichever events a crash leaves, including all
+/// durable ones, and no less than follows from what the client was told before; and a request that
 /// wasn't refused is accepted in it.
 pub fn run_workers<D: Disk, C: Chare, W: Write, R: Threads + Wait + Sync>(
     rt: &R,
@@ -81,7 +81,7 @@ pub fn run_workers<D: Disk, C: Chare, W: Write, R: Threads + Wait + Sync>(
     }
 }
 
-/// What a run of a script by workers begins with: the arrays of its store, the authorities of its
+/// The beginning of a script's run by workers: the arrays of its store, the authorities of its
 /// runtime, its handlers, and the blanks that it supplies.
 #[derive(Drop)]
 struct Prepared<C: Chare> {
@@ -120,7 +120,7 @@ fn prepare<C: Chare>(
     }
 }
 
-/// The same with enough objects. It fails only when out of memory.
+/// Prepares a run with enough objects. It fails only when out of memory.
 fn prepared_with<C: Chare>(
     alloc: Global,
     script: &Script,
@@ -146,8 +146,8 @@ fn prepared_with<C: Chare>(
 }
 
 /// Creates the script's store and runs its lines there, under the runtime's name `B`, or writes why
-/// there is no store. The runtime's room is made first; where memory lacks for it, neither disk nor
-/// output is touched.
+/// there is no store. The runtime's room is made first; if memory is lacking for it, neither disk
+/// nor output is touched.
 fn run_in_new_store<
     D: Disk,
     C: Chare,

@@ -35,7 +35,7 @@ use std::io::Write;
 use std::sync::Wait;
 use std::thread::Threads;
 
-/// The lines of a script, for so many processors, and the line of a store that came back, which is
+/// The lines of a script, for a number of processors, and the line of a restarted store, which is
 /// written before them.
 #[derive(Clone, Copy)]
 pub(crate) struct Lines<'a> {
@@ -51,8 +51,8 @@ pub(crate) struct Given<C: Chare> {
     pub(crate) source: Stock<C>,
 }
 
-/// Opens the runtime of a store that came back, under the name `B`, runs lines over it, and takes
-/// it apart. The refusals are those of [`open_reopened`]; then the output is as it was.
+/// Opens the runtime of a restarted store, under the name `B`, runs lines over it, and takes it
+/// apart. The refusals are those of [`open_reopened`]; then the output is unchanged.
 pub(crate) fn run_reopened<
     D: Disk,
     C: Chare,
@@ -189,7 +189,7 @@ fn run_on<
     }
 }
 
-/// Writes the line of a store that came back, if one did. Fails as `write_line` does.
+/// Writes the line of a restarted store, if there is one. Fails as `write_line` does.
 fn write_opening<W: Write>(
     alloc: Global,
     restarted: Option<RestartedLine>,
@@ -204,8 +204,8 @@ fn write_opening<W: Write>(
     }
 }
 
-/// Takes the runtime apart, with all seats and passes that were lent, and takes no memory where the
-/// list of seats has room for all of them. The disk comes back, unless one that was lent isn't
+/// Takes the runtime apart, with all seats and passes that were lent. It takes no memory if the
+/// list of seats has room for all of them. The disk comes back, unless a lent seat or pass isn't
 /// there.
 fn take_apart<D: Disk, C: Chare, T: Drop, B: RuntimeName>(
     runtime: Runtime<D, C, B>,
@@ -244,7 +244,7 @@ fn take_apart<D: Disk, C: Chare, T: Drop, B: RuntimeName>(
     }
 }
 
-/// What is told where the disk doesn't come back: that, unless a line couldn't be written before.
+/// The result if the disk doesn't come back: `NotClosed`, unless a line couldn't be written before.
 fn not_closed<D: Disk, T: Drop>(ran: Result<(), WorkersError<T>>) -> RanByWorkers<D, T>
     ensures disk { result.disk ≡ None }
     ensures err { IfErr result.result (EndsApart ran result.disk) }

@@ -1,4 +1,4 @@
-//! Scripts over runtimes that come back.
+//! Runs of scripts over restarted runtimes.
 
 ghost use Rattle.std.specs.Prelude.{◌≡◌, ℕ, ◌≤◌, List, None, Some, false, IfErr, IfOk, IfSome, IsErr, IsSome, OnOk};
 ghost use Rattle.charmlet_model.specs.declared.kind.Kind.{Kind};
@@ -32,15 +32,15 @@ use std::marker::Brand;
 use std::sync::Wait;
 use std::thread::Threads;
 
-/// Goes on with the store on a disk, as `restart_script` of `charmlet_cli` does, and runs a
-/// script's lines there over a runtime with threads, as [`crate::run_workers`] does. First it
-/// writes the generation that the store goes on at, how many events came back, and the number of
-/// processors. `blanks` are the objects that the store's elements are made from, as many as
-/// `find_blanks` of `charmlet_cli` says; `supplies` are those that the script's lines supply.
+/// Restarts the store of a disk, as `restart_script` of `charmlet_cli` does, and runs a script's
+/// lines there over a runtime with threads, as [`crate::run_workers`] does. First it writes the
+/// generation at which the store goes on, how many events it has, and the number of processors.
+/// `blanks` are the objects from which the store's elements are made, as many as `find_blanks` of
+/// `charmlet_cli` says; `supplies` are those that the script's lines supply.
 ///
-/// All memory that the runtime takes to open is asked for before a store of older versions is
-/// brought forward. So at each refusal of the restart but `Device` the disk is as it was. How many
-/// blanks the pending messages wanted is counted without memory.
+/// All memory that the runtime needs to open is asked for before a store of older versions is
+/// brought forward. So at each refusal of the restart except `Device` the disk is unchanged. How
+/// many blanks the pending messages wanted is counted without memory.
 pub fn restart_workers<D: Disk, C: Chare, W: Write, R: Threads + Wait + Sync>(
     rt: &R,
     alloc: Global,
@@ -89,8 +89,9 @@ pub fn restart_workers<D: Disk, C: Chare, W: Write, R: Threads + Wait + Sync>(
     }
 }
 
-/// What a restart for a script begins with: the objects that the store's elements are made from,
-/// the authorities of its runtime, the script's handlers, and the objects that its lines supply.
+/// The beginning of a restart for a script by workers: the objects from which the store's elements
+/// are made, the authorities of its runtime, the script's handlers, and the objects that its lines
+/// supply.
 #[derive(Drop)]
 struct Prepared<C: Chare> {
     blanks: Stock<C>,
@@ -127,7 +128,7 @@ fn prepare<C: Chare>(
     })
 }
 
-/// Brings the store back and runs lines over it, or writes why it doesn't go on.
+/// Restarts the store and runs lines over it, or writes why the restart was refused.
 fn restart_with<D: Disk, C: Chare, W: Write, R: Threads + Wait + Sync>(
     rt: &R,
     alloc: Global,
@@ -198,7 +199,7 @@ fn restart_with<D: Disk, C: Chare, W: Write, R: Threads + Wait + Sync>(
     }
 }
 
-/// Writes why no store came back. The disk comes back.
+/// Writes why the restart was refused. The disk comes back.
 fn tell_refused<D: Disk, C: Chare, T: Drop, W: Write>(
     alloc: Global,
     refused: NotRestarted<D, C>,

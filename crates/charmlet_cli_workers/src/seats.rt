@@ -1,4 +1,4 @@
-//! What a script's lines go by, beside the runtime.
+//! The floor of a run by workers: everything that a script's lines need besides the runtime.
 
 ghost use Rattle.std.specs.Prelude.{◌≡◌, ◌++◌, [], OnOk, map};
 ghost use Rattle.std.specs.List.{AllByRecursion};
@@ -21,14 +21,14 @@ use std::sync::Wait;
 /// the clients, the handlers, and the objects that the lines supply.
 pub(crate) struct Floor<C: Chare, B: RuntimeName> {
     pub(crate) slots: Vec<WorkerSlot<B>>,
-    /// For the end, which so takes no memory.
+    /// The list for the end of the run, which therefore takes no memory.
     pub(crate) seats: Vec<Seat<SeatsOf<B>>>,
     pub(crate) clients: Clients<B>,
     pub(crate) handlers: Handlers,
     pub(crate) source: Stock<C>,
 }
 
-// Written by hand, so that dropping all that it has is proved once.
+// Written by hand, so that dropping all its fields is proved once.
 impl<C: Chare, B: RuntimeName> Drop for Floor<C, B> {
     fn drop(self) {
         let Floor {
@@ -49,7 +49,7 @@ impl<C: Chare, B: RuntimeName> Drop for Floor<C, B> {
 impl<C: Chare, B: RuntimeName> Floor<C, B> {
     ghost use Rattle.charmlet_cli_workers.specs.Heard.{AreTidy};
 
-    /// Without a seat and without a pass. It takes no memory.
+    /// A floor without seats and without passes. It takes no memory.
     pub(crate) fn new(alloc: Global, handlers: Handlers, source: Stock<C>) -> Self
         ensures source { result.source ≡ source }
         ensures handlers { result.handlers ≡ handlers }
@@ -67,7 +67,7 @@ impl<C: Chare, B: RuntimeName> Floor<C, B> {
         }
     }
 
-    /// What was lent, for the end.
+    /// The lent seats and passes, for the end of the run.
     pub(crate) fn into_lent(self) -> Lent<B>
         ensures passes { result.passes.items ≡ self.clients.passes.items }
         ensures slots { result.slots.items ≡ self.slots.items }
@@ -98,8 +98,8 @@ pub(crate) struct Lent<B: RuntimeName> {
     pub(crate) passes: Vec<ClientPass<PassesOf<B>>>,
 }
 
-/// Takes the seats of so many processors, by rising number, and makes room for them in the list for
-/// the end. `Memory` where there is none for one of them; those before it are taken then.
+/// Takes the seats of this many processors, by rising number, and makes room for them in the list
+/// for the end. `Memory` if there is none for one of them; then those before it are taken.
 pub(crate) fn take_seats<D: Disk, C: Chare, B: RuntimeName, R: Wait>(
     rt: &R,
     runtime: &Runtime<D, C, B>,
@@ -132,7 +132,7 @@ pub(crate) fn take_seats<D: Disk, C: Chare, B: RuntimeName, R: Wait>(
     Ok(())
 }
 
-/// Puts the seats of workers into a list, which takes no memory where that has room for them.
+/// Puts the seats of workers into a list. It takes no memory if the list has room for them.
 pub(crate) fn give_up<B: RuntimeName>(
     slots: Vec<WorkerSlot<B>>,
     seats: &mut Vec<Seat<SeatsOf<B>>>,

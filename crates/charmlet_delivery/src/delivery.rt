@@ -24,7 +24,7 @@ use charmlet_stock::Stock;
 use std::alloc::{AllocError, Global};
 
 /// Delivers a pending message on the shelf's processor: it is assigned, its receiver reacts and is
-/// counted, and the delivery is added to the history. Where it is refused, all is as before.
+/// counted, and the delivery is added to the history. If refused, nothing changes.
 pub fn deliver_on<C: Chare>(
     alloc: Global,
     history: &mut History,
@@ -47,8 +47,8 @@ pub fn deliver_on<C: Chare>(
     deliver_there(history, shelf, stock, id)
 }
 
-/// Delivers a message whose receiver is there, which reacts to it where it is kept. Where memory is
-/// refused, all is as before.
+/// Delivers a message whose receiver is there, and reacts in its place. If memory is refused,
+/// nothing changes.
 fn deliver_there<C: Chare>(
     history: &mut History,
     shelf: &mut Shelf<C>,
@@ -79,8 +79,8 @@ fn deliver_there<C: Chare>(
     Ok(())
 }
 
-/// Lends the processor's message, whose receiver is there, to its receiver on the shelf, which
-/// reacts to it and is counted. Where memory is refused, the shelf is as before.
+/// Lends the processor's message to its receiver on the shelf, which is there, reacts and is
+/// counted. If memory is refused, the shelf is unchanged.
 fn enter<C: Chare>(history: &History, shelf: &mut Shelf<C>) -> Result<Delivered<C>, AllocError>
     requires shelf { ShowsPart history.now shelf.old }
     requires idle { shelf.old.phase ≡ phases.Idle }
@@ -104,8 +104,8 @@ fn enter<C: Chare>(history: &History, shelf: &mut Shelf<C>) -> Result<Delivered<
     Ok(delivered)
 }
 
-/// Adds the delivery that the receiver on the shelf has made to the history, for which there is
-/// room. An object that it destroyed is retired.
+/// Adds the receiver's delivery on the shelf to the history, which has room for it. An object that
+/// the delivery destroyed is retired.
 fn add<C: Chare>(
     history: &mut History,
     shelf: &Shelf<C>,
@@ -134,8 +134,8 @@ fn add<C: Chare>(
     }
 }
 
-/// Delivers a message that constructs its receiver, from a blank of this kind version. Where it is
-/// refused, all is as before.
+/// Delivers a message that constructs its receiver, from a blank of this kind version. If refused,
+/// nothing changes.
 fn deliver_new<C: Chare>(
     alloc: Global,
     history: &mut History,
@@ -161,7 +161,7 @@ fn deliver_new<C: Chare>(
     perform(history, shelf, stock)
 }
 
-/// Has the receiver of the assigned message react, and commits the delivery. Where memory is
+/// Runs the receiver's reaction to the assigned message, and commits the delivery. If memory is
 /// refused, the assignment is released.
 fn perform<C: Chare>(
     history: &mut History,

@@ -1,4 +1,4 @@
-//! The parts of a delivery: it is assigned, and then committed, finished or released.
+//! The steps of a delivery: it is assigned, and then committed, finished or released.
 
 ghost use Rattle.std.specs.Prelude.{◌≡◌, false, true, IfErr, IsOk, None, OnErr, OnOk, Some};
 ghost use Rattle.charmlet_model.specs.Core as core;
@@ -26,8 +26,7 @@ use charmlet_stock::Stock;
 use std::alloc::{AllocError, Global};
 
 /// Assigns a pending message to the shelf's processor, in the history and on the shelf. A message
-/// that constructs its receiver takes a blank from the stock. Where it is refused, all is as
-/// before.
+/// that constructs its receiver takes a blank from the stock. If refused, nothing changes.
 pub fn assign<C: Chare>(
     alloc: Global,
     history: &mut History,
@@ -48,8 +47,9 @@ pub fn assign<C: Chare>(
     assign_tested(alloc, history, shelf, stock, id, wanted)
 }
 
-/// Assigns a message that the history lets be assigned, and for which this blank is wanted, if one
-/// is. `NoBlank` where the stock lacks it, else `Memory`; then all is as before.
+/// Assigns a message that passed the history's test, with a blank of kind version `wanted`, if it
+/// is given. `NoBlank` if the stock lacks that blank; otherwise `Memory`. If refused, nothing
+/// changes.
 pub(crate) fn assign_tested<C: Chare>(
     alloc: Global,
     history: &mut History,
@@ -86,7 +86,7 @@ pub(crate) fn assign_tested<C: Chare>(
     Ok(())
 }
 
-/// Whether the stock has the blank, where one is wanted; else `NoBlank`.
+/// Tests that the stock has the wanted blank, if one is wanted; otherwise `NoBlank`.
 fn test_blank<C: Chare>(stock: &Stock<C>, wanted: Option<KindVersion>) -> Result<(), Refusal>
     ensures { refusal_in result ≡ first_refusal (lacks_blank (blanks_in stock.now) wanted) }
 {
@@ -100,8 +100,8 @@ fn test_blank<C: Chare>(stock: &Stock<C>, wanted: Option<KindVersion>) -> Result
     Ok(())
 }
 
-/// Assigns a copy of the processor's message on the shelf, to its receiver, or to a newcomer if a
-/// blank of this kind version is wanted. Where that fails, shelf and stock are as before.
+/// Assigns a copy of the processor's message on the shelf: to its receiver, or to a newcomer if a
+/// blank of this kind version is wanted. If that fails, shelf and stock are unchanged.
 fn shelve<C: Chare>(
     alloc: Global,
     history: &History,
@@ -148,9 +148,9 @@ fn shelve<C: Chare>(
     Ok(())
 }
 
-/// Adds the delivery that the receiver on the shelf has made to the history, with what it sent and
-/// replied, and settles it. An object that it destroyed is retired. It takes no memory. It is
-/// refused `Halted` alone: then all is as before, and what was sent and replied comes back.
+/// Adds the receiver's delivery on the shelf to the history, with its sends and reply, and settles
+/// it. An object that it destroyed is retired. It takes no memory. The only refusal is `Halted`:
+/// then nothing changes, and the output comes back.
 pub fn commit<C: Chare>(
     history: &mut History,
     shelf: &mut Shelf<C>,
@@ -180,8 +180,8 @@ pub fn commit<C: Chare>(
     Ok(())
 }
 
-/// Adds the delivery as [`commit`] does, also where the store is halted: so an object that has
-/// reacted already can be counted, and the store be taken apart. It takes no memory.
+/// Adds the delivery as [`commit`] does, even if the store is halted. So an object that has reacted
+/// already can be counted, and the store can be taken apart. It takes no memory.
 pub fn finish<C: Chare>(
     history: &mut History,
     shelf: &mut Shelf<C>,
@@ -201,7 +201,7 @@ pub fn finish<C: Chare>(
     settle_shelf(shelf, stock);
 }
 
-/// Takes the assignment back, in the history and on the shelf. The blank of a construction goes
+/// Releases the assigned message, in the history and on the shelf. The blank of a construction goes
 /// back to the stock. It takes no memory.
 pub fn release<C: Chare>(history: &mut History, shelf: &mut Shelf<C>, stock: &mut Stock<C>)
     requires consistent { IsConsistentWorkplace (workplace_of history.old shelf.old stock.old) }

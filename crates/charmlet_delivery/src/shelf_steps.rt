@@ -1,4 +1,4 @@
-//! Objects that go from the stock onto a shelf, and from the shelf back or into retirement.
+//! Moves of objects between the stock and a shelf, and retirement.
 
 ghost use Rattle.std.specs.Prelude.{◌≡◌, ◌==◌, if◌then◌else◌, IfErr, None, OnErr, OnOk, Some};
 ghost use Rattle.std.specs.BTreeMap.{is_at};
@@ -21,8 +21,9 @@ use charmlet_model::{KindVersion, Message, Refusal, Resident};
 use charmlet_shelf::Shelf;
 use charmlet_stock::Stock;
 
-/// Assigns a message to the element of this kind version and with these counts that it constructs,
-/// from a blank of the stock. `NoBlank` where there is none, else `Memory`; then all is as before.
+/// Assigns a message to the element that it constructs, of this kind version and with these counts,
+/// from a blank of the stock. `NoBlank` if the stock has none; otherwise `Memory`. If refused,
+/// nothing changes.
 pub fn assign_newcomer<C: Chare>(
     shelf: &mut Shelf<C>,
     stock: &mut Stock<C>,
@@ -71,8 +72,8 @@ pub fn assign_newcomer<C: Chare>(
     }
 }
 
-/// Takes the assignment on the shelf back, if there is one. The blank of a construction goes back
-/// to the stock.
+/// Releases the assigned message on the shelf, if there is one. The blank of a construction goes
+/// back to the stock.
 pub fn release_shelf<C: Chare>(shelf: &mut Shelf<C>, stock: &mut Stock<C>)
     requires { IsWithin shelf.old stock.old }
     ensures shelf { shelf.new ≡ record shelf.old { phase = released shelf.old.phase } }
@@ -87,7 +88,7 @@ pub fn release_shelf<C: Chare>(shelf: &mut Shelf<C>, stock: &mut Stock<C>)
     }
 }
 
-/// Settles the delivery that was made on the shelf, if one was. An object that it destroyed is
+/// Settles the performed delivery on the shelf, if there is one. An object that it destroyed is
 /// retired.
 pub fn settle_shelf<C: Chare>(shelf: &mut Shelf<C>, stock: &mut Stock<C>)
     requires { IsWithin shelf.old stock.old }

@@ -1,12 +1,12 @@
-//! One type for the disks that the program runs its engine over: a folder's files, memory, or
-//! memory that fails from some call on.
+//! One type for the disks that the program's engine uses: a folder's files, memory, or memory that
+//! fails from some call on.
 
 use crate::{CrashChoice, DeviceFault, Disk, FileDisk, FuseDisk, MemDisk};
 use charmlet_model::Half;
 use std::alloc::{AllocError, Global};
 use std::io;
 
-/// Any of the disks that the program uses, so that code generic over disks is made for one type.
+/// Any of the program's disks, so that code generic over disks is compiled for one type.
 ///
 /// It is honest if and only if it is in memory. Each call is passed on once.
 #[derive(Drop)]
@@ -56,8 +56,8 @@ impl AnyDisk {
         AnyDisk::Failing(FuseDisk::new(MemDisk::new(alloc), calls))
     }
 
-    /// Why the first fault of a folder's disk was one, as [`FileDisk::cause`] says it; `None` of a
-    /// disk in memory.
+    /// Why the first fault of a folder's disk occurred, as [`FileDisk::cause`] says it; `None` for
+    /// a disk in memory.
     pub fn cause(&self) -> Option<io::Error>
         ensures { result ≡ cause_of self.now }
     {
@@ -67,8 +67,8 @@ impl AnyDisk {
         }
     }
 
-    /// What a crash leaves of a disk in memory, by its choice: a disk in memory that doesn't fail
-    /// by itself, all of it sure. A folder's disk stays as it is.
+    /// The disk that a crash leaves of a disk in memory, by its choice: a disk in memory that
+    /// doesn't fail by itself, and whose bytes are all durable. A folder's disk stays as it is.
     pub fn crash(self, choice: CrashChoice) -> AnyDisk
         ensures left { is_honest self → (half : _) →
             files_of result half ≡ clean (left_by choice (files_of self half)) }

@@ -1,7 +1,7 @@
-//! What a crash makes of what was written since the last sync.
+//! Crashes: what becomes of bytes that were written since the last sync.
 
-/// What a crash of a disk in memory leaves of the ranges that were written since the last sync of
-/// their half. What is in no such range is as it was at that sync.
+/// What a crash of a disk in memory leaves in the ranges that were written since the last sync of
+/// their half. Everything outside these ranges is as it was at that sync.
 #[derive(Clone, Copy, Debug, PartialEq, Eq)]
 pub enum CrashChoice {
     /// The old bytes. What is past the old end is cut off.
@@ -14,14 +14,14 @@ pub enum CrashChoice {
     Ones,
     /// A byte `07` in each place.
     Sevens,
-    /// The new bytes wherever a place is in the first half of a range, rounded down, and the old
-    /// ones elsewhere. What is past the old end and in no first half is cut off; before a place
-    /// that is in one it is `00`.
+    /// The new bytes in the first half of each range, rounded down, and the old ones elsewhere.
+    /// Past the old end, a place outside every first half is `00` if a place inside one follows,
+    /// and is cut off otherwise.
     FirstHalves,
 }
 
 impl CrashChoice {
-    /// All six.
+    /// All six choices of a crash.
     pub const ALL: [CrashChoice; 6] = [
         CrashChoice::Old,
         CrashChoice::New,

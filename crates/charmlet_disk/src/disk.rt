@@ -1,4 +1,4 @@
-//! A disk of two files, as its callers see it.
+//! The trait of disks: two files, as their callers see them.
 ghost use Rattle.std.specs.Prelude.{◌≡◌, ◌≤◌, ◌+◌, List, ℕ, length, take, drop, is_ok, IfOk, OnOk, OnErr};
 ghost use Rattle.charmlet_model.specs.declared.half.Half.{Half};
 ghost use Rattle.charmlet_model.specs.Half.{other};
@@ -8,7 +8,7 @@ ghost use Rattle.charmlet_model.specs.declared.refusal.Refusal.TheVariants.{Devi
 
 use charmlet_model::{Half, Refusal};
 
-/// The device failed. Nothing more is known: the disk's `failures` counts it.
+/// A failure of the device, of which no more is known: the disk's `failures` counts it.
 #[derive(Clone, Copy, Debug, PartialEq, Eq)]
 pub struct DeviceFault;
 
@@ -22,18 +22,20 @@ impl From<DeviceFault> for Refusal {
 
 /// Two files under one clock. Nobody else writes to either.
 ///
-/// What the clauses say of bytes and of crashes, they say of an honest disk: there a read gives
-/// what was written, and a crash leaves of each file its bytes at the last sync, but for any bytes
-/// in the ranges that were written since, and any length from the one at that sync to the greatest
-/// since. What they say of `failures` holds of every disk.
+/// The clauses on bytes and crashes speak of an honest disk: a read there gives what was written. A
+/// crash leaves the bytes of each file at the last sync, except that the ranges that were written
+/// since may hold any bytes. The length is any from the one at that sync to the greatest since. The
+/// clauses on `failures` hold for every disk.
 ///
 /// Any call may answer [`DeviceFault`]: no clause says when, and `failures` counts it. Nothing is
-/// said of a read past the end, nor of a write that begins past it, on a disk that isn't honest.
+/// said about a read past the end, or about a write that begins past it, on a disk that isn't
+/// honest.
 pub trait Disk: Send + Drop {
     /// The disk keeps what the clauses below say of an honest disk.
     ghost honest: { Self → Type 0 };
 
-    /// Each half: what a read gives, what is sure, and what was written since the last sync.
+    /// Each half: what a read gives, which bytes are durable, and which ranges were written since
+    /// the last sync.
     ghost file: { Self → Half → File };
 
     /// The moment, as a number that does not fall.
@@ -66,9 +68,9 @@ pub trait Disk: Send + Drop {
         ensures honest { (honest self.old → honest self.new) × (honest self.new → honest self.old) }
         ensures counted { faults self.new ≡ faults_after (is_ok result) (faults self.old) };
 
-    /// Writes bytes to a half from an offset on, over what is there and past its end. Until a sync
-    /// of the half that succeeds, a crash may leave any bytes in the range. A write that fails may
-    /// have written any of it, and counts as a written range too.
+    /// Writes bytes to a half from an offset on, over the present bytes and past the end. Until a
+    /// sync of the half succeeds, a crash may leave any bytes in the range. A write that fails may
+    /// have written any part of it, and counts as a written range too.
     fn write_at(&mut self, half: Half, offset: u64, bytes: &[u8]) -> Result<(), DeviceFault>
         requires { honest self.old → offset ≤ length (file self.old half).now }
         ensures written { honest self.old →
@@ -81,8 +83,8 @@ pub trait Disk: Send + Drop {
         ensures honest { (honest self.old → honest self.new) × (honest self.new → honest self.old) }
         ensures counted { faults self.new ≡ faults_after (is_ok result) (faults self.old) };
 
-    /// Makes a half sure: from then on a crash leaves exactly what a read gives, including its
-    /// length. A sync that fails makes nothing sure.
+    /// Makes a half durable: from then on a crash leaves exactly what a read gives, including its
+    /// length. A sync that fails makes nothing durable.
     fn sync(&mut self, half: Half) -> Result<(), DeviceFault>
         ensures durable { honest self.old →
             OnOk result (file self.new half ≡ clean (file self.old half).now) }
@@ -93,8 +95,8 @@ pub trait Disk: Send + Drop {
         ensures honest { (honest self.old → honest self.new) × (honest self.new → honest self.old) }
         ensures counted { faults self.new ≡ faults_after (is_ok result) (faults self.old) };
 
-    /// How often a call has failed. Each fault adds one, up to 2^64-1; there it stays, and counts
-    /// as grown.
+    /// How often a call has failed. Each fault adds one, up to 2^64-1; the count stays there, and
+    /// counts as grown.
     fn failures(&self) -> u64
         ensures { result ≡ faults self.now };
 

@@ -7,8 +7,7 @@ use charmlet_model::Half;
 /// A disk that passes a given number of calls of `write_at` and `sync` on to another one, and then
 /// fails each further one without touching the other disk. Lengths and reads are always passed on.
 ///
-/// It is honest if and only if the other disk is. Its `failures` are the other disk's and those
-/// that it made itself.
+/// It is honest if and only if the other disk is. Its `failures` are the other disk's plus its own.
 #[derive(Drop)]
 pub struct FuseDisk<D: Disk> {
     disk: D,
@@ -19,7 +18,7 @@ pub struct FuseDisk<D: Disk> {
 impl<D: Disk> FuseDisk<D> {
     ghost use Rattle.charmlet_disk.specs.Fuse.{inside, calls_left, refusals};
 
-    /// A fuse in front of `disk`, which passes `calls` calls.
+    /// Puts a fuse in front of `disk`, which passes `calls` calls.
     pub fn new(disk: D, calls: u64) -> FuseDisk<D>
         ensures disk { inside result ≡ disk }
         ensures calls { calls_left result ≡ calls }

@@ -1,5 +1,5 @@
-//! Two files, called halves, under one clock: what their calls do, and what a crash may leave of
-//! them.
+//! Disks of two files, called halves, under one clock: what their calls do, and what a crash may
+//! leave.
 #![tactic(auto)]
 
 mod any_disk;

@@ -1,4 +1,5 @@
-//! A disk in memory, with a record of its calls, so that a crash may leave all that a disk allows.
+//! A disk in memory, with a record of its calls, so that a crash can leave anything that a disk
+//! allows.
 ghost use Rattle.std.specs.Prelude.{◌≡◌, ◌≤◌, ◌<◌, ◌+◌, ◌++◌, ◌∷◌, [], is_ok, length, vec_len, vec_capacity, true, false, OnOk, OnErr};
 ghost use Rattle.charmlet_model.specs.declared.half.Half.TheVariants.{Zero, One};
 ghost use Rattle.charmlet_model.specs.Half.{other};
@@ -17,18 +18,18 @@ use crate::{CrashChoice, DeviceFault, Disk};
 use charmlet_model::Half;
 use std::alloc::{AllocError, Global};
 
-/// A disk in memory, which is honest. It fails only when out of memory, and nothing has changed
-/// then.
+/// A disk in memory, which is honest. It fails only when out of memory, and then nothing has
+/// changed.
 ///
-/// A write costs what is written, a sync what was written to its half since the last one, and a
-/// crash the file. The record of calls grows as long as the disk lives.
+/// A write copies its bytes, a sync what was written to its half since the last one, and a crash
+/// the file. The record of calls grows as long as the disk lives.
 #[derive(Drop)]
 pub struct MemDisk {
     alloc: Global,
     zero: MemFile,
     one: MemFile,
-    /// Each call that changed the disk, the oldest first. While anything isn't sure, there is room
-    /// for a crash.
+    /// Each call that changed the disk, the oldest first. While some bytes aren't durable, there is
+    /// room for a crash.
     calls: Vec<Call>,
     faults: u64,
     ghost zero_replayed: { file_of zero ≡ replayed Zero calls.items (clean []) },
@@ -66,7 +67,7 @@ fn write_to(
     Ok(())
 }
 
-// Makes a half sure, and records the call. When out of memory, both stay as they are.
+// Makes a half durable, and records the call. When out of memory, both stay as they are.
 fn sync_to(half: Half, file: &mut MemFile, calls: &mut Vec<Call>) -> Result<(), AllocError>
     requires { IsSound (file_of file.old) }
     ensures synced { OnOk result (file_of file.new ≡ clean (file_of file.old).now) }
@@ -107,15 +108,15 @@ impl MemDisk {
         }
     }
 
-    /// The writes, syncs and crashes up to now, the oldest first. A call that failed isn't among
-    /// them, nor is a crash that found all written bytes sure.
+    /// The writes, syncs and crashes so far, the oldest first. The list has neither failed calls
+    /// nor crashes that found all written bytes durable.
     pub fn calls(&self) -> &[Call]
         ensures { result.now ≡ calls_of self.now }
     {
         &self.calls
     }
 
-    /// What a crash leaves, by its choice, as a disk of its own: all of it is sure. It takes no
+    /// The disk that a crash leaves, by its choice: all of its bytes are durable. It takes no
     /// memory.
     pub fn crash(self, choice: CrashChoice) -> MemDisk
         ensures left { (half : _) → files result half ≡ clean (left_by choice (files self half)) }
@@ -184,7 +185,7 @@ impl MemDisk {
         }
     }
 
-    // Makes a half sure. When out of memory, everything stays as it is.
+    // Makes a half durable. When out of memory, everything stays as it is.
     fn try_sync(&mut self, half: Half) -> Result<(), AllocError>
         ensures synced { OnOk result (files self.new half ≡ clean (files self.old half).now) }
         ensures other { files self.new (other half) ≡ files self.old (other half) }

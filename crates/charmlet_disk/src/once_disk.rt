@@ -5,11 +5,11 @@ ghost use Rattle.charmlet_disk.specs.Once.{one_less};
 use crate::{DeviceFault, Disk};
 use charmlet_model::Half;
 
-/// A disk that passes a given number of calls on to another one, including lengths and reads, fails
-/// the next one without touching the other disk, and passes all later ones on.
+/// A disk that passes a given number of calls on to another one, fails the next one without
+/// touching the other disk, and passes all later ones on. Lengths and reads count as calls, too.
 ///
-/// It is honest if and only if the other disk is. Its `failures` are the other disk's and the one
-/// that it made itself.
+/// It is honest if and only if the other disk is. Its `failures` are the other disk's plus its own
+/// one.
 #[derive(Drop)]
 pub struct OnceDisk<D: Disk> {
     disk: D,
@@ -21,7 +21,7 @@ impl<D: Disk> OnceDisk<D> {
     ghost use Rattle.std.specs.Prelude.{Some};
     ghost use Rattle.charmlet_disk.specs.Once.{inner_disk, calls_before, failed_calls};
 
-    /// A disk in front of `disk`, which passes `calls` calls and fails the next one.
+    /// Puts a disk in front of `disk` that passes `calls` calls and fails the next one.
     pub fn new(disk: D, calls: u64) -> OnceDisk<D>
         ensures disk { inner_disk result ≡ disk }
         ensures calls { calls_before result ≡ Some calls }

@@ -1,4 +1,4 @@
-//! Writes that are sure when the call returns.
+//! Writes that are durable when the call returns.
 ghost use Rattle.std.specs.Prelude.{◌≡◌, ◌≤◌, length, is_ok, OnOk};
 ghost use Rattle.charmlet_model.specs.Half.{other};
 ghost use Rattle.charmlet_disk.specs.File.{clean, overwritten};
@@ -9,10 +9,10 @@ ghost use Rattle.charmlet_disk.specs.Torn.{TearsHalf};
 use crate::{DeviceFault, Disk};
 use charmlet_model::Half;
 
-/// Writes bytes to a half of a settled disk from an offset on, which is no further than its end,
-/// and syncs it: two calls of the disk. A crash at any moment of them leaves the half as it was,
-/// but for any bytes in the range and past the old end, and the other half as it is. Answers
-/// [`DeviceFault`] if either call does; how much of the range is written is unknown then.
+/// Writes bytes to a half of a settled disk from an offset on, which is at most its end, and syncs
+/// it. It makes two calls of the disk. A crash at any moment of them leaves the half as it was,
+/// except for any bytes in the range and past the old end, and leaves the other half as it is.
+/// Answers [`DeviceFault`] if either call does; how much of the range is written is unknown then.
 pub fn write_and_sync<D: Disk>(
     disk: &mut D,
     half: Half,
@@ -33,9 +33,9 @@ pub fn write_and_sync<D: Disk>(
     disk.sync(half)
 }
 
-/// Syncs both halves, half 0 first, so that the disk is settled: two calls of the disk. No outcome
-/// is new. Answers [`DeviceFault`] if either sync does; if the first one does, the second isn't
-/// made.
+/// Syncs both halves, half 0 first, so that the disk is settled. It makes two calls of the disk,
+/// and no outcome is new. Answers [`DeviceFault`] if either sync does; if the first one does, the
+/// second isn't made.
 pub fn sync_both<D: Disk>(disk: &mut D) -> Result<(), DeviceFault>
     ensures settled { D.honest disk.old → OnOk result (IsSettled (D.file disk.new)) }
     ensures unwritten { D.honest disk.old → IsUnwritten D.Disk disk.old disk.new }

@@ -1,4 +1,4 @@
-//! The command line: what its words ask for.
+//! The command line, and the request that it makes.
 
 ghost use Rattle.std.specs.Prelude.{◌≡◌, map};
 ghost use Rattle.charmlet_dump.specs.Arguments.{arguments_of, asked_in, asked_next, asked_or_bad, awaiting, finished, next_number, number_of, request_or_bad, with_folder, with_json, with_number};
@@ -7,7 +7,7 @@ use crate::output::Form;
 use std::convert::AsStr;
 use std::fmt;
 
-/// What is said if the command line asks for help.
+/// The help text of the command line.
 pub const HELP: &str = "\
 charmlet_dump DIR [--pes N] [--json]
 
@@ -43,8 +43,8 @@ Exit status:
   1  the store could not be dumped, or memory or the output failed
   2  a bad command line, or a call for help";
 
-/// What a command line asks for: a dump of the store in this folder, each element at its home on
-/// this number of processors.
+/// The request that a command line makes: a dump of the store in this folder, with each element at
+/// its home on this number of processors.
 #[derive(Clone, Copy)]
 pub struct Request<'a> {
     pub folder: &'a str,
@@ -71,7 +71,7 @@ pub enum BadLine<'a> {
     Repeated(&'a str),
 }
 
-/// What the words so far ask for.
+/// The request of the words so far.
 #[derive(Clone, Copy)]
 struct Asked<'a> {
     folder: Option<&'a str>,
@@ -81,9 +81,9 @@ struct Asked<'a> {
     awaits_number: bool,
 }
 
-/// What the words ask for; the first is the program's name: `DIR [--pes N] [--json]`, in any order;
-/// `--pes=N` is the same as `--pes N`. Without `--pes` there is one processor. An error names the
-/// first word that doesn't belong there.
+/// The request that the words make: `DIR [--pes N] [--json]`, in any order, after the program's
+/// name. `--pes=N` is the same as `--pes N`. Without `--pes` there is one processor. An error names
+/// the first word that doesn't belong there.
 pub fn arguments_of<'a, S: AsStr>(words: &'a [S]) -> Result<Request<'a>, BadLine<'a>>
     ensures { request_or_bad result ≡ arguments_of (map S.text words.entry.now) }
 {
@@ -99,7 +99,7 @@ pub fn arguments_of<'a, S: AsStr>(words: &'a [S]) -> Result<Request<'a>, BadLine
     finish(asked)
 }
 
-/// What the words ask for, including this one.
+/// The request of the words up to this one.
 fn read_word<'a>(asked: Asked<'a>, word: &'a str) -> Result<Asked<'a>, BadLine<'a>>
     ensures { asked_or_bad result ≡ asked_next (asked_in asked.entry) word.entry.now }
 {
@@ -124,7 +124,7 @@ fn read_word<'a>(asked: Asked<'a>, word: &'a str) -> Result<Asked<'a>, BadLine<'
     read_folder(asked, word)
 }
 
-/// A folder, if there was none before.
+/// Reads a folder, if there was none before.
 fn read_folder<'a>(asked: Asked<'a>, word: &'a str) -> Result<Asked<'a>, BadLine<'a>>
     ensures { asked_or_bad result ≡ with_folder (asked_in asked.entry) word.entry.now }
 {
@@ -137,7 +137,7 @@ fn read_folder<'a>(asked: Asked<'a>, word: &'a str) -> Result<Asked<'a>, BadLine
     }
 }
 
-/// The JSON form, if it wasn't asked for before.
+/// Notes the JSON form, if it wasn't asked for before.
 fn read_json<'a>(asked: Asked<'a>, word: &'a str) -> Result<Asked<'a>, BadLine<'a>>
     ensures { asked_or_bad result ≡ with_json (asked_in asked.entry) word.entry.now }
 {
@@ -150,7 +150,7 @@ fn read_json<'a>(asked: Asked<'a>, word: &'a str) -> Result<Asked<'a>, BadLine<'
     }
 }
 
-/// The number of processors comes next, if there was none before.
+/// Awaits the number of processors, if there was none before.
 fn await_number<'a>(asked: Asked<'a>, word: &'a str) -> Result<Asked<'a>, BadLine<'a>>
     ensures { asked_or_bad result ≡ awaiting (asked_in asked.entry) word.entry.now }
 {
@@ -163,7 +163,7 @@ fn await_number<'a>(asked: Asked<'a>, word: &'a str) -> Result<Asked<'a>, BadLin
     }
 }
 
-/// These digits are the number of processors.
+/// Reads these digits as the number of processors.
 fn read_number<'a>(asked: Asked<'a>, word: &'a str, digits: &[u8]) -> Result<Asked<'a>, BadLine<'a>>
     ensures { asked_or_bad result
         ≡ with_number (asked_in asked.entry) word.entry.now (number_of digits.now) }
@@ -192,7 +192,7 @@ fn number_of(digits: &[u8]) -> Option<u16>
     Some(number)
 }
 
-/// The number with one more digit, if that has 16 bits.
+/// The number with one more digit, if it fits in 16 bits.
 fn next_number(number: u16, digit: u8) -> Option<u16>
     ensures { result ≡ next_number number digit }
 {
@@ -202,7 +202,7 @@ fn next_number(number: u16, digit: u8) -> Option<u16>
     number.checked_mul(10)?.checked_add(u16::from(digit - b'0'))
 }
 
-/// What all words ask for.
+/// The request of all words.
 fn finish<'a>(asked: Asked<'a>) -> Result<Request<'a>, BadLine<'a>>
     ensures { request_or_bad result ≡ finished (asked_in asked.entry) }
 {
@@ -219,7 +219,7 @@ fn finish<'a>(asked: Asked<'a>) -> Result<Request<'a>, BadLine<'a>>
     })
 }
 
-/// Writes what is said about the command line on standard error, without a line feed.
+/// Writes the text about the command line for standard error, without a line feed.
 impl<'a> fmt::Display for BadLine<'a> {
     ghost use Rattle.std.specs.Prelude.{Some};
     ghost use Rattle.charmlet_dump.specs.Arguments.{bad_in};

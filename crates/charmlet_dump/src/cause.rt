@@ -1,9 +1,9 @@
-//! What standard error says beside the line that says why there is no dump.
+//! The text on standard error besides the line that says why there is no dump.
 
 use std::io::ErrorKind;
 use std::{fmt, io};
 
-/// What is known of a failure beyond the line that tells of it.
+/// The known cause of a failure, beyond the line that reports it.
 #[derive(Drop)]
 pub(crate) enum Cause<'a> {
     /// The disk in this folder failed.
@@ -13,14 +13,14 @@ pub(crate) enum Cause<'a> {
 }
 
 impl Cause<'_> {
-    /// Whether it is that nobody reads standard output any more. Then nothing is said, as by
-    /// programs that a signal ends then.
+    /// Whether the cause is that nobody reads standard output any more. Then nothing is said, as by
+    /// programs that a signal ends in that case.
     pub(crate) fn is_closed_pipe(&self) -> bool {
         matches!(self, Cause::Output(error) if error.kind() == ErrorKind::BrokenPipe)
     }
 }
 
-/// Writes it without a line feed.
+/// Writes the cause without a line feed.
 impl fmt::Display for Cause<'_> {
     fn fmt<W: fmt::Write>(&self, f: &mut fmt::Formatter<W>) -> fmt::Result {
         match self {

@@ -21,18 +21,18 @@ use std::io::Write;
 /// Why a store isn't dumped.
 #[derive(Debug, Drop)]
 pub enum DumpError {
-    /// Nothing is found, for this reason. Only its line was written.
+    /// No store is found, for this reason. Only its line was written.
     Refused(Refusal),
     /// A line couldn't be written: the output failed, or there was no memory for its text. A
     /// beginning of the dump was written.
     Output(io::Error),
 }
 
-/// Dumps the store that is in the two halves of a disk, in this form: what `find` finds, each
+/// Dumps the store in the two halves of a disk, in this form: the findings of `find`, with each
 /// element at its home on `processors` processors. It only reads the disk.
 ///
-/// If nothing is found, the refusal's line is written, as `find` has it. `DumpError` says what each
-/// error means.
+/// If no store is found, the refusal's line is written, as `find` has it. `DumpError` says what
+/// each error means.
 pub fn dump_store<D: Disk, W: Write>(
     alloc: Global,
     disk: &mut D,

@@ -1,4 +1,4 @@
-//! How the program ends: its exit status, and what it says on standard error.
+//! The end of the program: its exit status, and its text on standard error.
 
 ghost use Rattle.std.specs.Prelude.{◌≡◌, IfErr, IsOk, OnOk};
 ghost use Rattle.charmlet_dump.specs.Ending.{Says, exit_status};
@@ -35,7 +35,7 @@ impl<'a> Failure<'a> {
     }
 }
 
-/// Writes what is said on standard error, without a line feed.
+/// Writes the text for standard error, without a line feed.
 impl<'a> fmt::Display for Failure<'a> {
     ghost use Rattle.std.specs.Prelude.{Some};
     ghost use Rattle.charmlet_dump.specs.Ending.{failure_text};

@@ -1,4 +1,4 @@
-//! What is found in two halves: the world that they recover to, as it is written.
+//! The findings in two halves: the world to which they recover, as it is written.
 
 ghost use Rattle.std.specs.Prelude.{◌≡◌, IfErr, IfOk, true};
 ghost use Rattle.charmlet_disk.specs.Disk.{LeavesOnly, SameFiles, faults_after};
@@ -19,26 +19,26 @@ use charmlet_model::{Half, KindVersion, Refusal};
 use charmlet_reference::{PlainWorld, Recovered, recover_as_written};
 use std::alloc::{AllocError, Global};
 
-/// What is found in two halves.
+/// The findings in two halves.
 #[derive(Drop)]
 pub struct Found {
-    /// The world that they recover to, in the versions that are written.
+    /// The world to which the halves recover, in the kind versions that are written.
     pub world: PlainWorld,
     /// How many events led to it.
     pub events: u64,
-    /// The generation of the image that is taken.
+    /// The generation of the taken image.
     pub generation: u64,
     /// The arrays of the world, each with its kind and its version.
     pub arrays: Vec<(u16, KindVersion)>,
 }
 
-/// What is found in two halves, by reads alone: the world that they recover to, in the versions
-/// that are written, how many events led to it, and the generation of the image that is taken. Of
-/// the half that isn't taken only the header is read.
+/// Finds, by reads alone, the world to which two halves recover, in the kind versions that are
+/// written, how many events led to it, and the generation of the taken image. Only the header of
+/// the half that isn't taken is read.
 ///
 /// `BadPes` if there aren't 1 to 64 processors, before anything is read; `Damaged` at the first
-/// byte of the first field that isn't as the format says, or of the first record that can't have
-/// happened; `NothingHere` if neither half is open; `Memory`; `Device`.
+/// byte of the first field that breaks the format, or of the first record that can't have happened;
+/// `NothingHere` if neither half is open; `Memory`; `Device`.
 pub fn find<D: Disk>(alloc: Global, disk: &mut D, processors: u16) -> Result<Found, Refusal>
     ensures found { D.honest disk.old →
         IsAnswer processors (read_of (D.file disk.old)) result }
@@ -62,8 +62,8 @@ pub fn find<D: Disk>(alloc: Global, disk: &mut D, processors: u16) -> Result<Fou
     }
 }
 
-/// What is found in the half that was surveyed. `Damaged` at the first record that can't have
-/// happened; `Memory`.
+/// The findings in the surveyed half. `Damaged` at the first record that can't have happened;
+/// `Memory`.
 fn found_in(alloc: Global, survey: &Surveyed) -> Result<Found, Refusal>
     requires { Reads survey.now }
     ensures answer { (s : Saved) → Says survey.now.bytes.items survey.now.contents s →
@@ -92,7 +92,7 @@ fn found_in(alloc: Global, survey: &Surveyed) -> Result<Found, Refusal>
     }
 }
 
-/// What the half that was surveyed recovers to as written. It fails only when out of memory.
+/// The result of recovering the surveyed half as it is written. It fails only when out of memory.
 fn recover_taken(alloc: Global, survey: &Surveyed) -> Result<Recovered, AllocError>
     ensures taken { (s : Saved) → Says survey.now.bytes.items survey.now.contents s →
         IfOk result (λ r. seen r ≡ as_written_from (Takes survey.now.half s)) }

@@ -28,7 +28,7 @@ struct JsonNumbers<'a>(&'a Words);
 #[derive(Clone, Copy)]
 struct JsonState<'a>(&'a State);
 
-/// The place, the counts, the kind and the state of an element whose home is this.
+/// The place, the counts, the kind and the state of an element with this home.
 #[derive(Clone, Copy)]
 struct JsonRecord<'a> {
     home: u16,
@@ -39,7 +39,7 @@ struct JsonRecord<'a> {
 #[derive(Clone, Copy)]
 struct JsonMessage<'a>(&'a Message);
 
-/// What a client is told about a request: the reply, if there is one.
+/// The answer to a client about a request: the reply, if there is one.
 #[derive(Clone, Copy)]
 struct JsonReply<'a>(Option<&'a Words>);
 

@@ -3,10 +3,10 @@
 use charmlet_model::{Elem, Kind, KindVersion, Message, Record, Refusal, State, Words};
 use std::fmt;
 
-/// Something that a dump says, in a line of its own.
+/// A fact of a dump, in a line of its own.
 #[derive(Clone, Copy)]
 pub enum Fact<'a> {
-    /// The generation of the image that is taken, and how many events led to the world.
+    /// The generation of the taken image, and how many events led to the world.
     Store {
         generation: u64,
         events: u64,
@@ -16,7 +16,7 @@ pub enum Fact<'a> {
         array: u16,
         kind_version: KindVersion,
     },
-    /// What is kept of an element, and its home.
+    /// An element's record, and its home.
     Element {
         elem: Elem,
         home: u16,

@@ -1,4 +1,4 @@
-//! `charmlet_dump`: shows all that a store in a folder holds, and changes nothing.
+//! `charmlet_dump`: shows the whole contents of a store in a folder, and changes nothing.
 #![tactic(auto)]
 
 mod arguments;
@@ -27,8 +27,8 @@ fn words<R: Runtime + AllocGlobal>(rt: &R) -> io::Result<Vec<String>> {
     Ok(env::args(rt)?.collect(rt.alloc())?)
 }
 
-/// Dumps the store in the two files of a folder on standard output. What is known of a failure is
-/// noted.
+/// Dumps the store in the two files of a folder on standard output. The cause of a failure is
+/// noted, if it is known.
 fn dump_folder<'a>(
     rt: HostRuntime,
     request: Request<'a>,
@@ -58,7 +58,7 @@ fn dump_folder<'a>(
     Ok(dumped?)
 }
 
-/// Does what the words ask for. What is known of a failure is noted.
+/// Does what the words ask for. The cause of a failure is noted, if it is known.
 fn charmlet_dump<'a>(
     rt: HostRuntime,
     words: &'a [String],

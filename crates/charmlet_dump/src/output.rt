@@ -13,7 +13,7 @@ use std::alloc::Global;
 use std::io::{ErrorKind, Write};
 use std::{fmt, io};
 
-/// How the lines of a dump are written.
+/// The form of a dump's lines.
 #[derive(Clone, Copy, Debug, PartialEq, Eq)]
 pub enum Form {
     Plain,
@@ -39,7 +39,7 @@ pub fn write_fact<W: Write>(
     }
 }
 
-/// Writes why nothing is dumped, as a fact. The fact of `Memory` takes none.
+/// Writes why nothing is dumped, as a fact. The fact of `Memory` takes no memory.
 pub fn write_refusal<W: Write>(
     alloc: Global,
     writer: &mut W,
@@ -55,7 +55,7 @@ pub fn write_refusal<W: Write>(
     }
 }
 
-/// Writes that it is out of memory, which takes none.
+/// Writes that the program is out of memory, which takes no memory.
 fn write_memory_refused<W: Write>(writer: &mut W, form: Form) -> io::Result<()>
     ensures { Writes result (W.contents writer.old) (W.contents writer.new)
         (lines_of form (Refused Memory ∷ [])) }

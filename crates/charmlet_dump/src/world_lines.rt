@@ -21,10 +21,10 @@ use std::collections::BTreeMap;
 use std::io;
 use std::io::Write;
 
-/// Writes all that is found: the generation and the count of events, then the arrays, the elements,
-/// the pending messages, how many of them construct elements, and the clients with their windows.
-/// Each element that is there is shown at its home on `processors` processors. Fails as
-/// `write_fact` does, and the lines before stay written.
+/// Writes all findings: the generation and the count of events, then the arrays, the elements, the
+/// pending messages, how many of them construct elements, and the clients with their windows. Each
+/// present element is shown at its home on `processors` processors. Fails as `write_fact` does, and
+/// the lines before stay written.
 pub fn write_world<W: Write>(
     alloc: Global,
     writer: &mut W,
@@ -69,7 +69,7 @@ fn write_arrays<W: Write>(
     Ok(())
 }
 
-/// Writes each element with its home and what is kept of it.
+/// Writes each element with its home and its record.
 fn write_elements<W: Write>(
     alloc: Global,
     writer: &mut W,
@@ -87,7 +87,7 @@ fn write_elements<W: Write>(
     Ok(())
 }
 
-/// Writes an element with its home and what is kept of it.
+/// Writes an element with its home and its record.
 fn write_element<W: Write>(
     alloc: Global,
     writer: &mut W,

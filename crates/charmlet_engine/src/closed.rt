@@ -13,8 +13,8 @@ use charmlet_disk::Disk;
 use charmlet_halves::Halves;
 use charmlet_store::{Dismantled, Store};
 
-/// What an engine was made of: its disk, and each element that is there with its object and counts,
-/// in rising order, with the stock.
+/// The parts of a closed engine: its disk, each present element with its object and counts, in
+/// rising order, and the stock.
 #[derive(Drop)]
 pub struct Closed<D: Disk, C: Chare> {
     pub disk: D,
@@ -22,11 +22,11 @@ pub struct Closed<D: Disk, C: Chare> {
 }
 
 impl<D: Disk, C: Chare> Engine<D, C> {
-    /// Takes the engine apart, also a halted one: its disk, the objects of the elements with their
-    /// counts, and the stock. The objects show the world after the whole history; each that was
-    /// supplied is among them, in the stock, or retired. It makes no call of the disk, so what
-    /// isn't durable is lost with the objects. It fails only when out of memory, and not where no
-    /// element is there; then the engine comes back as it was.
+    /// Takes the engine apart, even a halted one: its disk, the objects of the elements with their
+    /// counts, and the stock. The objects show the world after the whole history; each supplied
+    /// object is among them, in the stock, or retired. It makes no call of the disk, so events that
+    /// aren't durable are lost with the objects. It fails only when out of memory, and only if an
+    /// element is there; then the engine comes back unchanged.
     pub fn close(self) -> Result<Closed<D, C>, Engine<D, C>>
         ensures disk { IfOk result (λ closed. closed.disk ≡ self.disk) }
         ensures shows { IfOk result (λ closed.
@@ -47,8 +47,8 @@ impl<D: Disk, C: Chare> Engine<D, C> {
         }
     }
 
-    /// The disk alone. The objects are dropped, and what isn't durable with them. It makes no call
-    /// of the disk, and takes no memory.
+    /// The engine's disk alone. The objects are dropped, and with them the events that aren't
+    /// durable. It makes no call of the disk, and takes no memory.
     pub fn into_disk(self) -> D
         ensures { result ≡ self.disk }
     {

@@ -14,17 +14,18 @@ use charmlet_model::Kind;
 use charmlet_recover::Wanted;
 
 impl<D: Disk, C: Chare> Engine<D, C> {
-    /// How many pending messages want a blank of this kind: those that construct an element which
-    /// isn't there. Each takes one from the stock when it is delivered, and is refused `NoBlank`
-    /// where the stock has none. A stock isn't kept on the disk, so after a restart nothing is in
-    /// it but what was handed in and what the restart left of that.
+    /// How many pending messages want a blank of this kind: those that construct an element that
+    /// isn't there. Each takes a blank from the stock when it is delivered, and is refused
+    /// `NoBlank` if the stock has none. A stock isn't kept on the disk, so after a restart it holds
+    /// only the handed-in blanks that the restart left.
     pub fn wanted_blanks(&self, kind: Kind) -> usize
         ensures { result ≡ wanted_in (core_of self.now) kind }
     {
         self.store.history.wanted_blanks(kind)
     }
 
-    /// The same of each kind. It takes no memory.
+    /// How many blanks of each kind the pending messages want: those that construct an element that
+    /// isn't there. It takes no memory.
     pub fn constructions(&self) -> Wanted
         ensures { AreConstructions (core_of self.now) result }
     {

@@ -25,14 +25,14 @@ use std::alloc::Global;
 
 impl<D: Disk, C: Chare> Engine<D, C> {
     /// Makes a store with these arrays and this number of processors, in which nothing has
-    /// happened, on a settled disk of which no half is open. It stands in half 0, at generation 1,
-    /// and all of it is durable; half 1 isn't written. Its stock is empty, and drops what is
-    /// retired. The kinds have to be of their newest versions, as those of [`Manifest::of`] are.
+    /// happened, on a settled disk with no open half. It stands in half 0, at generation 1, and is
+    /// durable; half 1 isn't written. Its stock is empty, and drops retired objects. The kinds have
+    /// to be in their newest versions, as those of [`Manifest::of`] are.
     ///
-    /// `BadPes` where there aren't 1 to 64 processors; `AlreadyHere` if a half is open, but a look
-    /// at half 0 that fails hides an open half 1; `Memory`: then nothing is written. `Device`: then
-    /// a crash leaves no store, or the new one. The refusals are tested in this order, and each
-    /// hands the disk back.
+    /// `BadPes` if there aren't 1 to 64 processors; `AlreadyHere` if a half is open, but a failed
+    /// look at half 0 hides an open half 1; `Memory`: then nothing is written. `Device`: then a
+    /// crash leaves no store, or the new one. The refusals are tested in this order, and each hands
+    /// the disk back.
     pub fn create(
         alloc: Global,
         disk: D,
@@ -71,8 +71,8 @@ impl<D: Disk, C: Chare> Engine<D, C> {
     }
 }
 
-/// Why no store is made on a disk where memory is refused: since a half is open, or when out of
-/// memory, or since the device failed. The disk comes back, and nothing is written.
+/// The refusal if memory for a new store is refused: `AlreadyHere` if a half is open, `Device` if
+/// the device failed, or `Memory`. The disk comes back, and nothing is written.
 fn refuse_for_memory<D: Disk>(disk: D) -> Refused<D>
     ensures err { IsMakingRefusal result.refusal }
     ensures cause { D.honest disk → IsCause (D.file disk) result.refusal }

@@ -1,4 +1,4 @@
-//! Deliveries one after another.
+//! Several deliveries in a row.
 
 ghost use Rattle.std.specs.Prelude.{◌≡◌};
 ghost use Rattle.charmlet_engine.specs.Advances.{Advances};
@@ -10,10 +10,10 @@ use charmlet_chare::Chare;
 use charmlet_disk::Disk;
 use charmlet_model::{Answer, Refusal, Step};
 
-/// What came of deliveries one after another.
+/// The result of several deliveries in a row.
 #[derive(Clone, Copy, Debug, PartialEq, Eq)]
 pub struct Deliveries {
-    /// How many were made.
+    /// How many deliveries were made.
     pub count: u32,
     /// The refusal of the next one, if that ended them.
     pub refusal: Option<Refusal>,
@@ -21,7 +21,7 @@ pub struct Deliveries {
 
 impl<D: Disk, C: Chare> Engine<D, C> {
     /// Delivers the oldest message that can be delivered, on the processor of its receiver, up to
-    /// `most` times. It ends sooner where none can be delivered any more, or where a delivery is
+    /// `most` times. It ends sooner if no message can be delivered any more, or if a delivery is
     /// refused, which changes nothing: `Halted`; `HistoryFull`; `NoBlank` if the message constructs
     /// an element, and the stock has no blank of its kind; `Memory`. That message stays the next
     /// one, so supply a blank, or give memory, before another call. It makes no call of the disk.

@@ -15,12 +15,12 @@ use charmlet_halves::Halves;
 use charmlet_store::Store;
 use std::marker::Model;
 
-/// A store and the two halves of the disk that it is on. Its shelves show the world after the whole
-/// history. On an honest disk a crash at any moment leaves files that recover to the world after
-/// some of the history, with all durable events among it.
+/// A store and the two halves of its disk. Its shelves show the world after the whole history. On
+/// an honest disk a crash at any moment leaves files that recover to the world after some of the
+/// history, including all durable events.
 ///
-/// Where the device fails the engine is halted: each later step is refused as `Halted`, and no call
-/// of the disk is made any more. What was durable stays so.
+/// If the device fails, the engine is halted: each later step is refused as `Halted`, and it makes
+/// no call of the disk any more. Durable events stay durable.
 pub struct Engine<D: Disk, C: Chare> {
     pub(crate) store: Store<C>,
     pub(crate) halves: Halves<D>,
@@ -37,8 +37,8 @@ impl<D: Disk, C: Chare> Model for Engine<D, C> {
     ghost invariant = { λ e. AreTied e.store e.halves };
 }
 
-// Written by hand, so that dropping all that an engine has is proved here, and not in each crate
-// that drops one.
+// Written by hand, so that dropping all its fields is proved here, and not in each crate that drops
+// an engine.
 impl<D: Disk, C: Chare> Drop for Engine<D, C> {
     fn drop(self) {
         let Engine { store, halves } = self;
@@ -48,7 +48,7 @@ impl<D: Disk, C: Chare> Drop for Engine<D, C> {
 }
 
 impl<D: Disk, C: Chare> Engine<D, C> {
-    /// What the engine is made of: a store, and the halves of its disk.
+    /// The parts of the engine: its store, and the halves of its disk.
     pub fn into_parts(self) -> (Store<C>, Halves<D>)
         ensures shown { shown_by result.0 result.1 ≡ self }
         ensures tied { AreTied result.0 result.1 }
@@ -57,10 +57,10 @@ impl<D: Disk, C: Chare> Engine<D, C> {
         (store, halves)
     }
 
-    /// States what always holds of an engine: its history was made by events, each in its turn; its
-    /// stock drops what is retired; on an honest disk a crash now leaves the world after some of
-    /// the history, with all durable events among it; and where nothing is done, it goes on as it
-    /// does by a step that changes nothing.
+    /// States the facts that hold of every engine. Its history was made by events, each in its
+    /// turn; its stock drops retired objects. On an honest disk a crash now leaves the world after
+    /// some of the history, including all durable events. Doing nothing counts as a step that
+    /// changes nothing.
     pub fn facts(&self)
         ensures sound { IsSound (core_of self.now) }
         ensures dropping { self.now.store.keeping ≡ for_all false }

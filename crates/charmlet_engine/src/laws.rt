@@ -2,9 +2,9 @@
 
 ghost use Rattle.charmlet_engine.specs.Lives.{BeginningsAreRemembered, LivesAreRemembered, PresentIsRemembered};
 
-/// Over any number of runs, crashes and restarts a store keeps what it told: after each crash it
-/// goes on with the world after some of what had happened, in which all that clients were told in
-/// any of its lives is true, and stays true.
+/// A store keeps what it told over any number of runs, crashes and restarts. After each crash it
+/// goes on with the world after some of what had happened, in which everything that clients were
+/// told in any of its lives is true, and stays true.
 pub fn lives_are_remembered()
     ensures beginnings { BeginningsAreRemembered }
     ensures lives { LivesAreRemembered }

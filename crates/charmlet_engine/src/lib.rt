@@ -21,7 +21,7 @@ pub use crate::engine::Engine;
 pub use crate::laws::lives_are_remembered;
 pub use crate::reopened::Reopened;
 pub use charmlet_recover::{Found, NotRestarted, Wanted, lacking, manifest, stock_from_objects};
-// What a program names that owns an engine, so that it lists this crate alone.
+// The names that a program with an engine uses, so that it depends on this crate alone.
 pub use charmlet_chare::{Chare, Outbox};
 pub use charmlet_disk::{DeviceFault, Disk, FileDisk, MemDisk};
 pub use charmlet_halves::Refused;

@@ -1,4 +1,4 @@
-//! What an engine has, and blanks for its stock.
+//! Views of an engine, and blanks for its stock.
 
 ghost use Rattle.std.specs.Prelude.{◌≡◌, ◌+◌, ◌≤◌, None, length, map, IfErr, IfOk, IfSome, IsOk, OnErr, OnOk};
 ghost use Rattle.charmlet_model.specs.declared.kind.Kind as kinds;
@@ -27,7 +27,7 @@ use std::alloc::AllocError;
 use std::sync::ledger::Ledger;
 
 impl<D: Disk, C: Chare> Engine<D, C> {
-    /// Takes blank objects into the stock. Where memory is refused it hands all of them back, and
+    /// Takes blank objects into the stock. If memory is refused, it hands all of them back, and
     /// nothing has changed. It makes no call of the disk.
     pub fn supply(&mut self, blanks: Vec<C>) -> Result<(), Vec<C>>
         ensures core { core_of self.new ≡ core_of self.old }
@@ -44,8 +44,8 @@ impl<D: Disk, C: Chare> Engine<D, C> {
         self.store.supply(blanks)
     }
 
-    /// Draws `count` blanks of a kind into the stock from another one, which has them. Where memory
-    /// is refused, both are as before. It makes no call of the disk.
+    /// Draws `count` blanks of a kind into the stock from another one, which has to have them. If
+    /// memory is refused, both are unchanged. It makes no call of the disk.
     pub fn transfer_from(
         &mut self,
         source: &mut Stock<C>,
@@ -72,16 +72,16 @@ impl<D: Disk, C: Chare> Engine<D, C> {
         self.store.transfer_from(source, kind, count)
     }
 
-    /// The oldest message that can be delivered, and before it the processor that is to deliver it:
-    /// the place of its receiver, or the home of one that isn't there. None exactly where no
-    /// message can be delivered.
+    /// The oldest message that can be delivered, together with the processor that is to deliver it:
+    /// the place of its receiver, or its home if it isn't there. It is `None` exactly if no message
+    /// can be delivered.
     pub fn next(&self) -> Option<(u16, MsgId)>
         ensures { result ≡ next_in (core_of self.now) }
     {
         self.store.next()
     }
 
-    /// The same. It is at most one look at a pending message for each processor.
+    /// Answers as `next`, and counts the looks at pending messages: at most one for each processor.
     pub fn next_in<L: Ledger>(&self, ticks: &mut Ticks<L>) -> Option<(u16, MsgId)>
         ensures next { result ≡ next_in (core_of self.now) }
         ensures ticks { ticks.new ≤ ticks.old + (core_of self.now).processors }
@@ -110,8 +110,8 @@ impl<D: Disk, C: Chare> Engine<D, C> {
         self.store.pending()
     }
 
-    /// What is seen of an element. It fails only when out of memory, which the packed state takes,
-    /// and so not where the element isn't there. Nothing changes.
+    /// Looks at an element. It fails only when out of memory, which only the packed state of a
+    /// present element takes. Nothing changes.
     pub fn look(&mut self, elem: Elem) -> Result<Look, AllocError>
         ensures same { self.new ≡ self.old }
         ensures advances { Advances D.Disk self.old self.new }
@@ -123,7 +123,7 @@ impl<D: Disk, C: Chare> Engine<D, C> {
     }
 
     /// How many objects of the kind were supplied, are on the shelves, are in the stock, and were
-    /// retired. Each object that was supplied is in one of the three.
+    /// retired. Each supplied object is on a shelf, in the stock, or retired.
     pub fn census(&self, kind: Kind) -> Census
         ensures counts { result ≡ census_in self.now.store kind }
         ensures adds_up { result.supplied ≡ result.on_shelves + result.in_stock + result.retired }
@@ -131,17 +131,17 @@ impl<D: Disk, C: Chare> Engine<D, C> {
         self.store.census(kind)
     }
 
-    /// The events since the engine was created or came back, in order, if they were asked to be
-    /// noted.
+    /// The events since the engine was created or restarted, in order, if [`Engine::note_events`]
+    /// was called.
     pub fn events(&self) -> Option<&[Event]>
         ensures { IfSome result (λ events. events.now ≡ (core_of self.now).history) }
     {
         self.store.history.events()
     }
 
-    /// Notes the events from now on, so that they can be looked at, where none has happened and no
-    /// message is assigned. Without it none is kept, since an engine can do without. It makes no
-    /// call of the disk, and takes no memory.
+    /// Keeps the events from now on, so that [`Engine::events`] returns them. None may have
+    /// happened yet, and no message may be assigned. Without this call no event is kept, since an
+    /// engine doesn't need them. It makes no call of the disk, and takes no memory.
     pub fn note_events(&mut self)
         ensures core { core_of self.new ≡ core_of self.old }
         ensures blanks { (view_of self.new).blanks ≡ (view_of self.old).blanks }
@@ -151,17 +151,17 @@ impl<D: Disk, C: Chare> Engine<D, C> {
         self.store.history.note_events();
     }
 
-    /// How many events there are, those before the opening world among them.
+    /// How many events there are, including those before the opening world.
     pub fn event_count(&self) -> u64
         ensures { result ≡ (core_of self.now).before + length (core_of self.now).history }
     {
         self.store.history.event_count()
     }
 
-    /// What a checkpoint would write after an open gate: an image of the present world, of the next
-    /// generation and with a count of all events, and a log that has no batch yet. Nothing changes,
-    /// and no call of the disk is made. `Memory` where memory is lacking; `ImageFull` where the
-    /// next generation would be past 2^40, or the file past 2^31 bytes.
+    /// The bytes that a checkpoint would write after an open gate. They are an image of the present
+    /// world, of the next generation and with a count of all events, and a log that has no batch
+    /// yet. Nothing changes, and it makes no call of the disk. `Memory` if out of memory;
+    /// `ImageFull` if the next generation would be past 2^40, or the file past 2^31 bytes.
     pub fn image(&mut self) -> Result<Vec<u8>, Refusal>
         ensures same { self.new ≡ self.old }
         ensures advances { Advances D.Disk self.old self.new }
@@ -173,21 +173,21 @@ impl<D: Disk, C: Chare> Engine<D, C> {
         image_of(self.store.alloc, &self.store.history, shelves)
     }
 
-    /// The generation of the image in the half that is taken.
+    /// The generation of the image in the taken half.
     pub fn generation(&self) -> u64
         ensures { result ≡ (core_of self.now).generation }
     {
         self.store.history.generation()
     }
 
-    /// How many events are durable, those before the opening world among them.
+    /// How many events are durable, including those before the opening world.
     pub fn durable(&self) -> u64
         ensures { result ≡ (core_of self.now).before + (core_of self.now).durable }
     {
         self.store.history.durable_count()
     }
 
-    /// Whether the device failed in an earlier call. Then each step is refused.
+    /// Whether the device failed in an earlier call, so that each step is refused.
     pub fn is_halted(&self) -> bool
         ensures { result ≡ (core_of self.now).halted }
     {

@@ -1,4 +1,4 @@
-//! The steps that write nothing to the disk.
+//! Steps that write nothing to the disk.
 
 ghost use Rattle.std.specs.Prelude.{◌≡◌, ◌≢◌, ◌⊎◌, None, false, true, IfSome};
 ghost use Rattle.charmlet_model.specs.declared.step.Step.TheVariants as steps;
@@ -14,8 +14,8 @@ use charmlet_history::Request;
 use charmlet_model::{Answer, Refusal, Step, Told};
 use charmlet_store::Store;
 
-/// Runs a step that writes nothing to the disk, and answers it. None where the step does write;
-/// then nothing is done.
+/// Runs a step that writes nothing to the disk, and answers it. For a step that writes, it does
+/// nothing, and returns `None`.
 pub(crate) fn answer_in_memory<C: Chare>(store: &mut Store<C>, step: &Step) -> Option<Answer>
     ensures does { IfSome result (λ answer. Does (store_in store.old) step.now answer
         (store_in store.new)) }

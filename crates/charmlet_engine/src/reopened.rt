@@ -1,4 +1,4 @@
-//! Stores that came back from a disk and don't go on there yet.
+//! Restored stores that don't go on in their files yet.
 
 ghost use Rattle.std.specs.Prelude.{◌≡◌, ◌≢◌, ℕ, true, Err, IfErr, IfOk};
 ghost use Rattle.charmlet_model.specs.declared.refusal.Refusal.TheVariants as refusals;
@@ -25,10 +25,10 @@ use std::alloc::Global;
 use std::marker::Model;
 use std::thread::Threads;
 
-/// A store that came back from a disk and doesn't go on there yet: the first half of
-/// [`Engine::restart`], after which nothing is written. So whatever takes memory, or is picked by
-/// what the store is, may be made between this and [`Reopened::resume`], and the files are as they
-/// were where that is refused. A contract sees what came back.
+/// A restored store that doesn't go on in its files yet: the first half of [`Engine::restart`],
+/// which writes nothing. So a caller may take memory, or pick what depends on the store, between
+/// this and [`Reopened::resume`]; if that is refused, the files are unchanged. A contract sees the
+/// restored store.
 #[derive(Drop)]
 pub struct Reopened<D: Disk, C: Chare> {
     back: Recovered<D, C>,
@@ -45,13 +45,14 @@ impl<D: Disk, C: Chare> Model for Reopened<D, C> {
 }
 
 impl<D: Disk, C: Chare> Reopened<D, C> {
-    /// Reads the store that stands on a disk, whatever a crash left there, for this number of
-    /// processors, with objects made of these blanks, of which none may have been used yet. Both
-    /// halves are synced before they are read, and nothing is written.
+    /// Reads the store of a disk, whatever a crash left there, for this number of processors, with
+    /// objects made of these blanks, of which none may have been used yet. Both halves are synced
+    /// before they are read, and nothing is written.
     ///
     /// The refusals are in their order those of [`charmlet_recover::restart`]: `BadPes`, `Device`,
-    /// `Damaged`, `NothingHere`, `BlanksWanted` and `Memory`. Each is one of [`Engine::restart`] in
-    /// all that is promised of it, and hands the disk and all blanks back, these in whatever state.
+    /// `Damaged`, `NothingHere`, `BlanksWanted` and `Memory`. Each has all the promises of the same
+    /// refusal of [`Engine::restart`], and hands the disk and all blanks back, these in whatever
+    /// state.
     pub fn from_disk<R: Threads + Sync>(
         rt: &R,
         alloc: Global,
@@ -73,8 +74,8 @@ impl<D: Disk, C: Chare> Reopened<D, C> {
         }
     }
 
-    /// The generation at which the store goes on: that of its half, or the next one where an image
-    /// is wanted.
+    /// The generation at which the store goes on: that of its half, or the next one if an image is
+    /// wanted.
     pub fn generation(&self) -> u64
         ensures { result ≡ (core_to_be self.now).generation }
     {
@@ -88,15 +89,15 @@ impl<D: Disk, C: Chare> Reopened<D, C> {
         }
     }
 
-    /// How many events came back.
+    /// How many events the restored store has.
     pub fn event_count(&self) -> u64
         ensures { result ≡ (core_to_be self.now).before }
     {
         self.back.store.history.event_count()
     }
 
-    /// How many blanks of each kind the pending messages want: those that construct an element
-    /// which isn't there. It takes no memory.
+    /// How many blanks of each kind the pending messages want: those that construct an element that
+    /// isn't there. It takes no memory.
     pub fn constructions(&self) -> Wanted
         ensures { AreConstructions (core_to_be self.now) result }
     {
@@ -111,13 +112,13 @@ impl<D: Disk, C: Chare> Reopened<D, C> {
         self.back.store.shelves.len() as u16
     }
 
-    /// Goes on with the store where it stands: the second half of [`Engine::restart`], with all
-    /// that is promised of a restart from the disk that it was read from. Where its half is current
-    /// nothing is written; else an image of it is, which takes its place.
+    /// Goes on with the store in its files: the second half of [`Engine::restart`], with all
+    /// promises of a restart from the disk from which it was read. If its half is current, nothing
+    /// is written; otherwise an image of it is written, and replaces it.
     ///
     /// `Memory`; `ImageFull` if the image's generation would be past 2^40 or its file past 2^31
-    /// bytes; and `Device`. Each hands the disk and all blanks back, and at each but `Device` the
-    /// disk is as it was.
+    /// bytes; and `Device`. Each hands the disk and all blanks back, and except for `Device` the
+    /// disk is unchanged.
     pub fn resume(self) -> Result<Engine<D, C>, NotRestarted<D, C>>
         ensures core { IfOk result (λ engine. core_of engine ≡ core_to_be self) }
         ensures opens { IfOk result (λ engine.
@@ -139,8 +140,8 @@ impl<D: Disk, C: Chare> Reopened<D, C> {
         resume(store, halves, is_current)
     }
 
-    /// Gives the store up where memory is lacking for something else, as a restart that is refused
-    /// `Memory`. The disk comes back as it was, and all blanks do, in whatever state.
+    /// Gives the store up if memory is lacking for something else, as a restart that is refused
+    /// `Memory`. The disk comes back unchanged, and all blanks come back, in whatever state.
     pub fn into_refused(self) -> NotRestarted<D, C>
         ensures memory { result.refusal ≡ refusals.Memory }
         ensures same { result.disk ≡ self.disk }

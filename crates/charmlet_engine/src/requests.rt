@@ -1,4 +1,4 @@
-//! Clients' passes over an engine, and what is asked by them.
+//! Clients' passes over an engine, and requests and questions by them.
 
 ghost use Rattle.std.specs.Prelude.{◌≡◌, ℕ, false, IfErr, IfOk, OnErr, OnOk};
 ghost use Rattle.std.specs.BTreeSet.{insert_key};
@@ -19,8 +19,8 @@ use charmlet_model::{Refusal, Told};
 use charmlet_requests::{ClientPass, Handler, Handlers, Passes, call, status, target};
 
 impl<D: Disk, C: Chare> Engine<D, C> {
-    /// Lends a client its pass over this store. `PassOut` where it is out, else `Memory`; and then
-    /// nothing changes.
+    /// Lends a client its pass over this store. `PassOut` if it is out; otherwise `Memory`. If
+    /// refused, nothing changes.
     pub fn lend(&self, passes: &mut Passes, client: u32) -> Result<ClientPass, Refusal>
         ensures lent { IfOk result (λ pass. pass
             ≡ lent client (client_of (world_of self.now) client).last) }
@@ -32,10 +32,10 @@ impl<D: Disk, C: Chare> Engine<D, C> {
         passes.lend(&self.store.history, client)
     }
 
-    /// Takes a request of the pass's client, as [`Engine::step`] does, and the pass keeps what is
-    /// told. Where all that the pass knows is true of the durable events, so it is afterwards; and
-    /// the client is told no less of the request than it knew, nor other words. A refusal changes
-    /// nothing.
+    /// Accepts a request of the pass's client, as [`Engine::step`] does, and the pass keeps the
+    /// answer. If everything that the pass knows is true of the durable events, it is still true
+    /// afterwards. The client is told no less about the request than the pass knew, and no other
+    /// words. A refusal changes nothing.
     pub fn request(&mut self, pass: &mut ClientPass, request: &Request<'_>) -> Result<Told, Refusal>
         ensures takes { Takes D.Disk self.old self.new (steps.Request pass.old.client
             request.now.number request.now.to request.now.entry request.now.words.now)
@@ -53,7 +53,7 @@ impl<D: Disk, C: Chare> Engine<D, C> {
         told
     }
 
-    /// Takes a request of a client that has no pass, as [`Engine::step`] does.
+    /// Accepts a request of a client that has no pass, as [`Engine::step`] does.
     pub fn ask(&mut self, client: u32, request: &Request<'_>) -> Result<Told, Refusal>
         ensures takes { Takes D.Disk self.old self.new (steps.Request client request.now.number
             request.now.to request.now.entry request.now.words.now) (client_answer result) }
@@ -74,7 +74,7 @@ impl<D: Disk, C: Chare> Engine<D, C> {
     }
 
     /// The handler of a name, or one of an array that isn't there, as [`charmlet_requests::target`]
-    /// has it.
+    /// returns it.
     pub fn target(&self, handlers: &Handlers, name: &str) -> Handler
         ensures { (index : ℕ) → IsTarget (world_of self.now) index
             (handler_of handlers.now name.now)
@@ -83,9 +83,9 @@ impl<D: Disk, C: Chare> Engine<D, C> {
         target(&self.store.history, handlers, name)
     }
 
-    /// Takes a request of the pass's client to a named handler, as [`charmlet_requests::call`]
-    /// does: a repeat is answered before the name is looked up. What is said of [`Engine::request`]
-    /// holds here too.
+    /// Accepts a request of the pass's client to a named handler, as [`charmlet_requests::call`]
+    /// does: a repeat is answered before the name is looked up. The promises of [`Engine::request`]
+    /// hold here too.
     pub fn call(
         &mut self,
         pass: &mut ClientPass,
@@ -122,7 +122,7 @@ impl<D: Disk, C: Chare> Engine<D, C> {
     }
 
     /// Tells the pass's client what is durable of its request, as [`Engine::step`] does, and the
-    /// pass keeps it. What is said of [`Engine::request`] holds here too.
+    /// pass keeps the answer. The promises of [`Engine::request`] hold here too.
     pub fn status(&mut self, pass: &mut ClientPass, number: u64) -> Result<Told, Refusal>
         ensures takes { Takes D.Disk self.old self.new (steps.Status pass.old.client number)
             (client_answer result) }

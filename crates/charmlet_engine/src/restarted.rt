@@ -1,4 +1,4 @@
-//! Engines that come back.
+//! Restarts of engines.
 
 ghost use Rattle.std.specs.Prelude.{◌≡◌, ℕ, List, false, true, IfErr, IfOk};
 ghost use Rattle.charmlet_model.specs.declared.event.Event.{Event};
@@ -28,32 +28,31 @@ use std::alloc::Global;
 use std::thread::Threads;
 
 impl<D: Disk, C: Chare> Engine<D, C> {
-    /// Goes on with the store that stands on a disk, whatever a crash left there, on this number of
-    /// processors: each element is on its home, nothing has happened since, and each event is
-    /// durable. Its objects are made of these blanks, of which none may have been used yet; those
-    /// that it doesn't need are its stock, which drops what is retired. Both halves are synced
-    /// before they are read. The log is replayed by as many workers as there are processors, in
-    /// threads.
+    /// Restarts the store of a disk, whatever a crash left there, on this number of processors:
+    /// each element is on its home, nothing has happened since, and each event is durable. Its
+    /// objects are made of these blanks, of which none may have been used yet; blanks that it
+    /// doesn't need are its stock, which drops retired objects. Both halves are synced before they
+    /// are read. The log is replayed by as many workers as there are processors, in threads.
     ///
-    /// Where the half that is taken has its kinds in their newest versions alone, nothing is
-    /// written. Else the store goes on in the newest versions: an image of it, of the next
-    /// generation, is written to the other half and takes the place of the store, as the image of
-    /// a checkpoint does. Before its gate is opened a crash leaves the half that was read, and
-    /// afterwards the image; the files recover to the same world either way, so that nothing is
-    /// lost at any moment. It can't be undone but from a copy of the folder.
+    /// If the taken half has its kinds only in their newest versions, nothing is written. Otherwise
+    /// the store goes on in the newest versions: an image of it, of the next generation, is written
+    /// to the other half and replaces the store, as the image of a checkpoint does. Before its gate
+    /// is opened a crash leaves the half that was read, and afterwards the image. The files recover
+    /// to the same world either way, so nothing is lost at any moment. It can be undone only from a
+    /// copy of the folder.
     ///
-    /// It is [`Reopened::from_disk`] and then [`Reopened::resume`].
+    /// The call is [`Reopened::from_disk`] and then [`Reopened::resume`].
     ///
     /// After a crash at any moment of an earlier engine on this disk, the store opens with the
-    /// world after some of what had happened, with all that was durable among it. What clients were
-    /// told before the crash, in any life of the store, is true of it.
+    /// world after some of what had happened, including everything that was durable. What clients
+    /// were told before the crash, in any life of the store, is true of it.
     ///
     /// The refusals are in their order those of [`charmlet_recover::restart`], which are `BadPes`,
-    /// `Device`, `Damaged`, `NothingHere`, `BlanksWanted` and `Memory`; and then, where an image is
+    /// `Device`, `Damaged`, `NothingHere`, `BlanksWanted` and `Memory`; and then, if an image is
     /// wanted, `Memory`, `ImageFull` if its generation would be past 2^40 or its file past 2^31
     /// bytes, and `Device`. Each hands the disk and all blanks back, these in whatever state, so
-    /// that the caller may try again. At each but `Device` nothing is written. After a crash of an
-    /// earlier engine the files alone are never the cause, except of `ImageFull`.
+    /// that the caller may try again. Except for `Device` nothing is written. After a crash of an
+    /// earlier engine the files alone are never the cause of a refusal, except of `ImageFull`.
     pub fn restart<R: Threads + Sync>(
         rt: &R,
         alloc: Global,

@@ -1,4 +1,4 @@
-//! Stores that go on in their halves once they came back.
+//! Resumption of restored stores in their halves.
 
 ghost use Rattle.std.specs.Prelude.{◌≡◌, ◌≢◌, false, true, IfErr, IfOk};
 ghost use Rattle.charmlet_model.specs.declared.refusal.Refusal.TheVariants as refusals;
@@ -27,12 +27,12 @@ use charmlet_recover::NotRestarted;
 use charmlet_replay::take_back;
 use charmlet_store::Store;
 
-/// A store that just came back goes on in its halves, and from now on its stock drops what is
-/// retired. Where the half that was taken is current, nothing is written; else an image of the
-/// store is, which takes its place as that of [`checkpoint`] does.
+/// Resumes a store that was just restored in its halves; from now on its stock drops retired
+/// objects. If the taken half is current, nothing is written; otherwise an image of the store is
+/// written, and replaces it as that of [`checkpoint`] does.
 ///
-/// Then `Memory`, `ImageFull` and `Device` are refused as there; and the disk comes back, with all
-/// objects as blanks, in whatever state.
+/// Then the refusals are `Memory`, `ImageFull` and `Device` as there; and the disk comes back, with
+/// all objects as blanks, in whatever state.
 pub(crate) fn resume<D: Disk, C: Chare>(
     mut store: Store<C>,
     halves: Halves<D>,
@@ -72,8 +72,8 @@ pub(crate) fn resume<D: Disk, C: Chare>(
     renew(store, halves)
 }
 
-/// A store goes on in an image of itself, of the next generation, which is written to the spare
-/// half and takes its place. What is refused, and what comes back then, is as [`resume`] says.
+/// Resumes a store in an image of itself, of the next generation, which is written to the spare
+/// half and replaces it. The refusals, and what comes back then, are those of [`resume`].
 fn renew<D: Disk, C: Chare>(
     mut store: Store<C>,
     mut halves: Halves<D>,

@@ -22,16 +22,16 @@ use charmlet_persist::{checkpoint, flush};
 use std::alloc::AllocError;
 
 impl<D: Disk, C: Chare> Engine<D, C> {
-    /// Runs one step. A refusal is an answer, and leaves all as it was, but for `Device`: then the
-    /// engine is halted. After a checkpoint the half that is taken has an image of all events and a
-    /// log without a batch; and a crash in it leaves the world after the durable events, as it was,
-    /// or the present one at the next generation, if the engine wasn't halted. A flush takes no
-    /// memory.
+    /// Runs one step, and answers it. A refusal is an answer, and changes nothing, except `Device`:
+    /// then the engine is halted. After a checkpoint the taken half has an image of all events and
+    /// a log without a batch. A crash in a checkpoint leaves the world after the durable events, as
+    /// it was, or the present world at the next generation, if the engine wasn't halted. A flush
+    /// takes no memory.
     ///
     /// On an honest disk a crash at any moment of the call leaves files that recover to the world
-    /// after some of the history, with all events among it that were durable before; and from then
-    /// on with all that are durable after it. What a client is told stays true over each crash and
-    /// restart to come.
+    /// after some of the history, including all events that were durable before; and from then on
+    /// all that are durable after it. What a client is told stays true over each crash and restart
+    /// to come.
     pub fn step(&mut self, step: &Step) -> Answer
         ensures does { Does (view_of self.old) step.now result (view_of self.new) }
         ensures told { IsToldTrue (core_of self.new).opening
@@ -74,7 +74,7 @@ impl<D: Disk, C: Chare> Engine<D, C> {
         }
     }
 
-    /// Makes all events durable, for which it takes no memory.
+    /// Makes all events durable. It takes no memory.
     fn flush(&mut self) -> Answer
         ensures does { Does (view_of self.old) steps.Flush result (view_of self.new) }
         ensures memory { result ≢ answers.Refused refusals.Memory }
@@ -91,7 +91,7 @@ impl<D: Disk, C: Chare> Engine<D, C> {
         }
     }
 
-    /// Makes all events durable by an image, which takes the place of the store.
+    /// Makes all events durable by an image, which replaces the store.
     fn checkpoint(&mut self) -> Answer
         ensures does { Does (view_of self.old) steps.Checkpoint result (view_of self.new) }
         ensures advances { Advances D.Disk self.old self.new }
@@ -119,12 +119,12 @@ impl<D: Disk, C: Chare> Engine<D, C> {
     }
 
     /// Runs the steps one after another, and gives an answer for each. Room for all answers is made
-    /// first; where it is refused, no step was done.
+    /// first; if it is refused, no step was done.
     ///
-    /// All that clients are told in the run is true of the events that are durable when it ends. On
-    /// an honest disk a crash at any moment of the run leaves files that recover to the world after
-    /// some of the history, with all events among it that were durable before the run; and from
-    /// then on with all that are durable when it ends. `Device` is answered only where the disk's
+    /// Everything that clients are told in the run is true of the events that are durable when it
+    /// ends. On an honest disk a crash at any moment of the run leaves files that recover to the
+    /// world after some of the history, including all events that were durable before the run; and
+    /// from then on all that are durable when it ends. `Device` is answered only if the disk's
     /// count of failures grew.
     pub fn run(&mut self, steps: &[Step]) -> Result<Vec<Answer>, AllocError>
         ensures ok { IfOk result (λ answers. Runs (view_of self.old) steps.now answers.items

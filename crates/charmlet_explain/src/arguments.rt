@@ -1,19 +1,19 @@
-//! The command line: what its words ask for.
+//! The command line, and the request that it makes.
 
 use crate::exit::Failure;
 use charmlet_script::{Purpose, Runner};
 use std::convert::AsStr;
 
-/// How much is told of a malformed line.
+/// How much to tell of a malformed line.
 #[derive(Clone, Copy, Debug, PartialEq, Eq)]
 pub(crate) enum Told {
-    /// Its number alone, and nothing of a script without one.
+    /// The line's number alone, and nothing for a script without a malformed line.
     Line,
-    /// What it is, and why it is malformed.
+    /// The line itself, and why it is malformed.
     Reason,
 }
 
-/// What a command line asks for.
+/// The request that a command line makes.
 #[derive(Clone, Copy, Debug)]
 pub(crate) struct Request<'a> {
     /// The script's file, or `-` for standard input.
@@ -23,8 +23,8 @@ pub(crate) struct Request<'a> {
     pub told: Told,
 }
 
-/// What the words ask for; the first is the program's name. Before the script stand options, any of
-/// them more than once.
+/// The request that the words make; the first word is the program's name. Options come before the
+/// script, and each may be repeated.
 pub(crate) fn request_of<'a, S: AsStr>(words: &'a [S]) -> Result<Request<'a>, Failure> {
     let [_, options @ .., script] = words else {
         return Err(Failure::BadLine);

@@ -1,4 +1,4 @@
-//! How the program ends: its exit status, and what it says on standard error.
+//! The end of the program: its exit status, and its text on standard error.
 
 ghost use Rattle.std.specs.Prelude.{◌≡◌};
 ghost use Rattle.charmlet_explain.specs.Ending.{exit_status};
@@ -46,8 +46,8 @@ fn exit_status(told: &Result<Option<u64>, Failure>) -> u8
     }
 }
 
-/// Writes to `errors`, the program's standard error, why nothing is said of the script, if that is
-/// so. Returns the exit status, and whether the write succeeded.
+/// Writes to `errors`, the program's standard error, why nothing is said of the script, in that
+/// case. Returns the exit status, and whether the write succeeded.
 pub(crate) fn end_program<W: Write>(
     told: &Result<Option<u64>, Failure>,
     errors: &mut W,

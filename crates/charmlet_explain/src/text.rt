@@ -8,11 +8,11 @@ use std::io;
 use std::io::{ErrorKind, Read};
 use std::rt::Files;
 
-/// How much is read of a file past a script's greatest length, to be shown. Of anything else, which
-/// need not end, it is a byte.
+/// How many bytes past a script's greatest length are read of a file, to be shown. Of anything
+/// else, which need not end, it is one byte.
 const MORE: u64 = 200;
 
-/// The text of a script, up to its greatest length, and a part of what is past it.
+/// The text of a script, up to its greatest length, and a part of the bytes past it.
 #[derive(Debug, Drop)]
 pub(crate) struct Text {
     pub bytes: Vec<u8>,

@@ -1,11 +1,11 @@
-//! What is told of a script.
+//! The report on a script.
 
 use crate::arguments::{Request, Told};
 use crate::text::Text;
 use charmlet_script::{Setting, explain, well_formed};
 use std::alloc::{AllocError, Global};
 
-/// What is told of a script, of which this is the first malformed line, if it has one.
+/// The report on a script, given its first malformed line, if it has one.
 pub(crate) fn told_of(
     alloc: Global,
     text: &Text,

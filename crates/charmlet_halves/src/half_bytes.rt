@@ -1,4 +1,4 @@
-//! What is read of a half before all of it is.
+//! The first bytes of a half, which are read before the rest.
 
 ghost use Rattle.std.specs.Prelude.{◌≡◌, ◌⊎◌, ◌≤◌, List, ℕ, take, is_ok, IfOk, IfErr, Err};
 ghost use Rattle.charmlet_disk.specs.Calls.{AfterCall, IsOnlyRead};
@@ -16,7 +16,7 @@ use std::alloc::Global;
 /// How many bytes a half has from its first gate to the end of its header.
 pub(crate) const START: usize = 25;
 
-/// A half by its first gate.
+/// The state of a half's first gate.
 #[derive(Clone, Copy)]
 pub(crate) enum Gate {
     /// The gate is open, and more stands after it.
@@ -28,7 +28,7 @@ pub(crate) enum Gate {
 }
 
 /// Reads the first 25 bytes of a half into `start`, or all of it if it has fewer, and returns how
-/// many it read. Two calls of the disk, which change nothing.
+/// many it read. It makes two calls of the disk, which change nothing.
 pub(crate) fn read_start<D: Disk>(
     disk: &mut D,
     half: Half,
@@ -65,7 +65,7 @@ pub(crate) fn has_closed_gate(start: &[u8]) -> bool
 }
 
 /// Whether a half that isn't open has a closed first gate. `AlreadyHere` if the half is open;
-/// `Device`.
+/// `Device` if the device fails.
 pub(crate) fn closed_gate<D: Disk>(disk: &mut D, half: Half) -> Result<bool, Refusal>
     ensures closed { D.honest disk.old → IfOk result (λ is_closed. IsClosed
         (D.file disk.old half).now
@@ -86,7 +86,7 @@ pub(crate) fn closed_gate<D: Disk>(disk: &mut D, half: Half) -> Result<bool, Ref
     }
 }
 
-/// All bytes of a half. Two calls of the disk, which change nothing. `Memory`; `Device`.
+/// All bytes of a half. It makes two calls of the disk, which change nothing. `Memory`; `Device`.
 pub(crate) fn read_whole<D: Disk>(
     alloc: Global,
     disk: &mut D,

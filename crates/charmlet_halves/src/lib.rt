@@ -1,5 +1,5 @@
-//! Two gated files, called halves: an image, and after it the batches of events that were made
-//! durable since.
+//! Halves, two gated files of a store: each has an image, and after it the batches of events that
+//! have become durable since.
 #![tactic(auto)]
 
 mod half_bytes;

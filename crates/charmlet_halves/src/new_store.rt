@@ -25,7 +25,7 @@ use charmlet_image::new_store;
 use charmlet_model::{Half, Manifest, Refusal};
 use std::alloc::Global;
 
-/// Makes half 0, which is closed, say this image alone.
+/// Writes this image into half 0, which is closed, as its only contents.
 fn put_image<D: Disk>(disk: &mut D, is_closed: bool, bytes: &[u8]) -> Result<(), DeviceFault>
     requires settled { D.honest disk.old → IsSettled (D.file disk.old) }
     requires gate { D.honest disk.old → FirstGate is_closed (D.file disk.old halves.Zero).now }
@@ -46,16 +46,16 @@ fn put_image<D: Disk>(disk: &mut D, is_closed: bool, bytes: &[u8]) -> Result<(),
     Ok(())
 }
 
-/// Which first gates of two halves that aren't open are closed.
+/// Which first gates of two halves are closed; neither half is open.
 #[derive(Clone, Copy)]
 struct Gates {
     zero: bool,
     one: bool,
 }
 
-/// The first gates of two halves, neither of which is open. Half 0 is looked at first; the first
-/// look that fails (`Device`) or finds an open half (`AlreadyHere`) is the last. Four calls of the
-/// disk at most, which change nothing.
+/// The first gates of two halves, neither of which is open. It looks at half 0 first, and stops at
+/// the first look that fails (`Device`) or finds an open half (`AlreadyHere`). It makes at most
+/// four calls of the disk, which change nothing.
 fn closed_gates<D: Disk>(disk: &mut D) -> Result<Gates, Refusal>
     ensures zero { D.honest disk.old → IfOk result (λ gates. IsClosed
         (D.file disk.old halves.Zero).now
@@ -75,9 +75,9 @@ fn closed_gates<D: Disk>(disk: &mut D) -> Result<Gates, Refusal>
     Ok(Gates { zero, one })
 }
 
-/// Tests whether a store can be made on a disk: neither half is open. Half 0 is looked at first;
-/// the first look that fails (`Device`) or finds an open half (`AlreadyHere`) is the last. Four
-/// calls of the disk at most, which change nothing.
+/// Tests whether a store can be made on a disk: neither half is open. It looks at half 0 first, and
+/// stops at the first look that fails (`Device`) or finds an open half (`AlreadyHere`). It makes at
+/// most four calls of the disk, which change nothing.
 pub fn test_closed<D: Disk>(disk: &mut D) -> Result<(), Refusal>
     ensures ok { D.honest disk.old → OnOk result (AreClosed (D.file disk.old)) }
     ensures here { D.honest disk.old → IfErr result (λ refusal. refusal ≡ refusals.AlreadyHere
@@ -99,7 +99,7 @@ struct Written {
     spare_closed: bool,
 }
 
-/// Writes a new store to half 0, where neither half is open.
+/// Writes a new store to half 0 of two halves, neither of which is open.
 fn write_store<D: Disk>(
     alloc: Global,
     disk: &mut D,
@@ -138,11 +138,11 @@ fn write_store<D: Disk>(
 
 impl<D: Disk> Halves<D> {
     /// Makes a store with these arrays, in which nothing has happened, on a settled disk with no
-    /// open half. It stands in half 0, at generation 1, and is written over what half 0 has; bytes
-    /// past its end stay, and aren't read. Half 1 isn't touched. It looks at both first gates, and
-    /// then makes three writes, each with a sync, or two if the first gate of half 0 is closed
-    /// already. `AlreadyHere` if a half is open, and `Memory`: then nothing is written. `Device`:
-    /// then half 0 is closed, or says the new store. Each refusal hands the disk back.
+    /// open half. The store is in half 0, at generation 1, and overwrites what half 0 has; bytes
+    /// past its end stay, and aren't read. Half 1 isn't touched. The call looks at both first
+    /// gates, and then makes three writes, each with a sync, or two if the first gate of half 0 is
+    /// closed already. `AlreadyHere` if a half is open, and `Memory`: then nothing is written.
+    /// `Device`: then half 0 is closed, or has the new store. Each refusal hands the disk back.
     pub fn create(alloc: Global, disk: D, manifest: &Manifest) -> Result<Halves<D>, Refused<D>>
         requires settled { D.honest disk → IsSettled (D.file disk) }
         ensures created { IfOk result (λ made. IsNew made (length (spell_half

@@ -45,10 +45,10 @@ impl<D: Drop> fmt::Debug for Refused<D> {
     }
 }
 
-/// It is an error with the refusal's text, so that `?` serves where only that is wanted.
+/// An error with the refusal's text, so that `?` works for callers that want the text alone.
 impl<D: Drop> Error for Refused<D> {}
 
-/// Two halves, and what was found in the one that is taken.
+/// Two halves, and what was found in the taken one.
 #[derive(Drop)]
 pub struct Opened<D: Disk> {
     pub halves: Halves<D>,
@@ -56,7 +56,7 @@ pub struct Opened<D: Disk> {
 }
 
 impl<D: Disk> Halves<D> {
-    /// The halves of a settled disk, by reads alone, and what [`survey`] finds in them. Each
+    /// Opens the halves of a settled disk, by reads alone, with what [`survey`] finds in them. Each
     /// refusal is that of [`survey`], and hands the disk back: `Damaged`; `NothingHere`; `Memory`;
     /// `Device`.
     pub fn open(alloc: Global, disk: D) -> Result<Opened<D>, Refused<D>>

@@ -1,4 +1,4 @@
-//! Writing an image into a half that isn't taken.
+//! Preparation of an image in the half that isn't taken.
 
 ghost use Rattle.std.specs.Prelude.{◌≡◌, true, is_ok, OnOk};
 ghost use Rattle.charmlet_model.specs.Half.{other};
@@ -11,11 +11,11 @@ ghost use Rattle.charmlet_halves.specs.Steps.{ClosedOrSame};
 use charmlet_disk::{DeviceFault, Disk, write_and_sync};
 use charmlet_model::Half;
 
-/// What is written to close a gate.
+/// The byte that is written to close a gate.
 const CLOSED: u8 = 0;
 
-/// Closes the first gate of a half, unless it is closed already: what stands after a closed gate
-/// may be torn, and a crash may leave a gate open while it is being written.
+/// Closes the first gate of a half, unless it is closed already. Bytes after a closed gate may be
+/// torn, and a crash may leave a gate open while it is being written.
 fn close<D: Disk>(disk: &mut D, half: Half, is_closed: bool) -> Result<(), DeviceFault>
     requires settled { D.honest disk.old → IsSettled (D.file disk.old) }
     requires gate { D.honest disk.old → FirstGate is_closed (D.file disk.old half).now }

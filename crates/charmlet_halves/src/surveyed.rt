@@ -1,4 +1,4 @@
-//! What two halves say, by reads alone.
+//! The survey of two halves, by reads alone.
 
 ghost use Rattle.std.specs.Prelude.{◌≡◌, true, List, ℕ, is_ok, IfErr, IfOk};
 ghost use Rattle.charmlet_model.specs.declared.half.Half.TheVariants as halves;
@@ -21,19 +21,19 @@ use std::alloc::{AllocError, Global};
 /// The offset of a header's generation.
 const GENERATION: u64 = 5;
 
-/// What an open half has.
+/// The contents of an open half.
 #[derive(Clone, Copy, Debug, PartialEq, Eq)]
 pub struct Contents {
-    /// Its mark, its generation, how many events came before its image, and the image's length in
-    /// bytes.
+    /// The half's mark, its generation, how many events came before its image, and the image's
+    /// length in bytes.
     pub header: Header,
-    /// How many events its open batches have.
+    /// How many events are in its open batches.
     pub logged: u64,
     /// The place in bytes of the closed gate after its last batch.
     pub log_end: u64,
 }
 
-/// What is found in two halves: the one that is taken, what it has, and all of its bytes.
+/// The result of a survey of two halves: the taken half, its contents, and all of its bytes.
 #[derive(Drop)]
 pub struct Surveyed {
     pub half: Half,
@@ -49,8 +49,8 @@ impl Surveyed {
     ghost use Rattle.charmlet_image.specs.Views.{HalfIs};
     ghost use Rattle.charmlet_halves.specs.Found.{Reads};
 
-    /// What the taken half has, read again from its bytes. Its log isn't scanned again. It fails
-    /// only when out of memory.
+    /// The contents of the taken half, read again from its bytes. Its log isn't scanned again. It
+    /// fails only when out of memory.
     pub fn reread(&self, alloc: Global) -> Result<OpenHalf<'_>, AllocError>
         requires { Reads self.now }
         ensures { IfOk result (λ half. HalfIs self.now.bytes.items (views.Open half)) }
@@ -70,7 +70,7 @@ struct Look {
     is_closed: bool,
 }
 
-/// Looks at the first bytes of a half. Two calls of the disk, which change nothing.
+/// Looks at the first bytes of a half. It makes two calls of the disk, which change nothing.
 fn look_at<D: Disk>(disk: &mut D, half: Half) -> Result<Look, DeviceFault>
     ensures beginning { D.honest disk.old →
         IfOk result (λ look. look.beginning ≡ beginning (top (D.file disk.old half).now)) }
@@ -90,16 +90,16 @@ fn look_at<D: Disk>(disk: &mut D, half: Half) -> Result<Look, DeviceFault>
     })
 }
 
-/// The refusal of a half whose bytes at an offset aren't as the format says.
+/// The refusal of a half whose bytes at an offset break the format.
 fn damaged(half: Half, offset: u64) -> Refusal
     ensures { result ≡ refusals.Damaged half offset }
 {
     Refusal::Damaged { half, offset }
 }
 
-/// Which of two halves with these beginnings is taken. If both are open, it is the later one, and
-/// their generations have to be consecutive. `Damaged` at the header of either, half 0 first, or at
-/// the generation of half 1; `NothingHere` if neither is open.
+/// Chooses the half that is taken of two halves with these beginnings. If both are open, it is the
+/// later one, and their generations have to be consecutive. `Damaged` at the header of either, half
+/// 0 first, or at the generation of half 1; `NothingHere` if neither is open.
 fn choose(zero: Beginning, one: Beginning) -> Result<Half, Refusal>
     ensures no_failure { is_no_failure result ≡ true }
     ensures err { IfErr result (λ refusal. is_finding_refusal refusal ≡ true) }
@@ -134,7 +134,7 @@ fn later(first: &Header, second: &Header) -> Result<Half, Refusal>
     }
 }
 
-/// What the half that is taken has, by its bytes.
+/// The contents of the taken half, by its bytes.
 fn contents_of(alloc: Global, half: Half, bytes: &[u8]) -> Result<Contents, Refusal>
     ensures contents { ContentsAre half bytes.now result }
     ensures err { IfErr result (λ refusal. is_finding_refusal refusal ≡ true) }
@@ -150,11 +150,11 @@ fn contents_of(alloc: Global, half: Half, bytes: &[u8]) -> Result<Contents, Refu
     }
 }
 
-/// What two halves say, by reads alone. If both are open, the one with the greater generation is
-/// taken, and of the other one only the header is read. `Damaged` names the first field that isn't
-/// as the format says: in the headers of half 0 and half 1, then the generation of half 1 where
-/// both are open and their generations aren't consecutive, then in the rest of the half that is
-/// taken. `NothingHere` if neither half is open; `Memory`; `Device`.
+/// Surveys two halves by reads alone, and finds the contents of the taken one. If both are open,
+/// the half with the greater generation is taken; only the header of the other half is read.
+/// `Damaged` names the first field that breaks the format: in the headers of half 0 and half 1;
+/// then the generation of half 1, if both are open and their generations aren't consecutive; then
+/// in the rest of the taken half. `NothingHere` if neither half is open; `Memory`; `Device`.
 pub fn survey<D: Disk>(alloc: Global, disk: &mut D) -> Result<Surveyed, Refusal>
     ensures finds { D.honest disk.old → Finds (D.file disk.old halves.Zero).now
         (D.file disk.old halves.One).now result }

@@ -1,4 +1,4 @@
-//! The messages that processors are to deliver.
+//! The messages that are assigned to processors.
 
 ghost use Rattle.std.specs.Prelude.{◌≡◌, ◌≤◌, ◌^◌, [], false, is_some, length};
 ghost use Rattle.std.specs.Prelude.{IsOk, OnErr, OnOk};
@@ -11,12 +11,11 @@ use std::alloc::{AllocError, Global};
 use std::collections::BTreeMap;
 use std::marker::Model;
 
-/// The message that each processor is to deliver. Usually there is at most one, which is kept in
-/// place; others are in a tree.
+/// The message that each processor is to deliver. Usually there is at most one, which stands in a
+/// field of its own; others are in a tree.
 #[derive(Drop)]
 pub(crate) struct Assigned {
-    /// The one that is kept in place, with its processor. It may be `None` even if there are
-    /// others.
+    /// One message outside the tree, with its processor. It may be `None` even if there are others.
     first: Option<(u16, MsgId)>,
     others: BTreeMap<u16, MsgId>,
 }

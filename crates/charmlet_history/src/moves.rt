@@ -43,8 +43,8 @@ impl History {
         Ok(self.present.manifest().kind_version_of(elem.array))
     }
 
-    /// The element stands on the processor from now on. It takes no memory where no message to it
-    /// is pending. Where memory is refused, nothing changes.
+    /// Moves an element to the processor. It takes no memory if no message to it is pending. If
+    /// memory is refused, nothing changes.
     pub fn relocate(&mut self, elem: Elem, processor: u16) -> Result<(), AllocError>
         requires can { first_refusal (checks (core_in self.old) plenty (core.Move elem processor))
             ≡ None }

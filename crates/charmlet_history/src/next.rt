@@ -1,4 +1,4 @@
-//! The pending messages, and which of them is delivered next.
+//! The pending messages, and the next one to deliver.
 
 ghost use Rattle.std.specs.Prelude.{◌≡◌, ◌+◌, ◌≤◌, length};
 ghost use Rattle.charmlet_model.specs.Core.{present};
@@ -18,8 +18,7 @@ impl History {
         self.present.pending_count()
     }
 
-    /// The pending messages, in order of arrival: the id of each, and what is kept under it. It
-    /// takes no memory.
+    /// The pending messages, in order of arrival, each with its id. It takes no memory.
     pub fn messages(&self) -> Messages<'_>
         ensures { result ≡ (present (core_in self.now)).pending }
     {
@@ -35,7 +34,7 @@ impl History {
         self.present.next()
     }
 
-    /// What `next` says, and the looks that it takes: at most one for each processor.
+    /// Answers as `next`, and counts the looks: at most one for each processor.
     pub fn next_in<L: Ledger>(&self, ticks: &mut Ticks<L>) -> Option<(u16, MsgId)>
         ensures next { result ≡ next_in (core_in self.now) }
         ensures ticks { ticks.new ≤ ticks.old + (core_in self.now).processors }
@@ -43,9 +42,9 @@ impl History {
         self.present.next_in(ticks)
     }
 
-    /// The oldest pending message on the processor that can be delivered, if there is one: a
-    /// message is where its receiver stands, or on the home of one that isn't there. It is at most
-    /// one look.
+    /// The oldest pending message on the processor that can be delivered, if there is one. A
+    /// message is on its receiver's processor, or on the receiver's home if it isn't there. It
+    /// takes at most one look.
     pub fn oldest_on<L: Ledger>(&self, processor: u16, ticks: &mut Ticks<L>) -> Option<MsgId>
         ensures oldest { result ≡ oldest_on_in (core_in self.now) processor }
         ensures ticks { ticks.new ≤ ticks.old + 1 }
@@ -60,8 +59,8 @@ impl History {
         self.present.quiet()
     }
 
-    /// The processor that is to deliver a pending message: the place of its receiver, or the home
-    /// of one that isn't there. None where no such message is pending.
+    /// The processor that is to deliver a pending message: the place of its receiver, or its home
+    /// if it isn't there. `None` if no such message is pending.
     pub fn due_on(&self, id: MsgId) -> Option<u16>
         ensures { result ≡ processor_for (core_in self.now) id }
     {

@@ -10,12 +10,12 @@ use crate::history::History;
 use charmlet_model::{CONSTRUCT, Elem, Kind};
 
 impl History {
-    /// How many pending messages want a blank of this kind: those that construct an element which
-    /// isn't there. Each takes one from the stock when it is delivered. It takes no memory.
+    /// How many pending messages want a blank of this kind: those that construct an element that
+    /// isn't there. Each takes a blank from the stock when it is delivered. It takes no memory.
     pub fn wanted_blanks(&self, kind: Kind) -> usize
         ensures { result ≡ wanted_in (core_in self.now) kind }
     {
-        // A count of some messages has room where one of all has.
+        // A count of some messages fits, since the count of all fits.
         let _all = self.pending_count();
         let mut wanted = 0;
         for (_id, pending_message) in self.messages() {

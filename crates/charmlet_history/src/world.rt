@@ -1,4 +1,4 @@
-//! The world that a history opens with.
+//! The ghost world with which a history opens.
 
 ghost use Rattle.std.specs.Prelude.{◌≡◌};
 ghost use Rattle.std.specs.Borrow.{ftrue};
@@ -9,8 +9,7 @@ ghost use Rattle.charmlet_history.specs.Parts.{world_of};
 use charmlet_model::{ClientRow, Elem, Manifest, Message, Record};
 use std::marker::Model;
 
-/// A world that only contracts read. It has no bytes. The clauses of whoever keeps it tie it to a
-/// store.
+/// A world that only contracts read. It has no bytes. The clauses of its owner tie it to a store.
 #[derive(Drop)]
 pub struct GhostWorld {
     pub ghost world: { World },
@@ -25,14 +24,14 @@ unsafe impl Send for GhostWorld {}
 
 unsafe impl Sync for GhostWorld {}
 
-/// What has a world, for contracts alone.
+/// A source of a world, for contracts alone.
 pub trait HasWorld {
-    /// The world.
+    /// The world of the source.
     ghost world: { Self → World };
 }
 
 impl GhostWorld {
-    /// The world that something has. It does nothing at run time.
+    /// The world of its source. It does nothing at run time.
     pub fn of<W: HasWorld>(_owner: &W) -> Self
         ensures { result.world ≡ W.world _owner.now }
     {
@@ -40,13 +39,13 @@ impl GhostWorld {
     }
 }
 
-/// A new store has the world with its arrays and nothing else.
+/// The world of a new store has its arrays and nothing else.
 impl HasWorld for Manifest {
     ghost world = { new_world };
 }
 
-/// A world in parts: its arrays, what is kept of each element and of each client in rising order,
-/// and the pending messages in order of arrival.
+/// A world in parts: its arrays, the records of its elements and the rows of its clients in rising
+/// order, and the pending messages in order of arrival.
 #[derive(Debug, Drop)]
 pub struct WorldParts {
     pub manifest: Manifest,

@@ -30,7 +30,7 @@ use charmlet_shelf::Image;
 use std::alloc::AllocError;
 use std::marker::Model;
 
-/// How many events there were when a checkpoint began, those before the opening world among them,
+/// How many events there were when a checkpoint began, including those before the opening world,
 /// and how many shelves were handed in to it.
 #[derive(Debug, Drop)]
 pub struct GhostToken {
@@ -46,8 +46,8 @@ impl Model for GhostToken {
     ghost view = { λ h. record { begun = h.begun; shelves = h.shelves } };
 }
 
-/// The token of whoever runs a checkpoint: that it runs, how many events there were when it began,
-/// and how many shelves were handed in, those of the first processors. A contract sees both
+/// The token of a running checkpoint's owner: that it runs, how many events there were when it
+/// began, and how many shelves were handed in, those of the first processors. A contract sees both
 /// numbers. It can't be dropped: a checkpoint ends by [`Hub::seal`] or [`Hub::abandon`].
 pub struct Checkpoint<B: RuntimeName> {
     begun: u64,
@@ -83,13 +83,13 @@ pub struct NotSealed<B: RuntimeName> {
 }
 
 impl<D: Disk, C: Chare, B: RuntimeName> Hub<D, C, B> {
-    /// Begins a checkpoint that lets others work meanwhile: of moves and other checkpoints alone
-    /// each is refused `Checkpointing` until it ends. There is room for all deliveries that are
-    /// assigned. Each element that isn't there and has a record is captured now. No shelf was
-    /// handed in yet. Nothing is written.
+    /// Begins a checkpoint that lets others work meanwhile: only moves and other checkpoints are
+    /// refused, as `Checkpointing`, until it ends. There is room for all assigned deliveries. Each
+    /// absent element that has a record is captured now. No shelf was handed in yet. Nothing is
+    /// written.
     ///
-    /// The refusal is the first that applies of `Halted`, `Checkpointing` where one runs already,
-    /// and `Memory`. Then nothing changes.
+    /// The refusal is the first that applies of `Halted`, `Checkpointing` if one runs already, and
+    /// `Memory`. Then nothing changes.
     pub fn begin(&mut self) -> Result<Checkpoint<B>, Refusal>
         ensures ok { IfOk result (λ checkpoint. checkpoint ≡ record {
           begun = event_count self.old.core;
@@ -122,10 +122,10 @@ impl<D: Disk, C: Chare, B: RuntimeName> Hub<D, C, B> {
         })
     }
 
-    /// Hands in the images of a shelf to the checkpoint that runs. They are those of all elements
-    /// that stand there, and the shelf's lock is held, as it was when they were made. The shelves
-    /// come by rising number. It fails only when out of memory, and then the shelf wasn't handed
-    /// in. Nothing else changes.
+    /// Hands in the images of a shelf to the running checkpoint. They are those of all its
+    /// elements, and the shelf's lock is held, as it was when they were made. The shelves come by
+    /// rising number. It fails only when out of memory, and then the shelf wasn't handed in.
+    /// Nothing else changes.
     pub fn image(
         &mut self,
         checkpoint: &mut Checkpoint<B>,
@@ -156,19 +156,19 @@ impl<D: Disk, C: Chare, B: RuntimeName> Hub<D, C, B> {
         Ok(())
     }
 
-    /// Ends the checkpoint, to which each shelf was handed in: makes all events durable by an image
-    /// that means the present world, which takes the place of the store in the spare half, and
-    /// answers its generation. The image has each element as it was at a moment since the
-    /// checkpoint began, and the deliveries since then. On an honest disk the half that is taken is
-    /// then that one: it counts all events, and its log has no batch yet, and ends where the
-    /// history says. No client is told anything.
+    /// Ends the checkpoint, to which each shelf was handed in, and answers its generation. It makes
+    /// all events durable by an image that means the present world, which replaces the store in the
+    /// spare half. The image has each element as it was at a moment since the checkpoint began, and
+    /// the deliveries since then. On an honest disk that half is then the taken one: it counts all
+    /// events, and its log has no batch yet, and ends where the history says. No client is told
+    /// anything.
     ///
     /// `Halted`; `Memory`; `ImageFull` if the generation would be past 2^40 or the file past 2^31
-    /// bytes by what stands in its image: then nothing changes. `Device` halts the store. When
+    /// bytes by the contents of its image: then nothing changes. `Device` halts the store. If
     /// refused, the checkpoint still runs, and its token comes back. On an honest disk a crash at
-    /// any moment of the call leaves the world after some of the history, with all events among it
-    /// that were durable before; and of a store that isn't halted it leaves the world after the
-    /// durable events, as it was, or the present one at the next generation, and none between them.
+    /// any moment of the call leaves the world after some of the history, including all events that
+    /// were durable before. If the store isn't halted, it leaves the world after the durable
+    /// events, as it was, or the present world at the next generation, and no world between them.
     pub fn seal(&mut self, checkpoint: Checkpoint<B>) -> Result<u64, NotSealed<B>>
         requires { checkpoint.shelves ≡ B.processors }
         ensures ok { IfOk result (λ generation. generation ≡ self.old.core.generation + 1) }
@@ -212,7 +212,7 @@ impl<D: Disk, C: Chare, B: RuntimeName> Hub<D, C, B> {
         }
     }
 
-    /// Gives the checkpoint up: nothing of it is written.
+    /// Gives the checkpoint up: none of it is written.
     pub fn abandon(&mut self, checkpoint: Checkpoint<B>)
         ensures ended { self.new ≡ record self.old { busy = false } }
         ensures ran { self.old.busy ≡ true }
@@ -220,7 +220,7 @@ impl<D: Disk, C: Chare, B: RuntimeName> Hub<D, C, B> {
         self.end(checkpoint);
     }
 
-    /// Takes the token back, and forgets the checkpoint.
+    /// Takes the token back, and drops the checkpoint.
     fn end(&mut self, checkpoint: Checkpoint<B>)
         ensures ended { self.new ≡ record self.old { busy = false } }
         ensures ran { self.old.busy ≡ true }
@@ -235,8 +235,7 @@ impl<D: Disk, C: Chare, B: RuntimeName> Hub<D, C, B> {
     }
 }
 
-/// Captures the elements of a shelf in the checkpoint that runs. When out of memory, nothing
-/// changes.
+/// Captures the elements of a shelf in the running checkpoint. When out of memory, nothing changes.
 fn take_images(
     running: &mut Option<FuzzyCheckpoint>,
     history: &History,
@@ -255,7 +254,7 @@ fn take_images(
     }
 }
 
-/// Ends the checkpoint that runs, in which all is captured, by the sequencer's part of it.
+/// Ends the running checkpoint, in which everything is captured, by the sequencer's part of it.
 fn seal_running<D: Disk, C: Chare, B: RuntimeName>(
     sequencer: &mut Sequencer<D, C, B>,
     running: &mut Option<FuzzyCheckpoint>,

@@ -27,8 +27,8 @@ use charmlet_sequencer::{ProcessorState, RuntimeName};
 use charmlet_shelf::Shelf;
 use charmlet_store::Store;
 
-/// What a closed hub was made of: a store, in which no delivery is under way, and the halves of its
-/// disk; and the ids of the deliveries that were committed without a seat.
+/// The parts of a closed hub: a store, in which no delivery is under way, the halves of its disk,
+/// and the ids of the deliveries that were committed without a seat.
 #[derive(Drop)]
 pub struct Closed<D: Disk, C: Chare> {
     pub store: Store<C>,
@@ -36,7 +36,7 @@ pub struct Closed<D: Disk, C: Chare> {
     pub own: DeliveryIds,
 }
 
-/// A hub that wasn't closed, why not, and all that was handed in.
+/// A hub that wasn't closed, why not, and everything that was handed in.
 #[derive(Drop)]
 pub struct NotClosed<D: Disk, C: Chare, B: RuntimeName> {
     pub refusal: Refusal,
@@ -48,17 +48,17 @@ pub struct NotClosed<D: Disk, C: Chare, B: RuntimeName> {
 }
 
 impl<D: Disk, C: Chare, B: RuntimeName> Hub<D, C, B> {
-    /// Takes all apart, also when halted, and makes no call of the disk. All shelves are handed in,
-    /// in any order. What is under way on each of them ends first, as [`settle`](Self::settle) ends
-    /// it, and nothing is assigned then. The objects show the world after the history. The ids that
-    /// the seats hold and those of the commits without a seat are all deliveries of the history:
-    /// each stands in one of these lists, in the history's order. Each pass has exactly its
-    /// client's accepts, and all that it knows of its client's requests is true of the durable
-    /// events; a client without a pass has no accepts. It takes no memory: an empty shelf for each
-    /// processor, in whose place the store has its shelf, is handed in too.
+    /// Takes the hub and its shelves apart, even when halted, and makes no call of the disk. All
+    /// shelves are handed in, in any order. A delivery that is under way on one of them ends first,
+    /// as [`settle`](Self::settle) ends it, and nothing is assigned then. The objects show the
+    /// world after the history. The ids of the seats and those of the commits without a seat are
+    /// all deliveries of the history: each is in one of these lists, in the history's order. Each
+    /// pass has exactly its client's accepts, and everything that it knows of its client's requests
+    /// is true of the durable events; a client without a pass has no accepts. It takes no memory:
+    /// an empty shelf for each processor, in whose place the store has its shelf, is handed in too.
     ///
-    /// The only refusal is `PassOut`, if a seat or a pass that is out isn't handed in. Then all
-    /// comes back as it was.
+    /// The only refusal is `PassOut`, if a seat or a pass that is out isn't handed in. Then
+    /// everything comes back unchanged.
     pub fn close(
         self,
         shelves: Vec<ProcessorState<C, B>>,
@@ -134,8 +134,9 @@ impl<D: Disk, C: Chare, B: RuntimeName> Hub<D, C, B> {
         })
     }
 
-    /// The disk alone, also when halted, and whatever is out or under way. The rest is dropped, and
-    /// what isn't durable with it. It makes no call of the disk, and takes no memory.
+    /// The hub's disk alone, even when halted, and whatever is out or under way. The rest is
+    /// dropped, and with it the events that aren't durable. It makes no call of the disk, and takes
+    /// no memory.
     pub fn into_disk(self) -> D
         ensures { result ≡ self.disk }
     {
@@ -143,14 +144,14 @@ impl<D: Disk, C: Chare, B: RuntimeName> Hub<D, C, B> {
         sequencer.into_disk()
     }
 
-    /// Whether so many seats and passes are all that are out.
+    /// Whether this many seats and passes are all that are out.
     fn has_all(&self, seats: usize, passes: usize) -> bool
         ensures { result ≡ are_all_in self.now seats passes }
     {
         seats == self.seats.seat_count() && passes == self.passes.pass_count()
     }
 
-    /// Ends what is under way on each of these shelves.
+    /// Ends the delivery that is under way on each of these shelves.
     fn settle_all(&mut self, shelves: &mut [ProcessorState<C, B>])
         ensures settles { SettleAll self.old shelves.old self.new }
         ensures shelves { shelves.new ≡ map ended shelves.old }

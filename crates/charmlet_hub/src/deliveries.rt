@@ -27,12 +27,12 @@ use charmlet_sequencer::{ProcessorState, RuntimeName, Sequencer};
 use std::alloc::AllocError;
 
 impl<D: Disk, C: Chare, B: RuntimeName> Hub<D, C, B> {
-    /// Assigns a pending message to the shelf's processor. One that constructs its receiver takes a
-    /// blank from the stock. It makes room for the delivery, in the hub's own list too and in a
-    /// checkpoint that runs, whatever is delivered elsewhere before it.
+    /// Assigns a pending message to the shelf's processor. A message that constructs its receiver
+    /// takes a blank from the stock. It makes room for the delivery, in the hub's own list too and
+    /// in a running checkpoint, whatever is delivered elsewhere before it.
     ///
     /// The refusal is the first that applies of `Halted`, `BadPes`, `Uncommitted`, `NoMessage`,
-    /// `Absent`, `Elsewhere`, `HistoryFull`, `NoBlank` and `Memory`. Then all is as before, beside
+    /// `Absent`, `Elsewhere`, `HistoryFull`, `NoBlank` and `Memory`. Then nothing changes, except
     /// the room in the hub's own list.
     pub fn assign(&mut self, locked: &mut ProcessorState<C, B>, id: MsgId) -> Result<(), Refusal>
         ensures goes { Goes (store_in self.old) (core.Assign locked.old.number id)
@@ -61,7 +61,7 @@ impl<D: Disk, C: Chare, B: RuntimeName> Hub<D, C, B> {
         self.sequencer.assign(locked, id)
     }
 
-    /// Why a message can't be assigned to the processor where memory is refused.
+    /// Why a message can't be assigned to the processor if memory is refused.
     fn assign_refusal(&self, processor: u16, id: MsgId) -> Refusal
         ensures { Goes (store_in self.now) (core.Assign processor id) (Refuses result)
             (store_in self.now) }
@@ -80,11 +80,11 @@ impl<D: Disk, C: Chare, B: RuntimeName> Hub<D, C, B> {
         Refusal::Memory
     }
 
-    /// Adds the delivery that the receiver on the shelf has made to the history, and its id to
-    /// those that the seat holds, which has to have room for it. It answers the id. An object that
-    /// is destroyed by the delivery is retired. The processors that are to deliver what the
-    /// receiver sent have tickets for it. It takes no memory. The only refusal is `Halted`: then
-    /// all is as before, and the delivery can still be [finished](Self::finish).
+    /// Adds the receiver's delivery on the shelf to the history, and its id to the seat, which has
+    /// to have room for it. It answers the id. An object that the delivery destroyed is retired.
+    /// The processors that are to deliver the receiver's sends get tickets for them. It takes no
+    /// memory. The only refusal is `Halted`: then nothing changes, and the delivery can still be
+    /// [finished](Self::finish).
     pub fn commit(
         &mut self,
         locked: &mut ProcessorState<C, B>,
@@ -128,7 +128,7 @@ impl<D: Disk, C: Chare, B: RuntimeName> Hub<D, C, B> {
         committed
     }
 
-    /// The same, without tickets.
+    /// Commits as `commit` does, without tickets.
     fn commit_quietly(
         &mut self,
         locked: &mut ProcessorState<C, B>,
@@ -177,8 +177,8 @@ impl<D: Disk, C: Chare, B: RuntimeName> Hub<D, C, B> {
     }
 
     /// Adds the delivery as [`commit`](Self::commit) does, without a seat: its id goes to the hub's
-    /// own list. So whoever takes the lock of a shelf on which a delivery was made can commit it.
-    /// It takes no memory. The only refusal is `Halted`: then all is as before.
+    /// own list. So any thread that takes the lock of a shelf with a performed delivery can commit
+    /// it. It takes no memory. The only refusal is `Halted`: then nothing changes.
     pub fn commit_without_seat(
         &mut self,
         locked: &mut ProcessorState<C, B>,
@@ -212,7 +212,7 @@ impl<D: Disk, C: Chare, B: RuntimeName> Hub<D, C, B> {
         committed
     }
 
-    /// The same, without tickets.
+    /// Commits as `commit_without_seat` does, without tickets.
     fn commit_without_seat_quietly(
         &mut self,
         locked: &mut ProcessorState<C, B>,
@@ -250,8 +250,8 @@ impl<D: Disk, C: Chare, B: RuntimeName> Hub<D, C, B> {
         Ok(id)
     }
 
-    /// Adds the delivery as [`commit_without_seat`](Self::commit_without_seat) does, also where the
-    /// store is halted: so an object that has reacted already can be counted, and the store be
+    /// Adds the delivery as [`commit_without_seat`](Self::commit_without_seat) does, even if the
+    /// store is halted. So an object that has reacted already can be counted, and the store can be
     /// taken apart. It takes no memory.
     pub fn finish(&mut self, locked: &mut ProcessorState<C, B>) -> MsgId
         requires { is_done locked.old.phase ≡ true }
@@ -282,8 +282,8 @@ impl<D: Disk, C: Chare, B: RuntimeName> Hub<D, C, B> {
         id
     }
 
-    /// Takes the assignment back: the message is pending again, and the blank of a construction is
-    /// back in the stock. It takes no memory.
+    /// Releases the assigned message: it is pending again, and the blank of a construction is back
+    /// in the stock. It takes no memory.
     pub fn release(&mut self, locked: &mut ProcessorState<C, B>)
         requires { is_assigned locked.old.phase ≡ true }
         ensures goes { Goes (store_in self.old) (core.Release locked.old.number) Done
@@ -298,9 +298,9 @@ impl<D: Disk, C: Chare, B: RuntimeName> Hub<D, C, B> {
         self.sequencer.release(locked);
     }
 
-    /// Ends what is under way on the shelf, also when halted: a delivery that was made is
-    /// [finished](Self::finish), and one that is only assigned is [released](Self::release). It
-    /// takes no memory.
+    /// Ends the delivery that is under way on the shelf, even when halted: a performed delivery is
+    /// [finished](Self::finish), and an assigned message is [released](Self::release). It takes no
+    /// memory.
     pub fn settle(&mut self, locked: &mut ProcessorState<C, B>)
         ensures settles { Settles self.old locked.old self.new }
         ensures shelf { locked.new ≡ ended locked.old }
@@ -320,8 +320,8 @@ impl<D: Disk, C: Chare, B: RuntimeName> Hub<D, C, B> {
     }
 }
 
-/// Makes room in a checkpoint that runs for so many deliveries. It fails only when out of memory,
-/// and then the room is as before.
+/// Makes room in a running checkpoint for this many deliveries. It fails only when out of memory,
+/// and then the room is unchanged.
 fn reserve(running: &mut Option<FuzzyCheckpoint>, deliveries: usize) -> Result<(), AllocError>
     ensures ok { OnOk result (running.new ≡ roomier deliveries running.old) }
     ensures err { OnErr result (running.new ≡ running.old) }
@@ -333,9 +333,8 @@ fn reserve(running: &mut Option<FuzzyCheckpoint>, deliveries: usize) -> Result<(
     }
 }
 
-/// Adds the delivery that the receiver on the shelf has made to the history, and to the catch-up
-/// list of a checkpoint that runs. It takes no memory. The only refusal is `Halted`: then all is as
-/// before.
+/// Adds the receiver's delivery on the shelf to the history, and to the catch-up list of a running
+/// checkpoint. It takes no memory. The only refusal is `Halted`: then nothing changes.
 fn commit_recorded<D: Disk, C: Chare, B: RuntimeName>(
     sequencer: &mut Sequencer<D, C, B>,
     running: &mut Option<FuzzyCheckpoint>,
@@ -360,8 +359,8 @@ fn commit_recorded<D: Disk, C: Chare, B: RuntimeName>(
     sequencer.commit(locked)
 }
 
-/// Adds the delivery that the receiver on the shelf has made to the catch-up list of a checkpoint
-/// that runs, before it is committed, unless the store is halted.
+/// Records the receiver's delivery on the shelf in the catch-up list of a running checkpoint,
+/// before it is committed, unless the store is halted.
 fn record_unless_halted<D: Disk, C: Chare, B: RuntimeName>(
     sequencer: &mut Sequencer<D, C, B>,
     running: &mut Option<FuzzyCheckpoint>,
@@ -381,7 +380,7 @@ fn record_unless_halted<D: Disk, C: Chare, B: RuntimeName>(
     }
 }
 
-/// The same, even if the store is halted.
+/// Records the delivery as `record_unless_halted` does, even if the store is halted.
 fn record_delivery<D: Disk, C: Chare, B: RuntimeName>(
     sequencer: &mut Sequencer<D, C, B>,
     running: &mut Option<FuzzyCheckpoint>,

@@ -1,4 +1,4 @@
-//! Tickets for messages that come.
+//! Tickets for new messages.
 
 ghost use Rattle.std.specs.Prelude.{◌≡◌};
 

@@ -1,4 +1,4 @@
-//! The hub.
+//! The hub: the state under the lock that orders all steps.
 
 ghost use Rattle.std.specs.Prelude.{◌≡◌, ◌+◌, ◌<◌, ◌≤◌, ◌++◌, ◌∷◌, [], List, Option, false, true, IfErr, IfOk, OnErr, OnOk, length};
 ghost use Rattle.std.specs.BTreeSet.{insert_key};
@@ -38,17 +38,17 @@ use std::alloc::Global;
 use std::marker::Model;
 use std::sync::ledger::Ledger;
 
-/// What lies under the lock that orders all steps: a sequencer, the tables of the seats and of the
-/// passes that are out, and the checkpoint that runs, if one does. A contract sees the core and
+/// The state under the lock that orders all steps: a sequencer, the tables of the seats and of the
+/// passes that are out, and the running checkpoint, if there is one. A contract sees the core and
 /// whether a checkpoint runs, the census, the disk and both authorities.
 ///
-/// Each call is one step of the core, or leaves it as it is. Each delivery of the history stands
-/// once among the ids that the seats hold and the hub's own, in each of these lists in the
-/// history's order. All passes are current: what a pass knows of its client's requests is true of
-/// the durable events, and it has exactly its client's accepts; a client without a pass has none.
-/// The hub's own list has room for each assigned delivery, so that one can always be finished
-/// without memory; and so has a checkpoint that runs. That is one of this store, and has what
-/// stands on each shelf that its token says was handed in.
+/// Each call is one step of the core, or leaves it unchanged. Each delivery of the history is once
+/// among the ids of the seats and the hub's own, in each of these lists in the history's order. All
+/// passes are current: what a pass knows of its client's requests is true of the durable events,
+/// and it has exactly its client's accepts; a client without a pass has none. The hub's own list
+/// has room for each assigned delivery, so that it can always be finished without memory; and so
+/// has a running checkpoint. That checkpoint is one of this store, and has the elements of each
+/// shelf that was handed in according to its token.
 pub struct Hub<D: Disk, C: Chare, B: RuntimeName> {
     pub(crate) alloc: Global,
     pub(crate) sequencer: Sequencer<D, C, B>,
@@ -56,9 +56,9 @@ pub struct Hub<D: Disk, C: Chare, B: RuntimeName> {
     pub(crate) passes: PassTable<PassesOf<B>>,
     /// How many processors there are.
     pub(crate) processors: u16,
-    /// The checkpoint that runs.
+    /// The running checkpoint.
     pub(crate) running: Option<FuzzyCheckpoint>,
-    /// What the tokens of checkpoints say.
+    /// The contents of the checkpoints' tokens.
     pub(crate) tokens: Authority<GhostToken, CheckpointsOf<B>>,
 }
 
@@ -77,7 +77,7 @@ impl<D: Disk, C: Chare, B: RuntimeName> Model for Hub<D, C, B> {
         × IsCheckpointed h.sequencer.core h.running h.tokens };
 }
 
-/// What a hub is made of.
+/// The parts of a hub.
 #[derive(Drop)]
 pub(crate) struct HubParts<D: Disk, C: Chare, B: RuntimeName> {
     pub(crate) sequencer: Sequencer<D, C, B>,
@@ -85,8 +85,8 @@ pub(crate) struct HubParts<D: Disk, C: Chare, B: RuntimeName> {
     pub(crate) passes: PassTable<PassesOf<B>>,
 }
 
-// Written by hand, so that dropping all that a hub has is proved here, and not in each function
-// that drops one.
+// Written by hand, so that dropping all its fields is proved here, and not in each function that
+// drops a hub.
 impl<D: Disk, C: Chare, B: RuntimeName> Drop for Hub<D, C, B> {
     fn drop(self) {
         let Hub {
@@ -107,7 +107,7 @@ impl<D: Disk, C: Chare, B: RuntimeName> Drop for Hub<D, C, B> {
 }
 
 impl<D: Disk, C: Chare, B: RuntimeName> Hub<D, C, B> {
-    /// What the hub is made of, without its checkpoint.
+    /// The parts of the hub, without its checkpoint.
     pub(crate) fn into_parts(self) -> HubParts<D, C, B>
         ensures shown { shown_by result.sequencer self.busy result.seats result.passes ≡ self }
         ensures hub { IsHub (shown_by result.sequencer self.busy result.seats result.passes) }
@@ -131,7 +131,8 @@ impl<D: Disk, C: Chare, B: RuntimeName> Hub<D, C, B> {
     }
 
     /// A hub over a sequencer in whose history nothing has happened, with new tables of seats, of
-    /// passes and of checkpoints: none is out, and none runs. It takes no memory.
+    /// passes and of checkpoints: no seat and no pass is out, and no checkpoint runs. It takes no
+    /// memory.
     pub fn new(
         alloc: Global,
         sequencer: Sequencer<D, C, B>,
@@ -164,13 +165,13 @@ impl<D: Disk, C: Chare, B: RuntimeName> Hub<D, C, B> {
         }
     }
 
-    /// States what always holds of a hub: its store is the one that it is named for, at no earlier
-    /// generation; its history is legal; it has, for each shelf, the records of the world after
-    /// that history and the delivery that is assigned there, and of each kind all objects that were
-    /// supplied are on the shelves, in the stock, or retired; on an honest disk a crash now leaves
-    /// the world after some of the history, with all durable events among it; all deliveries are
-    /// held by the seats or by the hub itself; all passes are current; and the disk is honest if
-    /// the first one was.
+    /// States the facts that hold of every hub. Its store is the one that it is named for, at no
+    /// earlier generation; its history is legal. For each shelf, it has the records of the world
+    /// after that history and the delivery that is assigned there. For each kind all supplied
+    /// objects are on the shelves, in the stock, or retired. On an honest disk a crash now leaves
+    /// the world after some of the history, including all durable events. All deliveries are in the
+    /// seats or in the hub's own list; all passes are current; and the disk is honest if the first
+    /// one was.
     pub fn facts(&self)
         ensures of { IsOf B.opening B.before B.processors self.now.core }
         ensures later { B.generation ≤ self.now.core.generation }
@@ -185,7 +186,7 @@ impl<D: Disk, C: Chare, B: RuntimeName> Hub<D, C, B> {
         self.sequencer.facts();
     }
 
-    /// The history, for looking at it.
+    /// The history, for reading.
     pub fn history(&self) -> &History
         ensures { core_in result.now ≡ self.now.core }
     {
@@ -201,9 +202,9 @@ impl<D: Disk, C: Chare, B: RuntimeName> Hub<D, C, B> {
         self.processors
     }
 
-    /// Shows that the shelf is a processor's, that it has the records of the elements that stand
-    /// there in the world after the history, and that what is under way there is what is assigned.
-    /// Nothing is compared, and nothing changes.
+    /// Shows that the shelf and the hub agree. The shelf is a processor's, it has the records of
+    /// its elements in the world after the history, and its delivery under way is the one that is
+    /// assigned. Nothing is compared, and nothing changes.
     pub fn agree(&mut self, locked: &mut ProcessorState<C, B>)
         ensures on { locked.old.number < self.old.core.processors }
         ensures shows { ShowsOn locked.old.number locked.old.records self.old.core.places
@@ -222,7 +223,7 @@ impl<D: Disk, C: Chare, B: RuntimeName> Hub<D, C, B> {
         self.sequencer.census()
     }
 
-    /// How many pending messages want a blank of this kind: those that construct an element which
+    /// How many pending messages want a blank of this kind: those that construct an element that
     /// isn't there. It takes no memory.
     pub fn wanted_blanks(&self, kind: Kind) -> usize
         ensures { result ≡ wanted_in self.now.core kind }
@@ -230,9 +231,9 @@ impl<D: Disk, C: Chare, B: RuntimeName> Hub<D, C, B> {
         self.sequencer.history().wanted_blanks(kind)
     }
 
-    /// The oldest pending message on the processor that can be delivered, if there is one: a
-    /// message is where its receiver stands, or on the home of one that isn't there. It is at most
-    /// one look.
+    /// The oldest pending message on the processor that can be delivered, if there is one. A
+    /// message is on its receiver's processor, or on the receiver's home if it isn't there. It
+    /// takes at most one look.
     pub fn oldest_on<L: Ledger>(&self, processor: u16, ticks: &mut Ticks<L>) -> Option<MsgId>
         ensures oldest { result ≡ oldest_on_in self.now.core processor }
         ensures ticks { ticks.new ≤ ticks.old + 1 }
@@ -240,7 +241,7 @@ impl<D: Disk, C: Chare, B: RuntimeName> Hub<D, C, B> {
         self.sequencer.oldest_on(processor, ticks)
     }
 
-    /// Takes blank objects into the stock. Where memory is refused it hands all of them back, and
+    /// Takes blank objects into the stock. If memory is refused, it hands all of them back, and
     /// nothing has changed.
     pub fn supply(&mut self, blanks: Vec<C>) -> Result<(), Vec<C>>
         ensures rest { self.new ≡ record self.old { census = self.new.census } }
@@ -258,7 +259,7 @@ impl<D: Disk, C: Chare, B: RuntimeName> Hub<D, C, B> {
     }
 
     /// Lends a processor's seat, which has no ids yet. `BadPes` if there is no such processor;
-    /// `PassOut` if its seat is out; otherwise `Memory`. When refused, nothing changes.
+    /// `PassOut` if its seat is out; otherwise `Memory`. If refused, nothing changes.
     pub fn lend_seat(&mut self, processor: u16) -> Result<Seat<SeatsOf<B>>, Refusal>
         ensures seat { IfOk result (λ seat. (seat.processor ≡ processor) × (seat.ids ≡ [])) }
         ensures is_there { OnOk result (is_processor self.old.core processor ≡ true) }
@@ -276,8 +277,8 @@ impl<D: Disk, C: Chare, B: RuntimeName> Hub<D, C, B> {
         self.seats.lend(processor)
     }
 
-    /// Lends a client its pass, which was told nothing. `PassOut` if it is out; otherwise `Memory`.
-    /// When refused, nothing changes.
+    /// Lends a client its pass, to which nothing was told. `PassOut` if it is out; otherwise
+    /// `Memory`. If refused, nothing changes.
     pub fn lend_pass(&mut self, client: u32) -> Result<ClientPass<PassesOf<B>>, Refusal>
         ensures pass { IfOk result (λ pass. pass ≡ lent_since client
             (client_of (present self.old.core) client).last

@@ -1,9 +1,6 @@
-//! What lies under the lock that orders all steps of a runtime with threads.
-//!
-//! A hub is a sequencer, with a table of the seats of workers and one of the passes of clients. So
-//! it is known without comparing, whatever the others do: the ids that the seats hold, and those of
-//! the commits without a seat, are all deliveries of the history; what each client was told is true
-//! of the durable events; and its pass has exactly its accepts.
+//! The hub, which lies under the lock that orders all steps of a runtime with threads: a sequencer,
+//! the tables of workers' seats and of clients' passes, and the fuzzy checkpoint that runs, if
+//! there is one.
 #![tactic(auto)]
 
 mod checkpoint;

@@ -5,7 +5,7 @@ use charmlet_locks::AuthorityName;
 use charmlet_sequencer::RuntimeName;
 use std::marker::PhantomData;
 
-/// Names the authority of a runtime's seats.
+/// The name of the authority of a runtime's seats.
 pub struct SeatsOf<B> {
     runtime: PhantomData<B>,
 }
@@ -18,7 +18,7 @@ impl<B: RuntimeName> SeatTableName for SeatsOf<B> {
     ghost processors = { B.processors };
 }
 
-/// Names the authority of a runtime's passes.
+/// The name of the authority of a runtime's passes.
 pub struct PassesOf<B> {
     runtime: PhantomData<B>,
 }
@@ -27,7 +27,7 @@ impl<B: RuntimeName> AuthorityName for PassesOf<B> {
     ghost table = { B.passes };
 }
 
-/// Names the authority of the tokens of a runtime's checkpoints.
+/// The name of the authority of the tokens of a runtime's checkpoints.
 pub struct CheckpointsOf<B> {
     runtime: PhantomData<B>,
 }

@@ -1,4 +1,4 @@
-//! What clients ask of a hub, and the flush that makes it durable.
+//! Clients' requests to a hub, and the flush that makes them durable.
 
 ghost use Rattle.std.specs.Prelude.{◌≡◌, ◌≢◌, ◌≤◌, IfErr, IfOk, OnErr, OnOk, length, map, take};
 ghost use Rattle.std.specs.List.{AllByRecursion};
@@ -25,12 +25,12 @@ use charmlet_model::{MsgId, Origin, Refusal, Told};
 use charmlet_sequencer::RuntimeName;
 
 impl<D: Disk, C: Chare, B: RuntimeName> Hub<D, C, B> {
-    /// Accepts a request of the pass's client, unless it repeats one in the client's window, and
-    /// tells the client what is durable of it. The refusals are those of
+    /// Accepts a request of the pass's client, and tells the client what is durable of it. A repeat
+    /// of a request in the client's window adds nothing. The refusals are those of
     /// [`charmlet_history::History::request`], in their order. If it isn't refused, the pass
-    /// records that it was accepted, and what was told about it. What is told is no less than the
-    /// pass knew, and no other words. A refusal changes nothing. The processor that is to deliver
-    /// the request has a ticket for it.
+    /// records that it was accepted, and the answer. The answer is no less than the pass knew, and
+    /// has no other words. A refusal changes nothing. The processor that is to deliver the request
+    /// gets a ticket for it.
     pub fn request(
         &mut self,
         pass: &mut ClientPass<PassesOf<B>>,
@@ -61,7 +61,7 @@ impl<D: Disk, C: Chare, B: RuntimeName> Hub<D, C, B> {
         told
     }
 
-    /// The same, without a ticket.
+    /// Accepts a request as `request` does, without a ticket.
     fn accept(
         &mut self,
         pass: &mut ClientPass<PassesOf<B>>,
@@ -87,8 +87,8 @@ impl<D: Disk, C: Chare, B: RuntimeName> Hub<D, C, B> {
     }
 
     /// Tells the pass's client what is durable of its request. `Halted`; otherwise `Memory`, but
-    /// only if the answer has words. The pass records the answer. What is told is no less than the
-    /// pass knew, and no other words. A refusal changes nothing.
+    /// only if the answer has words. The pass records the answer. It is no less than the pass knew,
+    /// and has no other words. A refusal changes nothing.
     pub fn status(
         &mut self,
         pass: &mut ClientPass<PassesOf<B>>,
@@ -108,16 +108,16 @@ impl<D: Disk, C: Chare, B: RuntimeName> Hub<D, C, B> {
         self.passes.status(self.sequencer.history(), pass, number)
     }
 
-    /// Makes all events durable, and answers how many there are, those before the opening world
-    /// among them. Then it tells each client whose pass is handed in that the last of its accepts
-    /// is accepted, where the pass knows nothing of it yet. Each of these passes then records the
-    /// count, as contracts see it: no less than before. It takes no memory; where no events are to
-    /// be written it makes no call of the disk.
+    /// Makes all events durable, and answers how many there are, including those before the opening
+    /// world. Then it tells each client whose pass is handed in that the last of its accepts is
+    /// accepted, if the pass knows nothing of it yet. Each of these passes then records the count,
+    /// as contracts see it: no less than before. It takes no memory; with no events to write it
+    /// makes no call of the disk.
     ///
-    /// `Halted`; `LogFull` if the file would have more than 2^31 bytes, the closed gate after its
-    /// log among them: then nothing changes. `Device` halts the store. When refused, no client is
-    /// told anything. On an honest disk a crash at any moment of the call leaves the world after
-    /// some of the history, with all events among it that were durable before.
+    /// `Halted`; `LogFull` if the file would have more than 2^31 bytes, including the closed gate
+    /// after its log: then nothing changes. `Device` halts the store. If refused, no client is told
+    /// anything. On an honest disk a crash at any moment of the call leaves the world after some of
+    /// the history, including all events that were durable before.
     pub fn flush(&mut self, passes: &mut [ClientPass<PassesOf<B>>]) -> Result<u64, Refusal>
         ensures goes { Goes (store_in self.old) core.Flush (counts_or_refused result)
             (store_in self.new) }

@@ -13,15 +13,16 @@ ghost use Rattle.charmlet_image.specs.FitImages.{FitWorldsHaveImages};
 ghost use Rattle.charmlet_image.specs.Spelled.{ClosedIsShut, FoundIsSpelled, SpelledIsFound};
 ghost use Rattle.charmlet_image.specs.Halves.{BatchesAreAppended, HalvesAreRead, HalvesAreOne, ReadHalvesWereSpelled, LaterHalvesAreTaken, read_saved};
 
-/// Images and headers are read as they are spelled, whatever follows, and were spelled so.
+/// Images and headers are read back from their spelling, whatever follows, and any that are read
+/// were spelled so.
 pub fn images_are_lawful()
     ensures images { (mark : Mark) → Lawful (IsImage mark) (spell_image mark) (read_image mark) }
     ensures headers { Lawful IsHeader spell_header read_header }
 {}
 
 /// A half is read as its header, image and batches, up to the first closed gate, and was spelled
-/// so. Its bytes spell nothing else. A batch after its gate, once that is open, is the last of its
-/// batches.
+/// so. Its bytes spell nothing else. A batch after its gate becomes the last of the half's batches
+/// once that gate is open.
 pub fn halves_are_lawful()
     ensures read_back { HalvesAreRead }
     ensures spelled_so { ReadHalvesWereSpelled }
@@ -29,7 +30,7 @@ pub fn halves_are_lawful()
     ensures appended { BatchesAreAppended }
 {}
 
-/// A fault is at one of the bytes that are read, or at their end, so its offset is at most the
+/// A fault is at a byte that is read, or at the end of these bytes, so its offset is at most the
 /// file's length.
 pub fn faults_are_within()
     ensures images { (mark : Mark) → Within (read_image mark) }
@@ -38,7 +39,7 @@ pub fn faults_are_within()
         InReach (length bytes + 4) (read_saved h bytes) }
 {}
 
-/// Of two open halves whose generations are consecutive the later one is taken.
+/// The later of two open halves is taken, if their generations are consecutive.
 pub fn later_halves_are_taken()
     ensures { LaterHalvesAreTaken }
 {}
@@ -54,14 +55,13 @@ pub fn fit_worlds_have_images()
     ensures { FitWorldsHaveImages }
 {}
 
-/// A new store opens once its gate does, as the image of its arrays and no events.
+/// A new store opens once its gate is open, as the image of its arrays with no events.
 pub fn new_stores_open()
     ensures { NewStoresOpen }
 {}
 
-/// A file that begins with a half before any closed gate says that half, and files of bytes say
-/// nothing else. A half is closed where it has no second byte, or its first byte isn't an open
-/// gate.
+/// A file that begins with a half before any closed gate means that half, and files of bytes mean
+/// nothing else. A half is closed if it has no second byte, or its first byte isn't an open gate.
 pub fn files_begin_with_halves()
     ensures found { SpelledIsFound }
     ensures spelled { FoundIsSpelled }

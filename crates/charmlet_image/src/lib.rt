@@ -1,5 +1,5 @@
-//! The bytes of images and of halves: what a header, an image and a log after it say, with the
-//! place of the first fault.
+//! The bytes of images and of halves: writers, and readers of headers, images and logs that report
+//! the place of the first fault.
 #![tactic(auto)]
 
 mod catch_up;

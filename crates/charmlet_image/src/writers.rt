@@ -1,5 +1,5 @@
-//! Headers and the records of images as bytes. A function that begins with `write_` has its room
-//! already, and takes no memory.
+//! Writers of headers and of images' records. A function that begins with `write_` uses room that
+//! is already there, and takes no memory.
 
 ghost use Rattle.std.specs.Prelude.{◌≡◌, ◌+◌, ◌*◌, ◌≤◌, ◌<◌, ◌^◌, ◌++◌, All, IfOk, IfSome, length, option_copied, option_map, vec_capacity, vec_len};
 ghost use Rattle.std.specs.List.{flat_map};
@@ -88,7 +88,7 @@ fn write_items(out: &mut Vec<u8>, window: &Window)
     }
 }
 
-/// Writes a client, by the third mark, and what is kept of it into the room that there is.
+/// Writes a client and its row, under the third mark, into the room that there is.
 #[tactic(auto, using(charmlet_record::proofs::Lengths::lengths), unfolding(crate::specs::Images::spell_client, crate::specs::Images::spell_window))]
 pub fn write_client(out: &mut Vec<u8>, client: u32, row: &ClientRow)
     requires few { All (λ item. IfSome item AreFewWords) row.now.window }
@@ -103,7 +103,7 @@ pub fn write_client(out: &mut Vec<u8>, client: u32, row: &ClientRow)
     write_items(out, &row.window);
 }
 
-/// Writes an entry into the room that there is. Its packed bytes go as they stand.
+/// Writes an entry into the room that there is. Its packed bytes are written unchanged.
 #[tactic(auto, using(charmlet_record::proofs::Lengths::lengths), unfolding(crate::specs::NewStores::spell_packed_entry, charmlet_pup::specs::Fields::byte_list))]
 pub fn write_entry(out: &mut Vec<u8>, entry: &Entry<'_>)
     requires small { IfSome entry.now.packed (λ packed. length packed.now < 2 ^ 32) }
@@ -124,9 +124,8 @@ pub fn write_entry(out: &mut Vec<u8>, entry: &Entry<'_>)
     }
 }
 
-/// What a new store has in its open half after the gate: a header of generation 1, an image of
-/// these arrays and nothing else, and the closed gate of an empty log. It fails only when out of
-/// memory.
+/// The bytes after the gate of a new store's open half: a header of generation 1, an image of these
+/// arrays and nothing else, and the closed gate of an empty log. It fails only when out of memory.
 pub fn new_store(alloc: Global, manifest: &Manifest) -> Result<Vec<u8>, AllocError>
     requires { length manifest.now ≤ 64 }
     ensures { IfOk result (λ bytes. bytes.items ≡ new_half manifest.now) }
@@ -149,7 +148,7 @@ pub fn new_store(alloc: Global, manifest: &Manifest) -> Result<Vec<u8>, AllocErr
     Ok(out)
 }
 
-/// Writes four lists without items into the room that there is.
+/// Writes four empty lists into the room that there is.
 #[tactic(auto, using(charmlet_record::proofs::Lengths::lengths), unfolding(crate::specs::NewStores::empty_lists))]
 fn write_empty_lists(out: &mut Vec<u8>)
     requires { vec_len out.old + 16 ≤ vec_capacity out.old }

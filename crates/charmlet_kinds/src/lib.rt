@@ -1,4 +1,4 @@
-//! The kinds of objects.
+//! The six kinds of objects: counter, tape, ring, account, sum and tree.
 #![tactic(auto)]
 
 mod account;

@@ -1,4 +1,4 @@
-//! What an entry is told.
+//! Words of an entry's payload.
 
 ghost use Rattle.std.specs.Prelude.{◌≡◌};
 ghost use Rattle.charmlet_model.specs.Reaction.{word};

@@ -8,8 +8,7 @@ ghost use Rattle.charmlet_disk.specs.File.{MayLeave, clean};
 use charmlet_disk::{AnyDisk, CrashChoice, Disk};
 use std::alloc::Global;
 
-/// A disk that the laboratory runs scripts on. What its contracts say about files holds if it is
-/// honest.
+/// A disk on which the laboratory runs scripts. Its contracts on files hold if it is honest.
 pub trait LabDisk: Disk {
     /// How many writes and syncs it still passes, if it fails each one after them.
     ghost calls_left: { Self → Option ℕ };
@@ -19,8 +18,8 @@ pub trait LabDisk: Disk {
         ensures calls { calls_left result ≡ Some calls }
         ensures empty { Self.honest result → (half : Half) → Self.file result half ≡ clean [] };
 
-    /// What a crash leaves of the disk, by `choice`: one of the outcomes that a crash may leave,
-    /// all of it sure.
+    /// The disk that a crash leaves, by `choice`: one of the outcomes that a crash may leave, all
+    /// of it durable.
     fn crash(self, choice: CrashChoice) -> Self
         ensures left { Self.honest self → (half : Half) →
             Self.file result half ≡ clean (left_by choice (Self.file self half)) }

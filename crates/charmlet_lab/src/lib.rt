@@ -1,5 +1,5 @@
-//! A laboratory of crashes: runs of a script over disks, each of which fails one call later than
-//! the one before; crashes after them; and whether what comes back is a world of its run.
+//! A laboratory of crashes: it stops a script's runs at each write and sync, crashes the disk,
+//! restarts from it, and judges whether the restarted store has a world of its run.
 #![tactic(auto)]
 
 mod disks;

@@ -1,4 +1,4 @@
-//! What the laboratory prints.
+//! The laboratory's line of output.
 
 use std::fmt;
 

@@ -27,35 +27,34 @@ use charmlet_script_output::{handlers_of, supplied_by};
 use charmlet_stock::Stock;
 use std::alloc::{AllocError, Global};
 
-/// What a run leaves.
+/// The result of a run.
 #[derive(Drop)]
 pub struct Round<D: Disk> {
     /// The disk, as the run left it.
     pub disk: D,
     /// The events of the run, in order.
     pub events: Vec<Event>,
-    /// How many of them were durable, as the store says; `None` if it wasn't reported as made.
+    /// How many of the events were durable, as the store says; `None` if the store wasn't reported
+    /// as made.
     pub durable: Option<u64>,
     /// Whether the disk failed.
     pub is_stopped: bool,
 }
 
-/// Runs a script over a disk, which may fail at some call: then no further line is run.
-/// `blanks` are the objects that the script's lines supply. Nothing is printed. The disk has to be
-/// settled.
+/// Runs a script over a disk, which may fail at some call: then no further line is run. `blanks`
+/// are the objects that the script's lines supply. Nothing is printed. The disk has to be settled.
 ///
-/// The events are those of the script's lines up to that failure, one after another, and as many of
-/// them are durable as the store says. No line lacked memory. The disk counts one failure if the
-/// run was stopped, and none if it wasn't.
+/// The events are those of the script's lines up to that failure, in order, and as many of them are
+/// durable as the store says. No line lacked memory. The disk counts one failure if the run was
+/// stopped, and none otherwise.
 ///
 /// On an honest disk that had no store, each crash after the run leaves files that recover to the
-/// world after some of the events, with all that were durable among them; if the store wasn't
-/// reported as made, to nothing or to the new store.
+/// world after some of the events, including all that were durable. If the store wasn't reported as
+/// made, they recover to nothing or to the new store.
 ///
 /// `BlanksWanted` if the script's lines supply more blanks of a kind than there are, with the
 /// lowest such kind and all that they supply of it; `BadPes` if the script's number of processors
-/// isn't 1 to 64; `AlreadyHere` if a half of the disk is open; `Memory`, also where a line lacks
-/// it.
+/// isn't 1 to 64; `AlreadyHere` if a half of the disk is open; `Memory`, also if a line lacks it.
 pub fn lab_round<D: Disk, C: Chare>(
     alloc: Global,
     script: &Script,
@@ -169,7 +168,7 @@ fn run_lines<D: Disk, C: Chare>(
     Ok(())
 }
 
-/// Runs one line. There have to be as many blanks as it supplies, and it takes no more. It fails
+/// Runs one line. There have to be as many blanks as it supplies, and it takes no others. It fails
 /// only when out of memory.
 fn run_line<D: Disk, C: Chare>(
     engine: &mut Engine<D, C>,
@@ -209,7 +208,7 @@ fn run_line<D: Disk, C: Chare>(
                 entry: handler.entry,
                 words: words.as_slice(),
             };
-            // Of the answers, here and below, only a lack of memory is looked at.
+            // Here and below, the only answer that matters is a lack of memory.
             match engine.ask(*client, &request) {
                 Err(Refusal::Memory) => Err(AllocError),
                 _ => Ok(()),

@@ -1,4 +1,4 @@
-//! Whether two worlds are the same.
+//! Comparison of two worlds.
 
 ghost use Rattle.std.specs.Prelude.{◌≡◌, ◌↔◌, true, option_copied, IfOk};
 ghost use Rattle.std.specs.List.Sorted.{IsStrictlySortedBy};

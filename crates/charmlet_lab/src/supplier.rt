@@ -1,4 +1,4 @@
-//! Where the objects for runs and restarts come from.
+//! Suppliers of the objects for runs and restarts.
 
 ghost use Rattle.std.specs.Prelude.{◌≡◌, true, IfErr, IfOk};
 ghost use Rattle.charmlet_model.specs.Core.{Blanks};
@@ -21,14 +21,14 @@ use charmlet_script::Script;
 use std::alloc::Global;
 
 /// A supplier of blank objects, of any type: it makes as many as a run or a restart needs, and
-/// starts that with them. So a supplier of mixed kinds can box them in one function, which keeps
-/// them.
+/// starts the run or restart with them. So a supplier of mixed kinds can box them in one function,
+/// which keeps them.
 pub trait Supplier<D: LabDisk> {
-    /// When it may restart, since a restart starts threads.
+    /// The condition for a restart, which starts threads.
     ghost may_restart: { Self → Type 0 };
 
-    /// A run of the script on this disk, with the blanks that its lines supply, as
-    /// [`crate::lab_round`] makes it.
+    /// Runs the script on this disk, with the blanks that its lines supply, as [`crate::lab_round`]
+    /// does.
     fn run(&self, alloc: Global, script: &Script, disk: D) -> Result<Round<D>, Refusal>
         requires settled { D.honest disk → IsSettled (D.file disk) }
         ensures ok { IfOk result (IsRound D.Disk (arrays_of script.now) disk) }
@@ -38,8 +38,8 @@ pub trait Supplier<D: LabDisk> {
         ensures err { IfErr result (λ refusal. (given : Blanks)
             × IsNotRun D.Disk given script.now disk refusal) };
 
-    /// Whether a restart from this disk after a crash of such a run is bad, with the blanks that
-    /// are wanted, as [`crate::lab_outcome`] says.
+    /// Restarts from this disk after a crash of such a run, with the blanks that are wanted, and
+    /// returns whether that was bad, as [`crate::lab_outcome`] does.
     fn restart(
         &self,
         alloc: Global,

@@ -24,16 +24,18 @@ use std::alloc::Global;
 use std::thread::Threads;
 
 /// Restarts from a disk after a run's crash, on as many processors as the script has and with these
-/// blanks, and returns whether that was bad, as [`lab_bad`] has it. Disk and objects are dropped.
+/// blanks, and returns whether that was bad, as [`lab_bad`] judges it. Disk and objects are
+/// dropped.
 ///
-/// If it wasn't, the files of an honest disk recover to the world after some of the events, with
-/// all that were durable among them; if no store was reported as made, to that or to nothing. If it
-/// was, they don't, or a restart from them is refused for a cause that they give.
+/// If the restart wasn't bad, the files of an honest disk recover to the world after some of the
+/// events, including all that were durable; if no store was reported as made, to that or to
+/// nothing. If it was bad, they don't, or a restart from them is refused for a cause that they
+/// give.
 ///
 /// `BlanksWanted` if there are fewer blanks of a kind than are wanted, with the lowest such kind
 /// and all that are wanted of it: so missing blanks never make a restart bad. `Memory` and
-/// `ImageFull` as [`lab_bad`] has them, and `Device` if the disk failed in the restart, and counted
-/// that: so neither memory nor the device ever makes one bad.
+/// `ImageFull` as for [`lab_bad`], and `Device` if the disk failed in the restart, and counted
+/// that: so neither memory nor the device ever makes a restart bad.
 pub fn lab_outcome<R: Threads + Sync, D: Disk, C: Chare>(
     rt: &R,
     alloc: Global,

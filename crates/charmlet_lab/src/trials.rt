@@ -1,4 +1,4 @@
-//! All crashes of a script.
+//! Trials of all crashes of a script.
 
 ghost use Rattle.std.specs.Prelude.{◌≡◌, ◌≤◌, ◌<◌, ◌+◌, ◌*◌, false, true, IfErr, IfOk};
 ghost use Rattle.charmlet_lab.specs.Trials.{AreTried, ComesTo, Finds, IsNotFound, most_stops, places};
@@ -13,27 +13,27 @@ use charmlet_model::Refusal;
 use charmlet_script::Script;
 use std::alloc::Global;
 
-/// No more stops are tried.
+/// The most stops that are tried.
 const MOST_STOPS: u64 = 1 << 60;
 
-/// What is told after each stop what was found so far.
+/// An observer that is told the counts so far after each stop.
 pub trait Watch {
-    /// This was found so far.
+    /// Is told the counts so far.
     fn tell(&mut self, line: &LabLine);
 }
 
 /// Tries the crashes of a script. It runs the script on new disks: the first fails at its first
 /// write or sync, and each other one fails one call later than the one before, until a run isn't
 /// stopped. For each stop and each choice there is a run of its own, then a crash, and a restart
-/// from what that left, on the script's processors and with the blanks that are wanted. Returns how
-/// many stops there were, how many restarts, and how many of these were bad: they gave no world of
-/// the run with all that was durable, or were refused, unless by `NothingHere` if the store wasn't
-/// reported as made.
+/// from what the crash left, on the script's processors and with the blanks that are wanted.
+/// Returns how many stops there were, how many restarts, and how many of these were bad: they gave
+/// no world of the run with all durable events, or were refused, unless by `NothingHere` if the
+/// store wasn't reported as made.
 ///
 /// `BadPes` if the script's number of processors isn't 1 to 64; `BlanksWanted` if the supplier
 /// brings too few blanks; `AlreadyHere` if a new disk isn't empty; `Device` if a disk fails after
-/// its crash, and counts that failure; `ImageFull` if an image of a store that came back would pass
-/// a limit; `Memory`. So what lacks memory is no run, and no bad restart.
+/// its crash, and counts that failure; `ImageFull` if an image of a restarted store would pass a
+/// limit; `Memory`. So a lack of memory counts neither as a run nor as a bad restart.
 pub fn try_crashes<D: LabDisk, S: Supplier<D>, W: Watch>(
     alloc: Global,
     script: &Script,
@@ -58,7 +58,7 @@ pub fn try_crashes<D: LabDisk, S: Supplier<D>, W: Watch>(
     Ok(line)
 }
 
-/// Tries the crashes of one stop, and counts them. Returns false if a run isn't stopped, and then
+/// Tries the crashes of one stop, and counts them. Returns `false` if a run isn't stopped, and then
 /// tries no more.
 fn try_stop<D: LabDisk, S: Supplier<D>>(
     alloc: Global,

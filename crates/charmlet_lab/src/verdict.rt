@@ -1,4 +1,4 @@
-//! Whether what came back after a crash is a world of a run.
+//! The verdict whether a restarted store has a world of its run.
 
 ghost use Rattle.std.specs.Prelude.{◌≡◌, ◌↔◌, ◌≤◌, false, true, length, take, IfErr, IfOk, OnOk};
 ghost use Rattle.charmlet_model.specs.KindVersion.{AreNewest};
@@ -21,16 +21,16 @@ use charmlet_reference::{PlainWorld, Recovered, recover};
 use charmlet_script::Script;
 use std::alloc::{AllocError, Global};
 
-/// The gate of an open half.
+/// The byte of an open gate.
 const OPEN: u8 = 1;
 
-/// Whether a restart after a run's crash is bad: it was refused, unless by `NothingHere` if the
-/// store wasn't reported as made; or the store lacks events that were durable, or doesn't have the
-/// world after the first events of the run, as many as it counts. A plain program that knows no
-/// files computes that world. The engine is as before. Its arrays have to have the newest versions
-/// of their kinds, as they do after a restart.
+/// Judges whether a restart after a run's crash is bad. It is bad if it was refused, unless by
+/// `NothingHere` if the store wasn't reported as made; or if the store lacks events that were
+/// durable, or doesn't have the world after the first events of the run, as many as it counts. A
+/// plain program that knows no files computes that world. The engine is unchanged. Its arrays have
+/// to have the newest versions of their kinds, as they do after a restart.
 ///
-/// `Memory` if out of memory; `ImageFull` if an image of the store, which its world is read from,
+/// `Memory` if out of memory; `ImageFull` if an image of the store, from which its world is read,
 /// would pass a limit. A restart that was itself refused by `Memory` or `Device` isn't judged,
 /// since that says nothing of the files: its refusal is handed on.
 pub fn lab_bad<D: Disk, C: Chare>(
@@ -104,7 +104,7 @@ fn world_after(alloc: Global, script: &Script, events: &[Event]) -> Result<Plain
 
 /// The world of a store, which the plain program reads from its image and brings forward to the
 /// newest versions: so its arrays have to have these. `Memory` if out of memory; `ImageFull` if the
-/// store is too large for an image. The engine is as before.
+/// store is too large for an image. The engine is unchanged.
 fn world_in<D: Disk, C: Chare>(
     alloc: Global,
     engine: &mut Engine<D, C>,

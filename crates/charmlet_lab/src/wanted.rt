@@ -12,10 +12,10 @@ use charmlet_engine::{Wanted, manifest};
 use charmlet_model::Refusal;
 use std::alloc::Global;
 
-/// How many blanks of each kind a restart from this disk wants, and none if no store is found
-/// there. It only reads.
+/// How many blanks of each kind a restart from this disk wants, or none if no store is found there.
+/// It only reads.
 ///
-/// It isn't known if out of memory, `Memory`, or if a read fails, `Device`, which the disk counts.
+/// `Memory` if out of memory; `Device` if a read fails, which the disk counts.
 pub(crate) fn wanted_on<D: Disk>(alloc: Global, disk: &mut D) -> Result<Wanted, Refusal>
     ensures ok { IfOk result (λ wanted. AreWanted D.Disk disk.old (blanks_in wanted)) }
     ensures err { IfErr result (λ refusal. (refusal ≡ refusals.Memory)

@@ -1,5 +1,5 @@
 //! Leases of a runtime with threads: the seats of workers, the passes of clients, and the tickets
-//! that hint at what a processor may deliver. The hub has the other part of each.
+//! that hint at what a processor may deliver. The hub has the counterpart of each.
 #![tactic(auto)]
 
 mod passes;

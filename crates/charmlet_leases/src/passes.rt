@@ -1,9 +1,9 @@
 //! Passes of clients over a history that many threads share.
 //!
-//! A pass holds what its client was told, and its client's accepts since it was lent. The table
-//! of passes has what each of them holds. So it is known without comparing, whatever others do with
-//! the history: what each client was told is true of the durable events, it is told no less than
-//! before, and its pass has exactly its accepts.
+//! A pass holds what its client was told, and its client's accepts since it was lent. The table of
+//! passes has the same. So it is known without a comparison, whatever other threads do with the
+//! history: what each client was told is true of the durable events, the client is told no less
+//! than before, and its pass has exactly its accepts.
 
 mod laws;
 mod pass;

@@ -1,9 +1,9 @@
 //! Seats of workers.
 //!
 //! A seat is the right to work for a processor, and holds the ids of the deliveries that were
-//! committed with it. The table of seats has what each of them holds, and a list of its own, of the
-//! commits that were made without a seat. So it is known, without comparing, that these lists are
-//! all deliveries: each stands in one of them, in the order of the commits.
+//! committed with it. The table of seats has the same ids, and a list of its own, of the commits
+//! without a seat. So it is known without a comparison that these lists are all deliveries: each is
+//! in one of them, in the order of the commits.
 
 mod ids;
 mod seat;

@@ -1,6 +1,6 @@
 //! Queues of tickets, one for each processor.
 //!
-//! A ticket is a hint that its processor may deliver a message. That one is lost, doubled or old
+//! A ticket is a hint that its processor may deliver a message. A lost, doubled or old ticket
 //! changes no answer. A queue has one rule: each of its tickets names the queue's processor.
 
 mod queue;

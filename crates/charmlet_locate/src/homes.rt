@@ -10,8 +10,8 @@ use charmlet_model::{Elem, Refusal};
 /// The most processors of a store.
 pub const MAX_PROCESSORS: u16 = 64;
 
-/// The home of an element on 1 to 64 processors: the sum of its array and its index, which may not
-/// fit in 64 bits, modulo the number of processors. Processors count from 0. `BadPes` for any other
+/// The home of an element on 1 to 64 processors: its array plus its index, modulo the number of
+/// processors. The sum may not fit in 64 bits. Processors count from 0. `BadPes` for any other
 /// number of processors, and for nothing else. It takes no memory.
 pub fn home(elem: Elem, processors: u16) -> Result<u16, Refusal>
     ensures ok { IfOk result (λ place. place ≡ home elem processors) }

@@ -5,8 +5,8 @@ use std::alloc::{AllocError, Global};
 use std::collections::BTreeMap;
 use std::marker::Model;
 
-/// Where elements stand: the processor of each element that is there, as after a restart. It
-/// doesn't change. A contract sees the entries, in rising order.
+/// The processor of each present element, as after a restart. It doesn't change. A contract sees
+/// the entries, in rising order.
 #[derive(Drop)]
 pub struct Locations {
     places: BTreeMap<Elem, u16>,

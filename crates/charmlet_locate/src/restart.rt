@@ -12,9 +12,9 @@ use crate::locations::Locations;
 use charmlet_model::{Elem, Refusal};
 use std::alloc::Global;
 
-/// Each of these elements at its home, for a restart on `processors` processors, and no other
-/// element. One that is named twice stands there once. `BadPes` if `processors` isn't 1 to 64;
-/// otherwise `Memory`.
+/// Places each of these elements at its home, for a restart on `processors` processors, and no
+/// other element. An element that is named twice stands there once. `BadPes` if `processors` isn't
+/// 1 to 64; otherwise `Memory`.
 pub fn restart_map(alloc: Global, elems: &[Elem], processors: u16) -> Result<Locations, Refusal>
     ensures ok { IfOk result (λ locations. (is_processor_count processors ≡ true)
         × AreAtHome processors elems.now locations) }

@@ -1,4 +1,4 @@
-//! The right to the value under a lock that is taken.
+//! The right to the value under a taken lock.
 
 ghost use Rattle.std.specs.Prelude.{◌≡◌, ◌<◌, ◌^◌};
 ghost use Rattle.charmlet_locks.specs.Home.{HoldsPlace, word_of};
@@ -8,7 +8,7 @@ use atomic_table::Seat;
 use std::marker::Model;
 
 /// A value whose lock is taken, and which goes back when this is dropped. Until then `grip` lends
-/// it. Where it is changed, it must have the number of its place again before that.
+/// it. A changed value must have the number of its place again before the drop.
 pub struct Held<'a, T: Drop, N: Numbering<T>> {
     pub grip: Grip<'a, T, N>,
     pub ghost right: { grip.number ≡ grip.place },
@@ -68,7 +68,7 @@ impl<'a, T: Drop, N: Numbering<T>> Grip<'a, T, N> {
         Grip { table, seat, place }
     }
 
-    /// The value, which can be changed, and replaced by another one.
+    /// Borrows the value, which can be changed, or replaced by another one.
     pub fn get_mut(&mut self) -> &mut T
         ensures* writes_back { sem 𝓛 (Lends
             (the_row (record { mir = named 1; lft = [] }) T.row N.row N.Numbering)
@@ -82,7 +82,8 @@ impl<'a, T: Drop, N: Numbering<T>> Grip<'a, T, N> {
         seat.slot_mut(&table.shared, place).as_mut().unwrap()
     }
 
-    /// Gives the value back, which has the number of the place, and wakes one who waits for it.
+    /// Gives the value back, which has the number of the place, and wakes a thread that waits for
+    /// it.
     pub(crate) fn give_back(self)
         requires { self.number ≡ self.place }
     {

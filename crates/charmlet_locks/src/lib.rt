@@ -1,8 +1,5 @@
-//! A lock for each of several places, whose value is known to have the number of its place.
-//!
-//! A value has a number, which only contracts see. Whoever takes the lock of a place finds a value
-//! of that number, and the value that is given back there has that number again. So who locks a
-//! place never has to look whether the right value lies there.
+//! Numbered locks, each over a value that is known to have the number of its place; and ghost
+//! authorities, whose fragments under different locks are known to agree without a comparison.
 #![tactic(auto)]
 
 mod ghost_auth;

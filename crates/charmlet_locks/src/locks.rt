@@ -20,7 +20,8 @@ use std::sync::Wait;
 const SPINS: u32 = 100;
 
 /// A lock for each place, counted from 0. Under the lock of a place lies a value with the number of
-/// that place. Threads share them by reference. A contract sees how many there are.
+/// that place, so a thread that takes the lock never has to check that the right value lies there.
+/// Threads share the locks by reference. A contract sees how many there are.
 #[derive(Drop)]
 pub struct Locks<T: Drop, N: Numbering<T>> {
     table: Places<T, N>,
@@ -56,8 +57,8 @@ impl<T: Drop, N: Numbering<T>> Locks<T, N> {
         self.count
     }
 
-    /// Waits until the lock of a place is free, and takes it. A thread that has it already waits
-    /// for ever.
+    /// Waits until the lock of a place is free, and takes it. A thread that has the lock already
+    /// waits for ever.
     pub fn lock<'a, R: Wait>(&'a self, rt: &R, place: usize) -> Held<'a, T, N>
         requires { place < self.now }
         ensures { result.grip.place ≡ place }
@@ -69,7 +70,7 @@ impl<T: Drop, N: Numbering<T>> Locks<T, N> {
         Held { grip }
     }
 
-    /// Takes the lock of a place, or answers `None` where somebody has it.
+    /// Takes the lock of a place, or answers `None` if it is taken.
     pub fn try_lock<'a>(&'a self, place: usize) -> Option<Held<'a, T, N>>
         requires { place < self.now }
         ensures { IfSome result (λ held. held.grip.place ≡ place) }
@@ -83,9 +84,9 @@ impl<T: Drop, N: Numbering<T>> Locks<T, N> {
         Some(Held { grip })
     }
 
-    /// Takes all values out, in the order of their places, into a list with room for them. What is
-    /// left can be filled again. It takes no memory, and never waits. Where a `Held` was never
-    /// dropped nothing is taken out, and the locks and the list come back.
+    /// Takes all values out, in the order of their places, into a list with room for them. The room
+    /// that is left can be filled again. It takes no memory, and never waits. If a `Held` was never
+    /// dropped, nothing is taken out, and the locks and the list come back.
     pub fn into_values(
         self,
         values: Vec<T>,
@@ -122,7 +123,7 @@ fn new_seat<T: Drop, N: Numbering<T>>(table: &Places<T, N>) -> Seat<Option<T>, G
     table.shared.load_new_seat::<Sit>(0).1
 }
 
-/// Takes the lock of a place where it is free, and says whether it was.
+/// Takes the lock of a place if it is free, and returns whether it was.
 fn try_seize<T: Drop, N: Numbering<T>>(
     table: &Places<T, N>,
     seat: &mut Seat<Option<T>, GhostPlaces>,
@@ -165,7 +166,7 @@ fn seize<T: Drop, N: Numbering<T>, R: Wait>(
     wait_for(table, rt, seat, place);
 }
 
-/// The same, for a lock that has been taken for long. The thread sleeps meanwhile.
+/// Takes the lock of a place that has been taken for long. The thread sleeps meanwhile.
 fn wait_for<T: Drop, N: Numbering<T>, R: Wait>(
     table: &Places<T, N>,
     rt: &R,
@@ -194,7 +195,7 @@ fn wait_for<T: Drop, N: Numbering<T>, R: Wait>(
     unreachable!()
 }
 
-/// Takes all locks where each of them is free, and says whether they were.
+/// Takes all locks if each of them is free, and returns whether they were.
 fn seize_all<T: Drop, N: Numbering<T>>(
     table: &Places<T, N>,
     seat: &mut Seat<Option<T>, GhostPlaces>,

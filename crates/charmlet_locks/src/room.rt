@@ -46,8 +46,8 @@ impl<T: Drop, N: Numbering<T>> Model for LockRoom<T, N> {
 }
 
 impl<T: Drop, N: Numbering<T>> LockRoom<T, N> {
-    /// Locks for so many places, without values. This call takes all the memory that locks need. It
-    /// fails only when out of memory.
+    /// Locks for this many places, without values. This call takes all the memory that locks need.
+    /// It fails only when out of memory.
     pub fn new(alloc: Global, count: usize) -> Result<LockRoom<T, N>, AllocError>
         requires { count < 2 ^ 32 }
         ensures { IfOk result (λ room. room ≡ shown count 0) }
@@ -58,7 +58,7 @@ impl<T: Drop, N: Numbering<T>> LockRoom<T, N> {
         Ok(LockRoom::vacant(table, seat, count))
     }
 
-    /// The same, of a table of whose places the seat holds all, without a value.
+    /// Locks of a table, without values. The seat holds all places of the table.
     pub(crate) fn vacant(
         table: Places<T, N>,
         seat: Seat<Option<T>, GhostPlaces>,
@@ -79,7 +79,7 @@ impl<T: Drop, N: Numbering<T>> LockRoom<T, N> {
         }
     }
 
-    /// How many places have their value.
+    /// How many places have their values.
     pub fn filled(&self) -> usize
         ensures { result ≡ self.now.filled }
     {
@@ -100,7 +100,7 @@ impl<T: Drop, N: Numbering<T>> LockRoom<T, N> {
         self.filled = place + 1;
     }
 
-    /// The locks, once each of them has its value. It takes no memory.
+    /// Turns the room into locks, once each place has its value. It takes no memory.
     pub fn into_locks(self) -> Locks<T, N>
         requires { self.filled ≡ self.places }
         ensures { result ≡ self.places }
@@ -115,7 +115,7 @@ impl<T: Drop, N: Numbering<T>> LockRoom<T, N> {
     }
 }
 
-/// The words of so many locks, all taken.
+/// The words of this many locks, all taken.
 fn vacant_words(alloc: Global, count: usize) -> Result<Vec<u64>, AllocError>
     requires { count < 2 ^ 32 }
     ensures { IfOk result (λ words. words.items ≡ first_words count) }

@@ -1,4 +1,4 @@
-//! What is true of the locks between any two steps, and what each step tells.
+//! The invariant of the locks between any two steps, and the facts that each step tells.
 
 ghost use Rattle.std.specs.Prelude.{◌≡◌, ◌<◌, ◌^◌};
 ghost use Rattle.charmlet_locks.specs.Home.{word_of};
@@ -7,7 +7,7 @@ use atomic_table::{Play, Table, TableRule};
 use std::alloc::Global;
 use std::marker::PhantomData;
 
-/// Says which number each value of a type has. Only contracts see it.
+/// The number of each value of a type. Only contracts see it.
 pub trait Numbering<T> {
     ghost use Rattle.std.specs.Prelude.{ℕ};
 
@@ -20,13 +20,13 @@ pub(crate) type Places<T, N> = Table<Option<T>, GhostPlaces, (), AtHome<N>, Glob
 /// The word of a free lock.
 pub(crate) const FREE: u64 = 0;
 
-/// That of a lock which is taken.
+/// The word of a taken lock.
 pub(crate) const TAKEN: u64 = 1;
 
-/// That of a lock which is taken, and for which somebody may wait.
+/// The word of a taken lock for which a thread may wait.
 pub(crate) const AWAITED: u64 = 2;
 
-/// Where the word of a place's lock lies; at the number of places, how many words there are.
+/// The index of the word of a place's lock; for the number of places, it is the number of words.
 pub(crate) fn word_index(place: usize) -> usize
     requires { place < 2 ^ 32 }
     ensures { result ≡ word_of place }
@@ -34,7 +34,7 @@ pub(crate) fn word_index(place: usize) -> usize
     16 * place + 16
 }
 
-/// What a seat knows of the places. No value of this type is ever made.
+/// A seat's knowledge of the places. No value of this type is ever made.
 pub enum GhostPlaces {
     Nothing,
     /// All places are vacant.
@@ -43,7 +43,7 @@ pub enum GhostPlaces {
     Begun,
 }
 
-/// Where a lock is free, the value with the number of its place is there.
+/// If a lock is free, the value with the number of its place is there.
 pub struct AtHome<N> {
     names: PhantomData<N>,
 }
@@ -86,7 +86,7 @@ impl<T, N: Numbering<T>> Play<Option<T>, GhostPlaces> for Take<N> {
     ghost then = { Takes N.number };
 }
 
-/// It is noted that somebody may wait.
+/// A note is made that a thread may wait.
 pub(crate) struct Note;
 
 impl<T> Play<Option<T>, GhostPlaces> for Note {

@@ -1,5 +1,5 @@
-//! The log scan of a parallel restart: one scan over a log that runs no entry method, what it keeps
-//! of the world, and the tasks that it finds for the replayers.
+//! The log scan of a parallel restart: one scan over a log, which runs no entry method, keeps the
+//! world without its objects, and finds the tasks for the replayers.
 #![tactic(auto)]
 
 mod partition;

@@ -1,4 +1,4 @@
-//! What several replayers do of a recovery, each for its own elements: definitions, and their laws.
+//! A recovery by several replayers, each with its own elements: definitions, and their laws.
 
 pub mod laws;
 mod task;

@@ -1,5 +1,4 @@
-//! What a scan over a log keeps of a world: what the present world keeps, but for what finds the
-//! messages that can be delivered.
+//! The world of a log scan: the present world, without the index of messages that can be delivered.
 
 ghost use Rattle.std.specs.Prelude.{◌≡◌, [], IfOk, IfSome, IsSome, None, OnErr, OnOk, Some, length, option_copied, option_map, true};
 ghost use Rattle.std.specs.BTreeMap.{is_at};
@@ -27,9 +26,9 @@ use std::alloc::{AllocError, Global};
 use std::collections::BTreeMap;
 use std::marker::Model;
 
-/// What a scan over a log keeps of a world: the place and the counts of each element, the pending
-/// messages in order of arrival, and the clients' rows. It doesn't find the messages that can be
-/// delivered, since a log names them. A contract sees what is seen of a present world.
+/// The world of a log scan: the place and counts of each element, the pending messages in order of
+/// arrival, and the clients' rows. It doesn't find the messages that can be delivered, since a log
+/// names them. A contract sees it as a present world.
 pub struct ReplayWorld {
     manifest: Manifest,
     /// How many processors there are, 1 to 64. They count from 0.
@@ -58,8 +57,8 @@ impl Model for ReplayWorld {
     ghost invariant = { λ w. is_processor_count w.processors ≡ true };
 }
 
-// Written by hand, so that dropping all that it has is proved here, and not in each crate that
-// drops one.
+// Written by hand, so that dropping all its fields is proved here, and not in each crate that drops
+// a replay world.
 impl Drop for ReplayWorld {
     fn drop(self) {
         let ReplayWorld {
@@ -139,7 +138,7 @@ impl ReplayWorld {
         self.pending.iter()
     }
 
-    /// What is kept of the pending message of this id.
+    /// The pending message of this id, if there is one.
     pub fn find(&self, id: MsgId) -> Option<&PendingMessage>
         ensures { option_map (λ pending_message. message_of id pending_message.now) result
             ≡ message_among id self.now.pending }
@@ -147,14 +146,14 @@ impl ReplayWorld {
         self.pending.find(id)
     }
 
-    /// What is kept of an element.
+    /// The place and counts of an element.
     pub fn element(&self, elem: Elem) -> Element
         ensures { result ≡ element_at self.now.elements elem }
     {
         self.elements.element(elem)
     }
 
-    /// What is kept of a client, if it made a request.
+    /// A client's rows, if it made a request.
     pub fn client(&self, client: u32) -> Option<&Client>
         ensures { option_copied result ≡ lookup (is_at (nat_cmp client)) self.now.clients }
     {
@@ -176,8 +175,8 @@ impl ReplayWorld {
         self.clients.present(alloc)
     }
 
-    /// Accepts a client's request, whose id no pending message may have. When out of memory,
-    /// nothing changes.
+    /// Accepts a client's request, whose id differs from that of every pending message. When out of
+    /// memory, nothing changes.
     pub fn accept(
         &mut self,
         client: u32,
@@ -207,9 +206,9 @@ impl ReplayWorld {
         Ok(())
     }
 
-    /// Delivers a pending message to its receiver, and answers it: it is removed, its receiver
-    /// advances and is destroyed or not, what that sent is appended, and the client that asked has
-    /// a reply without words. When out of memory, nothing changes.
+    /// Delivers a pending message to its receiver, and answers it. The message is removed, its
+    /// receiver advances and is destroyed or not, the receiver's sends are appended, and the client
+    /// that asked has a reply without words. When out of memory, nothing changes.
     pub fn deliver(
         &mut self,
         alloc: Global,

@@ -1,4 +1,4 @@
-//! Replayers that become one.
+//! Merge of several replayers into one.
 
 ghost use Rattle.std.specs.Prelude.{◌≡◌, ◌+◌, ◌<◌, List, length, sum_by, true};
 ghost use Rattle.charmlet_model.specs.declared.kind.Kind as kinds;
@@ -19,16 +19,16 @@ use charmlet_replayers::Replayer;
 use charmlet_shelf::Shelf;
 use charmlet_stock::{Stock, absorb};
 
-/// The shelves of all processors, and the stock that all objects on them came from.
+/// The shelves of all processors, and the stock from which all objects on them came.
 #[derive(Drop)]
 pub struct Combined<C: Chare> {
     pub shelves: Vec<Shelf<C>>,
     pub stock: Stock<C>,
 }
 
-/// Takes the shelf of each processor from the replayer that has it, of which replayer w has those
-/// with p mod workers = w, and puts the stocks of all workers back into the one from which they
-/// drew. The shelves that are given are empty ones of all processors. It takes no memory.
+/// Takes the shelf of each processor from its replayer, and puts the stocks of all workers back
+/// into the one from which they drew. Replayer w has the processors p with p mod workers = w.
+/// `shelves` are empty ones of all processors. It takes no memory.
 pub fn merge_replayers<C: Chare>(
     replayers: Vec<Replayer<C>>,
     shelves: Vec<Shelf<C>>,

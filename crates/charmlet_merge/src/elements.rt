@@ -1,4 +1,4 @@
-//! What is kept of the elements of all replayers.
+//! Merge of the elements of all replayers.
 
 ghost use Rattle.std.specs.Prelude.{◌≡◌, ℕ, List, IfOk, OnOk};
 ghost use Rattle.charmlet_model.specs.declared.names.Elem as names;
@@ -15,8 +15,8 @@ use charmlet_world::Element;
 use std::alloc::{AllocError, Global};
 use std::collections::BTreeMap;
 
-/// A copy of what all replayers keep of their elements: what a history keeps of a world with all
-/// their records, whichever replayer has an element. It fails only when out of memory.
+/// A copy of the place and counts of each replayer's elements, as a history keeps them for a world
+/// with all their records. It fails only when out of memory.
 pub fn elements_of<C: Chare>(
     alloc: Global,
     replayers: &[Replayer<C>],

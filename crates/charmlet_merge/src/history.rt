@@ -1,4 +1,4 @@
-//! What a scan over a log kept becomes the opening of a history, once the replies that it
+//! Merge of a log scan's world into the opening of a history, once the replies that the scan
 //! doesn't know are put into its rows.
 
 ghost use Rattle.std.specs.Prelude.{◌≡◌, IfOk};
@@ -18,8 +18,8 @@ use charmlet_world::Element;
 use std::alloc::{AllocError, Global};
 use std::collections::BTreeMap;
 
-/// The opening with a fit world, given its arrays, its clients' rows, what is kept of each of its
-/// elements, and what a scan over a log kept, whose pending messages are those of the world. It
+/// The opening with a fit world, from a log scan's world, which has the same pending messages. Its
+/// arrays, its clients' rows, and the place and counts of each of its elements are given too. It
 /// fails only when out of memory.
 pub fn history_opening(
     alloc: Global,

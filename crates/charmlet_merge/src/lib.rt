@@ -1,5 +1,5 @@
-//! The end of a parallel restart: several replayers, each with its own elements,
-//! become one store, or all their objects become blanks again.
+//! Merge of a parallel restart's results: several replayers, each with its own elements, become one
+//! store, or all their objects become blanks again.
 #![tactic(auto)]
 
 mod combined;

@@ -1,5 +1,4 @@
-//! All objects that several replayers have become blanks of the stock from which they
-//! drew.
+//! Return of several replayers' objects, as blanks, to the stock from which they drew.
 
 ghost use Rattle.std.specs.Prelude.{◌≡◌, ◌+◌, ◌≤◌, true};
 ghost use Rattle.std.specs.List.{All, AllByRecursion};
@@ -19,9 +18,9 @@ use charmlet_shelf::Shelf;
 use charmlet_stock::{Stock, absorb};
 
 /// Puts all objects of replayers, on whose shelves no delivery is under way, back into the stock
-/// from which they drew, which kept its retired ones: each object that was supplied to it is a
-/// blank of it again, in whatever state, and from now on it drops what is retired. It takes no
-/// memory.
+/// from which they drew, which kept its retired ones. Each object that was supplied to the stock is
+/// a blank of it again, in whatever state, and from now on the stock drops retired objects. It
+/// takes no memory.
 pub fn reclaim_objects<C: Chare>(replayers: Vec<Replayer<C>>, stock: Stock<C>) -> Stock<C>
     requires held { AllByRecursion (λ replayer. IsHeld replayer.restored) replayers.items }
     requires shared { (kind : kinds.Kind) → supplied_to stock kind
@@ -40,7 +39,7 @@ pub fn reclaim_objects<C: Chare>(replayers: Vec<Replayer<C>>, stock: Stock<C>) -
     stock
 }
 
-/// Puts all objects of a replayer back into the stock from which it drew, where they are out.
+/// Puts all objects of a replayer back into the stock from which it drew and in which they are out.
 fn reclaim_replayer<C: Chare>(replayer: Replayer<C>, stock: &mut Stock<C>)
     requires held { IsHeld replayer.restored }
     requires room { (kind : kinds.Kind) → supplied_to replayer.restored.stock kind

@@ -1,4 +1,4 @@
-//! The store of what all replayers have.
+//! The store of all replayers together.
 
 ghost use Rattle.std.specs.Prelude.{◌≡◌, ◌+◌, ◌≤◌, ◌^◌};
 ghost use Rattle.charmlet_model.specs.declared.kind.Kind as kinds;
@@ -20,10 +20,10 @@ use charmlet_stock::Stock;
 use charmlet_store::Store;
 use std::alloc::Global;
 
-/// The store that opens with this world, whose elements several replayers have. The world came
-/// after so many events, and is that of the file with this generation, whose log ends at this
-/// place. The shelves that are given are empty ones of all processors, and the replayers' stocks go
-/// back into the one from which they drew. It takes no memory.
+/// Opens a store with this world, whose elements several replayers have. The world came after
+/// `before` events, and is that of the file with this generation, whose log ends at this place.
+/// `shelves` are empty ones of all processors, and the replayers' stocks go back into the one from
+/// which they drew. It takes no memory.
 pub fn reopen<C: Chare>(
     alloc: Global,
     opening: Opening,

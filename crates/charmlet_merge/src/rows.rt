@@ -1,4 +1,4 @@
-//! Clients' rows that are filled with what all replayers reply.
+//! Merge of all replayers' replies into the clients' rows.
 
 ghost use Rattle.std.specs.Prelude.{◌≡◌, ℕ, List, OnOk};
 ghost use Rattle.charmlet_model.specs.declared.logged.Logged as logs;
@@ -16,9 +16,9 @@ use charmlet_replayers::{Replayer, fill};
 use std::alloc::{AllocError, Global};
 use std::collections::BTreeMap;
 
-/// Puts copies of what all replayers reply to clients into the clients' rows, as a scan over the
-/// log kept them, which knows no words of these replies. Then they are the rows of the world after
-/// the log. It fails only when out of memory.
+/// Puts copies of all replayers' replies to clients into the clients' rows of a log scan, which
+/// doesn't know the words of these replies. Then they are the rows of the world after the log. It
+/// fails only when out of memory.
 pub fn fill_rows<C: Chare>(
     alloc: Global,
     rows: &mut BTreeMap<u32, ClientRow>,

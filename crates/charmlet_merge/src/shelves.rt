@@ -1,4 +1,4 @@
-//! Shelves that are taken from a replayer.
+//! Shelves of a replayer that are taken from it.
 
 ghost use Rattle.std.specs.Prelude.{◌≡◌, ◌<◌, length, if◌then◌else◌, slice_set};
 ghost use Rattle.charmlet_merge.specs.Taken.{HaveTaken};
@@ -6,8 +6,8 @@ ghost use Rattle.charmlet_merge.specs.Taken.{HaveTaken};
 use charmlet_chare::Chare;
 use charmlet_shelf::Shelf;
 
-/// Puts the shelves of a replayer's processors, of so many replayers, into their places, and drops
-/// its other ones.
+/// Puts the shelves of replayer `worker`'s processors, of `workers` replayers, into their places,
+/// and drops its other ones.
 pub(crate) fn take_shelves<C: Chare>(
     shelves: &mut Vec<Shelf<C>>,
     theirs: Vec<Shelf<C>>,
@@ -25,7 +25,7 @@ pub(crate) fn take_shelves<C: Chare>(
     }
 }
 
-/// Puts a shelf into its place, if it is to be taken, and else drops it.
+/// Puts a shelf into its place if it is taken, and drops it otherwise.
 fn put_if<C: Chare>(is_taken: bool, shelves: &mut Vec<Shelf<C>>, place: usize, shelf: Shelf<C>)
     requires { place < length shelves.old.items }
     ensures { shelves.new.items

@@ -1,5 +1,5 @@
-//! A half that several replayers brought back becomes a store, which goes on in the newest
-//! versions of its kinds.
+//! The store that several replayers restored from a half, and its upgrade to the newest versions of
+//! its kinds.
 
 mod built;
 mod history;

@@ -16,8 +16,8 @@ use charmlet_model::{Elem, Refusal};
 use charmlet_shelf::Shelf;
 use charmlet_stock::Stock;
 
-/// Moves an element from its place, which is this processor, to another one. Where it is refused,
-/// all is as before.
+/// Moves an element from its place, which is this processor, to another one. If refused, nothing
+/// changes.
 pub fn move_among<C: Chare>(
     history: &mut History,
     shelves: &mut [Shelf<C>],

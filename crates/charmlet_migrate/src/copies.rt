@@ -13,12 +13,12 @@ use charmlet_chare::Chare;
 use charmlet_model::{Elem, Refusal, Resident};
 use charmlet_shelf::Shelf;
 
-/// Places a copy of an element, which stands on one shelf, on another one, where it isn't yet. Its
-/// state goes over to a blank of its kind and version, and the blank stands on the other shelf,
-/// with the element's two counts. The element stays where it was.
+/// Places a copy of an element on another shelf, where it isn't yet. Its state goes into a blank of
+/// its kind and version, and the blank stands on the other shelf, with the element's two counts.
+/// The element stays where it was.
 ///
-/// `Uncommitted` where a delivery is under way on one of the two shelves, else `Memory`. Then the
-/// other shelf is as before too, and the blank comes back, in whatever state.
+/// `Uncommitted` if a delivery is under way on one of the two shelves; otherwise `Memory`. Then the
+/// other shelf is unchanged too, and the blank comes back, in whatever state.
 pub fn place_copy<C: Chare>(
     source: &mut Shelf<C>,
     destination: &mut Shelf<C>,
@@ -49,9 +49,9 @@ pub fn place_copy<C: Chare>(
     Ok(())
 }
 
-/// Makes a blank of an element's kind and version a copy of the element, which is on the shelf,
-/// with its counts. Where memory is refused, the blank comes back, in whatever state. The shelf is
-/// as before.
+/// Turns a blank of an element's kind and version into a copy of the element, which is on the
+/// shelf, with its counts. If memory is refused, the blank comes back, in whatever state. The shelf
+/// is unchanged.
 pub fn become_copy<C: Chare>(
     shelf: &mut Shelf<C>,
     elem: Elem,

@@ -22,14 +22,14 @@ use charmlet_model::{Elem, Refusal};
 use charmlet_shelf::Shelf;
 use charmlet_stock::Stock;
 
-/// Moves an element from the shelf of its place to another processor's. A blank of its kind is
-/// taken from the stock, is set to its version, gets its state, and stands on the other shelf, with
-/// the element's two counts; then the element's place changes; only then its old object leaves its
-/// shelf and is retired.
+/// Moves an element from its shelf to another processor's. A blank of its kind is taken from the
+/// stock, is set to its version, gets its state, and stands on the other shelf, with the element's
+/// two counts. Then the element's place changes. Only then its old object leaves its shelf and is
+/// retired.
 ///
-/// `Halted`, else `Uncommitted` where one of the two processors has an assigned message, else
-/// `NoBlank` where the stock lacks a blank of the element's kind, else `Memory`. Then the blank is
-/// in the stock again, and all is as before.
+/// `Halted`; otherwise `Uncommitted` if one of the two processors has an assigned message;
+/// otherwise `NoBlank` if the stock lacks a blank of the element's kind; otherwise `Memory`. Then
+/// the blank is in the stock again, and nothing has changed.
 pub fn move_between<C: Chare>(
     history: &mut History,
     source: &mut Shelf<C>,
@@ -76,11 +76,11 @@ pub fn move_between<C: Chare>(
     Ok(())
 }
 
-/// Places a copy of an element on another processor's shelf, where the element stands from then on.
-/// Its old object stays on its shelf.
+/// Places a copy of an element on another processor's shelf, which is the element's place from then
+/// on. Its old object stays on its shelf.
 ///
-/// `Uncommitted` where a delivery is under way on one of the two shelves, else `Memory`. Then all
-/// is as before, and the blank comes back, in whatever state.
+/// `Uncommitted` if a delivery is under way on one of the two shelves; otherwise `Memory`. Then
+/// nothing changes, and the blank comes back, in whatever state.
 fn carry<C: Chare>(
     history: &mut History,
     source: &mut Shelf<C>,

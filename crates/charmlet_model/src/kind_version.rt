@@ -52,7 +52,7 @@ impl KindVersion {
         }
     }
 
-    /// Its kind.
+    /// The kind of this kind version.
     pub fn kind(self) -> Kind
         ensures { result ≡ kind_of_version self }
     {
@@ -67,7 +67,7 @@ impl KindVersion {
         }
     }
 
-    /// Its version, from 1 on.
+    /// The version number of this kind version, from 1 on.
     pub fn version(self) -> u16
         ensures value { result ≡ number_of_version self }
         ensures inverse { versioned (kind_number (kind_of_version self)) result ≡ Some self }
@@ -83,7 +83,7 @@ impl KindVersion {
         }
     }
 
-    /// The newest version of its kind.
+    /// The newest version of this kind.
     pub fn newest(self) -> KindVersion
         ensures { result ≡ newest self }
     {
@@ -93,7 +93,7 @@ impl KindVersion {
         }
     }
 
-    /// Whether its kind has no newer version.
+    /// Whether this kind has no newer version.
     pub fn is_newest(self) -> bool
         ensures { result ≡ is_newest self }
     {

@@ -7,8 +7,8 @@ use arrayvec::ArrayVec;
 use std::alloc::{AllocError, Global};
 use std::marker::Model;
 
-/// Up to eight items, the oldest first: each is the reply to a request, or `None` until there is
-/// one. A contract sees the list. Only `copy` takes memory.
+/// The replies to a client's last requests: up to eight items, the oldest first. Each item is a
+/// reply, or `None` until there is one. A contract sees the list. Only `copy` takes memory.
 #[derive(Debug)]
 pub struct Window {
     items: ArrayVec<Option<Words>, 8>,
@@ -77,7 +77,7 @@ impl Window {
         self.items[place] = Some(reply);
     }
 
-    /// Appends an item. There have to be fewer than eight.
+    /// Appends an item to the window. There have to be fewer than eight.
     pub fn push(&mut self, item: Option<Words>)
         requires { length self.old < 8 }
         ensures { self.new ≡ self.old ++ item ∷ [] }
@@ -104,7 +104,7 @@ impl Window {
         Ok(copy)
     }
 
-    /// Removes all items.
+    /// Removes all items of the window.
     pub fn clear(&mut self)
         ensures { self.new ≡ [] }
     {

@@ -30,14 +30,13 @@ use charmlet_stock::Stock;
 use std::alloc::Global;
 use std::thread::Threads;
 
-/// Brings a half back by several replayers, who have nothing yet: its image, what waits there, and
-/// the events of its log. Answers its arrays, and the world after the log but for what the
-/// replayers have.
+/// Restores a half by several replayers, which have nothing yet: its image, its pending messages
+/// and clients, and the events of its log. Answers its arrays, and the world after the log without
+/// the replayers' part.
 ///
-/// `Damaged` has the place of the first record that is at fault, in the catch-up list, else among
-/// the pending messages, else in the log; `Memory`. `OutOfBlanks` where the stock has no blank for
-/// an event of the log that is written to construct its receiver. Whatever it answers, no object is
-/// lost.
+/// `Damaged` has the place of the first faulty record, in the catch-up list, otherwise among the
+/// pending messages, otherwise in the log; `Memory`. `OutOfBlanks` if the stock has no blank for an
+/// event that, as the log says, constructs its receiver. Whatever it answers, no object is lost.
 pub(crate) fn redo_half<R: Threads + Sync, C: Chare>(
     rt: &R,
     alloc: Global,

@@ -1,5 +1,5 @@
-//! Several replayers bring an image back, each its own elements and deliveries, and what
-//! waits there is tested.
+//! The restoring of an image by several replayers, each with its own elements and deliveries, and
+//! the test of its pending messages.
 
 ghost use Rattle.std.specs.Prelude.{◌≡◌, ◌<◌, Err, IfOk, OnOk, length, map, true};
 ghost use Rattle.std.specs.List.{All};
@@ -47,7 +47,7 @@ use std::collections::BTreeMap;
 use std::thread::Threads;
 
 /// Gives each replayer, which has nothing yet, its elements of an image, its deliveries of the
-/// catch-up list, and the blanks for both. It fails only when out of memory; whatever it answers,
+/// catch-up list, and the blanks for both. It fails only when out of memory. Whatever it answers,
 /// no object is lost.
 fn give_all<C: Chare>(
     alloc: Global,
@@ -73,10 +73,10 @@ fn give_all<C: Chare>(
     fill_replayers(alloc, manifest, stock, replayers, entries)
 }
 
-/// Brings the elements of an image back, and makes the deliveries of its catch-up list again, by
-/// several replayers, each for its own elements, in as many threads as can be started. Answers what
-/// is then kept of each element, whichever replayer has it. `Damaged` has the place of the first
-/// delivery that is at fault, whichever replayer finds it; `Memory`.
+/// Restores the elements of an image, and repeats the deliveries of its catch-up list, by several
+/// replayers, each for its own elements, in as many threads as can be started. Answers each
+/// element's place and counts afterwards, whichever replayer has it. `Damaged` has the place of the
+/// first faulty delivery, whichever replayer finds it; `Memory`.
 fn bring_back<R: Threads + Sync, C: Chare>(
     rt: &R,
     alloc: Global,
@@ -113,13 +113,13 @@ fn bring_back<R: Threads + Sync, C: Chare>(
     Ok(elements)
 }
 
-/// Brings an image back by several replayers, who have nothing yet: its elements, its catch-up list
-/// and what waits. The deliveries of the list are made again in as many threads as can be started.
-/// Answers its arrays, and the world that it gives but for the states of its elements, which the
-/// replayers have. The stock gives each replayer the blanks for its objects.
+/// Restores an image by several replayers, which have nothing yet: its elements, its catch-up list,
+/// its pending messages and its clients. The deliveries of the list are repeated in as many threads
+/// as can be started. Answers its arrays, and its world without the states of its elements, which
+/// the replayers have. The stock gives each replayer the blanks for its objects.
 ///
-/// `Damaged` has the place of the first record that is at fault, in the catch-up list before the
-/// pending messages, whoever finds it; `Memory`. Whatever it answers, no object is lost.
+/// `Damaged` has the place of the first faulty record, in the catch-up list before the pending
+/// messages, whichever replayer finds it; `Memory`. Whatever it answers, no object is lost.
 pub fn restore_image_parallel<R: Threads + Sync, C: Chare>(
     rt: &R,
     alloc: Global,

@@ -1,5 +1,5 @@
-//! Parallel replay: several replayers bring a half back, in as many threads as can be started, and
-//! it becomes the store that a replay by one gives.
+//! Parallel replay: several replayers restore a half, in as many threads as can be started, and the
+//! result is the store that a replay by one gives.
 #![tactic(auto)]
 
 mod half;

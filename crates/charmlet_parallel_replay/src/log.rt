@@ -1,4 +1,4 @@
-//! Several replayers replay a log, and answer what one would.
+//! The replay of a log by several replayers, with the result of one.
 
 mod chunks;
 mod forget;

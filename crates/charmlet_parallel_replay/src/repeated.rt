@@ -1,4 +1,4 @@
-//! A half that is taken becomes a store again, by several replayers.
+//! The replay of a taken half by several replayers, which becomes a store again.
 
 ghost use Rattle.std.specs.Prelude.{◌≡◌, ◌+◌, ◌-◌, ℕ, [], List, IfErr, IfOk, length, true};
 ghost use Rattle.std.specs.List.{All};
@@ -35,18 +35,18 @@ use charmlet_store::{Store, empty_shelves};
 use std::alloc::Global;
 use std::thread::Threads;
 
-/// That memory was refused.
+/// The error of refused memory.
 const MEMORY: ReplayError = ReplayError::Read(ReadError::Memory);
 
-/// Why several replayers brought no half back, and all objects that were handed in, as blanks
-/// again, in whatever state.
+/// Why several replayers restored no half, and all objects that were handed in, as blanks, in
+/// whatever state.
 #[derive(Drop)]
 pub struct NotRepeated<C: Chare> {
     pub why: ReplayError,
     pub blanks: Stock<C>,
 }
 
-/// The world that a half gives, for contracts alone.
+/// The world of a half, for contracts alone.
 #[derive(Drop)]
 struct Given<'a, 'b, 'c> {
     image: &'a ImageView<'b>,
@@ -62,8 +62,8 @@ impl HasWorld for Given<'_, '_, '_> {
         (events_in g.image.now.manifest g.log.now.rest.now) };
 }
 
-/// That nothing became of a half, with all objects of the replayers, and those that are left, as
-/// blanks again. It takes no memory.
+/// Refuses a half, with all objects of the replayers, and those that are left, as blanks again. It
+/// takes no memory.
 fn refuse<C: Chare>(
     why: ReplayError,
     replayers: Vec<Replayer<C>>,
@@ -84,9 +84,8 @@ fn refuse<C: Chare>(
     }
 }
 
-/// The store that an open half has, in the versions of its kinds that are written there, which
-/// several replayers bring back. What is refused, and what comes back then, is as [`replay_by`]
-/// says.
+/// Opens the store of an open half by several replayers, in the kind versions that are written
+/// there. The refusals, and what comes back then, are those of [`replay_by`].
 fn repeat_by<R: Threads + Sync, C: Chare>(
     rt: &R,
     alloc: Global,
@@ -160,18 +159,19 @@ fn repeat_by<R: Threads + Sync, C: Chare>(
     }
 }
 
-/// Opens the store that an open half has, on this number of processors, as
-/// [`charmlet_replay::replay`] does, and by so many replayers: each has the elements of the
-/// processors p with p mod workers = w, and brings them back in as many threads as can be started.
-/// What comes of it is the same for any number of replayers.
+/// Opens the store of an open half, on this number of processors, as [`charmlet_replay::replay`]
+/// does, by `workers` replayers. Replayer w has the elements of the processors p with p mod workers
+/// = w, and restores them in as many threads as can be started. The result is the same for any
+/// number of replayers.
 ///
-/// The blanks have to suffice for the half's image. Whether they suffice for its log too isn't
-/// known before: `OutOfBlanks` where none is left for an event that is written to construct its
+/// There have to be enough blanks for the half's image. Whether they suffice for its log too isn't
+/// known before: `OutOfBlanks` if none is left for an event that, as the log says, constructs its
 /// receiver.
 ///
 /// `Damaged` has the place of the first record that can't be or isn't what the objects do: in the
-/// catch-up list, else among the pending messages, else in the log, whichever replayer finds it.
-/// `Memory`. In each case all objects come back, as blanks of the stock, in whatever state.
+/// catch-up list, otherwise among the pending messages, otherwise in the log, whichever replayer
+/// finds it. `Memory`. In each case all objects come back, as blanks of the stock, in whatever
+/// state.
 pub fn replay_by<R: Threads + Sync, C: Chare>(
     rt: &R,
     alloc: Global,

@@ -1,5 +1,5 @@
-//! Checkpoints that let a store go on: what one has of the store while it runs, and what it writes
-//! at its end.
+//! Fuzzy checkpoints, which let a store go on: what a checkpoint keeps of the store while it runs,
+//! and what it writes at its end.
 
 mod beginning;
 mod captured_element;

@@ -1,4 +1,5 @@
-//! What reaches the disk: flushes, checkpoints, and checkpoints that let a store go on meanwhile.
+//! Writes of a store to its disk: creation, flushes, checkpoints, and fuzzy checkpoints, which let
+//! the store go on meanwhile.
 #![tactic(auto)]
 
 mod fuzzy_checkpoint;

@@ -1,5 +1,5 @@
-//! Checkpoints: the image of the present world of a history and its shelves, and what takes the
-//! place of a store.
+//! Checkpoints: the image of the present world of a history and its shelves, which replaces a
+//! store.
 
 mod clients;
 mod image;

@@ -24,7 +24,7 @@ pub(crate) fn live_on_hub<W: Write, R: Threads + Wait + Sync>(
     live_as::<Brand, W, R>(rt, probe, store, authorities)
 }
 
-/// The same, under this name.
+/// Runs the lines of a probe over a hub under this name.
 fn live_as<B: RuntimeName, W: Write, R: Threads + Wait + Sync>(
     rt: &R,
     probe: &mut Probe<'_, W>,

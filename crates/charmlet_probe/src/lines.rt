@@ -1,4 +1,4 @@
-//! What each line of a probe does.
+//! The effect of each line of a probe.
 
 use crate::words::{bytes, choice, half, kind, number};
 use charmlet_model::Answer;
@@ -12,11 +12,11 @@ use std::sync::Wait;
 use std::sync::atomic::Ordering;
 use std::thread::Threads;
 
-/// What a line prints that shows something and is refused memory.
+/// The output of a line that shows something and is refused memory.
 const REFUSED: &[u8] = b"refused 1 Memory\n";
 
-/// Runs a line, and prints what it answers. Where memory is refused, and that is asked for, it is
-/// run once more.
+/// Runs a line, and prints its answer. If memory is refused, and that is asked for, it runs the
+/// line once more.
 pub(crate) fn run_line<M: Machine, R: Threads + Wait + Sync>(
     rt: &R,
     alloc: Global,
@@ -88,8 +88,8 @@ fn act<M: Machine, R: Threads + Wait + Sync>(
     }
 }
 
-/// What a line calls of a checkpoint that runs while others work, by its words. An image of no
-/// shelf isn't one.
+/// A line's call of a checkpoint that runs while others work, by its words. `None` for any other
+/// line, including an image of no shelf.
 fn running_of(name: &str, words: &[&str]) -> Result<Option<Running>, Failed> {
     match (name, words) {
         ("begin", []) => Ok(Some(Running::Begin)),
@@ -100,7 +100,7 @@ fn running_of(name: &str, words: &[&str]) -> Result<Option<Running>, Failed> {
     }
 }
 
-/// What a worker's line calls, by its name.
+/// A worker's line's call, by its name.
 fn turn_of(name: &str) -> Option<Turn> {
     match name {
         "enter" => Some(Turn::Enter),
@@ -113,7 +113,7 @@ fn turn_of(name: &str) -> Option<Turn> {
     }
 }
 
-/// A line of a hub.
+/// Runs a line of a hub.
 fn handle<M: Machine>(
     alloc: Global,
     bench: &mut Bench,
@@ -143,7 +143,7 @@ fn delivering(alloc: Global, text: &str) -> Result<String, Failed> {
     Ok(line)
 }
 
-/// What isn't handed in, by two words.
+/// The seat or pass that isn't handed in, by two words.
 fn without(words: &[&str]) -> Result<Without, Failed> {
     match words {
         ["seat", processor] => Ok(Without::Seat(number(processor)?)),
@@ -160,7 +160,7 @@ fn only<'a>(words: &[&'a str]) -> Result<&'a str, Failed> {
     }
 }
 
-/// A line with which a store begins.
+/// Runs a line that begins a store.
 fn begin<R: Threads + Sync>(
     rt: &R,
     bench: &mut Bench,
@@ -181,7 +181,7 @@ fn begin<R: Threads + Sync>(
     }
 }
 
-/// A line with which a store ends.
+/// Runs a line that ends a store.
 fn end<M: Machine>(
     bench: &mut Bench,
     store: &mut Option<M>,
@@ -197,7 +197,7 @@ fn end<M: Machine>(
     }
 }
 
-/// A line that shows something of a store.
+/// Runs a line that shows something of a store.
 fn show<M: Machine>(
     bench: &mut Bench,
     store: &mut Option<M>,
@@ -220,7 +220,7 @@ fn show<M: Machine>(
     }
 }
 
-/// A line of a client's pass.
+/// Runs a line of a client's pass.
 fn ask<M: Machine>(
     bench: &mut Bench,
     store: &mut Option<M>,
@@ -241,7 +241,7 @@ fn ask<M: Machine>(
     }
 }
 
-/// A line of how the disk misbehaves.
+/// Runs a line that makes the disk misbehave.
 fn tell(bench: &Bench, name: &str, words: &[&str]) -> Result<(), Failed> {
     let switches = bench.switches();
     match name {
@@ -253,7 +253,7 @@ fn tell(bench: &Bench, name: &str, words: &[&str]) -> Result<(), Failed> {
     Ok(())
 }
 
-/// A line that shows the calls that the disk had.
+/// Runs a line that shows the calls of the disk.
 fn count(bench: &mut Bench, name: &str, out: &mut Vec<u8>) -> Result<(), Failed> {
     let [lengths, reads, writes, syncs, failed] = bench.switches().counts();
     match name {
@@ -269,7 +269,7 @@ fn count(bench: &mut Bench, name: &str, out: &mut Vec<u8>) -> Result<(), Failed>
     }
 }
 
-/// A line on the bytes of the disk.
+/// Runs a line on the bytes of the disk.
 fn touch(
     alloc: Global,
     bench: &mut Bench,
@@ -294,7 +294,7 @@ fn touch(
     }
 }
 
-/// A line of what is found on the disk.
+/// Runs a line that shows the findings on the disk.
 fn find(bench: &mut Bench, name: &str, out: &mut Vec<u8>) -> Result<(), Failed> {
     match name {
         "manifest" => bench.manifest(out),

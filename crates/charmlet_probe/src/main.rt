@@ -1,5 +1,5 @@
 //! `charmlet_probe`: runs the lines of a probe, over a disk that fails as told and objects that
-//! count what is done with them; by an engine, or after `--hub` by a hub.
+//! count their calls; by an engine, or after `--hub` by a hub.
 #![tactic(auto)]
 
 mod hubs;
@@ -29,7 +29,7 @@ fn script_in(rt: HostRuntime, path: &str) -> Result<Script, ExitReason> {
     Ok(Script::of(rt.alloc(), text.as_str())?)
 }
 
-/// An output with room, so that few lines need more. Where memory is refused it is tried once more.
+/// An output with room, so that few lines need more. If memory is refused, it is tried once more.
 fn output(alloc: Global) -> Result<Vec<u8>, AllocError> {
     match Vec::with_capacity(alloc, ROOM) {
         Ok(out) => Ok(out),
@@ -37,7 +37,7 @@ fn output(alloc: Global) -> Result<Vec<u8>, AllocError> {
     }
 }
 
-/// A probe: its lines, what they work on, and where they print.
+/// A probe: its lines, the bench on which they work, and the writer to which they print.
 #[derive(Drop)]
 pub(crate) struct Probe<'a, W: Write> {
     pub(crate) alloc: Global,
@@ -47,7 +47,7 @@ pub(crate) struct Probe<'a, W: Write> {
 }
 
 impl<W: Write> Probe<'_, W> {
-    /// Runs the next line, and prints what it answers.
+    /// Runs the next line, and prints its answer.
     fn print_line<M: Machine, R: Threads + Wait + Sync>(
         &mut self,
         rt: &R,
@@ -62,7 +62,7 @@ impl<W: Write> Probe<'_, W> {
         }
     }
 
-    /// Runs lines until the store ends. What each answers is printed before the next one is run.
+    /// Runs lines until the store ends. Each answer is printed before the next line is run.
     pub(crate) fn live<M: Machine, R: Threads + Wait + Sync>(
         &mut self,
         rt: &R,
@@ -77,8 +77,8 @@ impl<W: Write> Probe<'_, W> {
         Ok(())
     }
 
-    /// Runs the next line, where there is no store, and then those of the store that it makes, if
-    /// it makes one.
+    /// Runs the next line while there is no store, and then the lines of the store that it makes,
+    /// if it makes one.
     fn go_on<R: Threads + Wait + Sync>(
         &mut self,
         rt: &R,
@@ -96,7 +96,7 @@ impl<W: Write> Probe<'_, W> {
         }
     }
 
-    /// Runs each line, and prints what it answers before the next one is run.
+    /// Runs each line, and prints its answer before the next one is run.
     fn run<R: Threads + Wait + Sync>(
         &mut self,
         rt: &R,

@@ -29,7 +29,7 @@ impl Script {
         self.taken
     }
 
-    /// Takes the next line, or none where none is left.
+    /// Takes the next line, or none if no line is left.
     pub(crate) fn take(&mut self) -> &str {
         let place = self.taken;
         self.taken = self.taken.saturating_add(1);

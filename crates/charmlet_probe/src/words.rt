@@ -1,4 +1,4 @@
-//! What the words of a line spell.
+//! The meanings of a line's words.
 
 use charmlet_disk::CrashChoice;
 use charmlet_model::{Half, Kind};
@@ -31,7 +31,7 @@ pub(crate) fn kind(word: &str) -> Result<Kind, Failed> {
     Kind::of_number(number(word)?).ok_or(Failed::Malformed)
 }
 
-/// What a crash makes of what isn't sure, by a word.
+/// The choice of a crash that a word names.
 pub(crate) fn choice(word: &str) -> Result<CrashChoice, Failed> {
     match word {
         "old" => Ok(CrashChoice::Old),

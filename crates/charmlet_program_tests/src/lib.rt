@@ -1,5 +1,5 @@
-//! Tests of the program and of its laboratory. They have a crate of their own, since a crate with
-//! tests is proved twice.
+//! Tests of the program and of its laboratory. They are a separate crate, since a crate with tests
+//! is proved twice.
 #![tactic(auto)]
 
 #[cfg(test)]

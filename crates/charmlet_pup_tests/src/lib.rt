@@ -1,5 +1,5 @@
-//! Structs of one's own, each with a pup routine and its proof, and what they pack to. The gate
-//! proves these tests, since they show what such a proof takes.
+//! Tests with structs of the user's own, each with a pup routine and its proof, and their packed
+//! forms. The gate proves these tests, since they show what such a proof takes.
 #![tactic(auto)]
 
 #[cfg(test)]

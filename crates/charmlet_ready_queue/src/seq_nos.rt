@@ -1,5 +1,5 @@
-//! Sequence numbers of messages, in rising order, and the looks that it takes to find one.
-//! A sequence number is the number that a message has among all that ever came.
+//! Sequence numbers of messages, in rising order, and the looks that it takes to find one. A
+//! message's sequence number is its number among all messages that ever came.
 
 mod ring;
 mod seq_nos;

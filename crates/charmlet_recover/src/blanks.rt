@@ -1,4 +1,4 @@
-//! Blanks that are handed to a restart.
+//! Blanks for a restart.
 
 ghost use Rattle.std.specs.Prelude.{◌≡◌, IfErr, IfOk};
 ghost use Rattle.charmlet_model.specs.declared.kind.Kind.{Kind};
@@ -10,8 +10,8 @@ use charmlet_chare::Chare;
 use charmlet_stock::Stock;
 use std::alloc::Global;
 
-/// A stock of these blanks, of which none was used yet, so that a restart can take it. Where memory
-/// is refused, or there are more than 2^64-1 of a kind, it hands all of them back.
+/// A stock of these blanks, all unused, for a restart. If memory is refused, or there are more than
+/// 2^64-1 of a kind, it hands all of them back.
 pub fn stock_from_objects<C: Chare>(alloc: Global, blanks: Vec<C>) -> Result<Stock<C>, Vec<C>>
     ensures unused { IfOk result (λ stock. IsUnused stock) }
     ensures supplied { IfOk result (λ stock. (kind : Kind) →

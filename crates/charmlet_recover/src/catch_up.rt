@@ -24,9 +24,9 @@ pub(crate) fn is_constructed(effect: Effect) -> bool
     matches!(effect, Effect::Constructed)
 }
 
-/// Notes how many messages the receiver of a delivery has received, and says whether the delivery
-/// isn't skipped: its count is above all of its receiver's so far. It fails only when out of
-/// memory.
+/// Notes how many messages the receiver of a delivery has received, and returns whether the
+/// delivery isn't skipped: its count is above its receiver's count so far. It fails only when out
+/// of memory.
 fn note_received(
     received: &mut BTreeMap<Elem, u64>,
     delivery: &CatchUpEntry,
@@ -42,8 +42,8 @@ fn note_received(
     Ok(delivery.received > before)
 }
 
-/// The kind version of the object that a delivery constructs, unless it is skipped, or constructs
-/// none.
+/// The kind version of the object that a delivery constructs, if it constructs one and isn't
+/// skipped.
 fn kind_version_made(
     manifest: &Manifest,
     delivery: &CatchUpEntry,
@@ -60,8 +60,8 @@ fn kind_version_made(
     }
 }
 
-/// The blanks that a catch-up list needs, where `received` is how many messages each element had
-/// received. It fails only when out of memory.
+/// The blanks that a catch-up list needs, if each element had received `received` messages before.
+/// It fails only when out of memory.
 pub(crate) fn count_catch_up(
     manifest: &Manifest,
     received: &mut BTreeMap<Elem, u64>,

@@ -16,7 +16,7 @@ use charmlet_model::{Elem, KindVersion, Manifest};
 use std::alloc::{AllocError, Global};
 use std::collections::BTreeMap;
 
-/// The kind version of the object that an entry has, if it has one.
+/// The kind version of an entry's object, if it has one.
 fn kind_version_held(manifest: &Manifest, entry: &Entry<'_>) -> Option<KindVersion>
     ensures { (kind : Kind) → is_of kind result ≡ (is_some entry.now.packed
         && array_is manifest.now kind entry.now.element.array) }
@@ -40,7 +40,7 @@ pub(crate) fn count_entries(manifest: &Manifest, entries: &[Entry<'_>]) -> Wante
     wanted
 }
 
-/// How many messages each element of these had received, whose entries rise. It fails only when out
+/// How many messages each of these elements had received; the entries rise. It fails only when out
 /// of memory.
 pub(crate) fn received_of(
     alloc: Global,

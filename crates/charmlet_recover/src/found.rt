@@ -1,4 +1,4 @@
-//! What two halves say, for those who would restart from them.
+//! The findings in two halves, for a caller that may restart from them.
 
 ghost use Rattle.std.specs.Prelude.{◌≡◌, true, IfErr, IfOk};
 ghost use Rattle.charmlet_model.specs.declared.half.Half.TheVariants as halves;
@@ -16,16 +16,17 @@ use charmlet_image::{ImageView, OpenHalf};
 use charmlet_model::{Half, Manifest, Refusal};
 use std::alloc::{AllocError, Global};
 
-/// What is found in two halves.
+/// The findings in two halves: the taken one, its header and log, its arrays, and the blanks that a
+/// restart needs.
 #[derive(Debug, Drop)]
 pub struct Found {
     /// The half that is taken.
     pub half: Half,
-    /// Its generation.
+    /// The generation of the taken half.
     pub generation: u64,
-    /// How many events came before its image.
+    /// How many events came before the half's image.
     pub before: u64,
-    /// How many events its open batches have.
+    /// How many events are in its open batches.
     pub logged: u64,
     /// The kind version of each array.
     pub manifest: Manifest,
@@ -33,12 +34,12 @@ pub struct Found {
     pub wanted: Wanted,
 }
 
-/// What two halves say: which of them is taken, what its header and its log have, its arrays, and
-/// how many blank objects a restart from it needs. It only reads, and syncs nothing.
+/// Reads two halves, and finds which of them is taken, the data of its header and its log, its
+/// arrays, and how many blank objects a restart from it needs. It only reads, and syncs nothing.
 ///
-/// `Damaged` names the first field that isn't as the format says, and `NothingHere` says that
-/// neither half is open, as [`charmlet_halves::survey`] has it; `Memory`; `Device`. Whether the
-/// events can have happened isn't tested.
+/// `Damaged` names the first field that breaks the format, and `NothingHere` says that neither half
+/// is open, as in [`charmlet_halves::survey`]; `Memory`; `Device`. Whether the events can have
+/// happened isn't tested.
 pub fn manifest<D: Disk>(alloc: Global, disk: &mut D) -> Result<Found, Refusal>
     ensures read { IfOk result IsRead }
     ensures err { IfErr result (λ refusal. is_finding_refusal refusal ≡ true) }
@@ -56,7 +57,7 @@ pub fn manifest<D: Disk>(alloc: Global, disk: &mut D) -> Result<Found, Refusal>
     }
 }
 
-/// What is found in the half that was surveyed. It fails only when out of memory.
+/// The findings in the surveyed half. It fails only when out of memory.
 fn found_in(alloc: Global, survey: &Surveyed) -> Result<Found, AllocError>
     requires { surveys.Reads survey.now }
     ensures half { IfOk result (λ found. found.half ≡ survey.now.half) }

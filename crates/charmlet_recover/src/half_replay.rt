@@ -1,4 +1,4 @@
-//! A half that becomes a store again, by one worker or by several.
+//! The replay of a half, by one worker or by several.
 
 ghost use Rattle.std.specs.Prelude.{◌≡◌, ◌-◌, [], Err, IfErr, IfOk, length, true};
 ghost use Rattle.charmlet_image.specs.Halves.{Open, Takes, found};
@@ -41,8 +41,8 @@ pub(crate) struct NotReopened<C: Chare> {
     pub(crate) blanks: Stock<C>,
 }
 
-/// Opens the store that a half which was surveyed has, by one worker or by several: by these where
-/// [`is_shared`] says so.
+/// Opens the store of a surveyed half, by one worker or by several: by several if [`is_shared`]
+/// says so.
 ///
 /// `BlanksWanted` with the least kind that has too few blanks, and how many of it the half needs in
 /// all; `Damaged` at the first byte of the first record that can't be; `Memory`.
@@ -82,9 +82,8 @@ pub(crate) fn replay_half<R: Threads + Sync, C: Chare>(
     }
 }
 
-/// Whether several workers are to bring a half back, which has these bytes: where there are several
-/// and a delivery is to be made again, and where the blanks suffice for its image. It fails only
-/// when out of memory.
+/// Whether several workers are to restore a half with these bytes: there are several, there is a
+/// delivery to repeat, and the blanks suffice for its image. It fails only when out of memory.
 fn is_shared<C: Chare>(
     alloc: Global,
     bytes: &[u8],
@@ -104,9 +103,9 @@ fn is_shared<C: Chare>(
     Ok(lacking(blanks, &by_image).is_none())
 }
 
-/// Opens the store that a half has, by one worker, as [`replay`] does, which keeps no event until
-/// the others are read. It counts the blanks that the half needs before. What is refused is as
-/// [`replay_half`] says.
+/// Opens the store of a half, by one worker, as [`replay`] does, which keeps no event until the
+/// others are read. It counts the blanks that the half needs before. The refusals are those of
+/// [`replay_half`].
 fn replay_alone<C: Chare>(
     alloc: Global,
     survey: &Surveyed,
@@ -140,9 +139,9 @@ fn replay_alone<C: Chare>(
     }
 }
 
-/// Opens the store that a half has, by several workers, as [`replay_by`] does. The blanks have to
-/// suffice for its image. Those that its log needs are counted only where the workers don't come to
-/// its end. What is refused is as [`replay_half`] says.
+/// Opens the store of a half, by several workers, as [`replay_by`] does. There have to be enough
+/// blanks for its image. Those that its log needs are counted only if the workers don't reach its
+/// end. The refusals are those of [`replay_half`].
 fn replay_shared<R: Threads + Sync, C: Chare>(
     rt: &R,
     alloc: Global,
@@ -178,9 +177,8 @@ fn replay_shared<R: Threads + Sync, C: Chare>(
     }
 }
 
-/// Why a half isn't a store again that workers didn't bring back, with these blanks: `BlanksWanted`
-/// where they don't suffice for it, since that comes before a record that is at fault; `Damaged`;
-/// `Memory`.
+/// The refusal of a half that workers didn't restore with these blanks: `BlanksWanted` if they
+/// don't suffice for it, since that comes before a faulty record; `Damaged`; `Memory`.
 fn refusal_after<C: Chare>(
     alloc: Global,
     survey: &Surveyed,

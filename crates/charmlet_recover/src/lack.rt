@@ -1,4 +1,4 @@
-//! The blanks that are lacking.
+//! Lacking blanks.
 
 ghost use Rattle.std.specs.Prelude.{◌≡◌, option_map};
 ghost use Rattle.charmlet_model.specs.declared.refusal.Refusal.TheVariants as refusals;
@@ -11,8 +11,8 @@ use charmlet_chare::Chare;
 use charmlet_model::{Kind, Refusal};
 use charmlet_stock::Stock;
 
-/// The kind and how many blanks are wanted of it, where the stock has fewer, and else what later
-/// kinds lack.
+/// The kind, and how many blanks of it are wanted, if the stock has fewer; otherwise the lack of
+/// later kinds.
 fn short_of<C: Chare>(
     stock: &Stock<C>,
     wanted: &Wanted,
@@ -29,8 +29,8 @@ fn short_of<C: Chare>(
     }
 }
 
-/// The least kind of which the stock has fewer blanks than are wanted, and all that are wanted of
-/// it.
+/// The least kind of which the stock has fewer blanks than are wanted, and how many of it are
+/// wanted in all.
 fn least_short<C: Chare>(stock: &Stock<C>, wanted: &Wanted) -> Option<(Kind, u64)>
     ensures { result ≡ least_short (stocks.blanks_in stock.now) (blanks_in wanted.now) }
 {
@@ -42,8 +42,8 @@ fn least_short<C: Chare>(stock: &Stock<C>, wanted: &Wanted) -> Option<(Kind, u64
     short_of(stock, wanted, Kind::Counter, short)
 }
 
-/// The refusal where more blanks are wanted than the stock has: `BlanksWanted`, with the least such
-/// kind and all that are wanted of it. There is none where the stock has enough of each kind.
+/// The refusal if more blanks are wanted than the stock has: `BlanksWanted`, with the least such
+/// kind and how many of it are wanted in all. It is `None` if the stock has enough of each kind.
 pub fn lacking<C: Chare>(stock: &Stock<C>, wanted: &Wanted) -> Option<Refusal>
     ensures { result ≡ option_map (λ lack. refusals.BlanksWanted lack.0 lack.1)
         (least_short (stocks.blanks_in stock.now) (blanks_in wanted.now)) }

@@ -1,5 +1,5 @@
-//! What stands in two halves, found by reads alone: which half is taken, and how many blank objects
-//! a restart needs. And stores that come back from two halves.
+//! Restarts from two halves: reads that find the taken half and how many blank objects a restart
+//! needs, and stores that are restored from it.
 #![tactic(auto)]
 
 mod blanks;

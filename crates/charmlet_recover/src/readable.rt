@@ -1,4 +1,4 @@
-//! A half that is to become a store again, and why it can't.
+//! Halves with enough blanks for a restart, and refusals of others.
 
 ghost use Rattle.std.specs.Prelude.{◌≡◌, true, None, IfErr, IfOk, length};
 ghost use Rattle.charmlet_image.specs.Halves.{Open, found};
@@ -22,8 +22,8 @@ use charmlet_record::{Fault, ReadError};
 use charmlet_stock::Stock;
 use std::alloc::Global;
 
-/// Tests whether these blanks suffice for an open half, whose bytes these are. `BlanksWanted` names
-/// the least kind that has too few, and how many of it the half needs in all; `Memory`.
+/// Tests whether these blanks suffice for an open half with these bytes. `BlanksWanted` names the
+/// least kind that has too few, and how many of it the half needs in all; `Memory`.
 pub(crate) fn test_blanks<C: Chare>(
     alloc: Global,
     bytes: &[u8],
@@ -43,8 +43,8 @@ pub(crate) fn test_blanks<C: Chare>(
     }
 }
 
-/// The half that was surveyed, where these blanks suffice for it. `BlanksWanted` names the least
-/// kind that has too few, and how many of it the half needs in all; `Memory`.
+/// The surveyed half, if these blanks suffice for it. `BlanksWanted` names the least kind that has
+/// too few, and how many of it the half needs in all; `Memory`.
 pub fn replayable_half<'a, C: Chare>(
     alloc: Global,
     survey: &'a Surveyed,

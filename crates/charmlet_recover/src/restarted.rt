@@ -34,17 +34,18 @@ use std::error::Error;
 use std::fmt;
 use std::thread::Threads;
 
-/// A store that came back, and the two halves of the disk that it is on.
+/// A restored store, and the two halves of its disk.
 #[derive(Drop)]
 pub struct Recovered<D: Disk, C: Chare> {
     pub store: Store<C>,
     pub halves: Halves<D>,
-    /// Whether the half that was taken has its kinds in their newest versions alone, so that events
-    /// may be appended to its log. Else an image of the store has to take its place first.
+    /// Whether the taken half has its kinds only in their newest versions, so that events may be
+    /// appended to its log. Otherwise an image of the store has to replace it first.
     pub is_current: bool,
 }
 
-/// Why no store came back, and what was handed in: the disk, and the blanks, in whatever state.
+/// Why no store was restored, with the disk and the blanks that were handed in, these in whatever
+/// state.
 #[derive(Drop)]
 pub struct NotRestarted<D: Drop, C: Chare> {
     pub refusal: Refusal,
@@ -72,11 +73,11 @@ impl<D: Drop, C: Chare> fmt::Debug for NotRestarted<D, C> {
     }
 }
 
-/// It is an error with the refusal's text, so that `?` serves where only that is wanted.
+/// An error with the refusal's text, so that `?` works for callers that want the text alone.
 impl<D: Drop, C: Chare> Error for NotRestarted<D, C> {}
 
-/// Reopens the store that stands in two halves, on this number of processors, as [`restart_by`]
-/// does with as many workers.
+/// Reopens the store of two halves, on this number of processors, as [`restart_by`] does with as
+/// many workers.
 pub fn restart<R: Threads + Sync, D: Disk, C: Chare>(
     rt: &R,
     alloc: Global,
@@ -104,20 +105,20 @@ pub fn restart<R: Threads + Sync, D: Disk, C: Chare>(
     restart_by(rt, alloc, disk, blanks, processors, processors)
 }
 
-/// Reopens the store that stands in two halves, on this number of processors, by so many workers,
-/// with objects made of these blanks, of which none may have been used yet: a stock to which they
-/// were supplied, or one that was handed back here. The workers replay the log object by object, in
-/// threads; what comes back is the same whatever their number. Both halves are synced before they
-/// are read, and nothing is written. The store goes on in the newest versions of its kinds,
-/// whichever the half has. Blanks that it doesn't need are its stock, which keeps retired objects
-/// until it is told to drop them.
+/// Reopens the store of two halves, on this number of processors, by `workers` workers, with
+/// objects made of these blanks. None of the blanks may have been used yet: they are a stock to
+/// which they were supplied, or one that was handed back here. The workers replay the log object by
+/// object, in threads; the result is the same whatever their number. Both halves are synced before
+/// they are read, and nothing is written. The store goes on in the newest versions of its kinds,
+/// whichever versions the half has. Blanks that it doesn't need are its stock, which keeps retired
+/// objects until it is told to drop them.
 ///
-/// The refusals, in their order: `BadPes` where there aren't 1 to 64 processors and 1 to 64
-/// workers, before anything is synced or read; `Device`; `Damaged` at the first field that isn't as
-/// the format says, and `NothingHere` where neither half is open; `BlanksWanted` with the least
-/// kind that has too few blanks, and how many of it are wanted in all; `Damaged` at the first byte
-/// of the first record that can't be; `Memory`, wherever a growth is refused. Each hands the disk
-/// and all blanks back, these in whatever state, so that the caller may try again.
+/// The refusals, in their order: `BadPes` if there aren't 1 to 64 processors and 1 to 64 workers,
+/// before anything is synced or read; `Device`; `Damaged` at the first field that breaks the
+/// format, and `NothingHere` if neither half is open; `BlanksWanted` with the least kind that has
+/// too few blanks, and how many of it are wanted in all; `Damaged` at the first byte of the first
+/// record that can't be; `Memory`, wherever a growth is refused. Each hands the disk and all blanks
+/// back, these in whatever state, so that the caller may try again.
 pub fn restart_by<R: Threads + Sync, D: Disk, C: Chare>(
     rt: &R,
     alloc: Global,
@@ -161,15 +162,14 @@ pub fn restart_by<R: Threads + Sync, D: Disk, C: Chare>(
     }
 }
 
-/// Whether a store can have so many processors, and come back by so many workers.
+/// Whether a store can have this many processors, and be restored by this many workers.
 fn are_counts(processors: u16, workers: u16) -> bool
     ensures { result ≡ are_counts processors workers }
 {
     is_processor_count(processors) && is_processor_count(workers)
 }
 
-/// Opens the store again that stands in halves which were opened. The refusals are those of
-/// [`replay_half`].
+/// Reopens the store of opened halves. The refusals are those of [`replay_half`].
 fn restart_from<R: Threads + Sync, D: Disk, C: Chare>(
     rt: &R,
     alloc: Global,

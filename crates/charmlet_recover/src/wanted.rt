@@ -48,7 +48,7 @@ impl Wanted {
         }
     }
 
-    /// Counts one blank more of the kind version's kind, if there is one.
+    /// Counts one more blank of the kind version's kind, if a kind version is given.
     pub(crate) fn count(&mut self, made: Option<KindVersion>)
         requires { (kind : Kind) → blanks_in self.old kind + one_if (is_of kind made) < 2 ^ 64 }
         ensures { (kind : Kind) → blanks_in self.new kind ≡ blanks_in self.old kind
@@ -60,7 +60,7 @@ impl Wanted {
         }
     }
 
-    /// Counts one blank more of the kind.
+    /// Counts one more blank of the kind.
     fn count_one(&mut self, kind: Kind)
         requires { blanks_in self.old kind + 1 < 2 ^ 64 }
         ensures { (other : Kind) → blanks_in self.new other ≡ blanks_in self.old other
@@ -76,7 +76,7 @@ impl Wanted {
         }
     }
 
-    /// The blanks of both.
+    /// The sum of both, kind by kind.
     pub(crate) fn plus(self, other: Wanted) -> Self
         requires { (kind : Kind) → blanks_in self kind + blanks_in other kind < 2 ^ 64 }
         ensures { (kind : Kind) → blanks_in result kind ≡ blanks_in self kind

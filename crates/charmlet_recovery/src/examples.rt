@@ -2,7 +2,7 @@
 
 ghost use Rattle.charmlet_recovery.specs.Examples.{BlanksAreCounted, CatchUpFaults, CatchUpsAreDamaged, CountersAreCaughtUp, EventFaults, EventsAreDamaged, FilesRecover, LeafIsCaughtUp, PendingFaults, PendingIsDamaged, RestartsAreRefused, RoundsAreInOrder};
 
-/// Two counters are taken, one before and one after an addition.
+/// Two counters are taken into an image, one before and one after an addition.
 pub fn counters_are_caught_up()
     ensures { CountersAreCaughtUp }
 {}
@@ -12,17 +12,17 @@ pub fn leaf_is_caught_up()
     ensures { LeafIsCaughtUp }
 {}
 
-/// Faults of a catch-up list.
+/// The first fault of a catch-up list is found.
 pub fn catch_up_faults_are_found()
     ensures { CatchUpFaults }
 {}
 
-/// Faults of pending messages.
+/// The first fault of pending messages is found.
 pub fn pending_faults_are_found()
     ensures { PendingFaults }
 {}
 
-/// Faults of events.
+/// The first fault of events is found.
 pub fn event_faults_are_found()
     ensures { EventFaults }
 {}
@@ -42,17 +42,17 @@ pub fn files_recover()
     ensures { FilesRecover }
 {}
 
-/// Files in which an event isn't what happened.
+/// Files in which an event isn't what happened are damaged.
 pub fn damaged_events_are_found()
     ensures { EventsAreDamaged }
 {}
 
-/// Files in which a catch-up list says what can't be.
+/// Files whose catch-up list says something impossible are damaged.
 pub fn damaged_catch_ups_are_found()
     ensures { CatchUpsAreDamaged }
 {}
 
-/// Files in which a pending message was never sent.
+/// Files in which a pending message was never sent are damaged.
 pub fn damaged_pending_is_found()
     ensures { PendingIsDamaged }
 {}

@@ -15,8 +15,8 @@ pub fn histories_recover()
     ensures appended { AppendedEventsRecover }
 {}
 
-/// An image that was taken while events came, each element at its own moment, comes with its
-/// catch-up list to the world at the end, and can be written unless it is too long. An element may
+/// An image that was taken while events came, each element at its own moment, leads with its
+/// catch-up list to the world at the end. It can be written unless it is too long. An element may
 /// be taken when its shelf is reached, or as soon as it is absent.
 pub fn seals_recover()
     ensures seals { SealsRecover }
@@ -25,7 +25,7 @@ pub fn seals_recover()
     ensures written { SealedImagesAreWritten }
 {}
 
-/// An image and a log in the format and without a fault, whoever wrote them, come to a fit world by
+/// An image and a log in the format and without a fault, whoever wrote them, lead to a fit world by
 /// a legal history.
 pub fn faultless_is_sound()
     ensures { FaultlessIsSound }
@@ -38,7 +38,7 @@ pub fn faults_are_places()
     ensures stay { FaultsStay }
 {}
 
-/// Record by record: the next one scans, or it is the first fault.
+/// Records are tested one by one: the next one is scanned, or it is the first fault.
 pub fn records_are_tested_in_order()
     ensures catch_up { CatchUpGoesOn }
     ensures pending { PendingGoesOn }
@@ -46,17 +46,17 @@ pub fn records_are_tested_in_order()
     ensures rounds { RoundsEnd }
 {}
 
-/// A restart without faults uses exactly the blanks that the files call for. With a fault it uses
-/// no more up to there, including the faulty record.
+/// A restart without faults uses exactly the blanks that the files call for. A restart with a fault
+/// uses no more of them up to and including the faulty record.
 pub fn blanks_are_those_made()
     ensures made { BlanksAreThoseMade }
     ensures suffice { BlanksSuffice }
     ensures next { BlanksSufficeNext }
 {}
 
-/// The messages of each element alone give the records of a history. A scan over the log, which
-/// runs no entry method, gives these messages, and ends with everything else in the world except
-/// the words of replies. Those are the words of the last reply to each request.
+/// The messages of each element alone give the records of a history. A log scan, which runs no
+/// entry method, gives these messages, and ends with the rest of the world, except the words of
+/// replies. Those are the words of the last reply to each request.
 pub fn lists_give_records()
     ensures records { ListsGiveRecords }
     ensures lists { ListsNeedNoEntries }
@@ -78,9 +78,9 @@ pub fn catch_up_is_own()
     ensures tests { CatchUpTestsAreOwn }
 {}
 
-/// What one half has is taken if it supersedes the other half, and what is taken from bytes was
-/// stored there. The next generation supersedes a half. Two closed halves recover to nothing, and
-/// only they do.
+/// The contents of a half are taken if they supersede the other half's, and contents that are taken
+/// from bytes were stored there. The next generation supersedes a half. Two closed halves recover
+/// to nothing, and only they do.
 pub fn stored_is_taken()
     ensures taken { StoredIsTaken }
     ensures superseded { SpelledIsSuperseded }
@@ -99,8 +99,8 @@ pub fn stored_is_recovered()
 {}
 
 /// The image of a fit world and the log of a legal history can be written, and files that hold them
-/// recover to the world after it. The same is true with one more batch, whatever was stored before.
-/// What files of bytes recover to is a fit world.
+/// recover to the world after it. This also holds with one more batch, whatever was stored before.
+/// Files of bytes recover to a fit world.
 pub fn histories_are_saved()
     ensures histories { HistoriesAreSaved }
     ensures files { FilesOfHistoriesRecover }
@@ -108,9 +108,9 @@ pub fn histories_are_saved()
     ensures fit { RecoveredIsFit }
 {}
 
-/// Files that keep the durable events of a history are lawful, and what is lawful stays so: when
-/// the history grows, when less of it has to be durable, and from one opening world to another.
-/// What a client was told of the durable events is true of what a lawful outcome recovers.
+/// Files that keep the durable events of a history are lawful. Lawful files stay lawful when the
+/// history grows, when less of it has to be durable, and from one opening world to another. What a
+/// client was told of the durable events is true of what a lawful outcome recovers.
 pub fn lawful_outcomes_stay_lawful()
     ensures kept { KeptIsLawful }
     ensures was_kept { LawfulIsKept }
@@ -121,9 +121,9 @@ pub fn lawful_outcomes_stay_lawful()
     ensures told { ToldIsRecovered }
 {}
 
-/// A restart is refused only for these causes, in this order: nothing is there, a half breaks the
-/// format, blanks are missing (the lowest such kind is named), or a record has a fault. If the
-/// files recover to a world, it is refused only for missing blanks.
+/// A restart is refused only for one of four causes. They are in this order: nothing is there, a
+/// half breaks the format, blanks are missing (the lowest such kind is named), or a record has a
+/// fault. If the files recover to a world, it is refused only for missing blanks.
 pub fn restarts_are_refused_for_cause()
     ensures short { LeastShortIsFound }
     ensures taken { RestartsAreTaken }
@@ -145,14 +145,15 @@ pub fn halves_have_sizes()
     ensures batch { BatchesLengthen }
 {}
 
-/// A history is legal if and only if its first part is, and the rest from the world after that.
+/// A history is legal if and only if its first part is legal, and its rest is legal from the world
+/// after that part.
 pub fn legal_histories_have_parts()
     ensures part { LegalHistoriesPart }
     ensures join { LegalHistoriesJoin }
 {}
 
-/// What a half stores beside a spare one, at whichever step of a flush, a checkpoint or a creation
-/// a crash comes: the world before, or the one after.
+/// What a half stores beside a spare one at each step of a flush, a checkpoint or a creation: after
+/// a crash there, the world before or the world after.
 pub fn written_worlds_are_stored()
     ensures stands { StandingIsStored }
     ensures stored { StoredIsStanding }
@@ -171,9 +172,9 @@ pub fn lawful_outcomes_restart()
     ensures lawful { LawfulLacksBlanksAlone }
 {}
 
-/// An image that was taken while events came can be written into a half, which means the world
-/// after them. While it takes the place of the half that it supersedes, the files store the world
-/// of one of the two.
+/// An image that was taken while events came can be written into a half, which then means the world
+/// after them. While it replaces the half that it supersedes, the files store one of the two
+/// worlds.
 pub fn taken_images_are_stored()
     ensures saved { TakenImagesAreSaved }
     ensures newest { NewestHalvesGoOn }

@@ -1,4 +1,4 @@
-//! What two files recover to: definitions, and their laws.
+//! Recovery of a store from two files: definitions, and their laws.
 #![tactic(auto)]
 
 pub mod examples;

@@ -1,6 +1,6 @@
-//! The model's definitions a second time, as programs that are as plain as possible and are proved
-//! equal to them: the kind table, packed objects, and the world with its events. Tests run them,
-//! and faster code is compared with them.
+//! The model's definitions once more, as programs that are as plain as possible and are proved
+//! equal to them: the kind table, packed objects, and the world with its events. Tests use them as
+//! an oracle for the faster code.
 #![tactic(auto)]
 
 mod kind_table;

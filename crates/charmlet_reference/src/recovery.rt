@@ -1,6 +1,5 @@
-//! What two files recover to, a second time, as a program that is as plain as possible and is
-//! proved equal to the definition, whatever the bytes of the files are. Tests run it, and faster
-//! code is compared with it.
+//! What two files recover to, as a program that is as plain as possible. It is proved equal to the
+//! definition for all bytes of the files. Tests use it as an oracle for the faster code.
 
 mod catching_up;
 mod events;

@@ -1,4 +1,4 @@
-//! States, and what is kept of elements, in the newest versions of their kinds.
+//! Upgrades of states and of elements' records to the newest versions of their kinds.
 
 ghost use Rattle.std.specs.Prelude.{◌≡◌, true, option_map};
 ghost use Rattle.charmlet_model.specs.Upgrade.{up, up_record, up_records};
@@ -6,8 +6,7 @@ ghost use Rattle.charmlet_model.specs.Upgrade.{up, up_record, up_records};
 use charmlet_model::{Elem, Record, State};
 use std::collections::BTreeMap;
 
-/// Brings what is kept of each element forward to the newest version of its kind. It takes no
-/// memory.
+/// Brings each element's record forward to the newest version of its kind. It takes no memory.
 pub(crate) fn upgrade_records(records: &mut BTreeMap<Elem, Record>)
     ensures { records.new.entries ≡ up_records records.old.entries }
 {
@@ -21,7 +20,7 @@ pub(crate) fn upgrade_records(records: &mut BTreeMap<Elem, Record>)
     );
 }
 
-/// Brings what is kept of an element forward to the newest version: its state, if it is there.
+/// Brings an element's record forward to the newest version: its state, if it is there.
 fn upgrade_record(entry: &mut Record)
     ensures { entry.new ≡ up_record entry.old }
 {
@@ -38,8 +37,8 @@ fn newest_of(state: Option<State>) -> Option<State>
     }
 }
 
-/// The state in the newest version of its kind. A counter of version 1 gets its count as its peak,
-/// and each other state is unchanged.
+/// The state in the newest version of its kind. A version 1 counter gets its count as its peak; any
+/// other state is unchanged.
 fn newest(state: State) -> State
     ensures { result ≡ up state }
 {

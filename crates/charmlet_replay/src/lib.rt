@@ -1,4 +1,4 @@
-//! Replays: what a half says becomes objects on shelves again, by their own entry methods.
+//! Replay of a half: its contents become objects on shelves again, by their own entry methods.
 #![tactic(auto)]
 
 mod beginning;

@@ -1,4 +1,4 @@
-//! Stores that open with a world whose elements came back.
+//! Stores that open with a world of restored elements.
 
 ghost use Rattle.std.specs.Prelude.{◌≡◌, ◌≤◌, ◌^◌};
 ghost use Rattle.charmlet_model.specs.Fit.{IsFit};
@@ -17,9 +17,9 @@ use charmlet_stock::Stock;
 use charmlet_store::Store;
 use std::alloc::Global;
 
-/// The store that opens with this world, whose elements stand on the shelves of their homes. The
-/// world came after so many events, and is that of the file with this generation, whose log ends at
-/// this place. It takes no memory.
+/// Opens a store with this world, whose elements stand on the shelves of their homes. The world
+/// came after `before` events, and is that of the file with this generation, whose log ends at this
+/// place. It takes no memory.
 pub fn open_store<C: Chare>(
     alloc: Global,
     opening: Opening,

@@ -1,4 +1,4 @@
-//! Objects that go back into the stock.
+//! Objects that return to the stock.
 
 ghost use Rattle.std.specs.Prelude.{◌≡◌, true, false, []};
 ghost use Rattle.std.specs.List.{All};
@@ -14,8 +14,8 @@ use charmlet_shelf::Shelf;
 use charmlet_stock::Stock;
 
 /// Takes all objects from shelves on which no delivery is under way, and puts them into the stock,
-/// which kept the retired ones: each object that was supplied is a blank of it again, in whatever
-/// state, and from now on it drops what is retired. It takes no memory.
+/// which kept the retired ones. Each supplied object is a blank of the stock again, in whatever
+/// state, and from now on the stock drops retired objects. It takes no memory.
 pub(crate) fn reclaim<C: Chare>(shelves: Vec<Shelf<C>>, mut stock: Stock<C>) -> Stock<C>
     requires idle { All IsIdle shelves.items }
     requires counted { IsCountedAmong shelves.items stock }

@@ -1,5 +1,4 @@
-//! Replayers that replay a log: each has its own elements, and does the tasks that are dispatched
-//! to it.
+//! Replayers of a log: each has its own elements, and does the tasks that are dispatched to it.
 #![tactic(auto)]
 
 mod dispatch;

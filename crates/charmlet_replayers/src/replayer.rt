@@ -1,5 +1,4 @@
-//! Replayers: what each of them has of a recovery, and what all of them come to
-//! together.
+//! Replayers: the part of a recovery that each of them has, and their joint result.
 
 mod each;
 pub mod laws;

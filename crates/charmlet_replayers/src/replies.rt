@@ -1,5 +1,5 @@
-//! Replies of deliveries that several replayers make again: their laws, and rows that are filled
-//! with them.
+//! Replies of deliveries that several replayers repeat: their laws, and rows that are filled with
+//! them.
 
 mod filled;
 pub mod laws;

@@ -1,3 +1,3 @@
-//! Shares: what each of several replayers needs of blanks, and what that is together.
+//! Shares: the blanks that each of several replayers needs, and their sum.
 
 pub mod laws;

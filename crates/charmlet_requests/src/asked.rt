@@ -1,4 +1,4 @@
-//! Requests and questions by a client's pass.
+//! Requests and status questions by a client's pass.
 
 ghost use Rattle.std.specs.Prelude.{◌≡◌, ℕ, IfOk, OnErr};
 ghost use Rattle.charmlet_model.specs.Core as core;
@@ -10,12 +10,12 @@ use crate::pass::ClientPass;
 use charmlet_history::{History, Request};
 use charmlet_model::{Refusal, Told};
 
-/// A request of the pass's client, as [`History::request`] accepts it, with the same refusals in
+/// Accepts a request of the pass's client, as [`History::request`] does, with the same refusals in
 /// the same order. If it isn't refused, the pass records that it was accepted, and what was told
 /// about it. A refusal changes nothing.
 ///
-/// If all that the pass knows is true of the durable events, it is still true afterwards. The
-/// client is then told no less about the request than the pass knew, and no other words.
+/// If everything that the pass knows is true of the durable events, it is still true afterwards.
+/// The client is then told no less about the request than the pass knew, and no other words.
 pub fn request(
     history: &mut History,
     pass: &mut ClientPass,
@@ -44,8 +44,8 @@ pub fn request(
 /// same refusals in the same order. The pass records the answer. A refusal changes nothing. An
 /// answer without words takes no memory.
 ///
-/// If all that the pass knows is true of the durable events, it is still true afterwards. The
-/// client is then told no less about the request than the pass knew, and no other words.
+/// If everything that the pass knows is true of the durable events, it is still true afterwards.
+/// The client is then told no less about the request than the pass knew, and no other words.
 pub fn status(history: &History, pass: &mut ClientPass, number: u64) -> Result<Told, Refusal>
     ensures steps { (blanks : Blanks) → Steps (core_in history.now) blanks
         (core.Status pass.old.client number)

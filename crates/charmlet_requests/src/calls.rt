@@ -18,9 +18,9 @@ use crate::pass::ClientPass;
 use charmlet_history::{History, Request};
 use charmlet_model::{Elem, MAX_ARRAYS, Manifest, Refusal, Told};
 
-/// A request of the pass's client, as [`request`] accepts it, to a named handler: at its entry, to
-/// the element of its array with this index. If no handler has the name, the answer is `NoArray`,
-/// unless an earlier refusal applies; and a repeat is answered as a repeat.
+/// Accepts a request of the pass's client, as [`request`] does, to a named handler: at its entry,
+/// to the element of its array with this index. If no handler has the name, the answer is
+/// `NoArray`, unless an earlier refusal applies; a repeat is answered as a repeat.
 pub fn call(
     history: &mut History,
     pass: &mut ClientPass,
@@ -56,8 +56,8 @@ pub fn call(
     request(history, pass, &asked)
 }
 
-/// The handler of a name, or one of an array that isn't in the manifest, so that a request to it is
-/// refused by `NoArray`, in that refusal's turn. It takes no memory.
+/// The handler of a name. If there is none, it is a handler of an array that isn't in the manifest,
+/// so that a request to it is refused by `NoArray`, in that refusal's turn. It takes no memory.
 pub fn target(history: &History, handlers: &Handlers, name: &str) -> Handler
     ensures { (index : ℕ) → IsTarget (present (core_in history.now)) index
         (handler_of handlers.now name.now) (record { array = result.array; index = index })

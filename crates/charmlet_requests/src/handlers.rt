@@ -4,7 +4,7 @@ use charmlet_model::Refusal;
 use std::alloc::Global;
 use std::collections::BTreeMap;
 
-/// What a handler's name stands for: an array, and an entry of its elements.
+/// The meaning of a handler's name: an array, and an entry of its elements.
 #[derive(Clone, Copy, Debug, PartialEq, Eq)]
 pub struct Handler {
     pub array: u16,
@@ -25,7 +25,7 @@ impl Handlers {
     ghost use Rattle.charmlet_requests.specs.Handlers.{handler_of};
     ghost use Rattle.charmlet_model.specs.declared.refusal.Refusal.TheVariants as refusals;
 
-    /// No handlers. It takes no memory.
+    /// A table with no handlers. It takes no memory.
     pub fn new(alloc: Global) -> Self
         ensures { (name : List ℕ) → handler_of result name ≡ None }
     {

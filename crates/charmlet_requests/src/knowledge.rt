@@ -1,4 +1,4 @@
-//! What a client knows about its requests, as a row of its own.
+//! A client's knowledge about its requests, as a row of its own.
 
 ghost use Rattle.std.specs.Prelude.{◌≡◌, ◌-◌, drop, true, OnErr, OnOk};
 ghost use Rattle.charmlet_model.specs.Core.{has_words};

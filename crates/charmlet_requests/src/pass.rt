@@ -5,18 +5,18 @@ use charmlet_model::{ClientRow, Told};
 use std::alloc::{AllocError, Global};
 use std::marker::Model;
 
-/// What a client knows about its requests in one history: which of them were accepted since the
-/// pass was lent, and what it was told about them. In that history it is never told less than
-/// before, nor other words.
+/// A client's knowledge about its requests in one history: which of them were accepted since the
+/// pass was lent, and what it was told about them. In that history the client is never told less
+/// than before, nor other words.
 #[derive(Debug, Drop)]
 pub struct ClientPass {
     alloc: Global,
     client: u32,
     /// The client's last number when the pass was lent.
     lent_at: u64,
-    /// The number of its last accept, or the same as `lent_at` if there is none.
+    /// The number of the client's last accept, or the same as `lent_at` if there is none.
     last: u64,
-    /// What it knows from what it was told.
+    /// The client's knowledge from what it was told.
     row: ClientRow,
 }
 
@@ -58,14 +58,14 @@ impl ClientPass {
         }
     }
 
-    /// The client whose pass it is.
+    /// The client that has the pass.
     pub fn client(&self) -> u32
         ensures { result ≡ self.now.client }
     {
         self.client
     }
 
-    /// The number of its last accept, or, if there is none, the client's last number when the pass
+    /// The number of the client's last accept, or, if there is none, its last number when the pass
     /// was lent.
     pub fn last(&self) -> u64
         ensures { result ≡ self.now.last }
@@ -82,10 +82,9 @@ impl ClientPass {
         self.last - self.lent_at
     }
 
-    /// What is known about request `number`: the highest answer that the client was told about it,
-    /// or what follows from what it was told about others. The replies to the client's last eight
-    /// requests are kept. It fails only when out of memory, and takes none if what is known has no
-    /// words.
+    /// The knowledge about request `number`: the highest answer that the client was told about it,
+    /// or what follows from answers about others. The replies to the client's last eight requests
+    /// are kept. It fails only when out of memory, and takes none if the answer has no words.
     pub fn known(&self, number: u64) -> Result<Told, AllocError>
         ensures known { IfOk result (λ told. told ≡ known self.now number) }
         ensures words { OnErr result (has_words (known self.now number) ≡ true) }
@@ -100,9 +99,9 @@ impl ClientPass {
         number <= self.row.last
     }
 
-    /// Records what the client was told about request `number`. No less is then known about any
-    /// request than before. It fails only when out of memory, and then nothing changes. It takes
-    /// none if `told` has no words.
+    /// Records what the client was told about request `number`. Afterwards no less is known about
+    /// any request than before. It fails only when out of memory, and then nothing changes. It
+    /// takes no memory if `told` has no words.
     pub fn hear(&mut self, number: u64, told: &Told) -> Result<(), AllocError>
         ensures ok { OnOk result (self.new ≡ with_told self.old number told.now) }
         ensures kept { (other : ℕ) → IsNoLess (known self.old other) (known self.new other) }
@@ -117,7 +116,7 @@ impl ClientPass {
         hear(&mut self.row, self.alloc, number, told)
     }
 
-    /// Records that request `number` was accepted, if that is above the last number. It takes no
+    /// Records that request `number` was accepted, if the number is above the last one. It takes no
     /// memory.
     pub fn accept(&mut self, number: u64)
         ensures { self.new ≡ with_accept self.old number }

@@ -1,4 +1,4 @@
-//! Which clients' passes are out.
+//! The clients whose passes are out.
 
 ghost use Rattle.std.specs.Prelude.{◌≡◌};
 ghost use Rattle.charmlet_model.specs.Core.{present};
@@ -62,7 +62,7 @@ impl Passes {
         self.out.contains(&client)
     }
 
-    /// Lends a client its pass for this history. `PassOut` if it is out; otherwise `Memory`. When
+    /// Lends a client its pass for this history. `PassOut` if it is out; otherwise `Memory`. If
     /// refused, nothing changes.
     pub fn lend(&mut self, history: &History, client: u32) -> Result<ClientPass, Refusal>
         ensures lent { IfOk result (λ pass. pass

@@ -13,9 +13,12 @@ use charmlet_sequencer::RuntimeName;
 use charmlet_workers::{Runtime, RuntimeRoom, UnnamedAuthorities};
 use std::marker::Model;
 
-/// A new runtime with threads before it has its name: an engine in which nothing has happened since
-/// it was made. A contract sees the engine. A store that comes back is opened by
-/// [`open_reopened`](crate::open_reopened).
+/// A new runtime with threads that has no name yet: an engine in which nothing has happened since
+/// it was made. A contract sees the engine. [`open_reopened`](crate::open_reopened) opens a
+/// restored store instead.
+///
+/// The call that makes a runtime's authorities picks its name: for a new store before the store is
+/// made, and for a restored one after it was read and before anything is written.
 #[derive(Drop)]
 pub struct RuntimeBuilder<D: Disk, C: Chare> {
     pub(crate) engine: Engine<D, C>,
@@ -34,25 +37,25 @@ impl<D: Disk, C: Chare> Model for RuntimeBuilder<D, C> {
 }
 
 impl<D: Disk, C: Chare> RuntimeBuilder<D, C> {
-    /// The generation at which it opens, from 1 on.
+    /// The generation at which the runtime opens, from 1 on.
     pub fn generation(&self) -> u64
         ensures { result ≡ (core_of self.now).generation }
     {
         self.engine.generation()
     }
 
-    /// How many events there were before it opens.
+    /// How many events there were before the runtime opens.
     pub fn event_count(&self) -> u64
         ensures { result ≡ (core_of self.now).before }
     {
         self.engine.event_count()
     }
 
-    /// The runtime under the name `B`, which its caller has picked for it and for these
+    /// Opens the runtime under the name `B`, which its caller has picked for it and for these
     /// authorities, in a room that was made before. It opens with the engine's world, after as many
     /// events and on as many processors, and makes no call of the disk. It never fails, and takes
-    /// no memory. So where the room is made first, a creation and its opening are out of memory
-    /// before anything is written, or not at all.
+    /// no memory. So if the room is made first, a creation and its opening run out of memory before
+    /// anything is written, or not at all.
     ///
     /// As with [`Runtime::open_in`], nothing that bears the name can leave the function that is
     /// generic in it.

@@ -22,12 +22,12 @@ use charmlet_model::Manifest;
 use std::alloc::Global;
 
 impl<D: Disk, C: Chare> RuntimeBuilder<D, C> {
-    /// Makes a store with these arrays and this number of processors on a settled disk of which no
-    /// half is open, as [`Engine::create`] does: nothing has happened in it, all of it is durable,
-    /// and its stock is empty. What an engine promises of a creation holds here word for word.
+    /// Makes a store with these arrays and this number of processors on a settled disk with no open
+    /// half, as [`Engine::create`] does. Nothing has happened in it, all of it is durable, and its
+    /// stock is empty. An engine's promises about a creation hold here word for word.
     ///
     /// The refusals are in their order `BadPes`, `AlreadyHere`, `Memory` and `Device`. Each hands
-    /// the disk back, and at each but `Device` nothing is written.
+    /// the disk back, and except for `Device` nothing is written.
     pub fn create(
         alloc: Global,
         disk: D,

@@ -1,8 +1,5 @@
-//! Runtimes with threads that are made anew, or that come back from a disk.
-//!
-//! Both begin as an engine's store does, and then go on under locks. The call that makes a
-//! runtime's authorities picks its name: for a new store before the store is made, and for one that
-//! comes back once it was read, and before anything is written.
+//! Openings of runtimes with threads, over a new store or one that is restored from a disk. Both
+//! begin as an engine's store does, and then go on under locks.
 #![tactic(auto)]
 
 mod builder;

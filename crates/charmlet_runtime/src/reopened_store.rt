@@ -1,4 +1,4 @@
-//! Runtimes over stores that came back.
+//! Runtimes over restored stores.
 
 ghost use Rattle.std.specs.Prelude.{◌≡◌, ◌≢◌, ℕ, true, IfErr, IfOk};
 ghost use Rattle.charmlet_model.specs.declared.refusal.Refusal.TheVariants as refusals;
@@ -17,16 +17,16 @@ use charmlet_sequencer::RuntimeName;
 use charmlet_workers::{Runtime, RuntimeRoom, UnnamedAuthorities};
 use std::alloc::Global;
 
-/// A runtime with threads over a store that came back ([`Reopened::from_disk`]), under the name `B`
-/// which its caller has picked for what the store is once it goes on, and for these authorities.
-/// All memory that the runtime takes to open is asked for first. Then the store goes on where it
-/// stands ([`Reopened::resume`]), by an image of itself where one is wanted, and the runtime opens
-/// over it without memory. What an engine promises of a restart holds here word for word; so it
-/// doesn't matter whether the store was an engine's or a runtime's before.
+/// Opens a runtime with threads over a restored store ([`Reopened::from_disk`]), under the name
+/// `B`, which its caller has picked for the store once it goes on, and for these authorities. All
+/// memory that the runtime needs to open is asked for first. Then the store goes on in its files
+/// ([`Reopened::resume`]), by an image of itself if one is wanted, and the runtime opens over it
+/// without memory. An engine's promises about a restart hold here word for word; so it doesn't
+/// matter whether the store was an engine's or a runtime's before.
 ///
 /// `Memory`; `ImageFull` if the image's generation would be past 2^40 or its file past 2^31 bytes;
 /// and `Device`. Each hands the disk and all blanks back, these in whatever state, so that the
-/// caller may try again; and at each but `Device` nothing is written.
+/// caller may try again; except for `Device` nothing is written.
 ///
 /// As with [`Runtime::open_in`], nothing that bears the name can leave the function that is generic
 /// in it.

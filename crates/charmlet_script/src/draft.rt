@@ -6,13 +6,13 @@ use crate::script::{ArrayLine, HandlerLine, Line, Script};
 use std::alloc::{AllocFailed, Global};
 use std::marker::Model;
 
-/// What a script is for.
+/// The purpose of a script.
 #[derive(Clone, Copy, Debug, PartialEq, Eq)]
 pub(crate) struct Purpose {
-    /// Whether its header describes the store: that of a run over a new store does, and that of
-    /// what comes after a restart doesn't, since its store is there already.
+    /// Whether the script's header describes the store. The header of a run over a new store does;
+    /// that of a restart doesn't, since its store is there already.
     pub describes_store: bool,
-    /// Who delivers its messages.
+    /// The runner that delivers the script's messages.
     pub runner: Runner,
 }
 

@@ -1,14 +1,6 @@
-//! The language of Charmlet's scripts: which lines a text spells, and the readers of scripts.
-//!
-//! A script is at most 1,048,576 bytes of ASCII. Its lines end with a line feed, which the last may
-//! lack; an empty line and one that begins with `#` are skipped. The header stands first. In the
-//! script of a run it is 1 to 64 lines `array A K`, at most one line `pes N`, and any number of
-//! lines `handler NAME A E`, in any order; in that of a restart it is lines `handler NAME A E`
-//! alone, if any. Then come any number of these: `supply K N`, `req C N A I E W..`, `call C N NAME
-//! I W..`, `status C N`, `deliver PE ID`, `drain N`, `move A I PE`, `flush`, `checkpoint`, `state A
-//! I`, `pending` and `census`; where workers deliver, none is `deliver PE ID`. Words are parted by
-//! spaces, numbers are decimal, a NAME is 1 to 32 ASCII letters, and an ID is `cC.N` for message N
-//! of client C, or `eA.I.N` for that of the element (A, I).
+//! The language of Charmlet's scripts: the lines that a text spells, the readers of scripts, the
+//! printed forms of lines that aren't steps, and the reasons why a line is malformed.
+//! `docs/SCRIPT.md` has the grammar.
 #![tactic(auto)]
 
 mod draft;

@@ -1,4 +1,4 @@
-//! What one line spells.
+//! Readers of one line.
 
 ghost use Rattle.std.specs.Prelude.{◌≡◌, map, nat_lt};
 ghost use Rattle.std.specs.List.{list_all};
@@ -16,7 +16,7 @@ use crate::split::words;
 use charmlet_model::{Elem, Step};
 use std::alloc::Global;
 
-/// What one line of the text spells.
+/// The meaning of one line of the text.
 #[derive(Debug, Drop)]
 pub(crate) enum Item {
     /// An empty line or a comment.
@@ -28,7 +28,7 @@ pub(crate) enum Item {
     Line(Line),
 }
 
-/// What follows `array`: `A K`.
+/// Reads the words after `array`: `A K`.
 #[tactic(auto, unfolding(crate::specs::Line::array_of))]
 fn array_of(words: &[&[u8]]) -> Option<ArrayLine>
     ensures { result ≡ array_of (map (λ word. word.now) words.now) }
@@ -41,7 +41,7 @@ fn array_of(words: &[&[u8]]) -> Option<ArrayLine>
     Some(ArrayLine { array, kind })
 }
 
-/// What follows `pes`: `N`.
+/// Reads the word after `pes`: `N`.
 #[tactic(auto, unfolding(crate::specs::Line::pes_of))]
 fn pes_of(words: &[&[u8]]) -> Option<u16>
     ensures { result ≡ pes_of (map (λ word. word.now) words.now) }
@@ -52,7 +52,7 @@ fn pes_of(words: &[&[u8]]) -> Option<u16>
     u16_of(processors)
 }
 
-/// What follows `handler`: `NAME A E`.
+/// Reads the words after `handler`: `NAME A E`.
 #[tactic(auto, unfolding(crate::specs::Line::handler_of))]
 fn handler_of(alloc: Global, words: &[&[u8]]) -> Result<HandlerLine, LineFault>
     ensures { Spells result (handler_of (map (λ word. word.now) words.now)) }
@@ -66,7 +66,7 @@ fn handler_of(alloc: Global, words: &[&[u8]]) -> Result<HandlerLine, LineFault>
     Ok(HandlerLine { name, array, entry })
 }
 
-/// What follows `supply`: `K N`.
+/// Reads the words after `supply`: `K N`.
 #[tactic(auto, unfolding(crate::specs::Line::supply_of))]
 fn supply_of(words: &[&[u8]]) -> Option<Line>
     ensures { result ≡ supply_of (map (λ word. word.now) words.now) }
@@ -79,7 +79,7 @@ fn supply_of(words: &[&[u8]]) -> Option<Line>
     Some(Line::Supply { kind, count })
 }
 
-/// What follows `drain`: `N`.
+/// Reads the word after `drain`: `N`.
 #[tactic(auto, unfolding(crate::specs::Line::drain_of))]
 fn drain_of(words: &[&[u8]]) -> Option<Line>
     ensures { result ≡ drain_of (map (λ word. word.now) words.now) }
@@ -91,7 +91,7 @@ fn drain_of(words: &[&[u8]]) -> Option<Line>
     Some(Line::Drain { count })
 }
 
-/// What follows `state`: `A I`.
+/// Reads the words after `state`: `A I`.
 #[tactic(auto, unfolding(crate::specs::Line::state_of))]
 fn state_of(words: &[&[u8]]) -> Option<Line>
     ensures { result ≡ state_of (map (λ word. word.now) words.now) }
@@ -104,7 +104,7 @@ fn state_of(words: &[&[u8]]) -> Option<Line>
     Some(Line::State(Elem { array, index }))
 }
 
-/// What follows `pending`: nothing.
+/// Reads the words after `pending`: none.
 #[tactic(auto, unfolding(crate::specs::Line::pending_of))]
 fn pending_of(words: &[&[u8]]) -> Option<Line>
     ensures { result ≡ pending_of (map (λ word. word.now) words.now) }
@@ -116,7 +116,7 @@ fn pending_of(words: &[&[u8]]) -> Option<Line>
     }
 }
 
-/// What follows `census`: nothing.
+/// Reads the words after `census`: none.
 #[tactic(auto, unfolding(crate::specs::Line::census_of))]
 fn census_of(words: &[&[u8]]) -> Option<Line>
     ensures { result ≡ census_of (map (λ word. word.now) words.now) }
@@ -128,7 +128,7 @@ fn census_of(words: &[&[u8]]) -> Option<Line>
     }
 }
 
-/// What follows `call`: `C N NAME I W..`.
+/// Reads the words after `call`: `C N NAME I W..`.
 #[tactic(auto, unfolding(crate::specs::Line::call_of))]
 fn call_of(alloc: Global, words: &[&[u8]]) -> Result<Line, LineFault>
     ensures { Spells result (call_of (map (λ word. word.now) words.now)) }
@@ -150,7 +150,7 @@ fn call_of(alloc: Global, words: &[&[u8]]) -> Result<Line, LineFault>
     })
 }
 
-/// What follows `req`: `C N A I E W..`.
+/// Reads the words after `req`: `C N A I E W..`.
 #[tactic(auto, unfolding(crate::specs::Line::request_of))]
 fn request_of(alloc: Global, words: &[&[u8]]) -> Result<Step, LineFault>
     ensures { Spells result (request_of (map (λ word. word.now) words.now)) }
@@ -174,7 +174,7 @@ fn request_of(alloc: Global, words: &[&[u8]]) -> Result<Step, LineFault>
     })
 }
 
-/// What follows `status`: `C N`.
+/// Reads the words after `status`: `C N`.
 #[tactic(auto, unfolding(crate::specs::Line::status_of))]
 fn status_of(words: &[&[u8]]) -> Option<Step>
     ensures { result ≡ status_of (map (λ word. word.now) words.now) }
@@ -187,7 +187,7 @@ fn status_of(words: &[&[u8]]) -> Option<Step>
     Some(Step::Status { client, number })
 }
 
-/// What follows `deliver`: `PE ID`.
+/// Reads the words after `deliver`: `PE ID`.
 #[tactic(auto, unfolding(crate::specs::Line::deliver_of))]
 fn deliver_of(alloc: Global, words: &[&[u8]]) -> Result<Step, LineFault>
     ensures { Spells result (deliver_of (map (λ word. word.now) words.now)) }
@@ -200,7 +200,7 @@ fn deliver_of(alloc: Global, words: &[&[u8]]) -> Result<Step, LineFault>
     Ok(Step::Deliver { processor, id })
 }
 
-/// What follows `move`: `A I PE`.
+/// Reads the words after `move`: `A I PE`.
 #[tactic(auto, unfolding(crate::specs::Line::move_of))]
 fn move_of(words: &[&[u8]]) -> Option<Step>
     ensures { result ≡ move_of (map (λ word. word.now) words.now) }
@@ -215,7 +215,7 @@ fn move_of(words: &[&[u8]]) -> Option<Step>
     Some(Step::Move { elem, processor })
 }
 
-/// What follows `flush`: nothing.
+/// Reads the words after `flush`: none.
 #[tactic(auto, unfolding(crate::specs::Line::flush_of))]
 fn flush_of(words: &[&[u8]]) -> Option<Step>
     ensures { result ≡ flush_of (map (λ word. word.now) words.now) }
@@ -227,7 +227,7 @@ fn flush_of(words: &[&[u8]]) -> Option<Step>
     }
 }
 
-/// What follows `checkpoint`: nothing.
+/// Reads the words after `checkpoint`: none.
 #[tactic(auto, unfolding(crate::specs::Line::checkpoint_of))]
 fn checkpoint_of(words: &[&[u8]]) -> Option<Step>
     ensures { result ≡ checkpoint_of (map (λ word. word.now) words.now) }
@@ -284,7 +284,7 @@ fn line_of(alloc: Global, name: &[u8], words: &[&[u8]]) -> Result<Line, LineFaul
     }
 }
 
-/// What words spell.
+/// The item that words spell.
 #[tactic(auto, unfolding(crate::specs::Line::spelled_by))]
 fn spelled_by(alloc: Global, words: &[&[u8]]) -> Result<Item, LineFault>
     ensures { Spells result (spelled_by (map (λ word. word.now) words.now)) }
@@ -324,7 +324,7 @@ fn is_skipped(line: &[u8]) -> bool
     }
 }
 
-/// What a line spells, wherever it stands.
+/// The item that a line spells, wherever it stands.
 #[tactic(auto, unfolding(crate::specs::Line::item_of))]
 pub(crate) fn item_of(alloc: Global, line: &[u8]) -> Result<Item, LineFault>
     ensures { Spells result (item_of line.now) }

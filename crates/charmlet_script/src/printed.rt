@@ -1,24 +1,24 @@
-//! What the lines of a script print.
+//! The printed forms of answers to lines that aren't steps.
 
 use charmlet_model::{Elem, Kind, MsgId};
 use std::fmt;
 
-/// What a `supply` line answers.
+/// The answer to a `supply` line.
 #[derive(Clone, Copy, Debug, PartialEq, Eq)]
 pub struct Supplied {
     pub kind: Kind,
     pub count: u32,
 }
 
-/// What a `drain` line answers: how many messages it delivered, and how many are pending after it.
+/// The answer to a `drain` line: how many messages it delivered, and how many are pending after it.
 #[derive(Clone, Copy, Debug, PartialEq, Eq)]
 pub struct Drained {
     pub delivered: u32,
     pub left: u64,
 }
 
-/// What a `state` line answers: an element, how many messages it sent and received, and, while it
-/// is there, where it stands.
+/// The answer to a `state` line: an element, how many messages it sent and received, and, if it is
+/// there, its processor and state.
 #[derive(Debug, Drop)]
 pub struct Shown {
     pub elem: Elem,
@@ -34,11 +34,11 @@ pub struct Standing {
     pub packed: String,
 }
 
-/// What a `pending` line answers: the ids of the pending messages, in order of arrival.
+/// The answer to a `pending` line: the ids of the pending messages, in order of arrival.
 #[derive(Clone, Copy, Debug)]
 pub struct PendingIds<'a>(pub &'a [MsgId]);
 
-/// A line of what `census` answers: of one kind, how many objects were supplied, are on shelves,
+/// A line of the answer to `census`: how many objects of one kind were supplied, are on shelves,
 /// are in the stock, and were retired.
 #[derive(Clone, Copy, Debug, PartialEq, Eq)]
 pub struct Counted {
@@ -77,7 +77,7 @@ impl fmt::Display for Drained {
     }
 }
 
-/// Writes `state A.I pe P sent S received R X`, or `state A.I none sent S received R` where the
+/// Writes `state A.I pe P sent S received R X`, or `state A.I none sent S received R` if the
 /// element isn't there, without a line feed.
 impl fmt::Display for Shown {
     ghost use Rattle.std.specs.Prelude.{Some};

@@ -23,7 +23,7 @@ use std::io::Read;
 /// The greatest length of a script, in bytes.
 pub const MAX_LENGTH: usize = 1_048_576;
 
-/// A byte that no line may hold.
+/// A byte that no line may contain.
 const BEYOND: u8 = 255;
 
 fn has_array(arrays: &[ArrayLine], array: u16) -> bool
@@ -89,7 +89,7 @@ fn add_handler(script: &mut Draft, line: HandlerLine) -> Result<(), LineFault>
     Ok(())
 }
 
-/// Whether a line may stand after the header: where workers deliver, a `deliver` line may not.
+/// Whether a line may stand after the header: if workers deliver, a `deliver` line may not.
 fn may_follow(runner: Runner, line: &Line) -> bool
     ensures { result ≡ may_follow runner line.now }
 {
@@ -99,7 +99,7 @@ fn may_follow(runner: Runner, line: &Line) -> bool
     }
 }
 
-/// Adds what a line spells, if it may stand there.
+/// Adds the item of a line, if it may stand there.
 #[tactic(auto, unfolding(crate::specs::Reading::with_item))]
 fn add_item(purpose: Purpose, script: &mut Draft, item: Item) -> Result<(), LineFault>
     ensures { LeavesLines result script.new (with_item purpose script.old item) }
@@ -227,7 +227,7 @@ fn read_start<R: Read>(alloc: Global, reader: &mut R) -> Result<Vec<u8>, io::Err
     Ok(text)
 }
 
-/// Replaces what goes past the greatest length by one byte that no line may hold.
+/// Replaces the bytes past the greatest length by one byte that no line may contain.
 #[tactic(auto, unfolding(crate::specs::Reading::within))]
 fn cut(text: &mut Vec<u8>) -> Result<(), AllocError>
     ensures text { OnOk result (text.new.items ≡ within MAX_LENGTH text.old.items) }
@@ -240,7 +240,8 @@ fn cut(text: &mut Vec<u8>) -> Result<(), AllocError>
     Ok(())
 }
 
-/// The reader's text. What goes past the greatest length counts as one byte that no line may hold.
+/// The reader's text. The bytes past the greatest length count as one byte that no line may
+/// contain.
 fn read_text<R: Read>(alloc: Global, reader: &mut R) -> Result<Vec<u8>, io::Error>
     ensures reads { IfSome (R.remaining reader.old)
         (λ bytes. IfOk result (λ text. text.items ≡ within MAX_LENGTH bytes)) }
@@ -252,8 +253,8 @@ fn read_text<R: Read>(alloc: Global, reader: &mut R) -> Result<Vec<u8>, io::Erro
     Ok(text)
 }
 
-/// The text of a script, as its readers take it: of what was read, the first 1,048,576 bytes; and
-/// if there are more, one byte that no line may hold.
+/// The text of a script, in the form that its readers take: the first 1,048,576 bytes, and, if
+/// there are more, one byte that no line may contain.
 #[derive(Drop)]
 pub struct ScriptText {
     bytes: Vec<u8>,
@@ -264,9 +265,9 @@ impl ScriptText {
     ghost use Rattle.std.specs.Prelude.{◌≡◌, ◌≤◌, ◌+◌, IfErr, IfOk, IfSome, length};
     ghost use Rattle.charmlet_script.specs.Reading.{Answers, AreFor, IsUnread, TellsFailure, lines_of, lines_spell, restart_lines_spell, within};
 
-    /// Reads it, and at most one byte past its greatest length. If a read fails, it answers
-    /// `ReadError::Failed`, and when out of memory, `ReadError::Memory`. An interrupted read is
-    /// tried again. After an error the reader has given any part of its bytes.
+    /// Reads the text of a script, and at most one byte past its greatest length. If a read fails,
+    /// it answers `ReadError::Failed`, and when out of memory, `ReadError::Memory`. An interrupted
+    /// read is tried again. After an error the reader has given any part of its bytes.
     pub fn read<R: Read>(alloc: Global, reader: &mut R) -> Result<ScriptText, ReadError>
         ensures reads { IfSome (R.remaining reader.old)
             (λ bytes. IfOk result (λ text. text.bytes.items ≡ within MAX_LENGTH bytes)) }
@@ -276,14 +277,14 @@ impl ScriptText {
         Ok(ScriptText { bytes })
     }
 
-    /// Its bytes.
+    /// The bytes of the text.
     pub fn as_bytes(&self) -> &[u8]
         ensures { result.now ≡ self.now.bytes.items }
     {
         self.bytes.as_slice()
     }
 
-    /// The script of a run that it spells, as [`read_script`] answers it.
+    /// The script of a run that the text spells, as [`read_script`] answers it.
     pub fn script(&self, alloc: Global, runner: Runner) -> Result<Script, ReadError>
         ensures reads { Answers result (lines_spell runner (lines_of self.now.bytes.items)) }
         ensures lines { IfOk result (λ script. AreFor runner script.lines) }
@@ -293,7 +294,7 @@ impl ScriptText {
         read_lines(alloc, runner, &lines)
     }
 
-    /// The script of a restart that it spells, as [`read_restart_script`] answers it.
+    /// The script of a restart that the text spells, as [`read_restart_script`] answers it.
     pub fn restart_script(&self, alloc: Global, runner: Runner) -> Result<RestartScript, ReadError>
         ensures reads { Answers result (restart_lines_spell runner (lines_of self.now.bytes.items)) }
         ensures lines { IfOk result (λ script. AreFor runner script.lines) }
@@ -306,9 +307,9 @@ impl ScriptText {
 
 /// Reads the script of a run, of at most 1,048,576 bytes, and at most one byte after these.
 ///
-/// If a line is malformed, it answers `ReadError::Malformed` with the number of the first one, or
-/// with 1 if no line spells an array. Where workers deliver, a `deliver` line is malformed wherever
-/// it stands. If a read fails, it answers `ReadError::Failed`, and when out of memory,
+/// If a line is malformed, it answers `ReadError::Malformed` with the number of the first such
+/// line, or with 1 if no line spells an array. If workers deliver, a `deliver` line is malformed
+/// wherever it stands. If a read fails, it answers `ReadError::Failed`, and when out of memory,
 /// `ReadError::Memory`. An interrupted read is tried again. After an error the reader has given any
 /// part of its bytes.
 #[tactic(auto, using(crate::proofs::Limit::unread_is))]
@@ -328,11 +329,11 @@ pub fn read_script<R: Read>(
 /// Reads the script of a restart, of at most 1,048,576 bytes, and at most one byte after these. The
 /// header of such a script is its `handler` lines, and it may have no line at all.
 ///
-/// If a line is malformed, it answers `ReadError::Malformed` with the number of the first one; an
-/// `array` line and a `pes` line are malformed wherever they stand, and where workers deliver, a
-/// `deliver` line is too. If a read fails, it answers `ReadError::Failed`, and when out of memory,
-/// `ReadError::Memory`. An interrupted read is tried again. After an error the reader has given any
-/// part of its bytes.
+/// If a line is malformed, it answers `ReadError::Malformed` with the number of the first such
+/// line. An `array` line and a `pes` line are malformed wherever they stand, and if workers
+/// deliver, a `deliver` line is too. If a read fails, it answers `ReadError::Failed`, and when out
+/// of memory, `ReadError::Memory`. An interrupted read is tried again. After an error the reader
+/// has given any part of its bytes.
 #[tactic(auto, using(crate::proofs::Limit::unread_is))]
 pub fn read_restart_script<R: Read>(
     alloc: Global,

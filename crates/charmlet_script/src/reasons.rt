@@ -1,7 +1,7 @@
-//! Why a line of a script is malformed, and what may be wrong in a script that is well formed.
+//! The reasons why a line of a script is malformed, and doubts about a script that is well formed.
 //!
-//! The readers of scripts say which line is the first malformed one, and no more. Here stands the
-//! one table of a script's lines in words, and the reasons that are told of it.
+//! The readers of this crate report the number of the first malformed line, and no more. This
+//! module has the one table of a script's lines in words, and the reasons that follow from it.
 
 mod calls;
 mod explanation;

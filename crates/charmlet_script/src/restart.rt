@@ -1,12 +1,12 @@
-//! What scripts of restarts hold.
+//! Scripts of restarts.
 
 use crate::script::{HandlerLine, Line, total_blanks};
 use charmlet_model::Kind;
 use std::marker::Model;
 
 /// A script that was read for a restart: its handlers, and the lines after them, in order. Its
-/// header has nothing else, since its arrays come back with the store, and the number of processors
-/// is given elsewhere. A contract sees the two lists.
+/// header has nothing else, since the store brings its arrays, and the number of processors is
+/// given elsewhere. A contract sees the two lists.
 #[derive(Debug, Drop)]
 pub struct RestartScript {
     handlers: Vec<HandlerLine>,

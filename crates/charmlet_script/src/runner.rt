@@ -1,6 +1,6 @@
-//! Who delivers the messages of a script.
+//! Runners, which deliver the messages of a script.
 
-/// Who delivers the messages of a script.
+/// The runner that delivers the messages of a script.
 #[derive(Clone, Copy, Debug, PartialEq, Eq)]
 pub enum Runner {
     /// An engine, as the script's lines say.

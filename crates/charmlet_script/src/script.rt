@@ -1,4 +1,4 @@
-//! What scripts hold.
+//! Scripts and their lines.
 
 ghost use Rattle.std.specs.Prelude.{◌≡◌, ◌≤◌, IfOk, length};
 ghost use Rattle.charmlet_script.specs.Script.{blanks_of, most_lines, pairs_of};
@@ -26,24 +26,24 @@ pub struct HandlerLine {
 /// A line after the header.
 #[derive(Debug, Drop)]
 pub enum Line {
-    /// `supply K N`: N blanks of kind K, at most 10,000, come to the stock.
+    /// `supply K N`: puts N blanks of kind K into the stock, at most 10,000.
     Supply {
         kind: Kind,
         count: u32,
     },
-    /// `drain N`: the oldest message that can be delivered is delivered, up to N times, at most
+    /// `drain N`: delivers the oldest message that can be delivered, up to N times, at most
     /// 1,000,000.
     Drain {
         count: u32,
     },
-    /// `state A I`: the element is shown.
+    /// `state A I`: shows the element.
     State(Elem),
-    /// `pending`: the ids of the pending messages are shown.
+    /// `pending`: shows the ids of the pending messages.
     Pending,
-    /// `census`: for each kind it is shown where its objects are.
+    /// `census`: shows for each kind where its objects are.
     Census,
-    /// `call C N NAME I W..`: a client asks for a delivery to the element with index I of the array
-    /// that the name is registered for, at the entry that it is registered for.
+    /// `call C N NAME I W..`: a client's request to the element with index I of the array for which
+    /// the name is registered, at the entry for which it is registered.
     Call {
         client: u32,
         number: u64,
@@ -92,8 +92,8 @@ pub(crate) fn total_blanks(lines: &[Line], kind: Kind) -> u64
     total
 }
 
-/// A script that was read: its header, which is a number of processors, arrays that make a
-/// manifest, and handlers, and the lines after it in order. A contract sees the number, if a line
+/// A script that was read: its header, and the lines after it, in order. The header is a number of
+/// processors, arrays that make a manifest, and handlers. A contract sees the number, if a line
 /// declares it, and the three lists.
 #[derive(Debug, Drop)]
 pub struct Script {
@@ -148,8 +148,8 @@ impl Script {
         }
     }
 
-    /// How many processors there are, 1 if no line says so. It may be any 16-bit number: the script
-    /// doesn't check that a store can have that many.
+    /// How many processors there are, or 1 if no line says so. It may be any 16-bit number: the
+    /// script doesn't check that a store can have that many.
     pub fn processors(&self) -> u16
         ensures { result ≡ processors_of self.now }
     {

@@ -1,4 +1,4 @@
-//! What clients ask in lines.
+//! Clients' requests in lines, and their answers.
 
 ghost use Rattle.std.specs.Prelude.{◌≡◌, ℕ, List, IfOk};
 ghost use Rattle.charmlet_requests.specs.Handlers.{handler_of};
@@ -10,7 +10,7 @@ use charmlet_requests::{Handler, Handlers};
 use charmlet_script::HandlerLine;
 use std::alloc::{AllocError, Global};
 
-/// What a client asks of a named handler.
+/// A client's request to a named handler.
 #[derive(Clone, Copy)]
 pub struct Call<'a> {
     pub client: u32,
@@ -20,7 +20,7 @@ pub struct Call<'a> {
     pub words: &'a [u64],
 }
 
-/// The answer to what a client asks.
+/// The answer to a client: what it is told, or the refusal.
 pub fn told_answer(told: Result<Told, Refusal>) -> Answer
     ensures { result ≡ client_answer told }
 {

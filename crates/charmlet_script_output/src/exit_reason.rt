@@ -16,13 +16,13 @@ pub enum ExitReason {
     CannotGoOn,
     /// The store wasn't created, for this reason, and no line was run. The output says why.
     NotCreated(Refusal),
-    /// No store came back, for this reason, and no line was run. The output says why.
+    /// No store was restarted, for this reason, and no line was run. The output says why.
     NotRestarted(Refusal),
     /// No store was shown, for this reason. The output says why.
     NotShown(Refusal),
     /// The laboratory found bad outcomes. The output says how many.
     NotSurvived,
-    /// A line was refused where none may be, and no later one was run. The output says why.
+    /// A line was refused in a strict run, and no later one was run. The output says why.
     AtRefusal,
     /// The script isn't there, is a folder, or a read of it failed.
     UnreadableScript,
@@ -34,8 +34,8 @@ impl ExitReason {
     ghost use Rattle.std.specs.Prelude.{◌≡◌};
     ghost use Rattle.charmlet_script_output.specs.ExitReason.{status_of};
 
-    /// The program's exit status: 1 if it can't go on, has no store, shows none, found bad
-    /// outcomes, or stopped at a refusal, and 2 for a script that can't be run.
+    /// The program's exit status. It is 1 if the program can't go on, has no store, shows none,
+    /// found bad outcomes, or stopped at a refusal, and 2 for a script that can't be run.
     pub fn exit_status(&self) -> u8
         ensures { result ≡ status_of self.now }
     {
@@ -51,8 +51,8 @@ impl ExitReason {
     }
 }
 
-/// What to do if there is no store for this reason, to follow `cannot create store` and its like.
-/// It is empty if the refusal's own line says it all.
+/// The advice if there is no store for this reason, to follow `cannot create store` and its like.
+/// It is empty if the refusal's own line is enough.
 fn advice(refusal: &Refusal) -> &'static str
     ensures { result.now ≡ advice_of refusal.now }
 {
@@ -67,8 +67,7 @@ fn advice(refusal: &Refusal) -> &'static str
     }
 }
 
-/// Writes what is said on standard error, without a line feed: why the program stops, and what to
-/// do.
+/// Writes the text for standard error, without a line feed: why the program stops, and what to do.
 impl fmt::Display for ExitReason {
     ghost use Rattle.std.specs.Prelude.{Some};
     ghost use Rattle.charmlet_script_output.specs.ExitReason.{stop_text};

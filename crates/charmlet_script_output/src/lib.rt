@@ -1,4 +1,5 @@
-//! What a run of a script prints, needs and stops for, whether an engine delivers or workers do.
+//! The output of scripts' runs, by an engine or by workers: lines and answers, the objects that a
+//! script supplies, and why the program stops.
 #![tactic(auto)]
 
 mod calls;

@@ -1,4 +1,4 @@
-//! What a run has of a restart: its first line, and the objects that its script supplies.
+//! The first line of a restarted script's output, and the objects that the script supplies.
 
 ghost use Rattle.std.specs.Prelude.{◌≡◌};
 ghost use Rattle.charmlet_model.specs.declared.kind.Kind.{Kind};
@@ -10,8 +10,8 @@ use charmlet_model::Kind;
 use charmlet_script::RestartScript;
 use std::fmt;
 
-/// A store came back: the generation that it goes on at, how many events came back, and the number
-/// of processors.
+/// The line of a restarted store: the generation at which it goes on, how many events it has, and
+/// the number of processors.
 #[derive(Clone, Copy, Debug, PartialEq, Eq)]
 pub struct RestartedLine {
     pub generation: u64,

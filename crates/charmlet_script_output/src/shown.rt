@@ -14,8 +14,8 @@ use std::alloc::{AllocError, Global};
 use std::io;
 use std::io::Write;
 
-/// What a line shows of an element of which this is seen. It fails only when out of memory, and
-/// only if the element is there.
+/// The `state` line of an element with this view. It fails only when out of memory, and only if the
+/// element is there.
 pub fn shown_of(alloc: Global, elem: Elem, look: Look) -> Result<Shown, AllocError>
     ensures ok { IfOk result (λ shown. shown_text shown ≡ look_text elem look) }
     ensures absent { look.standing ≡ None → IsOk result }
@@ -41,7 +41,7 @@ pub fn shown_of(alloc: Global, elem: Elem, look: Look) -> Result<Shown, AllocErr
     })
 }
 
-/// Writes the counts of each kind that objects were supplied of.
+/// Writes the counts of each kind of which objects were supplied.
 pub fn write_counts<W: Write>(alloc: Global, writer: &mut W, counts: &[Counted]) -> io::Result<()>
     ensures { Writes result (W.contents writer.old) (W.contents writer.new)
         (in_lines (flat_map counted_texts counts.now)) }

@@ -26,8 +26,8 @@ pub fn write_line<T: fmt::Display, W: Write>(
     write_bytes(writer, text.as_bytes())
 }
 
-/// Writes that it is out of memory, which takes none. An error is the writer's, after a beginning
-/// of the line.
+/// Writes that the program is out of memory, which takes no memory. An error is the writer's, after
+/// a beginning of the line.
 pub fn write_memory_refused<W: Write>(writer: &mut W) -> io::Result<()>
     ensures { Writes result (W.contents writer.old) (W.contents writer.new)
         (in_lines (memory_text ∷ [])) }
@@ -46,9 +46,9 @@ pub fn write_answer<W: Write>(alloc: Global, writer: &mut W, answer: &Answer) ->
     }
 }
 
-/// Writes the answer to a step. After that of a flush or a checkpoint, which says what is durable,
-/// the writer is flushed, so that a reader of the output has it at once. Fails as [`write_line`]
-/// does, or where the flush fails, after the whole line.
+/// Writes the answer to a step. After a flush or a checkpoint, whose answer says what is durable,
+/// the writer is flushed, so that a reader of the output has the answer at once. Fails as
+/// [`write_line`] does, or if the flush fails, after the whole line.
 pub fn write_step_answer<W: Write>(
     alloc: Global,
     writer: &mut W,

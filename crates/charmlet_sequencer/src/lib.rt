@@ -1,9 +1,6 @@
-//! What orders the steps of a runtime with threads, and a shelf for each processor.
-//!
-//! A shelf and the sequencer lie under different locks, and yet it is known, without comparing,
-//! that they agree: the sequencer has an authority of what stands on each shelf and of the delivery
-//! that is assigned there, and each shelf has its fragment of the authority. Each call is one step
-//! of the core.
+//! The sequencer, which orders the steps of a runtime with threads, and a shelf for each processor.
+//! Shelf and sequencer lie under different locks, and are known to agree without a comparison: the
+//! sequencer has a ghost authority of the shelves, and each shelf has its fragment.
 #![tactic(auto)]
 
 mod checkpoint;

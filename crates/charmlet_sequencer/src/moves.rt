@@ -21,7 +21,7 @@ use charmlet_model::{Elem, Refusal};
 impl<D: Disk, C: Chare, B: RuntimeName> Sequencer<D, C, B> {
     /// The processor that an element has to leave for a move to this one, or `None` if the element
     /// is there already: then the move is done, and nothing changes. It needs no shelf. An element
-    /// that has to leave is [relocated](Self::relocate), and there it is asked whether a message is
+    /// that has to leave is [relocated](Self::relocate); only that call tests whether a message is
     /// assigned to one of the two processors.
     ///
     /// The refusal, which is the move's, is the first that applies of `Halted`, `BadPes` and
@@ -39,20 +39,20 @@ impl<D: Disk, C: Chare, B: RuntimeName> Sequencer<D, C, B> {
         match self.history.test_move(elem, processor) {
             Ok(None) => Ok(None),
             Err(refusal) if refusal != Refusal::Uncommitted => Err(refusal),
-            // Whether a message is assigned is asked under the locks.
+            // Whether a message is assigned is tested under the locks.
             _ => Ok(self.history.where_is(elem)),
         }
     }
 
-    /// Moves an element, which stands on the one shelf, to the other. A blank of its kind is taken
-    /// from the stock, is set to its version, gets its state, and stands on the other shelf, with
-    /// the element's two counts; then the element's place changes; only then its old object leaves
-    /// its shelf and is retired. Where the element stands is seen by
+    /// Moves an element from one shelf to the other. A blank of its kind is taken from the stock,
+    /// is set to its version, gets its state, and stands on the other shelf, with the element's two
+    /// counts. Then the element's place changes. Only then its old object leaves its shelf and is
+    /// retired. The caller checks the element's place by
     /// [`where_is`](charmlet_history::History::where_is), since it may have moved before both
     /// shelves were locked.
     ///
-    /// The refusal is the first that applies of `Halted`, `Uncommitted` where one of the two
-    /// processors has an assigned message, `NoBlank` and `Memory`. Then all is as before.
+    /// The refusal is the first that applies of `Halted`, `Uncommitted` if one of the two
+    /// processors has an assigned message, `NoBlank` and `Memory`. Then nothing changes.
     pub fn relocate(
         &mut self,
         from: &mut ProcessorState<C, B>,

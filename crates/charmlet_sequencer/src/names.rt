@@ -1,10 +1,10 @@
-//! What types under different locks have to agree on.
+//! The name on which types under different locks have to agree.
 
 use charmlet_locks::AuthorityName;
 use std::marker::Brand;
 
-/// Names one runtime: its authorities, of shelves, of seats, of passes and of checkpoints, and the
-/// store with which it opened. The call that opens it picks them, and all types that lie under its
+/// The name of one runtime: its authorities, of shelves, of seats, of passes and of checkpoints,
+/// and the store with which it opened. The call that opens it picks them, and all types under its
 /// locks are generic in the name. As an authority's name it is that of the authority of shelves.
 pub trait RuntimeName: AuthorityName {
     ghost use Rattle.std.specs.Prelude.{ℕ};
@@ -23,16 +23,16 @@ pub trait RuntimeName: AuthorityName {
     /// The world with which the store opened.
     ghost opening: { World };
 
-    /// How many events came before it.
+    /// How many events came before that world.
     ghost before: { ℕ };
 
     /// How many processors there are.
     ghost processors: { ℕ };
 
-    /// The generation at which it opened.
+    /// The generation at which the store opened.
     ghost generation: { ℕ };
 
-    /// That the disk with which it opened is honest.
+    /// The fact that the disk with which the store opened is honest.
     ghost honest: { Type 0 };
 }
 

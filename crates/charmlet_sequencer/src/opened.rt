@@ -1,4 +1,4 @@
-//! A sequencer and its shelves, of a store that is new or came back.
+//! A sequencer and its shelves, of a new or restored store.
 
 ghost use Rattle.std.specs.Prelude.{◌≡◌, ◌+◌, ◌<◌, ◌≤◌, ◌∷◌, ◌++◌, [], false, Some, length, vec_len};
 ghost use Rattle.std.specs.Vec.{vec_capacity};
@@ -26,12 +26,12 @@ use charmlet_store::{Store, StoreParts};
 #[derive(Drop)]
 pub struct Opened<D: Disk, C: Chare, B: RuntimeName> {
     pub sequencer: Sequencer<D, C, B>,
-    /// The shelf of each processor. They count from 0.
+    /// The shelf of each processor. Processors count from 0.
     pub shelves: Vec<ProcessorState<C, B>>,
 }
 
-/// A sequencer of a store in which nothing is assigned, as a restart brings it back, under its
-/// name, and its shelves, for which the list has room. It takes no memory.
+/// Opens a sequencer and its shelves, under its name, of a store in which nothing is assigned, as a
+/// restart leaves it. The list has room for the shelves. It takes no memory.
 pub fn open_store<D: Disk, C: Chare, B: RuntimeName>(
     store: Store<C>,
     halves: Halves<D>,
@@ -75,8 +75,8 @@ pub fn open_store<D: Disk, C: Chare, B: RuntimeName>(
     Opened { sequencer, shelves }
 }
 
-/// Adds a shelf on which no delivery is under way, and for which there is room, and its part of the
-/// authority.
+/// Adds a shelf on which no delivery is under way, and its part of the authority. There has to be
+/// room for the shelf.
 #[tactic(auto, using(crate::proofs::Reopened::write_last))]
 fn add_idle<C: Chare, B: AuthorityName>(
     parts: &mut Authority<GhostPart, B>,

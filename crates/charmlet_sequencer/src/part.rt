@@ -1,4 +1,4 @@
-//! What the sequencer has of a shelf.
+//! The sequencer's ghost part of a shelf.
 
 ghost use Rattle.std.specs.Prelude.{◌≡◌, Some, slice_get, slice_set};
 ghost use Rattle.charmlet_sequencer.specs.Part.{part_on};
@@ -8,8 +8,8 @@ use charmlet_locks::{Authority, AuthorityName, Fragment, GhostValue};
 use charmlet_shelf::Shelf;
 use std::marker::{Brand, Model};
 
-/// What the sequencer has of a shelf, as only contracts see it: the one value that code makes is
-/// that of a shelf on which nothing stands.
+/// The sequencer's part of a shelf, which only contracts see. The one value that code makes is that
+/// of an empty shelf.
 #[derive(Drop)]
 pub struct GhostPart;
 
@@ -27,8 +27,8 @@ impl GhostValue<GhostPart> for Brand {
     ghost value = { no_part };
 }
 
-/// Writes what stands on the shelf, and the delivery that is under way there, into the authority
-/// and the shelf's fragment, which had the same before.
+/// Writes the shelf's elements, and the delivery that is under way there, into the authority and
+/// the shelf's fragment, which had the same value before.
 pub(crate) fn write<C: Chare, B: AuthorityName>(
     parts: &mut Authority<GhostPart, B>,
     fragment: &mut Fragment<GhostPart, B>,
@@ -41,7 +41,7 @@ pub(crate) fn write<C: Chare, B: AuthorityName>(
     write_part::<Brand, C, B>(parts, fragment, shelf)
 }
 
-/// The same, where `N` names it.
+/// Writes the shelf's part, which `N` names, into the authority and the fragment.
 fn write_part<N: GhostValue<GhostPart>, C: Chare, B: AuthorityName>(
     parts: &mut Authority<GhostPart, B>,
     fragment: &mut Fragment<GhostPart, B>,

@@ -1,4 +1,4 @@
-//! A shelf under its lock.
+//! Shelves under their locks.
 
 use crate::part::GhostPart;
 use charmlet_chare::{Chare, Output};
@@ -8,8 +8,8 @@ use charmlet_shelf::{Image, ImageRoom, Shelf};
 use std::alloc::AllocError;
 use std::marker::Model;
 
-/// Messages that an element has sent by one delivery: so many, and the last of them is its message
-/// of this number.
+/// Messages that an element has sent by one delivery: their count, and the number of the last of
+/// them.
 #[derive(Clone, Copy, Debug)]
 pub struct SentBy {
     pub elem: Elem,
@@ -23,7 +23,7 @@ pub struct SentBy {
 /// delivery.
 pub struct ProcessorState<C: Chare, B: AuthorityName> {
     pub(crate) shelf: Shelf<C>,
-    /// What the receiver sent and replied, once it has reacted.
+    /// The receiver's output, once it has reacted.
     pub(crate) output: Option<Output>,
     pub(crate) fragment: Fragment<GhostPart, B>,
 }
@@ -42,8 +42,8 @@ impl<C: Chare, B: AuthorityName> Model for ProcessorState<C, B> {
         × HasOutput s.shelf.phase s.output };
 }
 
-// Written by hand, so that dropping all that such a shelf has is proved here, and not in each
-// function that drops one.
+// Written by hand, so that dropping all its fields is proved here, and not in each function that
+// drops one.
 impl<C: Chare, B: AuthorityName> Drop for ProcessorState<C, B> {
     fn drop(self) {
         let ProcessorState {
@@ -81,7 +81,7 @@ impl<C: Chare, B: AuthorityName> ProcessorState<C, B> {
         (shelf, fragment)
     }
 
-    /// The number of its processor.
+    /// The number of the shelf's processor.
     pub fn number(&self) -> u16
         ensures { result ≡ self.now.number }
     {
@@ -113,7 +113,7 @@ impl<C: Chare, B: AuthorityName> ProcessorState<C, B> {
         self.shelf.outcome().is_some()
     }
 
-    /// The id of the delivery that the receiver has made, until it is committed.
+    /// The id of the receiver's delivery, until it is committed.
     pub fn delivery(&self) -> Option<MsgId>
         ensures { result ≡ delivery_in self.now.phase }
     {
@@ -123,8 +123,7 @@ impl<C: Chare, B: AuthorityName> ProcessorState<C, B> {
         }
     }
 
-    /// The messages that the receiver has sent by the delivery that it has made, until it is
-    /// committed.
+    /// The messages that the receiver has sent by its delivery, until it is committed.
     pub fn sent(&self) -> Option<SentBy>
         ensures { result ≡ sent_in self.now.phase }
     {
@@ -138,8 +137,8 @@ impl<C: Chare, B: AuthorityName> ProcessorState<C, B> {
         })
     }
 
-    /// Has the receiver of the assigned message react to it. It needs no sequencer. It fails only
-    /// when out of memory, and then the shelf is as before.
+    /// Runs the receiver's reaction to the assigned message. It needs no sequencer. It fails only
+    /// when out of memory, and then the shelf is unchanged.
     pub fn enter(&mut self) -> Result<(), AllocError>
         requires { is_assigned self.old.phase ≡ true }
         ensures ok { OnOk result (self.new
@@ -151,23 +150,23 @@ impl<C: Chare, B: AuthorityName> ProcessorState<C, B> {
         Ok(())
     }
 
-    /// Room for the images of as many elements as stand here now, which is yet to be made. It takes
-    /// no memory.
+    /// An empty room for the images of as many elements as stand here now, whose memory is still to
+    /// be reserved. It takes no memory.
     pub fn image_room(&self) -> ImageRoom {
         self.shelf.image_room()
     }
 
-    /// Notes in the room how many bytes each object packs to, as far as it has room for that. It
-    /// takes no memory, and the shelf is as before.
+    /// Notes in the room the packed size of each object in bytes, as far as the room suffices. It
+    /// takes no memory, and the shelf is unchanged.
     pub fn measure(&mut self, room: &mut ImageRoom)
         ensures { self.new ≡ self.old }
     {
         self.shelf.measure(room);
     }
 
-    /// The images of all elements that stand here, in any order, in the memory of the room.
-    /// `Uncommitted` if a delivery is under way; otherwise `Memory`, which is only taken where the
-    /// room lacks some. The shelf is as before. It needs no sequencer.
+    /// Takes the images of all elements on the shelf, in any order, in the memory of the room.
+    /// `Uncommitted` if a delivery is under way; otherwise `Memory`, which is taken only if the
+    /// room is too small. The shelf is unchanged. It needs no sequencer.
     pub fn images(&mut self, room: ImageRoom) -> Result<Vec<Image>, Refusal>
         ensures ok { IfOk result (λ images. (is_idle self.old.phase ≡ true)
             × AreImages self.old.records (keys_of self.old.records) images.items) }
@@ -178,8 +177,9 @@ impl<C: Chare, B: AuthorityName> ProcessorState<C, B> {
         self.shelf.images(room)
     }
 
-    /// The image of an element, or `None` if it isn't here. `Uncommitted` if a delivery is under
-    /// way; otherwise `Memory`, but only if the element is here. The shelf is as before.
+    /// Takes the image of an element, or returns `None` if it isn't here. `Uncommitted` if a
+    /// delivery is under way; otherwise `Memory`, but only if the element is here. The shelf is
+    /// unchanged.
     pub fn image(&mut self, elem: Elem) -> Result<Option<Image>, Refusal>
         ensures image { AnswersImage self.old elem result }
         ensures same { self.new ≡ self.old }

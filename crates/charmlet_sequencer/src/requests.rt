@@ -1,4 +1,4 @@
-//! What is asked of a sequencer: requests by clients' passes, and what is under way on a shelf.
+//! Requests by clients' passes to a sequencer, and the agreement with a shelf.
 
 ghost use Rattle.std.specs.Prelude.{◌≡◌, ◌<◌, IfOk, OnErr, OnOk, take};
 ghost use Rattle.charmlet_model.specs.Core as core;
@@ -24,11 +24,11 @@ use charmlet_locks::AuthorityName;
 use charmlet_model::{Refusal, Told};
 
 impl<D: Disk, C: Chare, B: RuntimeName> Sequencer<D, C, B> {
-    /// Accepts a request of the pass's client, unless it repeats one in the client's window, and
-    /// tells the client what is durable of it. The refusals are those of
+    /// Accepts a request of the pass's client, and tells the client what is durable of it. A repeat
+    /// of a request in the client's window adds nothing. The refusals are those of
     /// [`charmlet_history::History::request`], in their order. If it isn't refused, the pass and
-    /// its authority record that it was accepted, and what was told about it. What is told is no
-    /// less than the pass knew, and no other words. A refusal changes nothing.
+    /// its authority record that it was accepted, and the answer. The answer is no less than the
+    /// pass knew, and has no other words. A refusal changes nothing.
     pub fn request_by<P: AuthorityName>(
         &mut self,
         passes: &mut PassTable<P>,
@@ -58,9 +58,9 @@ impl<D: Disk, C: Chare, B: RuntimeName> Sequencer<D, C, B> {
         told
     }
 
-    /// Shows that the shelf is a processor's, that it has the records of the elements that stand
-    /// there in the world after the history, and that what is under way there is what is assigned.
-    /// Nothing is compared, and nothing changes.
+    /// Shows that the shelf and the sequencer agree. The shelf is a processor's, it has the records
+    /// of its elements in the world after the history, and its delivery under way is the one that
+    /// is assigned. Nothing is compared, and nothing changes.
     pub fn agree(&mut self, locked: &mut ProcessorState<C, B>)
         ensures on { locked.old.number < self.old.core.processors }
         ensures shows { ShowsOn locked.old.number locked.old.records self.old.core.places

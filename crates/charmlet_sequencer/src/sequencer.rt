@@ -1,4 +1,4 @@
-//! The sequencer: what orders the steps of all processors.
+//! The sequencer, which orders the steps of all processors.
 
 ghost use Rattle.std.specs.Prelude.{◌≡◌, ◌≢◌, ◌+◌, ◌≤◌, List, Option, false, true, IfErr, IsOk, OnErr, OnOk, length};
 ghost use Rattle.charmlet_model.specs.declared.kind.Kind as kinds;
@@ -42,20 +42,20 @@ use std::alloc::Global;
 use std::marker::Model;
 use std::sync::ledger::Ledger;
 
-/// What orders all steps: a history, the halves of a disk, the stock, and the authority of what
-/// stands on each shelf. A contract sees the core, the census and the disk.
+/// The order of all steps: a history, the halves of a disk, the stock, and the authority of the
+/// shelves. A contract sees the core, the census and the disk.
 ///
-/// Each call is one step of the core, or leaves it as it is. The history is legal. Of each kind,
-/// what was supplied is on the shelves, in the stock, or retired. A shelf that is lent to a call
-/// shows the world after the history, and the delivery that is under way there is the one that is
+/// Each call is one step of the core, or leaves it unchanged. The history is legal. For each kind,
+/// all supplied objects are on the shelves, in the stock, or retired. A shelf that is lent to a
+/// call shows the world after the history, and the delivery under way there is the one that is
 /// assigned to its processor. On an honest disk a crash leaves the world after some of the history,
-/// with all durable events among it.
+/// including all durable events.
 pub struct Sequencer<D: Disk, C: Chare, B: RuntimeName> {
     pub(crate) alloc: Global,
     pub(crate) history: History,
     pub(crate) halves: Halves<D>,
     pub(crate) stock: Stock<C>,
-    /// What stands on the shelf of each processor, and what is assigned there.
+    /// The elements on each processor's shelf, and the delivery that is assigned there.
     pub(crate) parts: Authority<GhostPart, B>,
 }
 
@@ -72,7 +72,7 @@ impl<D: Disk, C: Chare, B: RuntimeName> Model for Sequencer<D, C, B> {
         (core_in h.history) × AreTied h.history h.stock h.parts h.halves };
 }
 
-/// What a sequencer is made of.
+/// The parts of a sequencer.
 #[derive(Drop)]
 pub(crate) struct SequencerParts<D: Disk, C: Chare, B: RuntimeName> {
     pub(crate) alloc: Global,
@@ -82,8 +82,8 @@ pub(crate) struct SequencerParts<D: Disk, C: Chare, B: RuntimeName> {
     pub(crate) parts: Authority<GhostPart, B>,
 }
 
-// Written by hand, so that dropping all that a sequencer has is proved here, and not in each
-// function that drops one.
+// Written by hand, so that dropping all its fields is proved here, and not in each function that
+// drops a sequencer.
 impl<D: Disk, C: Chare, B: RuntimeName> Drop for Sequencer<D, C, B> {
     fn drop(self) {
         let Sequencer {
@@ -101,7 +101,7 @@ impl<D: Disk, C: Chare, B: RuntimeName> Drop for Sequencer<D, C, B> {
 }
 
 impl<D: Disk, C: Chare, B: RuntimeName> Sequencer<D, C, B> {
-    /// What the sequencer is made of.
+    /// The parts of the sequencer, which is given up for them.
     pub(crate) fn into_parts(self) -> SequencerParts<D, C, B>
         ensures shown { shown_by result.history result.stock result.halves ≡ self }
         ensures of { IsOf B.opening B.before B.processors (core_in result.history) }
@@ -123,13 +123,13 @@ impl<D: Disk, C: Chare, B: RuntimeName> Sequencer<D, C, B> {
         }
     }
 
-    /// States what always holds of a sequencer: its store is the one that it is named for, at no
-    /// earlier generation; the history was made by events, each in its turn; it has, for each
-    /// shelf, the records of the world after that history and the delivery that is assigned there,
-    /// and of each kind all objects that were supplied are on the shelves, in the stock, or
-    /// retired; and on an honest disk a crash now leaves the world after some of the history, with
-    /// all durable events among it, and that after the durable events alone unless the store is
-    /// halted. Its core says that no checkpoint runs: one that does is not the sequencer's.
+    /// States the facts that hold of every sequencer. Its store is the one that it is named for, at
+    /// no earlier generation; the history was made by events, each in its turn. For each shelf, it
+    /// has the records of the world after that history and the delivery that is assigned there. For
+    /// each kind all supplied objects are on the shelves, in the stock, or retired. On an honest
+    /// disk a crash now leaves the world after some of the history, including all durable events,
+    /// and exactly the world after the durable events unless the store is halted. Its core says
+    /// that no checkpoint runs: a running one is not the sequencer's.
     pub fn facts(&self)
         ensures of { IsOf B.opening B.before B.processors self.now.core }
         ensures later { B.generation ≤ self.now.core.generation }
@@ -147,7 +147,7 @@ impl<D: Disk, C: Chare, B: RuntimeName> Sequencer<D, C, B> {
         let _ = &self.halves;
     }
 
-    /// The history, for looking at it.
+    /// The history, for reading.
     pub fn history(&self) -> &History
         ensures { core_in result.now ≡ self.now.core }
     {
@@ -161,9 +161,9 @@ impl<D: Disk, C: Chare, B: RuntimeName> Sequencer<D, C, B> {
         self.stock.census()
     }
 
-    /// The oldest pending message on the processor that can be delivered, if there is one: a
-    /// message is where its receiver stands, or on the home of one that isn't there. It is at most
-    /// one look.
+    /// The oldest pending message on the processor that can be delivered, if there is one. A
+    /// message is on its receiver's processor, or on the receiver's home if it isn't there. It
+    /// takes at most one look.
     pub fn oldest_on<L: Ledger>(&self, processor: u16, ticks: &mut Ticks<L>) -> Option<MsgId>
         ensures oldest { result ≡ oldest_on_in self.now.core processor }
         ensures ticks { ticks.new ≤ ticks.old + 1 }
@@ -171,7 +171,7 @@ impl<D: Disk, C: Chare, B: RuntimeName> Sequencer<D, C, B> {
         self.history.oldest_on(processor, ticks)
     }
 
-    /// Takes blank objects into the stock. Where memory is refused it hands all of them back, and
+    /// Takes blank objects into the stock. If memory is refused, it hands all of them back, and
     /// nothing has changed.
     pub fn supply(&mut self, blanks: Vec<C>) -> Result<(), Vec<C>>
         ensures core { self.new.core ≡ self.old.core }
@@ -189,12 +189,12 @@ impl<D: Disk, C: Chare, B: RuntimeName> Sequencer<D, C, B> {
         self.stock.supply(blanks)
     }
 
-    /// Assigns a pending message to the shelf's processor. One that constructs its receiver takes a
-    /// blank from the stock. It makes room for the delivery, whatever is delivered elsewhere before
-    /// it.
+    /// Assigns a pending message to the shelf's processor. A message that constructs its receiver
+    /// takes a blank from the stock. It makes room for the delivery, whatever is delivered
+    /// elsewhere before it.
     ///
     /// The refusal is the first that applies of `Halted`, `BadPes`, `Uncommitted`, `NoMessage`,
-    /// `Absent`, `Elsewhere`, `HistoryFull`, `NoBlank` and `Memory`. Then all is as before.
+    /// `Absent`, `Elsewhere`, `HistoryFull`, `NoBlank` and `Memory`. Then nothing changes.
     pub fn assign(&mut self, locked: &mut ProcessorState<C, B>, id: MsgId) -> Result<(), Refusal>
         ensures goes { Goes (store_of self.old) (core.Assign locked.old.number id)
             (done_or_refused result) (store_of self.new) }
@@ -219,9 +219,9 @@ impl<D: Disk, C: Chare, B: RuntimeName> Sequencer<D, C, B> {
         assigned
     }
 
-    /// Adds the delivery that the receiver on the shelf has made to the history. An object that it
-    /// destroyed is retired. It takes no memory. The only refusal is `Halted`: then all is as
-    /// before, and the delivery can still be [finished](Self::finish).
+    /// Adds the receiver's delivery on the shelf to the history. An object that it destroyed is
+    /// retired. It takes no memory. The only refusal is `Halted`: then nothing changes, and the
+    /// delivery can still be [finished](Self::finish).
     pub fn commit(&mut self, locked: &mut ProcessorState<C, B>) -> Result<(), Refusal>
         requires { is_done locked.old.phase ≡ true }
         ensures goes { Goes (store_of self.old) (core.Commit locked.old.number)
@@ -253,9 +253,9 @@ impl<D: Disk, C: Chare, B: RuntimeName> Sequencer<D, C, B> {
         Ok(())
     }
 
-    /// Adds the delivery as [`commit`](Self::commit) does, also where the store is halted: so an
-    /// object that has reacted already can be counted, and the store be taken apart. It takes no
-    /// memory.
+    /// Adds the delivery as [`commit`](Self::commit) does, even if the store is halted. So an
+    /// object that has reacted already can be counted, and the store can be taken apart. It takes
+    /// no memory.
     pub fn finish(&mut self, locked: &mut ProcessorState<C, B>)
         requires { is_done locked.old.phase ≡ true }
         ensures goes { Goes (store_of self.old) (core.Finish locked.old.number) Done
@@ -279,8 +279,8 @@ impl<D: Disk, C: Chare, B: RuntimeName> Sequencer<D, C, B> {
         write(&mut self.parts, &mut locked.fragment, &locked.shelf);
     }
 
-    /// Takes the assignment back: the message is pending again, and the blank of a construction is
-    /// back in the stock. It takes no memory.
+    /// Releases the assigned message: it is pending again, and the blank of a construction is back
+    /// in the stock. It takes no memory.
     pub fn release(&mut self, locked: &mut ProcessorState<C, B>)
         requires { is_assigned locked.old.phase ≡ true }
         ensures goes { Goes (store_of self.old) (core.Release locked.old.number) Done
@@ -296,14 +296,13 @@ impl<D: Disk, C: Chare, B: RuntimeName> Sequencer<D, C, B> {
         write(&mut self.parts, &mut locked.fragment, &locked.shelf);
     }
 
-    /// Makes all events durable, and answers how many there are, those before the opening world
-    /// among them. It takes no memory; where no events are to be written it makes no call of the
-    /// disk.
+    /// Makes all events durable, and answers how many there are, including those before the opening
+    /// world. It takes no memory; with no events to write it makes no call of the disk.
     ///
-    /// `Halted`; `LogFull` if the file would have more than 2^31 bytes, the closed gate after its
-    /// log among them: then nothing changes. `Device` halts the store. On an honest disk a crash at
-    /// any moment of the call leaves the world after some of the history, with all events among it
-    /// that were durable before.
+    /// `Halted`; `LogFull` if the file would have more than 2^31 bytes, including the closed gate
+    /// after its log: then nothing changes. `Device` halts the store. On an honest disk a crash at
+    /// any moment of the call leaves the world after some of the history, including all events that
+    /// were durable before.
     pub fn flush(&mut self) -> Result<u64, Refusal>
         ensures goes { Goes (store_of self.old) core.Flush (counts_or_refused result)
             (store_of self.new) }

@@ -23,7 +23,7 @@ use charmlet_locks::{Authority, AuthorityName};
 use charmlet_shelf::Shelf;
 use charmlet_store::Store;
 
-/// What a sequencer and its shelves were made of: a store, and the halves of its disk.
+/// The parts of a sequencer and its shelves: a store, and the halves of its disk.
 #[derive(Drop)]
 pub struct StoreOnDisk<D: Disk, C: Chare> {
     pub store: Store<C>,
@@ -31,10 +31,10 @@ pub struct StoreOnDisk<D: Disk, C: Chare> {
 }
 
 impl<D: Disk, C: Chare, B: RuntimeName> Sequencer<D, C, B> {
-    /// Takes all apart where no delivery is under way, also when halted: then nothing is assigned.
-    /// It makes no call of the disk, and takes no memory. The shelves are handed in all at once, in
-    /// any order; the store has each in the place of its processor, for which an empty one is
-    /// handed in.
+    /// Takes a sequencer and its shelves apart, even when halted, if no delivery is under way: then
+    /// nothing is assigned. It makes no call of the disk, and takes no memory. All shelves are
+    /// handed in at once, in any order. The store has each in the place of its processor, for which
+    /// an empty shelf is handed in.
     pub fn take_apart(
         self,
         shelves: Vec<ProcessorState<C, B>>,
@@ -75,8 +75,8 @@ impl<D: Disk, C: Chare, B: RuntimeName> Sequencer<D, C, B> {
         StoreOnDisk { store, halves }
     }
 
-    /// The disk alone, also when halted. The rest is dropped, and what isn't durable with it. It
-    /// makes no call of the disk, and takes no memory.
+    /// The sequencer's disk alone, even when halted. The rest is dropped, and with it the events
+    /// that aren't durable. It makes no call of the disk, and takes no memory.
     pub fn into_disk(self) -> D
         ensures { result ≡ self.disk }
     {

@@ -1,37 +1,37 @@
-//! Clients of a runtime that are served in threads.
+//! The trait of clients that are served in threads.
 
 use charmlet_model::{Answer, Elem, Refusal, Words};
 
-/// What a client asks of a runtime.
+/// A client's question or request to a runtime.
 #[derive(Debug, Drop)]
 pub enum Ask {
-    /// Its request of this number. A repeat adds nothing.
+    /// A request with the client's number for it. A repeat adds nothing.
     Request {
         number: u64,
         to: Elem,
         entry: u16,
         words: Words,
     },
-    /// What is durable of its request of this number.
+    /// A question what is durable of the client's request of this number.
     Status(u64),
-    /// That an element goes to a processor.
+    /// A request that an element goes to a processor.
     Move {
         elem: Elem,
         processor: u16,
     },
-    /// That all events become durable.
+    /// A request that all events become durable.
     Flush,
-    /// That all events become durable in an image.
+    /// A request that all events become durable in an image.
     Checkpoint,
 }
 
 /// A client of a runtime, which says what it asks next, and is answered, again and again. It has a
-/// thread of its own, with a pass, and never sees either. So it needn't know the runtime's name.
+/// thread of its own, with a pass, but sees neither. So it needn't know the runtime's name.
 pub trait Client: Drop {
-    /// The number by which the store knows it. It is asked once, before anything else.
+    /// The number by which the store knows the client. The call comes once, before any other.
     fn number(&self) -> u32;
 
-    /// What it asks next, or `None` where it has ended. It is told what was answered to what it
-    /// asked last, and at first `None`. A refusal that it returns ends it.
+    /// The client's next question or request, or `None` to end. `answer` is the answer to the last
+    /// one, and `None` at first. A refusal that it returns ends the client.
     fn next(&mut self, answer: Option<&Answer>) -> Result<Option<Ask>, Refusal>;
 }

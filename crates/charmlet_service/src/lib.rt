@@ -1,8 +1,6 @@
-//! Clients that are served in threads over a runtime, which is made for them, or comes back from a
-//! disk, and is taken apart after them.
-//!
-//! A runtime's name, its authorities and the passes of its clients stay inside. So a program that
-//! uses this crate has no proof of its own.
+//! Clients that are served in threads over a runtime, which is made for them, or restored from a
+//! disk, and is taken apart after them. The runtime's name, authorities and passes stay inside, so
+//! a program that uses this crate has no proof of its own.
 #![tactic(auto)]
 
 mod client;
@@ -12,7 +10,7 @@ mod threads;
 pub use crate::client::{Ask, Client};
 pub use crate::run::{Ran, serve_new, serve_restarted};
 pub use crate::threads::Served;
-// What else a program names that has its clients served, so that it lists this crate alone.
+// The other names that a program with served clients uses, so that it depends on this crate alone.
 pub use charmlet_engine::{
     Account, Answer, CONSTRUCT, Chare, Counter, DeviceFault, Disk, Elem, FileDisk, Found, Handler,
     Handlers, Kind, Look, Manifest, MemDisk, MsgId, Outbox, PupFault, Refusal, Refused, Request,

@@ -28,29 +28,30 @@ use std::marker::Brand;
 use std::sync::Wait;
 use std::thread::Threads;
 
-/// The disk of a runtime after its clients were served, and what became of them.
+/// The disk of a runtime after its clients were served, and the results of the clients.
 #[derive(Drop)]
 pub struct Ran<D: Drop, A: Drop> {
     pub disk: D,
     pub clients: Served<A>,
 }
 
-/// Makes a store with these arrays and this number of processors on a settled disk of which no half
-/// is open, opens a runtime over it with these blanks in its stock, and serves clients there: each
-/// in a thread of its own, while a worker for each processor delivers in another. Once all clients
-/// have ended the disk comes back. The objects are dropped, and what isn't durable with them.
+/// Makes a store on a disk, opens a runtime over it, and serves clients there. The store has these
+/// arrays and this number of processors, and the disk is settled and has no open half; these blanks
+/// are in the store's stock. Each client is served in a thread of its own, while a worker for each
+/// processor delivers in another. Once all clients have ended, the disk comes back. The objects are
+/// dropped, and with them the events that aren't durable.
 ///
-/// All is promised that [`RuntimeBuilder::create`] promises. The disk that comes back has the new
-/// store, or what that went on to: if it is honest, a crash leaves the world after some of its
-/// history, with all durable events among it.
+/// All promises of [`RuntimeBuilder::create`] hold. The disk that comes back has the new store as
+/// it was made, or as it is after the clients' work. If the disk is honest, a crash leaves the
+/// world after some of the store's history, including all durable events.
 ///
 /// The refusals are in their order `BadPes`; `Memory` for the runtime; and then those of the
 /// creation, which are `AlreadyHere`, `Memory` and `Device`. Each hands the disk back, no client is
-/// served, and at each but `Device` nothing is written. Once the store is made nothing is refused.
-/// If memory is lacking for a client then, [`Ran::clients`] says so.
+/// served, and except for `Device` nothing is written. Once the store is made, nothing is refused.
+/// If memory is lacking for a client after that, [`Ran::clients`] says so.
 ///
-/// Where no threads can be made clients are served one after another, and then nobody delivers: one
-/// that waits for a reply waits for ever.
+/// If no threads can be made, clients are served one after another, and no worker delivers
+/// meanwhile: a client that waits for a reply then waits for ever.
 pub fn serve_new<D: Disk, C: Chare, A: Client + Send, R: Threads + Wait + Sync>(
     rt: &R,
     alloc: Global,
@@ -88,18 +89,18 @@ pub fn serve_new<D: Disk, C: Chare, A: Client + Send, R: Threads + Wait + Sync>(
     )
 }
 
-/// Goes on with the store that stands on a disk, whatever a crash left there, as
+/// Restarts the store of a disk, whatever a crash left there, as
 /// [`charmlet_engine::Engine::restart`] does, opens a runtime over it, and serves clients there, as
-/// [`serve_new`] does. Once all clients have ended the disk comes back. The objects are dropped,
-/// and what isn't durable with them.
+/// [`serve_new`] does. Once all clients have ended, the disk comes back. The objects are dropped,
+/// and with them the events that aren't durable.
 ///
-/// All is promised that an engine promises of a restart. The disk that comes back has the store
-/// that came back, or what that went on to: if it is honest, a crash leaves the world after some of
-/// its history, with all durable events among it.
+/// All of an engine's promises about a restart hold. The disk that comes back has the restored
+/// store as it was, or as it is after the clients' work. If the disk is honest, a crash leaves the
+/// world after some of the store's history, including all durable events.
 ///
 /// The refusals are those of a restart. Each hands the disk and all blanks back, these in whatever
-/// state, so that the caller may try again, and no client is served. At each but `Device` nothing
-/// is written: all memory that the runtime takes to open is asked for before.
+/// state, so that the caller may try again, and no client is served. Except for `Device` nothing is
+/// written: all memory that the runtime needs to open is asked for before.
 pub fn serve_restarted<D: Disk, C: Chare, A: Client + Send, R: Threads + Wait + Sync>(
     rt: &R,
     alloc: Global,
@@ -168,7 +169,7 @@ fn run_new<
     }
 }
 
-/// Goes on with a store that came back, and serves clients over its runtime, under the name `B`.
+/// Goes on with a restored store, and serves clients over its runtime, under the name `B`.
 fn run_reopened<
     D: Disk,
     C: Chare,

@@ -15,15 +15,15 @@ use std::sync::atomic::{AtomicBool, Ordering};
 use std::thread;
 use std::thread::{Threads, for_each_mut, join, map_vec};
 
-/// How many turns a worker takes before it looks whether all clients have ended.
+/// How many turns a worker takes before it checks whether all clients have ended.
 const TURNS: u64 = 64;
 
-/// What became of clients: each as it ended, or the refusal that ended it. If memory was lacking
-/// for their threads or for the workers' seats, that alone.
+/// The results of clients: each client as it ended, or the refusal that ended it. If memory was
+/// lacking for their threads or for the workers' seats, it is that refusal alone.
 pub type Served<A> = Result<Vec<Result<A, Refusal>>, Refusal>;
 
 /// Serves each client in a thread of its own, while a worker for each processor delivers in
-/// another. It ends once all clients have.
+/// another. It returns once all clients have ended.
 pub(crate) fn serve_all<
     D: Disk,
     C: Chare,
@@ -80,7 +80,8 @@ fn serve_each<
     }
 }
 
-/// Answers what a client asks until it has ended. `PassOut` if another one has its number.
+/// Answers a client's questions and requests until it has ended. `PassOut` if another client has
+/// its number.
 fn serve<D: Disk, C: Chare, A: Client, B: RuntimeName, R: Wait>(
     rt: &R,
     runtime: &Runtime<D, C, B>,
@@ -102,7 +103,7 @@ fn serve<D: Disk, C: Chare, A: Client, B: RuntimeName, R: Wait>(
     unreachable!()
 }
 
-/// What a client is answered, by its pass.
+/// The answer to a client's question or request, by its pass.
 fn answer_to<D: Disk, C: Chare, B: RuntimeName, R: Wait>(
     rt: &R,
     runtime: &Runtime<D, C, B>,
@@ -150,7 +151,7 @@ fn answer_to<D: Disk, C: Chare, B: RuntimeName, R: Wait>(
     }
 }
 
-/// What a client is told, or the refusal, as an answer.
+/// The answer to a client: what it is told, or the refusal.
 fn told_or_refused(told: Result<Told, Refusal>) -> Answer {
     match told {
         Ok(told) => Answer::Told(told),
@@ -158,7 +159,7 @@ fn told_or_refused(told: Result<Told, Refusal>) -> Answer {
     }
 }
 
-/// The worker of each of these seats delivers, in a thread of its own, until all clients have
+/// Has the worker of each of these seats deliver, in a thread of its own, until all clients have
 /// ended.
 fn work_until<D: Disk, C: Chare, B: RuntimeName + Send + Sync, R: Threads + Wait + Sync>(
     rt: &R,
@@ -178,7 +179,7 @@ fn work_until<D: Disk, C: Chare, B: RuntimeName + Send + Sync, R: Threads + Wait
     );
 }
 
-/// A worker delivers until all clients have ended. One that is refused goes on, since what it lacks
+/// Has a worker deliver until all clients have ended. A refused worker goes on, since what it lacks
 /// may come.
 fn deliver_until<D: Disk, C: Chare, B: RuntimeName, R: Wait>(
     rt: &R,

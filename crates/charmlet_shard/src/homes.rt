@@ -31,7 +31,7 @@ use charmlet_stock::Stock;
 use charmlet_world::Element;
 use std::alloc::AllocError;
 
-/// The home of an element on so many processors.
+/// The home of an element on this many processors.
 fn home_on(elem: Elem, processors: u16) -> u16
     requires { is_processor_count processors ≡ true }
     ensures home { result ≡ home elem processors }
@@ -43,7 +43,7 @@ fn home_on(elem: Elem, processors: u16) -> u16
     home
 }
 
-/// The place of an element's home among the shelves of so many processors.
+/// The index of an element's home among the shelves of this many processors.
 fn place_of_home(elem: Elem, processors: u16) -> usize
     requires { is_processor_count processors ≡ true }
     ensures home { result ≡ home elem processors }
@@ -52,9 +52,9 @@ fn place_of_home(elem: Elem, processors: u16) -> usize
     usize::from(home_on(elem, processors))
 }
 
-/// Places an element of this kind version, of which nothing is known yet, on the shelf of its home,
-/// from a blank of its kind and its packed state, with its counts. It fails only when out of
-/// memory, and then all shelves are as before.
+/// Places an element of this kind version, which has no entry yet, on the shelf of its home, from a
+/// blank of its kind and its packed state, with its counts. It fails only when out of memory, and
+/// then all shelves are unchanged.
 pub(crate) fn place_at_home<C: Chare>(
     processors: u16,
     shelves: &mut [Shelf<C>],
@@ -96,9 +96,9 @@ pub(crate) fn place_at_home<C: Chare>(
     )
 }
 
-/// Brings an element of an image back, of which nothing is known yet. Its object, if it has one, is
-/// of this kind version, and is made from a blank of its kind on the shelf of its home. Answers
-/// what is kept of it. It fails only when out of memory.
+/// Restores an element of an image, which has no entry yet. Its object, if it has one, is of this
+/// kind version, and is made from a blank of its kind on the shelf of its home. Answers the
+/// element's place and counts. It fails only when out of memory.
 pub(crate) fn restore_at_home<C: Chare>(
     processors: u16,
     shelves: &mut [Shelf<C>],
@@ -153,8 +153,8 @@ pub(crate) fn restore_at_home<C: Chare>(
 }
 
 /// Delivers a message to its receiver of this kind version on the shelf of its home, or constructs
-/// it there from a blank of its kind. Answers what is then kept of the receiver, and what it sent
-/// and replied. `Fault` where it needs a blank and there is none; `Memory`.
+/// it there from a blank of its kind. Answers the receiver's place and counts afterwards, and its
+/// output. `Fault` if it needs a blank and there is none; `Memory`.
 pub(crate) fn receive_at_home<C: Chare>(
     processors: u16,
     shelves: &mut [Shelf<C>],

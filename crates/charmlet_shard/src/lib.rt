@@ -1,4 +1,4 @@
-//! Elements that come back, of an image and of its catch-up list: objects on shelves again.
+//! Restored elements of an image and of its catch-up list, as objects on shelves.
 #![tactic(auto)]
 
 mod homes;

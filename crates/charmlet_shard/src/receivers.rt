@@ -1,4 +1,4 @@
-//! Deliveries that are made again on the shelf of their receiver.
+//! Repeated deliveries on the shelf of their receiver.
 
 ghost use Rattle.std.specs.Prelude.{◌≡◌, ◌≤◌, None, true, Err, IfOk, IsOk, OnErr, OnOk, Some, is_some};
 ghost use Rattle.std.specs.BTreeMap.{insert_entry, is_at};
@@ -28,8 +28,8 @@ use charmlet_world::Element;
 use std::alloc::AllocError;
 
 /// Places an element of this kind version that isn't on the shelf, from a blank of its kind and its
-/// packed state, with its counts. Where memory is refused, the shelf is as before and the blank is
-/// in the stock again.
+/// packed state, with its counts. If memory is refused, the shelf is unchanged and the blank is in
+/// the stock again.
 pub(crate) fn place_packed<C: Chare>(
     shelf: &mut Shelf<C>,
     stock: &mut Stock<C>,
@@ -80,9 +80,9 @@ pub(crate) fn place_packed<C: Chare>(
     }
 }
 
-/// Delivers a message to its receiver of this kind version, which is there on the shelf, or which
-/// it constructs from a blank of its kind. Answers what is then kept of the receiver, and what it
-/// sent and replied. `Fault` where it needs a blank and there is none; `Memory`.
+/// Delivers a message to its receiver of this kind version, which is on the shelf, or which the
+/// message constructs from a blank of its kind. Answers the receiver's place and counts afterwards,
+/// and its output. `Fault` if it needs a blank and there is none; `Memory`.
 pub(crate) fn receive<C: Chare>(
     shelf: &mut Shelf<C>,
     stock: &mut Stock<C>,
@@ -115,9 +115,9 @@ pub(crate) fn receive<C: Chare>(
     }
 }
 
-/// Assigns a message to its receiver of this kind version, which is there on the shelf, or which it
-/// constructs from a blank of its kind. `Fault` where it needs a blank and there is none; `Memory`.
-/// Then the shelf is as before.
+/// Assigns a message to its receiver of this kind version, which is on the shelf, or which the
+/// message constructs from a blank of its kind. `Fault` if it needs a blank and there is none;
+/// `Memory`. Then the shelf is unchanged.
 pub(crate) fn assign<C: Chare>(
     shelf: &mut Shelf<C>,
     stock: &mut Stock<C>,
@@ -152,7 +152,7 @@ pub(crate) fn assign<C: Chare>(
 }
 
 /// Assigns a message to the element of this kind version that it constructs from a blank of its
-/// kind. `Fault` where there is no blank; `Memory`. Then the shelf is as before.
+/// kind. `Fault` if there is no blank; `Memory`. Then the shelf is unchanged.
 fn assign_new<C: Chare>(
     shelf: &mut Shelf<C>,
     stock: &mut Stock<C>,
@@ -185,10 +185,10 @@ fn assign_new<C: Chare>(
     }
 }
 
-/// Has the receiver of the assigned message react, and settles the delivery: an object that it
-/// destroyed is retired. Answers what is then kept of the receiver, and what it sent and replied.
-/// Where memory is refused, the message isn't assigned any more, and the blank of a construction is
-/// in the stock again.
+/// Runs the receiver's reaction to the assigned message, and settles the delivery: an object that
+/// it destroyed is retired. Answers the receiver's place and counts afterwards, and its output. If
+/// memory is refused, the message isn't assigned any more, and the blank of a construction is in
+/// the stock again.
 pub(crate) fn perform<C: Chare>(
     shelf: &mut Shelf<C>,
     stock: &mut Stock<C>,
@@ -218,7 +218,7 @@ pub(crate) fn perform<C: Chare>(
     Ok((receiver, output))
 }
 
-/// What is kept of the receiver of a delivery that was made: it stands on the shelf, or was
+/// The place and counts of the receiver after its delivery: it stands on the shelf, or was
 /// destroyed.
 fn receiver_after<C: Chare>(shelf: &Shelf<C>) -> Element
     requires { (done : Performed) × (shelf.now.phase ≡ phases.Done done) }

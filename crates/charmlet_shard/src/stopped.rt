@@ -5,6 +5,6 @@
 pub enum Stopped {
     /// Memory was refused.
     Memory,
-    /// What is written of a record can't be, or isn't what the objects do.
+    /// The contents of a record are impossible, or aren't what the objects do.
     Fault,
 }

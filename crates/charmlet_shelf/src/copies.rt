@@ -6,8 +6,8 @@ use charmlet_model::Words;
 use std::alloc::{AllocError, Global};
 use std::mem;
 
-/// A copy of words, in this memory, which it takes more of only where that is too small. It fails
-/// only when out of memory. What the memory held is forgotten.
+/// Copies words into this memory, which gets larger only if it is too small. It fails only when out
+/// of memory. The former contents of the memory are lost.
 pub(crate) fn copy_words(
     alloc: Global,
     memory: &mut Vec<u64>,

@@ -1,4 +1,4 @@
-//! How many objects there are.
+//! Counts of the objects on a shelf, by kind.
 
 ghost use Rattle.std.specs.Prelude.{◌≡◌};
 ghost use Rattle.std.specs.List.Sorted.{IsStrictlySortedBy};
@@ -16,7 +16,7 @@ pub(crate) fn count_residents<C: Chare>(residents: &IndexMap<Elem, Resident<C>>,
     ensures count { result ≡ count_of C.state (objects_of (risen residents.now.entries)) kind }
     ensures ordered { IsStrictlySortedBy elem_cmp (keys_of (risen residents.now.entries)) }
 {
-    // The length is what says that no element stands there twice.
+    // The length tells the prover that no element stands there twice.
     let _len = residents.len();
     let mut count = 0;
     for resident in residents.values() {

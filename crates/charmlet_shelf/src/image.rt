@@ -17,8 +17,7 @@ use charmlet_model::{Elem, Resident};
 use indexmap::IndexMap;
 use std::alloc::{AllocError, Global};
 
-/// An element that is there: its packed state, and how many messages it sent and received in its
-/// whole life.
+/// A present element's packed state, and how many messages it sent and received in its whole life.
 #[derive(Debug, Drop)]
 pub struct Image {
     pub elem: Elem,
@@ -27,9 +26,9 @@ pub struct Image {
     pub packed: Vec<u8>,
 }
 
-/// The image of each element, in the order in which they stand, in the memory of the room. It takes
-/// more only where the room lacks some, and fails only when out of memory. The objects show what
-/// they showed.
+/// Takes the image of each element, in the order of the table, in the memory of the room. It takes
+/// more memory only if the room is too small, and fails only when out of memory. The objects show
+/// the same states as before.
 pub(crate) fn images_of<C: Chare>(
     residents: &mut IndexMap<Elem, Resident<C>>,
     room: ImageRoom,
@@ -49,8 +48,8 @@ pub(crate) fn images_of<C: Chare>(
     Ok(images)
 }
 
-/// The image of the element that stands at the index, in an empty buffer. It fails only when out of
-/// memory. The objects show what they showed.
+/// Takes the image of the element at this index, in an empty buffer. It fails only when out of
+/// memory. The objects show the same states as before.
 fn image_standing<C: Chare>(
     residents: &mut IndexMap<Elem, Resident<C>>,
     index: usize,
@@ -69,8 +68,8 @@ fn image_standing<C: Chare>(
     image_of(*elem, resident, buffer)
 }
 
-/// Notes in the room how many bytes each object packs to, in the order in which they stand, as far
-/// as it has room for that. It takes no memory. The objects show what they showed.
+/// Notes in the room the packed size of each object in bytes, in the order of the table, as far as
+/// the room suffices. It takes no memory. The objects show the same states as before.
 pub(crate) fn measure_all<C: Chare>(
     residents: &mut IndexMap<Elem, Resident<C>>,
     room: &mut ImageRoom,
@@ -84,8 +83,8 @@ pub(crate) fn measure_all<C: Chare>(
     }
 }
 
-/// The image of an element that is there. It fails only when out of memory. The objects show what
-/// they showed.
+/// Takes the image of a present element. It fails only when out of memory. The objects show the
+/// same states as before.
 pub(crate) fn image_at<C: Chare>(
     alloc: Global,
     residents: &mut IndexMap<Elem, Resident<C>>,
@@ -105,8 +104,8 @@ pub(crate) fn image_at<C: Chare>(
     image_of(elem, resident, Vec::new(alloc))
 }
 
-/// The image of an element with its object, in an empty buffer. It fails only when out of memory,
-/// and the object shows what it showed.
+/// Takes the image of an element with its object, in an empty buffer. It fails only when out of
+/// memory, and the object shows the same state as before.
 fn image_of<C: Chare>(
     elem: Elem,
     resident: &mut Resident<C>,

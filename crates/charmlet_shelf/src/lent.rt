@@ -1,4 +1,4 @@
-//! Deliveries of messages that are only borrowed.
+//! Deliveries of borrowed messages.
 
 ghost use Rattle.std.specs.Prelude.{◌≡◌, ◌+◌, ◌≤◌, length, IfOk, IfSome, OnErr};
 ghost use Rattle.std.specs.BTreeMap.{is_at};
@@ -18,7 +18,7 @@ use charmlet_model::{Elem, Resident};
 use indexmap::IndexMap;
 use std::alloc::{AllocError, Global};
 
-/// What came of a delivery: what the receiver sent and replied, and its object, if the message
+/// The result of a delivery: the receiver's sends and reply, and its object, if the message
 /// destroyed it.
 #[derive(Drop)]
 pub struct Delivered<C> {
@@ -26,8 +26,8 @@ pub struct Delivered<C> {
     pub destroyed: Option<C>,
 }
 
-/// Delivers a message to the element at this index. When out of memory, the objects show what they
-/// showed.
+/// Delivers a message to the element at this index. When out of memory, the objects show the same
+/// states as before.
 pub(crate) fn deliver_at<C: Chare>(
     alloc: Global,
     residents: &mut IndexMap<Elem, Resident<C>>,
@@ -62,8 +62,8 @@ pub(crate) fn deliver_at<C: Chare>(
     Ok(Delivered { output, destroyed })
 }
 
-/// Has a resident react to a message, and counts the message. When out of memory, the resident
-/// shows what it showed.
+/// Runs a resident's reaction to a message, and counts the message. When out of memory, the
+/// resident shows the same state as before.
 fn advance<C: Chare>(
     alloc: Global,
     resident: &mut Resident<C>,

@@ -1,11 +1,11 @@
-//! What objects made of deliveries.
+//! Deliveries that were performed, with their receivers' output.
 
 use crate::delivery::Delivery;
 use charmlet_chare::Output;
 use std::marker::Model;
 
-/// A delivery that was performed, and, until it is taken, what its receiver sent and replied: what
-/// the kind table gives for the message and the receiver's state before it.
+/// A delivery that was performed, and, until it is taken, its receiver's output: what the kind
+/// table gives for the message and the receiver's state before it.
 #[derive(Drop)]
 pub struct PerformedDelivery {
     delivery: Delivery,
@@ -44,21 +44,21 @@ impl PerformedDelivery {
         }
     }
 
-    /// The delivery.
+    /// The delivery that was performed.
     pub fn delivery(&self) -> &Delivery
         ensures { result.now ≡ self.now.due }
     {
         &self.delivery
     }
 
-    /// What the receiver sent and replied, until it is taken.
+    /// The receiver's sends and reply, until they are taken.
     pub fn output(&self) -> Option<&Output>
         ensures { option_copied result ≡ self.now.output }
     {
         self.output.as_ref()
     }
 
-    /// How many messages the receiver has sent and received after it.
+    /// How many messages the receiver has sent and received after this delivery.
     pub fn counts(&self) -> (u64, u64)
         ensures { result ≡ (
           (record_after self.now.due).sent,
@@ -68,14 +68,14 @@ impl PerformedDelivery {
         self.delivery.counts_after(self.sends)
     }
 
-    /// Whether the receiver is destroyed by it.
+    /// Whether the delivery destroys its receiver.
     pub fn is_destroyed(&self) -> bool
         ensures { result ≡ is_none (record_after self.now.due).state }
     {
         self.is_destroyed
     }
 
-    /// The memory of the message's words, and what it holds.
+    /// The memory of the message's words, with its contents.
     pub(crate) fn into_words(self) -> Vec<u64> {
         let PerformedDelivery {
             delivery,
@@ -87,7 +87,7 @@ impl PerformedDelivery {
         delivery.into_words()
     }
 
-    /// Takes what the receiver sent and replied, once.
+    /// Takes the receiver's sends and reply, once.
     pub(crate) fn take_output(&mut self) -> Option<Output>
         ensures output { result ≡ self.old.output }
         ensures taken { self.new ≡ record { due = self.old.due; output = None } }

@@ -1,9 +1,9 @@
-//! What a shelf is doing.
+//! The phases of a shelf.
 
 use crate::delivery::Delivery;
 use crate::performed_delivery::PerformedDelivery;
 
-/// What a shelf is doing.
+/// The phase of a shelf: idle, with an assigned message, or with a performed delivery.
 #[derive(Drop)]
 pub enum Phase {
     /// It waits for a message.

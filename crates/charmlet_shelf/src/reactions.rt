@@ -22,9 +22,9 @@ use charmlet_model::{Elem, Message, Resident};
 use indexmap::IndexMap;
 use std::alloc::Global;
 
-/// The delivery of a message to an element that is there, whose counts have room for it. If the
-/// element isn't there, the message comes back. `index` is tried first, and is then where the
-/// element stands. It takes no memory.
+/// The delivery of a message to a present element, whose counts have room for it. If the element
+/// isn't there, the message comes back. The search tries `index` first; afterwards `index` is the
+/// element's place. It takes no memory.
 pub(crate) fn delivery_at<C: Chare>(
     residents: &IndexMap<Elem, Resident<C>>,
     index: &mut usize,
@@ -46,8 +46,8 @@ pub(crate) fn delivery_at<C: Chare>(
     Ok(Delivery::to_resident(&residents[found], message))
 }
 
-/// Has the receiver react, which is looked for at the index first. When out of memory, the delivery
-/// comes back, and the objects show what they showed.
+/// Runs the receiver's reaction; the search for the receiver tries `index` first. When out of
+/// memory, the delivery comes back, and the objects show the same states as before.
 pub(crate) fn react<C: Chare>(
     alloc: Global,
     residents: &mut IndexMap<Elem, Resident<C>>,
@@ -81,8 +81,8 @@ pub(crate) fn react<C: Chare>(
     }
 }
 
-/// Counts the delivery at its receiver, or takes out the object that it destroys. The receiver is
-/// looked for at the index first.
+/// Counts the delivery at its receiver, or takes out the object that it destroys. The search for
+/// the receiver tries `index` first.
 pub(crate) fn bring_forward<C: Chare>(
     residents: &mut IndexMap<Elem, Resident<C>>,
     index: usize,
@@ -117,7 +117,7 @@ pub(crate) fn bring_forward<C: Chare>(
     None
 }
 
-/// Takes out the object that the message was to construct.
+/// Takes out the object that the message would have constructed.
 pub(crate) fn take_newcomer<C: Chare>(
     residents: &mut IndexMap<Elem, Resident<C>>,
     delivery: &Delivery,

@@ -1,4 +1,4 @@
-//! What objects do with messages.
+//! Reactions of objects to messages.
 
 ghost use Rattle.std.specs.Prelude.{◌≡◌, ◌≤◌, ◌==◌, ◌&&◌, length, IfOk, OnErr};
 ghost use Rattle.charmlet_model.specs.Reaction.{kind_version_of, react};
@@ -9,9 +9,9 @@ use charmlet_chare::{Chare, Outbox, Output};
 use charmlet_model::{CONSTRUCT, Elem};
 use std::alloc::{AllocError, Global};
 
-/// Has an object react to a message with this entry and these words. A construction constructs a
-/// newcomer, and leaves an object that is there as it is. It fails only when out of memory, and the
-/// state is then unchanged. An object that is destroyed keeps its state.
+/// Runs an object's reaction to a message with this entry and these words. A construction
+/// constructs a newcomer, and leaves a present object as it is. It fails only when out of memory,
+/// and then the state is unchanged. An object that is destroyed keeps its state.
 pub(crate) fn receive<C: Chare>(
     alloc: Global,
     object: &mut C,
@@ -36,8 +36,8 @@ pub(crate) fn receive<C: Chare>(
     Ok(outbox.into_output())
 }
 
-/// Whether a message with this entry constructs an element that is there already, which leaves it
-/// as it is.
+/// Whether a message with this entry constructs an element that is there already, which leaves the
+/// element as it is.
 fn stays(is_there: bool, entry: u16) -> bool
     ensures { result ≡ (is_there && (entry == CONSTRUCT)) }
 {

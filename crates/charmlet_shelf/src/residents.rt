@@ -10,7 +10,7 @@ use charmlet_chare::Chare;
 use charmlet_model::{Elem, Resident};
 use indexmap::IndexMap;
 
-/// Where an element stands, if it is there.
+/// The index of an element in the table, if it is there.
 #[inline(never)]
 pub(crate) fn index_of<C: Chare>(
     residents: &IndexMap<Elem, Resident<C>>,
@@ -23,8 +23,9 @@ pub(crate) fn index_of<C: Chare>(
     residents.get_index_of(&elem)
 }
 
-/// Where an element stands, if it is there. If that is `index` or the one after it, a comparison or
-/// two find it: elements that came one after another are often asked one after another.
+/// The index of an element in the table, if it is there. If it is `index` or the next one, one or
+/// two comparisons find it: elements that came one after another are often looked for one after
+/// another.
 pub(crate) fn index_from<C: Chare>(
     residents: &IndexMap<Elem, Resident<C>>,
     index: usize,
@@ -48,7 +49,7 @@ pub(crate) fn index_from<C: Chare>(
 fn stands_at<C: Chare>(residents: &IndexMap<Elem, Resident<C>>, index: usize, elem: Elem) -> bool
     ensures { result ≡ true → StandsAt residents.now.entries elem index }
 {
-    // The length is what tells that no element stands there twice.
+    // The length tells the prover that no element stands there twice.
     let _len = residents.len();
     match residents.get_index(index) {
         Some((key, _)) => *key == elem,
@@ -56,8 +57,8 @@ fn stands_at<C: Chare>(residents: &IndexMap<Elem, Resident<C>>, index: usize, el
     }
 }
 
-/// Puts an element's resident into the table, replacing the one that was there. When out of memory,
-/// the resident comes back, and the table is as before.
+/// Puts an element's resident into the table, and replaces an earlier one. When out of memory, the
+/// resident comes back, and the table is unchanged.
 pub(crate) fn put<C: Chare>(
     residents: &mut IndexMap<Elem, Resident<C>>,
     elem: Elem,

@@ -6,8 +6,9 @@ use crate::image::Image;
 use std::alloc::{AllocError, Global};
 use std::mem;
 
-/// Room for the images of a shelf, which is made while nobody waits for the shelf: for their list,
-/// and for the bytes of each. Where the shelf has other objects by then, it takes what it lacks.
+/// Room for the images of a shelf, made before the shelf is locked: for their list, and for the
+/// bytes of each. If the shelf has other objects by then, the images take the memory that is
+/// lacking.
 #[derive(Drop)]
 pub struct ImageRoom {
     alloc: Global,
@@ -21,7 +22,7 @@ pub struct ImageRoom {
 }
 
 impl ImageRoom {
-    /// None yet, for a shelf that has so many objects. It takes no memory.
+    /// An empty room for a shelf with this many objects. It takes no memory.
     pub(crate) fn new(alloc: Global, objects: usize) -> Self {
         ImageRoom {
             alloc,
@@ -50,7 +51,7 @@ impl ImageRoom {
         Ok(())
     }
 
-    /// Notes how many bytes an object packs to, if there is room for that. It takes no memory.
+    /// Notes the packed size of an object in bytes, if there is room for it. It takes no memory.
     pub(crate) fn note_size(&mut self, size: usize) {
         if self.sizes.len() < self.sizes.capacity() {
             let Ok(()) = self.sizes.push(size) else {
@@ -68,7 +69,7 @@ impl ImageRoom {
         images
     }
 
-    /// An empty buffer: that of the next image, if there is one.
+    /// An empty buffer: the next image's buffer, if there is one.
     pub(crate) fn next_buffer(&mut self) -> Vec<u8>
         ensures { result.items ≡ [] }
     {

@@ -1,5 +1,5 @@
-//! Tests of objects, of worlds and histories, and of the leases of a runtime with threads. They
-//! have a crate of their own, since a crate with tests is proved twice.
+//! Tests of objects, of worlds and histories, and of the leases of a runtime with threads. They are
+//! a separate crate, since a crate with tests is proved twice.
 #![tactic(auto)]
 
 #[cfg(test)]

@@ -1,4 +1,4 @@
-//! The objects of a stock go back into the one from which it drew them.
+//! Absorption of a stock by the stock from which it drew its objects.
 
 ghost use Rattle.std.specs.Prelude.{◌≡◌, ◌+◌, ◌<◌, ◌≤◌, IfSome, None, true};
 ghost use Rattle.charmlet_model.specs.declared.kind.Kind as kinds;
@@ -11,8 +11,8 @@ use charmlet_chare::Chare;
 use charmlet_model::Kind;
 
 /// Puts all objects of a stock, which kept its retired ones, back into the stock from which it drew
-/// them, where they are out: its blanks as blanks, and its retired ones as retired ones. It takes
-/// no memory.
+/// them and in which they are out. Its blanks go back as blanks, and its retired objects as retired
+/// ones. It takes no memory.
 pub fn absorb<C: Chare>(source: Stock<C>, stock: &mut Stock<C>)
     requires room { (kind : kinds.Kind) → HasRoomThere source stock.old kind }
     requires keeping { keeping_of source ≡ for_all true }

@@ -1,4 +1,4 @@
-//! One value for each kind.
+//! Tables with one value for each kind.
 
 use charmlet_model::Kind;
 

@@ -1,5 +1,5 @@
-//! Blank objects, by kind, and the census of objects: how many were supplied, are in the stock, and
-//! were retired.
+//! The stock of blank objects, by kind, and the census of objects: how many were supplied, are in
+//! the stock, and were retired.
 #![tactic(auto)]
 
 mod absorption;

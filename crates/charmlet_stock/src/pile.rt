@@ -1,4 +1,4 @@
-//! The blanks of one kind, and its retired objects where these are kept.
+//! The blanks of one kind, and its retired objects if they are kept.
 
 ghost use Rattle.std.specs.Prelude.{◌+◌, ◌≤◌};
 ghost use Rattle.std.specs.Vec.{vec_capacity, vec_len};
@@ -19,7 +19,8 @@ pub struct Tally {
 }
 
 /// The blanks of one kind, with room for all objects that are out. If retired objects are kept,
-/// they are here too: all are of one kind, so it doesn't matter which of them are blanks.
+/// they are here too: all objects here are of one kind, so it doesn't matter which of them are the
+/// blanks.
 #[derive(Drop)]
 pub(crate) struct Pile<C: Chare> {
     pub(crate) kind: Kind,
@@ -54,7 +55,7 @@ impl<C: Chare> Pile<C> {
         }
     }
 
-    /// How many of the objects here are retired ones.
+    /// How many of the objects here are retired.
     fn kept(&self) -> usize
         ensures { result ≡ kept_of self.now.keeps self.now.retired }
     {
@@ -80,7 +81,7 @@ impl<C: Chare> Pile<C> {
     }
 
     /// Makes room for `count` more objects. It fails when out of memory, or if more than 2^64-1
-    /// objects would have been supplied, and then nothing has changed.
+    /// objects would have been supplied; then nothing has changed.
     pub(crate) fn reserve(&mut self, count: usize) -> Result<(), AllocError>
         ensures ok { OnOk result (HasRoomFor self.new count) }
         ensures kind { self.new.kind ≡ self.old.kind }
@@ -153,7 +154,7 @@ impl<C: Chare> Pile<C> {
         self.retired += 1;
     }
 
-    /// From now on retired objects are kept.
+    /// Keeps retired objects from now on.
     pub(crate) fn keep_retired(&mut self)
         requires { (tally_of self.old).retired ≡ 0 }
         ensures kind { self.new.kind ≡ self.old.kind }
@@ -163,7 +164,7 @@ impl<C: Chare> Pile<C> {
         self.keeps = true;
     }
 
-    /// Makes each retired object a blank again. All of them have to have been kept.
+    /// Makes each retired object a blank again. All retired objects have to have been kept.
     pub(crate) fn take_back(&mut self)
         requires { self.old.keeps ≡ true }
         ensures kind { self.new.kind ≡ self.old.kind }
@@ -173,7 +174,7 @@ impl<C: Chare> Pile<C> {
         self.retired = 0;
     }
 
-    /// Drops the retired objects that were kept, and from now on each one that is retired.
+    /// Drops the retired objects that were kept, and from now on each object that is retired.
     pub(crate) fn drop_retired(&mut self)
         ensures kind { self.new.kind ≡ self.old.kind }
         ensures keeps { self.new.keeps ≡ false }

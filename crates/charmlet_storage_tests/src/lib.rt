@@ -1,5 +1,5 @@
-//! Tests of the model, of disks and files, and of what two files recover to. They have a crate of
-//! their own, since a crate with tests is proved twice.
+//! Tests of the model, of disks and files, and of recovery from two files. They are a separate
+//! crate, since a crate with tests is proved twice.
 #![tactic(auto)]
 
 #[cfg(test)]

@@ -10,7 +10,7 @@ use charmlet_chare::Chare;
 use charmlet_model::Kind;
 use charmlet_shelf::Shelf;
 
-/// Of one kind: how many objects were supplied, are on the shelves, are in the stock, and were
+/// How many objects of one kind were supplied, are on the shelves, are in the stock, and were
 /// retired.
 #[derive(Clone, Copy, Debug, PartialEq, Eq)]
 pub struct Census {
@@ -22,8 +22,8 @@ pub struct Census {
 
 impl<C: Chare> Store<C> {
     /// How many objects of the kind were supplied, are on the shelves, are in the stock, and were
-    /// retired. Those on the shelves are counted there. Each object that was supplied is in one of
-    /// the three.
+    /// retired. The objects on the shelves are counted one by one. Each supplied object is on a
+    /// shelf, in the stock, or retired.
     pub fn census(&self, kind: Kind) -> Census
         ensures counts { result ≡ census_in self.now kind }
         ensures adds_up { result.supplied ≡ result.on_shelves + result.in_stock + result.retired }

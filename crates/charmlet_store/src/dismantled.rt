@@ -1,4 +1,4 @@
-//! A store that is taken apart.
+//! Parts of a store that is taken apart.
 
 ghost use Rattle.std.specs.Prelude.{◌≡◌, ◌++◌, ◌<◌, ◌≤◌, ◌+◌, [], ◌∷◌, length, IfErr, IfOk, IsOk, Some};
 ghost use Rattle.std.specs.List.{All};
@@ -22,16 +22,16 @@ use charmlet_shelf::Shelf;
 use charmlet_stock::Stock;
 use std::collections::BTreeMap;
 
-/// What a store was made of: each element that is there with its object and its counts, in rising
-/// order, and the stock.
+/// The parts of a store: each present element with its object and its counts, in rising order, and
+/// the stock.
 #[derive(Drop)]
 pub struct Dismantled<C: Chare> {
     pub residents: Vec<(Elem, Resident<C>)>,
     pub stock: Stock<C>,
 }
 
-/// Takes each element that is there from its shelf into the list, in rising order: these are the
-/// places of the history. The list has room for them.
+/// Takes each present element from its shelf into the list, in rising order; `places` are the
+/// places in the history. The list has room for them.
 pub(crate) fn lift_all<C: Chare>(
     residents: &mut Vec<(Elem, Resident<C>)>,
     history: &History,
@@ -54,7 +54,7 @@ pub(crate) fn lift_all<C: Chare>(
     }
 }
 
-/// Takes an element from the shelf on which it stands. All others stay.
+/// Takes an element from its shelf. All others stay.
 fn lift_from<C: Chare>(shelves: &mut [Shelf<C>], place: u16, elem: Elem) -> Resident<C>
     requires idle { All IsIdle shelves.old }
     requires here { IsOnShelf shelves.old elem place }
@@ -69,7 +69,7 @@ fn lift_from<C: Chare>(shelves: &mut [Shelf<C>], place: u16, elem: Elem) -> Resi
     resident
 }
 
-/// Adds an element for which there is room.
+/// Adds an element. There has to be room for it.
 fn push_within<C: Chare>(residents: &mut Vec<(Elem, Resident<C>)>, resident: (Elem, Resident<C>))
     requires { vec_len residents.old < vec_capacity residents.old }
     ensures items { residents.new.items ≡ residents.old.items ++ resident ∷ [] }

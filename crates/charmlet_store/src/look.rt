@@ -1,4 +1,4 @@
-//! What is seen of a store: its pending messages and its elements.
+//! Views of a store: its pending messages and its elements.
 
 ghost use Rattle.std.specs.Prelude.{◌≡◌, None, length, map, IfOk, IsOk};
 ghost use Rattle.charmlet_model.specs.Core.{place_of};
@@ -12,8 +12,8 @@ use charmlet_chare::Chare;
 use charmlet_model::{Elem, MsgId};
 use std::alloc::AllocError;
 
-/// What is seen of an element: where it stands, if it is there, and how many messages it sent and
-/// received in its whole life.
+/// A view of an element: its processor and packed state, if it is there, and how many messages it
+/// sent and received in its whole life.
 #[derive(Debug, Drop)]
 pub struct Look {
     pub standing: Option<Standing>,
@@ -21,7 +21,7 @@ pub struct Look {
     pub received: u64,
 }
 
-/// The processor of an element that is there, and its packed state.
+/// The processor of a present element, and its packed state.
 #[derive(Debug, Drop)]
 pub struct Standing {
     pub processor: u16,
@@ -47,8 +47,8 @@ impl<C: Chare> Store<C> {
         Ok(ids)
     }
 
-    /// What is seen of an element. It fails only when out of memory, which the packed state takes,
-    /// and so not where the element isn't there. Nothing changes.
+    /// Looks at an element. It fails only when out of memory, which only the packed state of a
+    /// present element takes. Nothing changes.
     pub fn look(&mut self, elem: Elem) -> Result<Look, AllocError>
         ensures same { self.new ≡ self.old }
         ensures ok { IfOk result (IsLook (place_of (core_in self.old.history) elem)
@@ -65,7 +65,8 @@ impl<C: Chare> Store<C> {
         })
     }
 
-    /// Where an element stands, if it is there. It fails only when out of memory. Nothing changes.
+    /// The processor and packed state of an element, if it is there. It fails only when out of
+    /// memory. Nothing changes.
     fn standing_of(&mut self, elem: Elem) -> Result<Option<Standing>, AllocError>
         ensures same { self.new ≡ self.old }
         ensures ok { IfOk result (StandsWith (place_of (core_in self.old.history) elem)

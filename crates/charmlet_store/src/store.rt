@@ -32,14 +32,14 @@ use std::alloc::{AllocError, Global};
 use std::marker::Model;
 use std::sync::ledger::Ledger;
 
-/// A history, a shelf for each processor with the objects that it made, and a stock of blank ones.
-/// It knows no disk: whoever writes the history to one shows that its parts still fit together. A
-/// contract sees what the history keeps, the census of the objects, and which retired ones are
+/// A history, a shelf for each processor with its objects, and a stock of blank ones. A store knows
+/// no disk: the code that writes the history to a disk proves that the parts still fit together. A
+/// contract sees the history's contents, the census of the objects, and which retired ones are
 /// kept.
 pub struct Store<C: Chare> {
     pub alloc: Global,
     pub history: History,
-    /// The shelf of each processor. They count from 0.
+    /// The shelf of each processor. Processors count from 0.
     pub shelves: Vec<Shelf<C>>,
     pub stock: Stock<C>,
 }
@@ -56,17 +56,17 @@ impl<C: Chare> Model for Store<C> {
     ghost invariant = { λ s. FitTogether s.history s.shelves.items s.stock };
 }
 
-/// What a store is made of.
+/// The parts of a store.
 #[derive(Drop)]
 pub struct StoreParts<C: Chare> {
     pub history: History,
-    /// The shelf of each processor. They count from 0.
+    /// The shelf of each processor. Processors count from 0.
     pub shelves: Vec<Shelf<C>>,
     pub stock: Stock<C>,
 }
 
-// Written by hand, so that dropping all that a store has is proved here, and not in each crate that
-// drops one.
+// Written by hand, so that dropping all its fields is proved here, and not in each crate that drops
+// a store.
 impl<C: Chare> Drop for Store<C> {
     fn drop(self) {
         let Store {
@@ -82,8 +82,8 @@ impl<C: Chare> Drop for Store<C> {
 }
 
 impl<C: Chare> Store<C> {
-    /// A store of a history in which nothing has happened, over shelves on which nothing stands,
-    /// one for each processor. Its stock is empty. It takes no memory.
+    /// A store of a history in which nothing has happened, with an empty shelf for each processor.
+    /// Its stock is empty. It takes no memory.
     pub fn new(alloc: Global, history: History, shelves: Vec<Shelf<C>>) -> Self
         requires new { IsNew (core_in history) }
         requires empty { AreEmpty (core_in history).processors shelves.items }
@@ -100,7 +100,7 @@ impl<C: Chare> Store<C> {
         }
     }
 
-    /// What the store is made of.
+    /// The parts of the store, which is given up for them.
     pub fn into_parts(self) -> StoreParts<C>
         ensures shown { shown_by result.history result.stock ≡ self }
         ensures fit { FitTogether result.history result.shelves.items result.stock }
@@ -118,7 +118,7 @@ impl<C: Chare> Store<C> {
         }
     }
 
-    /// Takes blank objects into the stock. Where memory is refused it hands all of them back, and
+    /// Takes blank objects into the stock. If memory is refused, it hands all of them back, and
     /// nothing has changed.
     pub fn supply(&mut self, blanks: Vec<C>) -> Result<(), Vec<C>>
         ensures core { (store_in self.new).core ≡ (store_in self.old).core }
@@ -136,8 +136,8 @@ impl<C: Chare> Store<C> {
         self.stock.supply(blanks)
     }
 
-    /// Draws so many blanks of a kind into the stock from another one, which has them. Where memory
-    /// is refused, both are as before.
+    /// Draws `count` blanks of a kind into the stock from another one, which has to have them. If
+    /// memory is refused, both are unchanged.
     pub fn transfer_from(
         &mut self,
         source: &mut Stock<C>,
@@ -163,7 +163,8 @@ impl<C: Chare> Store<C> {
         self.stock.transfer_from(source, kind, count)
     }
 
-    /// From now on the stock drops what is retired, and first what it kept. It takes no memory.
+    /// Drops the retired objects that the stock kept, and makes it drop each later one at once. It
+    /// takes no memory.
     pub fn drop_retired(&mut self)
         ensures same { store_in self.new ≡ store_in self.old }
         ensures supplied { supplied_in self.new ≡ supplied_in self.old }
@@ -172,15 +173,15 @@ impl<C: Chare> Store<C> {
         self.stock.drop_retired();
     }
 
-    /// The oldest message that can be delivered, and before it the processor that is to deliver it:
-    /// the place of its receiver, or the home of one that isn't there.
+    /// The oldest message that can be delivered, together with the processor that is to deliver it:
+    /// the place of its receiver, or its home if it isn't there.
     pub fn next(&self) -> Option<(u16, MsgId)>
         ensures { result ≡ next_in (core_in self.now.history) }
     {
         self.history.next()
     }
 
-    /// The same. It is at most one look for each processor.
+    /// Answers as `next`, and counts the looks: at most one for each processor.
     pub fn next_in<L: Ledger>(&self, ticks: &mut Ticks<L>) -> Option<(u16, MsgId)>
         ensures next { result ≡ next_in (core_in self.now.history) }
         ensures ticks { ticks.new ≤ ticks.old + (core_in self.now.history).processors }
@@ -195,8 +196,8 @@ impl<C: Chare> Store<C> {
         self.history.quiet()
     }
 
-    /// A client asks for a delivery, and is told what is durable of it. A repeat of a request of
-    /// its window changes nothing. A refusal leaves all as it was.
+    /// Accepts a client's request, and tells the client what is durable of it. A repeat of a
+    /// request in its window changes nothing. If refused, nothing changes.
     pub fn request(&mut self, client: u32, request: &Request<'_>) -> Result<Told, Refusal>
         ensures goes { Goes (store_in self.old) (core.Request client request.now.number
             request.now.to request.now.entry request.now.words.now) (told_or_refused result)
@@ -207,7 +208,7 @@ impl<C: Chare> Store<C> {
         self.history.request(client, request)
     }
 
-    /// A client is told what is durable of one of its requests. Nothing changes.
+    /// Tells a client what is durable of one of its requests. Nothing changes.
     pub fn status(&self, client: u32, number: u64) -> Result<Told, Refusal>
         ensures { Goes (store_in self.now) (core.Status client number) (told_or_refused result)
             (store_in self.now) }
@@ -215,7 +216,7 @@ impl<C: Chare> Store<C> {
         self.history.status(client, number)
     }
 
-    /// Delivers a pending message on a processor. Where it is refused, all is as before.
+    /// Delivers a pending message on a processor. If refused, nothing changes.
     pub fn deliver(&mut self, processor: u16, id: MsgId) -> Result<(), Refusal>
         ensures ends { Ends (store_in self.old) processor id result (store_in self.new) }
         ensures supplied { supplied_in self.new ≡ supplied_in self.old }
@@ -232,7 +233,7 @@ impl<C: Chare> Store<C> {
         delivered
     }
 
-    /// Moves an element to a processor. Where it is refused, all is as before.
+    /// Moves an element to a processor. If refused, nothing changes.
     pub fn relocate(&mut self, elem: Elem, processor: u16) -> Result<(), Refusal>
         ensures goes { Goes (store_in self.old) (core.Move elem processor) (done_or_refused result)
             (store_in self.new) }
@@ -251,7 +252,7 @@ impl<C: Chare> Store<C> {
                     processor,
                 )
             }
-            // It is there already, or it can't go there.
+            // The element is there already, or it can't go there.
             _ => {
                 self.history.test_move(elem, processor)?;
                 Ok(())
@@ -259,10 +260,9 @@ impl<C: Chare> Store<C> {
         }
     }
 
-    /// Takes the store apart, also a halted one. Each object that was supplied is then among the
-    /// residents, in the stock, or retired. It fails only when out of memory, which the lists of
-    /// the places and of the residents take, and so not where no element is there; then the store
-    /// comes back as it was.
+    /// Takes the store apart, even a halted one. Each supplied object is then among the residents,
+    /// in the stock, or retired. It fails only when out of memory, which the lists of places and of
+    /// residents take, and only if an element is there; then the store comes back unchanged.
     pub fn dismantle(self) -> Result<Dismantled<C>, Store<C>>
         ensures shows { IfOk result (λ parts.
             ShowsAll (records_of C.state parts.residents.items) (world_in self)) }
@@ -290,7 +290,7 @@ impl<C: Chare> Store<C> {
     }
 }
 
-/// The shelves of so many processors, with nothing on them. It fails only when out of memory.
+/// Empty shelves for this many processors. It fails only when out of memory.
 pub fn empty_shelves<C: Chare>(alloc: Global, processors: u16) -> Result<Vec<Shelf<C>>, AllocError>
     ensures { IfOk result (λ shelves. AreEmpty processors shelves.items) }
 {

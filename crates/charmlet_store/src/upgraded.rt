@@ -1,4 +1,4 @@
-//! Stores that go on in the newest versions of their kinds.
+//! Upgrades of stores to the newest versions of their kinds.
 
 ghost use Rattle.std.specs.Prelude.{◌≡◌, []};
 ghost use Rattle.std.specs.List.{All};
@@ -12,8 +12,8 @@ use charmlet_chare::Chare;
 use charmlet_shelf::Shelf;
 
 impl<C: Chare> Store<C> {
-    /// A store in which nothing has happened since it opened goes on in the newest versions of its
-    /// kinds, each object by its own `upgrade`. It takes no memory.
+    /// Brings a store in which nothing has happened since it opened forward to the newest versions
+    /// of its kinds, each object by its own `upgrade`. It takes no memory.
     pub fn upgrade(&mut self)
         requires new { (core_in self.old.history).history ≡ [] }
         requires unassigned { (core_in self.old.history).assigned ≡ [] }
@@ -26,8 +26,8 @@ impl<C: Chare> Store<C> {
     }
 }
 
-/// Has each object on the shelves, where no delivery is under way, go on in the newest version of
-/// its kind. It takes no memory.
+/// Brings each object on the shelves forward to the newest version of its kind. No delivery may be
+/// under way there. It takes no memory.
 fn upgrade_shelves<C: Chare>(shelves: &mut Vec<Shelf<C>>)
     requires { All IsIdle shelves.old.items }
     ensures { shelves.new.items ≡ up_shelves shelves.old.items }

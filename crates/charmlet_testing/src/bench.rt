@@ -1,4 +1,4 @@
-//! What the lines of a probe work on: a disk, and what stores begin with.
+//! The bench of a probe's lines: a disk, and the parts with which stores begin.
 
 use crate::disk::{ProbeDisk, Switches};
 use crate::objects::{Object, Tally};
@@ -10,24 +10,24 @@ use std::alloc::{AllocError, Global};
 use std::marker::Model;
 use std::sync::Arc;
 
-/// A disk, and what stores and restarts begin with. The store that has the disk is handed to each
-/// call that needs it, since its type has a name that is picked where it begins.
+/// A disk, and the parts with which stores and restarts begin. The store that has the disk is
+/// handed to each call that needs it, since its type has a name that is picked where it begins.
 pub struct Bench {
     pub(crate) alloc: Global,
     /// The lines of the header for the next store.
     pub(crate) header: String,
     pub(crate) handlers: Handlers,
-    /// The disk, where it is free.
+    /// The disk, if it is free.
     pub(crate) disk: Option<ProbeDisk>,
-    /// The store that was just made, or came back, until it is taken.
+    /// The store that was just made or restarted, until it is taken.
     pub(crate) seq: Option<ProbeStore>,
     pub(crate) switches: Arc<Switches>,
     pub(crate) tally: Arc<Tally>,
     /// How many blanks of which kinds are laid by for the next restart.
     pub(crate) laid: Vec<(Kind, u64)>,
-    /// The blanks that came back of a restart that was refused.
+    /// The blanks that a refused restart handed back.
     pub(crate) back: Option<Blanks>,
-    /// The blanks for a restart for which no memory was left, so that it never began.
+    /// The blanks for a restart that never began, since no memory was left for it.
     pub(crate) kept: Option<Vec<Object>>,
     /// Whether a line that is refused memory is tried once more.
     pub(crate) again: bool,
@@ -41,8 +41,8 @@ impl Model for Bench {
     ghost view = { λ bench. bench.again };
 }
 
-// Written by hand, so that dropping all that is on a bench is proved here, and not in each crate
-// that drops one.
+// Written by hand, so that dropping all its fields is proved here, and not in each crate that drops
+// a bench.
 impl Drop for Bench {
     fn drop(self) {
         let Bench {
@@ -91,49 +91,49 @@ impl Bench {
         })
     }
 
-    /// The disk, where it is free.
+    /// The disk, if it is free.
     pub(crate) fn disk(&mut self) -> Result<&mut ProbeDisk, Failed> {
         self.disk.as_mut().ok_or(Failed::Lacks("disk"))
     }
 
-    /// How its disk misbehaves.
+    /// The switches by which the disk misbehaves.
     pub fn switches(&self) -> &Switches {
         &self.switches
     }
 
-    /// What was done with its objects.
+    /// The tally of calls of the bench's objects.
     pub fn tally(&self) -> &Tally {
         &self.tally
     }
 
-    /// A line of the header for the next store. Where memory is refused the header is as before.
+    /// Adds a line to the header for the next store. If memory is refused, the header is unchanged.
     pub fn declare(&mut self, line: &str) -> Result<(), Failed> {
         self.header.reserve(line.len().saturating_add(1))?;
         self.header.push_str(line)?;
         Ok(self.header.push('\n')?)
     }
 
-    /// So many blanks of a kind are laid by for the next restart.
+    /// Lays this many blanks of a kind by for the next restart.
     pub fn lay_by(&mut self, kind: Kind, count: u64) -> Result<(), Failed> {
         Ok(self.laid.push((kind, count))?)
     }
 
-    /// From now on what is refused memory is tried once more.
+    /// Tries a line that is refused memory once more, from now on.
     pub fn try_again(&mut self) {
         self.again = true;
     }
 
-    /// Whether what is refused memory is tried once more.
+    /// Whether a line that is refused memory is tried once more.
     pub fn tries_again(&self) -> bool {
         self.again
     }
 
-    /// Takes the store that was just made or came back, if there is one.
+    /// Takes the store that was just made or restarted, if there is one.
     pub fn take_seq(&mut self) -> Option<ProbeStore> {
         self.seq.take()
     }
 
-    /// A new disk takes the place of what is there.
+    /// Replaces the disk and the store by a new disk.
     pub fn renew<M: Machine>(&mut self, store: &mut Option<M>) -> Result<(), Failed> {
         let disk = ProbeDisk::new(self.alloc)?;
         let switches = disk.switches()?;
@@ -143,14 +143,14 @@ impl Bench {
         Ok(())
     }
 
-    /// The store is dropped, if there is one, and its disk is free.
+    /// Drops the store, if there is one, and frees its disk.
     pub fn leave<M: Machine>(&mut self, store: &mut Option<M>) {
         if let Some(machine) = store.take() {
             self.disk = machine.into_disk();
         }
     }
 
-    /// The disk crashes, and a store with it.
+    /// Crashes the disk, and the store with it.
     pub fn crash<M: Machine>(&mut self, store: &mut Option<M>, choice: CrashChoice) {
         self.leave(store);
         if let Some(disk) = self.disk.take() {

@@ -7,7 +7,7 @@ use crate::store_of::store_of;
 use charmlet_model::Answer;
 use std::io::Write;
 
-/// A client gets its pass, and goes by it from then on.
+/// Lends a client its pass, by which it goes from then on.
 pub fn lend<M: Machine>(
     store: &mut Option<M>,
     client: u32,
@@ -17,7 +17,7 @@ pub fn lend<M: Machine>(
     Ok(writeln!(out, "lent {client}")?)
 }
 
-/// A client's pass is given back.
+/// Gives a client's pass back.
 pub fn give<M: Machine>(
     store: &mut Option<M>,
     client: u32,
@@ -27,7 +27,7 @@ pub fn give<M: Machine>(
     Ok(writeln!(out, "given {client}")?)
 }
 
-/// What a client's pass counts.
+/// Prints the counts of a client's pass.
 pub fn pass<M: Machine>(
     store: &mut Option<M>,
     client: u32,
@@ -39,7 +39,7 @@ pub fn pass<M: Machine>(
 }
 
 impl Bench {
-    /// What a client's pass knows of a request.
+    /// Prints the knowledge of a client's pass about a request.
     pub fn known<M: Machine>(
         &self,
         store: &mut Option<M>,

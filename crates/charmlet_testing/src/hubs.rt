@@ -1,4 +1,4 @@
-//! Lines of hubs.
+//! Lines of probes that only hubs have.
 
 use crate::bench::Bench;
 use crate::saying::say;
@@ -25,7 +25,7 @@ impl Bench {
         Ok(writeln!(out, "assigned {id}")?)
     }
 
-    /// A flush to which all passes are lent.
+    /// Flushes, with all passes lent to the flush.
     pub fn tell<M: Machine>(
         &mut self,
         store: &mut Option<M>,
@@ -36,7 +36,7 @@ impl Bench {
     }
 }
 
-/// Calls this on a processor, and prints the name of the line once it is done.
+/// Makes this call on a processor, and prints the name of the line once it is done.
 pub fn turn<M: Machine>(
     store: &mut Option<M>,
     turn: Turn,
@@ -58,7 +58,7 @@ pub fn lend_seat<M: Machine>(
     Ok(writeln!(out, "seat {processor} lent")?)
 }
 
-/// Prints the ids that the seat of a processor holds.
+/// Prints the ids of the seat of a processor.
 pub fn held<M: Machine>(
     store: &mut Option<M>,
     processor: u16,
@@ -72,7 +72,7 @@ pub fn held<M: Machine>(
     Ok(writeln!(out)?)
 }
 
-/// Calls this of a checkpoint that runs while others work, and prints that it is done.
+/// Makes this call of a checkpoint that runs while others work, and prints that it is done.
 pub fn checkpoint<M: Machine>(
     alloc: Global,
     store: &mut Option<M>,

@@ -1,5 +1,5 @@
-//! What tests run over: a bench, on which a store has a disk that fails as told, and objects that
-//! count what is done with them.
+//! The equipment of tests: a bench, on which a store has a disk that fails as told, and objects
+//! that count their calls.
 #![tactic(auto)]
 
 mod bench;

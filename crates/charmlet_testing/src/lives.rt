@@ -1,4 +1,4 @@
-//! Stores that begin, come back and come apart.
+//! Beginnings, restarts and ends of stores.
 
 use crate::bench::Bench;
 use crate::objects::{Object, blanks};
@@ -14,14 +14,14 @@ use std::io::Write;
 use std::thread::Threads;
 
 impl Bench {
-    /// Makes a store by the header.
+    /// Makes a store from the header.
     pub fn create(&mut self, out: &mut Vec<u8>) -> Result<(), Failed> {
         let script = read_script(self.alloc, &mut self.header.as_bytes(), Runner::Engine)?;
         self.create_by(&script)?;
         say(self.alloc, out, &"created")
     }
 
-    /// Makes a store by a script. Its handlers are those of the bench from then on.
+    /// Makes a store from a script, whose handlers are the bench's from then on.
     fn create_by(&mut self, script: &Script) -> Result<(), Failed> {
         let handlers = handlers_of(self.alloc, script.handlers())?;
         self.begin(script)?;
@@ -29,8 +29,8 @@ impl Bench {
         Ok(())
     }
 
-    /// Makes a store with the arrays of a script. A new header begins, but where memory or a disk
-    /// is lacking.
+    /// Makes a store with the arrays of a script. A new header begins, unless memory or a disk is
+    /// lacking.
     fn begin(&mut self, script: &Script) -> Result<(), Failed> {
         let manifest = script.manifest(self.alloc)?;
         let Some(disk) = self.disk.take() else {
@@ -52,8 +52,8 @@ impl Bench {
         }
     }
 
-    /// The store comes back on so many processors: with the blanks that came back and those that
-    /// were laid by, or with those that are wanted where there are none.
+    /// Restarts the store on this many processors: with the blanks that came back and those that
+    /// were laid by, or, if there are none, with those that are wanted.
     pub fn restart<R: Threads + Sync>(
         &mut self,
         rt: &R,
@@ -66,7 +66,7 @@ impl Bench {
         self.say_restarted(processors, out)
     }
 
-    /// The blanks for a restart. Where memory is refused none that was made or came back is lost.
+    /// The blanks for a restart. If memory is refused, none that was made or came back is lost.
     fn bring(&mut self) -> Result<Blanks, Failed> {
         if self.laid.is_empty() && self.kept.is_none() {
             if let Some(blanks) = self.back.take() {
@@ -85,8 +85,8 @@ impl Bench {
         }
     }
 
-    /// New objects for the blanks that were laid by; or for those that a restart from the free disk
-    /// wants, where there are no blanks.
+    /// New objects for the blanks that were laid by, or, if there are no blanks, for those that a
+    /// restart from the free disk wants.
     fn make_objects(&mut self) -> Result<Vec<Object>, Failed> {
         if !self.laid.is_empty() || self.kept.is_some() {
             return Ok(blanks(self.alloc, &self.tally, &self.laid)?);
@@ -109,7 +109,7 @@ impl Bench {
         }
     }
 
-    /// Appends the blanks that were kept or came back. Where they find no room they stay.
+    /// Appends the blanks that were kept or came back. If there is no room for them, they stay.
     fn add_kept(&mut self, objects: &mut Vec<Object>) -> Result<(), Failed> {
         objects.reserve(self.count_kept())?;
         if let Some(mut kept) = self.kept.take() {
@@ -121,7 +121,7 @@ impl Bench {
         }
     }
 
-    /// The store comes back with these blanks.
+    /// Restarts the store with these blanks.
     fn come_back<R: Threads + Sync>(
         &mut self,
         rt: &R,
@@ -151,7 +151,7 @@ impl Bench {
         }
     }
 
-    /// Prints that the store came back.
+    /// Prints that the store was restarted.
     fn say_restarted(&self, processors: u16, out: &mut Vec<u8>) -> Result<(), Failed> {
         let Some(store) = &self.seq else {
             return Err(Failed::Lacks("store"));
@@ -164,7 +164,7 @@ impl Bench {
         say(self.alloc, out, &line)
     }
 
-    /// The store comes apart, where all but this is handed in, and its disk is free.
+    /// Closes the store, handing in everything except `without`, and frees its disk.
     pub fn close<M: Machine>(
         &mut self,
         store: &mut Option<M>,
@@ -190,7 +190,7 @@ impl Bench {
     }
 }
 
-/// Prints what a store was made of.
+/// Prints the parts of a store.
 fn say_parts(parts: &Parts, out: &mut Vec<u8>) -> Result<(), Failed> {
     for (elem, resident) in parts.residents() {
         let sent = resident.sent;

@@ -1,4 +1,4 @@
-//! Objects of all kinds, which count what is done with them.
+//! Objects of all kinds, which count their calls.
 
 mod objects;
 

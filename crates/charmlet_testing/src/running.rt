@@ -67,7 +67,7 @@ impl Bench {
         }
     }
 
-    /// So many blanks come to the store.
+    /// Supplies this many blanks to the store.
     fn supply<M: Machine>(
         &mut self,
         machine: &mut M,
@@ -80,8 +80,8 @@ impl Bench {
         say(self.alloc, out, &Supplied { kind, count })
     }
 
-    /// The oldest message that can be delivered, once more where it is refused memory, if that is
-    /// asked for.
+    /// Delivers the oldest message that can be delivered, and once more if it is refused memory and
+    /// that is asked for.
     fn deliver_again<M: Machine>(&mut self, machine: &mut M) -> Result<bool, Failed> {
         let result = deliver_next(machine);
         match &result {
@@ -90,8 +90,8 @@ impl Bench {
         }
     }
 
-    /// Delivers the oldest message that can be delivered, up to so many times: how often, and why
-    /// it ended, where a delivery was refused.
+    /// Delivers the oldest message that can be delivered, up to `most` times. Returns how often it
+    /// did, and the refusal that ended it, if there was one.
     fn deliver<M: Machine>(&mut self, machine: &mut M, most: u32) -> (u32, Result<(), Failed>) {
         for delivered in 0..most {
             match self.deliver_again(machine) {
@@ -116,7 +116,7 @@ impl Bench {
     }
 }
 
-/// Delivers the oldest message that can be delivered. Whether there was one.
+/// Delivers the oldest message that can be delivered, and returns whether there was one.
 fn deliver_next<M: Machine>(machine: &mut M) -> Result<bool, Failed> {
     let Some((processor, id)) = machine.next() else {
         return Ok(false);

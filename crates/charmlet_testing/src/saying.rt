@@ -1,4 +1,4 @@
-//! What lines print.
+//! The output of lines.
 
 use crate::store::Failed;
 use charmlet_cli::write_line;
@@ -6,7 +6,7 @@ use std::alloc::Global;
 use std::fmt;
 use std::io::Write;
 
-/// Prints a line. Where memory is refused it is tried once more.
+/// Prints a line. If memory is refused, it is tried once more.
 pub fn say<T: fmt::Display>(alloc: Global, out: &mut Vec<u8>, line: &T) -> Result<(), Failed> {
     if write_line(alloc, out, line).is_err() {
         write_line(alloc, out, line)?;

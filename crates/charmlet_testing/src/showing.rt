@@ -1,4 +1,4 @@
-//! What lines of scripts show of a store.
+//! Lines of scripts that show something of a store.
 
 use crate::saying::say;
 use crate::store::{Failed, Machine};
@@ -19,7 +19,7 @@ pub(crate) fn say_state<M: Machine>(
     say(alloc, out, &shown)
 }
 
-/// What a line shows of an element.
+/// The `state` line of an element.
 fn shown(alloc: Global, elem: Elem, look: Look) -> Result<Shown, AllocError> {
     let (sent, received) = (look.sent, look.received);
     let standing = match look.standing {

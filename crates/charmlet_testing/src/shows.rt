@@ -1,4 +1,4 @@
-//! What is seen of a store and on a disk.
+//! Lines that show something of a store or a disk.
 
 use crate::bench::Bench;
 use crate::saying::say_bytes;
@@ -11,7 +11,7 @@ use charmlet_model::Half;
 use charmlet_reference::{Recovered, recover};
 use std::io::Write;
 
-/// What the store counts.
+/// Prints the store's counts.
 pub fn look<M: Machine>(store: &mut Option<M>, out: &mut Vec<u8>) -> Result<(), Failed> {
     let counts = store_of(store)?.counts();
     let (generation, durable) = (counts.generation, counts.durable);
@@ -21,7 +21,7 @@ pub fn look<M: Machine>(store: &mut Option<M>, out: &mut Vec<u8>) -> Result<(), 
     Ok(writeln!(out, "events {events} pending {pending} halted {halted}")?)
 }
 
-/// Which message comes next, and where.
+/// Prints which message comes next, and where.
 pub fn next<M: Machine>(store: &mut Option<M>, out: &mut Vec<u8>) -> Result<(), Failed> {
     match store_of(store)?.next() {
         Some((processor, id)) => Ok(writeln!(out, "next {processor} {id}")?),
@@ -29,7 +29,7 @@ pub fn next<M: Machine>(store: &mut Option<M>, out: &mut Vec<u8>) -> Result<(), 
     }
 }
 
-/// The bytes of an image of the store.
+/// Prints the bytes of an image of the store.
 pub fn image<M: Machine>(store: &mut Option<M>, out: &mut Vec<u8>) -> Result<(), Failed> {
     let bytes = store_of(store)?.image()?;
     say_image(&bytes, out)
@@ -47,14 +47,14 @@ impl Bench {
         Ok(self.disk()?.cut(alloc, half, length)?)
     }
 
-    /// The bytes of a half of the free disk, from an offset on.
+    /// Prints the bytes of a half of the free disk, from an offset on.
     pub fn half(&mut self, half: Half, offset: usize, out: &mut Vec<u8>) -> Result<(), Failed> {
         let alloc = self.alloc;
         let bytes = self.disk()?.bytes(alloc, half)?;
         say_half(half, &bytes, offset, out)
     }
 
-    /// The calls that changed the free disk, in order.
+    /// Prints the calls that changed the free disk, in order.
     pub fn trace(&mut self, out: &mut Vec<u8>) -> Result<(), Failed> {
         for call in self.disk()?.inner().calls() {
             match call {
@@ -69,7 +69,7 @@ impl Bench {
         Ok(())
     }
 
-    /// What is found on the free disk, as the program shows it.
+    /// Prints the findings on the free disk, as the program shows them.
     pub fn manifest(&mut self, out: &mut Vec<u8>) -> Result<(), Failed> {
         let alloc = self.alloc;
         match show_store(alloc, self.disk()?, out) {
@@ -82,14 +82,14 @@ impl Bench {
         }
     }
 
-    /// Which half of the free disk is taken, and what it has.
+    /// Prints which half of the free disk is taken, and its contents.
     pub fn survey(&mut self, out: &mut Vec<u8>) -> Result<(), Failed> {
         let alloc = self.alloc;
         let found = survey(alloc, self.disk()?)?;
         say_found(&found, out)
     }
 
-    /// What the halves of the free disk recover to, by the plain program.
+    /// Prints what the halves of the free disk recover to, by the plain program.
     pub fn recover(&mut self, out: &mut Vec<u8>) -> Result<(), Failed> {
         let alloc = self.alloc;
         let disk = self.disk()?;
@@ -114,7 +114,7 @@ fn say_half(half: Half, bytes: &[u8], offset: usize, out: &mut Vec<u8>) -> Resul
     say_bytes(out, &bytes[offset.min(length)..])
 }
 
-/// Prints what the half that is taken has.
+/// Prints the contents of the taken half.
 fn say_found(found: &Surveyed, out: &mut Vec<u8>) -> Result<(), Failed> {
     let (half, log) = (found.half, found.contents.logged);
     let header = found.contents.header;

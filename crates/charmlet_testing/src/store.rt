@@ -1,4 +1,5 @@
-//! Stores on the disk of probes, with the objects of probes, and what the lines of probes run on.
+//! Stores on the probes' disk, with the probes' objects, and the machines on which the lines of
+//! probes run.
 
 mod blanks;
 mod engine_machine;

@@ -1,5 +1,5 @@
-//! Tests of what runs in threads: runtimes, and restarts by several workers. They have a crate of
-//! their own, since a crate with tests is proved twice.
+//! Tests of runtimes with threads, and of restarts by several workers. They are a separate crate,
+//! since a crate with tests is proved twice.
 #![tactic(auto)]
 
 #[cfg(test)]

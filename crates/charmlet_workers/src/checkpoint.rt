@@ -1,4 +1,4 @@
-//! Checkpoints, one shelf after another, while others work.
+//! Checkpoints of one shelf after another, while others work.
 
 ghost use Rattle.std.specs.Prelude.{◌≡◌, ◌+◌, ◌<◌, true, IfErr, IfOk, OnOk};
 ghost use Rattle.charmlet_model.specs.declared.refusal.Refusal.TheVariants as refusals;
@@ -19,17 +19,17 @@ use std::alloc::AllocError;
 use std::sync::Wait;
 
 impl<D: Disk, C: Chare, B: RuntimeName> Runtime<D, C, B> {
-    /// Makes all events durable by an image that means the present world, which takes the place of
-    /// the store in the spare half, and answers its generation, which is later than the one at
-    /// which the runtime opened. It takes the lock of one shelf after another, for as long as
-    /// packing what stands there takes, and then the hub's, under which it writes. Meanwhile others
-    /// work: requests, deliveries, questions and flushes go on, but moves and other checkpoints are
-    /// refused `Checkpointing`. A delivery that was made on a shelf and isn't committed is
-    /// committed first. No client is told anything.
+    /// Makes all events durable by an image of the present world, and answers its generation, which
+    /// is later than the one at which the runtime opened. The image replaces the store in the spare
+    /// half. It takes the lock of one shelf after another, for as long as packing its elements
+    /// takes, and then the hub's, under which it writes. Meanwhile others work: requests,
+    /// deliveries, questions and flushes go on, but moves and other checkpoints are refused
+    /// `Checkpointing`. A performed delivery on a shelf that isn't committed is committed first. No
+    /// client is told anything.
     ///
     /// `Halted`; `Checkpointing` if one runs already; `Memory`; `ImageFull` if the generation would
-    /// be past 2^40 or the file past 2^31 bytes: then nothing becomes durable, and it has ended.
-    /// `Device` halts the store.
+    /// be past 2^40 or the file past 2^31 bytes: then nothing becomes durable, and the checkpoint
+    /// has ended. `Device` halts the store.
     pub fn checkpoint<R: Wait>(&self, rt: &R) -> Result<u64, Refusal>
         ensures ok { IfOk result (IsLaterGeneration self.now.generation) }
         ensures sealed { IfOk result (WasSealed self.now) }
@@ -38,7 +38,7 @@ impl<D: Disk, C: Chare, B: RuntimeName> Runtime<D, C, B> {
         self.checkpoint_with(rt, &NoPause)
     }
 
-    /// The same, with a pause that is told of each shelf.
+    /// Makes a checkpoint as [`Runtime::checkpoint`] does, and tells the pause after each shelf.
     pub fn checkpoint_with<P: Pause, R: Wait>(&self, rt: &R, pause: &P) -> Result<u64, Refusal>
         ensures ok { IfOk result (IsLaterGeneration self.now.generation) }
         ensures sealed { IfOk result (WasSealed self.now) }
@@ -111,8 +111,8 @@ impl<D: Disk, C: Chare, B: RuntimeName> Runtime<D, C, B> {
         self.image_shelf(rt, checkpoint, held.grip.get_mut(), room)
     }
 
-    /// Room for the images of the shelf under one of the locks, by what its objects pack to now. No
-    /// lock is held where memory is taken. It fails only when out of memory.
+    /// Room for the images of the shelf under one of the locks, by the present packed sizes of its
+    /// objects. No lock is held while memory is taken. It fails only when out of memory.
     fn image_room<R: Wait>(&self, rt: &R, place: usize) -> Result<ImageRoom, AllocError>
         requires { place < B.processors }
     {
@@ -127,7 +127,7 @@ impl<D: Disk, C: Chare, B: RuntimeName> Runtime<D, C, B> {
         Ok(room)
     }
 
-    /// The same of the shelf itself, in the memory of the room.
+    /// Hands in the images of a locked shelf, in the memory of the room.
     fn image_shelf<R: Wait>(
         &self,
         rt: &R,
@@ -185,8 +185,8 @@ impl<D: Disk, C: Chare, B: RuntimeName> Runtime<D, C, B> {
         seal(&mut self.hub.lock(rt), checkpoint)
     }
 
-    /// Ends what is under way on a shelf: a delivery that was made is committed, and one that is
-    /// only assigned is released. The only refusal is `Halted`.
+    /// Ends the delivery that is under way on a shelf: a performed delivery is committed, and an
+    /// assigned message is released. The only refusal is `Halted`.
     pub(crate) fn settle<R: Wait>(
         &self,
         rt: &R,

@@ -35,15 +35,15 @@ pub struct NotClosed<D: Disk, C: Chare, B: RuntimeName> {
 }
 
 impl<D: Disk, C: Chare, B: RuntimeName> Runtime<D, C, B> {
-    /// Takes all apart, also when halted, and makes no call of the disk. A delivery that was made
-    /// and isn't committed is finished first, and nothing is assigned then. The objects of the
-    /// store show the world after the history, and the world with which it opened is the runtime's
-    /// own. The ids that the seats hold and those of the commits without a seat are all deliveries
-    /// of the history: each stands in one of these lists, in the history's order. Each pass has
-    /// exactly its client's accepts, and all that it knows of its client's requests is true of the
-    /// durable events; a client without a pass has no accepts. The disk is honest if the first one
-    /// was; and then a crash leaves the world after some of the history, with all durable events
-    /// among it.
+    /// Takes the runtime apart, even when halted, and makes no call of the disk. A performed
+    /// delivery that isn't committed is finished first, and nothing is assigned then. The objects
+    /// of the store show the world after the history, and the world with which it opened is the
+    /// runtime's own. The ids of the seats and those of the commits without a seat are all
+    /// deliveries of the history: each is in one of these lists, in the history's order. Each pass
+    /// has exactly its client's accepts, and everything that it knows of its client's requests is
+    /// true of the durable events; a client without a pass has no accepts. The disk is honest if
+    /// the first one was; and then a crash leaves the world after some of the history, including
+    /// all durable events.
     ///
     /// It takes no memory. The only refusal is `PassOut`, if a seat or a pass that is out isn't
     /// handed in. Then the runtime, the seats and the passes come back.
@@ -110,12 +110,12 @@ impl<D: Disk, C: Chare, B: RuntimeName> Runtime<D, C, B> {
         }
     }
 
-    /// The disk alone, also of a halted runtime, and whatever seats and passes are out. The objects
-    /// are dropped, and what isn't durable with them; so is a delivery that is under way. It makes
-    /// no call of the disk, takes no memory, and is never refused.
+    /// The runtime's disk alone, even if the runtime is halted, and whatever seats and passes are
+    /// out. The objects are dropped, and with them the events that aren't durable and a delivery
+    /// that is under way. It makes no call of the disk, takes no memory, and is never refused.
     ///
     /// The disk is honest if the first one was; and then a crash leaves the world after some of the
-    /// history, with all durable events among it.
+    /// history, including all durable events.
     pub fn into_disk(self) -> D
         ensures left { WasTrue self (λ core. D.honest result → (outcome : CrashBytes) →
             MayLeave (D.file result) outcome → is_lawful core outcome) }

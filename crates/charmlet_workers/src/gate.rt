@@ -10,13 +10,13 @@ use charmlet_sequencer::{ProcessorState, RuntimeName};
 /// How often a worker asks a gate before it goes on anyway.
 pub const MOST_ASKS: u32 = 100_000_000;
 
-/// What a worker asks between the assignment of a message and the reaction of its receiver, and
-/// tells after each of its commits.
+/// A worker's gate, which it asks between the assignment of a message and the reaction of its
+/// receiver, and tells after each of its commits.
 pub trait Gate: Sync {
     /// Whether the delivery may go on. The shelf of the processor is locked, and the hub is free.
     fn open(&self, processor: u16, id: &MsgId) -> bool;
 
-    /// The delivery was committed with the worker's seat. The worker has no lock.
+    /// Is told that a delivery was committed with the worker's seat. The worker has no lock.
     fn committed(&self, processor: u16, id: &MsgId);
 }
 

@@ -1,9 +1,6 @@
-//! A runtime with threads: its shelves and its hub, each under a lock.
-//!
-//! Locks are taken in this order: those of the shelves by rising number, then the hub's. While an
-//! object runs and while a worker is at its gate the hub is free. What changes under the locks is
-//! stated by the calls of the hub and of its shelves; what is known here of a change is what the
-//! caller's own seat or pass has of it, and, once all is closed, the whole.
+//! A runtime with threads: its shelves and its hub, each under a lock of its own. Locks are taken
+//! in this order: those of the shelves by rising number, then the hub's. While an object runs and
+//! while a worker is at its gate the hub is free.
 #![tactic(auto)]
 
 mod checkpoint;

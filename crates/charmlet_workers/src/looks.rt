@@ -1,4 +1,4 @@
-//! What is seen of a runtime: of an element on its shelf, and all else in one hold of the hub.
+//! Views of a runtime: an element on its shelf, and everything else in one hold of the hub.
 
 ghost use Rattle.std.specs.Prelude.{◌≡◌, ◌+◌, ◌<◌, ◌⊎◌, Some, IfErr, IfOk, IfSome, length, map};
 ghost use Rattle.charmlet_model.specs.declared.refusal.Refusal.TheVariants as refusals;
@@ -22,7 +22,7 @@ use std::alloc::{AllocError, Global};
 use std::sync::Wait;
 
 impl<D: Disk, C: Chare, B: RuntimeName> Runtime<D, C, B> {
-    /// How many events there are, those before the opening world among them.
+    /// How many events there are, including those before the opening world.
     pub fn event_count<R: Wait>(&self, rt: &R) -> u64
         ensures { WasTrue self.now (λ core. result ≡ core.before + length core.history) }
     {
@@ -31,7 +31,7 @@ impl<D: Disk, C: Chare, B: RuntimeName> Runtime<D, C, B> {
         hub.history().event_count()
     }
 
-    /// How many events are durable, those before the opening world among them.
+    /// How many events are durable, including those before the opening world.
     pub fn durable<R: Wait>(&self, rt: &R) -> u64
         ensures { WasTrue self.now (λ core. result ≡ core.before + core.durable) }
     {
@@ -40,7 +40,7 @@ impl<D: Disk, C: Chare, B: RuntimeName> Runtime<D, C, B> {
         hub.history().durable_count()
     }
 
-    /// The generation of the image in the half that is taken.
+    /// The generation of the image in the taken half.
     pub fn generation<R: Wait>(&self, rt: &R) -> u64
         ensures { WasTrue self.now (λ core. result ≡ core.generation) }
     {
@@ -49,7 +49,7 @@ impl<D: Disk, C: Chare, B: RuntimeName> Runtime<D, C, B> {
         hub.history().generation()
     }
 
-    /// Whether the device failed in an earlier call. Then each step is refused.
+    /// Whether the device failed in an earlier call, so that each step is refused.
     pub fn is_halted<R: Wait>(&self, rt: &R) -> bool
         ensures { WasTrue self.now (λ core. result ≡ core.halted) }
     {
@@ -85,10 +85,10 @@ impl<D: Disk, C: Chare, B: RuntimeName> Runtime<D, C, B> {
         pending_in(alloc, hub.history())
     }
 
-    /// How many pending messages want a blank of this kind: those that construct an element which
-    /// isn't there. Each takes one from the stock when it is delivered, and is refused `NoBlank`
-    /// where the stock has none. A stock isn't kept on the disk, so after a restart nothing is in
-    /// it but what was handed in and what the restart left of that. It takes no memory.
+    /// How many pending messages want a blank of this kind: those that construct an element that
+    /// isn't there. Each takes a blank from the stock when it is delivered, and is refused
+    /// `NoBlank` if the stock has none. A stock isn't kept on the disk, so after a restart it holds
+    /// only the handed-in blanks that the restart left. It takes no memory.
     pub fn wanted_blanks<R: Wait>(&self, rt: &R, kind: Kind) -> usize
         ensures { WasTrue self.now (λ core. result ≡ wanted_in core kind) }
     {
@@ -97,11 +97,11 @@ impl<D: Disk, C: Chare, B: RuntimeName> Runtime<D, C, B> {
         hub.wanted_blanks(kind)
     }
 
-    /// What is seen of an element: its counts, and, if it is there, where it stands and its packed
-    /// state, as they were at one moment. The hub is locked to find it, and then the shelf on which
-    /// it stands; where the element has moved meanwhile, it is looked for again.
+    /// Looks at an element: its counts, and, if it is there, its processor and its packed state, as
+    /// they were at one moment. It locks the hub to find the element, and then the shelf on which
+    /// it stands; if the element has moved meanwhile, it looks again.
     ///
-    /// A delivery that was made on that shelf and isn't committed is committed first, or refused as
+    /// A performed delivery on that shelf that isn't committed is committed first, or refused as
     /// `Halted`. `Memory` is the only other refusal, for the packed state.
     pub fn look<R: Wait>(&self, rt: &R, elem: Elem) -> Result<Look, Refusal>
         ensures seen { IfOk result (WasSeen self.now elem) }
@@ -122,7 +122,7 @@ impl<D: Disk, C: Chare, B: RuntimeName> Runtime<D, C, B> {
         unreachable!()
     }
 
-    /// Where an element stands, or what is seen of one that isn't there.
+    /// The processor of an element, or the view of one that isn't there.
     fn find<R: Wait>(&self, rt: &R, elem: Elem) -> Result<u16, Look>
         ensures place { IfOk result (λ place. place < B.processors) }
         ensures seen { IfErr result (WasSeen self.now elem) }
@@ -132,7 +132,7 @@ impl<D: Disk, C: Chare, B: RuntimeName> Runtime<D, C, B> {
         absent_look(hub.history(), elem)
     }
 
-    /// What is seen of an element, if it stands on the processor.
+    /// The view of an element, if it stands on the processor.
     fn look_at<R: Wait>(&self, rt: &R, elem: Elem, place: u16) -> Result<Option<Look>, Refusal>
         requires { place < B.processors }
         ensures seen { IfOk result (λ o. IfSome o (WasSeen self.now elem)) }
@@ -143,7 +143,7 @@ impl<D: Disk, C: Chare, B: RuntimeName> Runtime<D, C, B> {
         self.look_on(rt, held.grip.get_mut(), elem)
     }
 
-    /// The same, on its locked shelf.
+    /// The view of an element, if it stands on the locked shelf.
     fn look_on<R: Wait>(
         &self,
         rt: &R,
@@ -166,8 +166,8 @@ impl<D: Disk, C: Chare, B: RuntimeName> Runtime<D, C, B> {
         }
     }
 
-    /// Takes the hub's lock, to show that at that moment what stood on the processor of the shelf
-    /// was what the shelf has. Nothing changes.
+    /// Takes the hub's lock, to show that the shelf and the world agreed at that moment about the
+    /// elements on its processor. Nothing changes.
     fn agree<R: Wait>(&self, rt: &R, locked: &mut ProcessorState<C, B>)
         ensures shows { WasTrue self.now (λ core. ShowsOn locked.old.number locked.old.records
             core.places (present core)) }
@@ -179,7 +179,7 @@ impl<D: Disk, C: Chare, B: RuntimeName> Runtime<D, C, B> {
     }
 }
 
-/// Where an element stands, or what is seen of one that isn't there.
+/// The processor of an element, or the view of one that isn't there.
 fn absent_look(history: &History, elem: Elem) -> Result<u16, Look>
     ensures place { IfOk result (λ place. place < (core_in history.now).processors) }
     ensures look { IfErr result (IsLook (place_of (core_in history.now) elem)
@@ -197,7 +197,7 @@ fn absent_look(history: &History, elem: Elem) -> Result<u16, Look>
     })
 }
 
-/// What is seen of an element of which this is the image, on this processor.
+/// The view of an element with this image, on this processor.
 fn standing_look(processor: u16, image: Image) -> Look
     ensures { result ≡ record {
       standing = Some (record { processor = processor; packed = image.packed });

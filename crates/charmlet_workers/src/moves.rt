@@ -19,10 +19,10 @@ use charmlet_sequencer::{ProcessorState, RuntimeName};
 use std::sync::Wait;
 
 impl<D: Disk, C: Chare, B: RuntimeName> Runtime<D, C, B> {
-    /// Moves an element to a processor. It is done if the element is there already. Else both
-    /// shelves are locked, by rising number, and then the hub; where the element has moved
-    /// meanwhile, it is looked for again. What is under way on a shelf ends first: a delivery that
-    /// was made is committed, and a message that is only assigned is released.
+    /// Moves an element to a processor. If the element is there already, it does nothing. Otherwise
+    /// it locks both shelves, by rising number, and then the hub; if the element has moved
+    /// meanwhile, it looks for it again. Deliveries under way on the shelves end first: a performed
+    /// delivery is committed, and an assigned message is released.
     ///
     /// The refusal is the first that applies of `Halted`, `Checkpointing`, `BadPes`, `Absent`,
     /// `NoBlank` and `Memory`. Then nothing has moved.
@@ -64,7 +64,7 @@ impl<D: Disk, C: Chare, B: RuntimeName> Runtime<D, C, B> {
         hub.locate_for_move(elem, processor)
     }
 
-    /// Locks both shelves and moves the element, if it still stands there. It answers whether it
+    /// Locks both shelves and moves the element, if it still stands there. It returns whether it
     /// did.
     fn carry<R: Wait>(
         &self,
@@ -88,7 +88,7 @@ impl<D: Disk, C: Chare, B: RuntimeName> Runtime<D, C, B> {
         }
     }
 
-    /// The same, from one locked shelf to another.
+    /// Moves the element from one locked shelf to another, if it still stands there.
     fn carry_between<R: Wait>(
         &self,
         rt: &R,
@@ -112,9 +112,9 @@ impl<D: Disk, C: Chare, B: RuntimeName> Runtime<D, C, B> {
     }
 }
 
-/// Moves the element from the one shelf to the other, if it stands on the one. It answers whether
-/// it did. If nothing is under way on either, the refusal is the first that applies of `Halted`,
-/// `Checkpointing`, `NoBlank` and `Memory`. When refused, all is as before.
+/// Moves the element from one shelf to the other, if it stands there, and returns whether it did.
+/// If no delivery is under way on either, the refusal is the first that applies of `Halted`,
+/// `Checkpointing`, `NoBlank` and `Memory`. If refused, nothing changes.
 fn relocate_from<D: Disk, C: Chare, B: RuntimeName>(
     hub: &mut Hub<D, C, B>,
     from: &mut ProcessorState<C, B>,
@@ -146,7 +146,7 @@ fn relocate_from<D: Disk, C: Chare, B: RuntimeName>(
             Ok(true)
         }
         Err(refusal) => {
-            // If nothing is under way on them, this shows that nothing is assigned there.
+            // If no delivery is under way on them, this shows that nothing is assigned there.
             hub.agree(from);
             hub.agree(to);
             Err(refusal)

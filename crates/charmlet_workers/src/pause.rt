@@ -1,8 +1,9 @@
-//! What is told while a checkpoint runs.
+//! The trait that a running checkpoint tells of each shelf.
 
-/// What a checkpoint tells after each shelf.
+/// A pause, which a checkpoint tells of each shelf.
 pub trait Pause: Sync {
-    /// The images of the processor's shelf were taken. The caller has no lock, and others work.
+    /// Is told that the images of the processor's shelf were taken. The caller has no lock, and
+    /// others work.
     fn imaged(&self, processor: u16);
 }
 

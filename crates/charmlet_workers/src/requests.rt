@@ -1,4 +1,4 @@
-//! What clients ask of a runtime, and the flush that makes it durable.
+//! Clients' requests to a runtime, and the flush that makes them durable.
 
 ghost use Rattle.std.specs.Prelude.{◌≡◌, ◌≤◌, ℕ, true, IfErr, IfOk, OnErr, OnOk, map};
 ghost use Rattle.std.specs.List.{AllByRecursion};
@@ -20,11 +20,11 @@ use charmlet_sequencer::RuntimeName;
 use std::sync::Wait;
 
 impl<D: Disk, C: Chare, B: RuntimeName> Runtime<D, C, B> {
-    /// Accepts a request of the pass's client, unless it repeats one in the client's window, which
-    /// has at most the last eight, and tells the client what is durable of it, in one hold of the
-    /// hub. The refusals are those of [`charmlet_history::History::request`], in their order. If it
-    /// isn't refused, the pass records that it was accepted, and what was told about it. What is
-    /// told is no less than the pass knew, and no other words. A refusal changes nothing.
+    /// Accepts a request of the pass's client, and tells the client what is durable of it, in one
+    /// hold of the hub. A repeat of a request in the client's window, which has at most the last
+    /// eight, adds nothing. The refusals are those of [`charmlet_history::History::request`], in
+    /// their order. If it isn't refused, the pass records that it was accepted, and the answer. The
+    /// answer is no less than the pass knew, and has no other words. A refusal changes nothing.
     pub fn request<R: Wait>(
         &self,
         rt: &R,
@@ -46,8 +46,8 @@ impl<D: Disk, C: Chare, B: RuntimeName> Runtime<D, C, B> {
     }
 
     /// Tells the pass's client what is durable of its request, in one hold of the hub. `Halted`;
-    /// otherwise `Memory`, but only if the answer has words. The pass records the answer. What is
-    /// told is no less than the pass knew, and no other words. A refusal changes nothing.
+    /// otherwise `Memory`, but only if the answer has words. The pass records the answer. It is no
+    /// less than the pass knew, and has no other words. A refusal changes nothing.
     pub fn status<R: Wait>(
         &self,
         rt: &R,
@@ -63,7 +63,7 @@ impl<D: Disk, C: Chare, B: RuntimeName> Runtime<D, C, B> {
     }
 
     /// The handler of a name, or one of an array that isn't there, in one hold of the hub, as
-    /// [`charmlet_requests::target`] has it.
+    /// [`charmlet_requests::target`] returns it.
     pub fn target<R: Wait>(&self, rt: &R, handlers: &Handlers, name: &str) -> Handler
         ensures { (index : ℕ) → IsTarget self.now.opening index
             (handler_of handlers.now name.now)
@@ -75,14 +75,14 @@ impl<D: Disk, C: Chare, B: RuntimeName> Runtime<D, C, B> {
     }
 
     /// Makes all events durable, in one hold of the hub, and answers how many there are at that
-    /// moment, those before the opening world among them. Then it tells each client whose pass is
-    /// handed in that the last of its accepts is accepted, where the pass knows nothing of it yet.
+    /// moment, including those before the opening world. Then it tells each client whose pass is
+    /// handed in that the last of its accepts is accepted, if the pass knows nothing of it yet.
     /// Each of these passes then records the count, as contracts see it: no less than before. It
-    /// takes no memory; where no events are to be written it makes no call of the disk.
+    /// takes no memory; with no events to write it makes no call of the disk.
     ///
-    /// `Halted`; `LogFull` if the file would have more than 2^31 bytes, the closed gate after its
-    /// log among them: then nothing changes. `Device` halts the store. When refused, no client is
-    /// told anything.
+    /// `Halted`; `LogFull` if the file would have more than 2^31 bytes, including the closed gate
+    /// after its log: then nothing changes. `Device` halts the store. If refused, no client is told
+    /// anything.
     pub fn flush<R: Wait>(
         &self,
         rt: &R,

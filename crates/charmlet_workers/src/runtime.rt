@@ -1,4 +1,4 @@
-//! The locks.
+//! The runtime: its shelves and its hub, each under its lock.
 
 ghost use Rattle.std.specs.Prelude.{◌≡◌, ◌<◌, ◌≤◌, [], true, Err, IfErr, IfOk, OnOk};
 ghost use Rattle.charmlet_model.specs.declared.refusal.Refusal.TheVariants as refusals;
@@ -22,13 +22,18 @@ use std::sync::{Mutex, Wait};
 /// A shelf for each processor, and the hub, each under its lock. A contract sees the world with
 /// which the runtime opened, how many events came before it, how many processors there are, and the
 /// generation at which it opened: they are the hub's, and take no bytes.
+///
+/// The calls of the hub and of its shelves state what changes under the locks. The runtime's own
+/// contracts tell of a change only the part in the caller's own seat or pass, and, once everything
+/// is closed, the whole.
 #[derive(Drop)]
 pub struct Runtime<D: Disk, C: Chare, B: RuntimeName> {
-    /// The lock of each processor's shelf. They count from 0, and each shelf lies under its own.
+    /// The lock of each processor's shelf. Processors count from 0, and each shelf lies under its
+    /// own lock.
     pub(crate) shelves: ShelfLocks<C, B>,
     pub(crate) hub: Mutex<Hub<D, C, B>>,
-    /// For the end. No call takes this lock, which lets threads share objects that they don't look
-    /// at.
+    /// The memory for the runtime's end. No call takes this lock, which lets threads share objects
+    /// that they don't look at.
     pub(crate) spare: Mutex<Spare<C, B>>,
 }
 
@@ -53,8 +58,8 @@ impl<C: Chare, B: RuntimeName> Numbering<ProcessorState<C, B>> for ByProcessor {
     ghost number = { λ s. s.number };
 }
 
-/// What it takes to close a runtime without memory: an empty list with room for all shelves, so
-/// that they can be taken out of their locks, and an empty shelf for each processor.
+/// The memory for closing a runtime: an empty list with room for all shelves, so that they can be
+/// taken out of their locks, and an empty shelf for each processor.
 #[derive(Drop)]
 pub(crate) struct Spare<C: Chare, B: RuntimeName> {
     pub(crate) shelves: Vec<ProcessorState<C, B>>,
@@ -76,7 +81,7 @@ impl<C: Chare, B: RuntimeName> Model for Spare<C, B> {
 }
 
 impl<D: Disk, C: Chare, B: RuntimeName> Runtime<D, C, B> {
-    /// Takes blank objects into the stock. Where memory is refused it hands all of them back, and
+    /// Takes blank objects into the stock. If memory is refused, it hands all of them back, and
     /// nothing has changed.
     pub fn supply<R: Wait>(&self, rt: &R, blanks: Vec<C>) -> Result<(), Vec<C>>
         ensures { IfErr result (λ back. back.items ≡ blanks.items) }
@@ -94,8 +99,8 @@ impl<D: Disk, C: Chare, B: RuntimeName> Runtime<D, C, B> {
         hub.census()
     }
 
-    /// Lends a client its pass, which was told nothing and has no accepts yet. `PassOut` if it is
-    /// out; otherwise `Memory`. When refused, nothing changes.
+    /// Lends a client its pass, to which nothing was told and which has no accepts yet. `PassOut`
+    /// if it is out; otherwise `Memory`. If refused, nothing changes.
     pub fn client<R: Wait>(&self, rt: &R, client: u32) -> Result<ClientPass<PassesOf<B>>, Refusal>
         ensures lent { IfOk result (IsLent client self.now.before) }
         ensures err { IfErr result (λ refusal. is_lending_refusal refusal ≡ true) }
@@ -106,7 +111,7 @@ impl<D: Disk, C: Chare, B: RuntimeName> Runtime<D, C, B> {
     }
 
     /// Lends a processor's seat, which has no ids yet. `BadPes` if there is no such processor;
-    /// `PassOut` if its seat is out; otherwise `Memory`. When refused, nothing changes.
+    /// `PassOut` if its seat is out; otherwise `Memory`. If refused, nothing changes.
     pub fn seat<R: Wait>(&self, rt: &R, processor: u16) -> Result<Seat<SeatsOf<B>>, Refusal>
         ensures seat { IfOk result (λ seat. (seat.processor ≡ processor) × (seat.ids ≡ [])) }
         ensures is_there { OnOk result (processor < self.now.processors) }

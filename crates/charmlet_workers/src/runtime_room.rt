@@ -36,7 +36,8 @@ pub struct UnnamedAuthorities {
 }
 
 impl UnnamedAuthorities {
-    /// New authorities. It fails only when out of memory.
+    /// New authorities of shelves, of seats, of passes and of checkpoints, without a name. It fails
+    /// only when out of memory.
     pub fn new(alloc: Global) -> Result<Self, AllocError> {
         let parts = UnnamedAuthority::new(alloc)?;
         let seats = UnnamedAuthority::new(alloc)?;
@@ -52,8 +53,8 @@ impl UnnamedAuthorities {
 }
 
 /// Room for a runtime under the name `B`: lists for its shelves and for their locks, and the empty
-/// shelves for its close. A runtime opens in it without memory. So where the room is made before
-/// the store, memory can't be lacking once the store is written. A contract sees nothing of it.
+/// shelves for its close. A runtime opens in it without memory. So if the room is made before the
+/// store, memory can't be lacking once the store is written. A contract sees nothing of it.
 #[derive(Drop)]
 pub struct RuntimeRoom<C: Chare, B: RuntimeName> {
     locks: LockRoom<ProcessorState<C, B>, ByProcessor>,
@@ -87,7 +88,7 @@ impl<C: Chare, B: RuntimeName> RuntimeRoom<C, B> {
     }
 }
 
-/// A store that wasn't opened for threads, for want of memory, and its halves. They are as before.
+/// A store that wasn't opened for threads, for lack of memory, and its halves, both unchanged.
 #[derive(Drop)]
 pub struct NotOpened<D: Disk, C: Chare> {
     pub store: Store<C>,
@@ -95,12 +96,12 @@ pub struct NotOpened<D: Disk, C: Chare> {
 }
 
 impl<D: Disk, C: Chare, B: RuntimeName> Runtime<D, C, B> {
-    /// A runtime over a store in which nothing has happened since it opened, and the halves of its
-    /// disk, under the name `B` of the store and of these authorities. It makes no call of the
-    /// disk. It fails only when out of memory. [`Runtime::open_in`] never fails.
+    /// Opens a runtime over a store in which nothing has happened since it opened, and the halves
+    /// of its disk, under the name `B` of the store and of these authorities. It makes no call of
+    /// the disk. It fails only when out of memory. [`Runtime::open_in`] never fails.
     ///
     /// The call that makes the authorities picks the name: it passes `Brand` to a function that is
-    /// generic in it, so that nothing which bears the name can leave that function.
+    /// generic in it, so that nothing that bears the name can leave that function.
     pub fn open(
         store: Store<C>,
         halves: Halves<D>,
@@ -125,7 +126,7 @@ impl<D: Disk, C: Chare, B: RuntimeName> Runtime<D, C, B> {
         }
     }
 
-    /// The runtime as [`Runtime::open`] gives it, in a room that was made before. It never fails,
+    /// Opens the runtime as [`Runtime::open`] does, in a room that was made before. It never fails,
     /// and takes no memory.
     pub fn open_in(
         store: Store<C>,
@@ -168,7 +169,7 @@ impl<D: Disk, C: Chare, B: RuntimeName> Runtime<D, C, B> {
 }
 
 /// Puts each shelf and the hub under its lock. The shelves are handed in by rising number. The
-/// empty ones are for the end.
+/// empty ones are for the runtime's end.
 pub(crate) fn lock_all<D: Disk, C: Chare, B: RuntimeName>(
     shelves: Vec<ProcessorState<C, B>>,
     locks: LockRoom<ProcessorState<C, B>, ByProcessor>,

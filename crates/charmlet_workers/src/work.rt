@@ -1,4 +1,4 @@
-//! What workers do.
+//! Workers, which deliver messages.
 
 ghost use Rattle.std.specs.Prelude.{◌≡◌, ℕ, ◌<◌, ◌≤◌, None, Some, false, true, IfErr, IfOk, IfSome, OnErr, OnOk, length, slice_index_or};
 ghost use Rattle.charmlet_model.specs.declared.refusal.Refusal.TheVariants as refusals;
@@ -25,41 +25,41 @@ use std::sync::{MutexGuard, Wait};
 use std::thread::Threads;
 use std::{hint, thread};
 
-/// What a worker did: how many deliveries were committed with its seat, and the refusal that ended
-/// its work, if one did.
+/// The result of a worker's work: how many deliveries were committed with its seat, and the refusal
+/// that ended it, if one did.
 #[derive(Debug, Drop)]
 pub struct Worked {
     pub count: u64,
     pub refusal: Option<Refusal>,
 }
 
-/// In how many turns that find no ticket the hub is asked once.
+/// The number of turns without a ticket in which the hub is asked once.
 pub const IDLE_TURNS: u64 = 16;
 
-/// How often a worker spins at least after a try of the hub's lock.
+/// The fewest times that a worker spins after a try of the hub's lock.
 const LEAST_SPINS: u32 = 16;
 
-/// How often it spins at most.
+/// The most times that a worker spins after a try of the hub's lock.
 const MOST_SPINS: u32 = 1_024;
 
-/// How often it spins and tries again before it waits for the lock.
+/// How often a worker spins and tries again before it waits for the hub's lock.
 const MOST_TRIES: u32 = 40;
 
-/// How a worker's turns go on.
+/// The pace of a worker's turns.
 #[derive(Clone, Copy, Debug, Drop)]
 struct Pace {
     /// The message that was assigned for the next turn.
     ahead: Option<MsgId>,
-    /// How many turns have found nothing since one found something.
+    /// How many turns have found nothing since a turn found something.
     idle: u64,
     /// Whether there is one more turn.
     goes_on: bool,
-    /// How often it spins when it finds the hub's lock taken.
+    /// How often the worker spins when it finds the hub's lock taken.
     spins: u32,
 }
 
 impl Pace {
-    /// That of a worker that begins.
+    /// The pace of a worker that begins.
     fn new() -> Self {
         Pace {
             ahead: None,
@@ -71,18 +71,18 @@ impl Pace {
 }
 
 impl<D: Disk, C: Chare, B: RuntimeName> Runtime<D, C, B> {
-    /// Delivers messages on the seat's processor, in at most `turns` turns. In each turn it is
-    /// given the oldest message that can be delivered there, if there is one, asks the gate, lets
-    /// the receiver react, commits, and tells the gate. The seat holds the ids of what was
-    /// committed. The first refusal ends the work: what is assigned then is released, and a
-    /// delivery that can't be committed, since the store is halted, stays on its shelf. It is one
-    /// of `Halted`, `HistoryFull`, `NoBlank` and `Memory`.
+    /// Delivers messages on the seat's processor, in at most `turns` turns. In each turn the worker
+    /// gets the oldest message that can be delivered there, if there is one, asks the gate, lets
+    /// the receiver react, commits, and tells the gate. The seat holds the ids of the committed
+    /// deliveries. The first refusal ends the work: an assigned message is released then, and a
+    /// delivery that can't be committed, since the store is halted, stays on its shelf. The refusal
+    /// is one of `Halted`, `HistoryFull`, `NoBlank` and `Memory`.
     ///
     /// The message of the next turn is assigned in the hold of the hub in which a delivery is
-    /// committed. Between two turns the shelf is free, and who takes its lock then may release that
-    /// message. After a turn that found nothing the hub is asked again once there is a ticket in
-    /// the queue of the processor; without one, which may be lost, it is asked in one of
-    /// [`IDLE_TURNS`] turns, and the others let other threads run.
+    /// committed. Between two turns the shelf is free, and a thread that takes its lock then may
+    /// release that message. After a turn that found nothing the hub is asked again once there is a
+    /// ticket in the processor's queue. Without a ticket, which may be lost, the hub is asked in
+    /// one of [`IDLE_TURNS`] turns, and the others let other threads run.
     pub fn work<G: Gate, R: Wait>(
         &self,
         rt: &R,
@@ -113,7 +113,7 @@ impl<D: Disk, C: Chare, B: RuntimeName> Runtime<D, C, B> {
         }
     }
 
-    /// One turn. The gate is told once the shelf is free again.
+    /// Takes one turn. The gate is told once the shelf is free again.
     fn turn<G: Gate, R: Wait>(
         &self,
         rt: &R,
@@ -136,7 +136,7 @@ impl<D: Disk, C: Chare, B: RuntimeName> Runtime<D, C, B> {
         delivered
     }
 
-    /// A delivery on the seat's processor, whose shelf is locked for it.
+    /// Makes a delivery on the seat's processor, whose shelf is locked for it.
     fn deliver_there<G: Gate, R: Wait>(
         &self,
         rt: &R,
@@ -152,7 +152,7 @@ impl<D: Disk, C: Chare, B: RuntimeName> Runtime<D, C, B> {
         self.deliver(rt, held.grip.get_mut(), seat, gate, pace)
     }
 
-    /// A delivery on the locked shelf of the seat's processor. The hub is taken only while a
+    /// Makes a delivery on the locked shelf of the seat's processor. The hub is taken only while a
     /// message is assigned and while its delivery is committed or released.
     fn deliver<G: Gate, R: Wait>(
         &self,
@@ -194,8 +194,8 @@ impl<D: Disk, C: Chare, B: RuntimeName> Runtime<D, C, B> {
         }
     }
 
-    /// The message that is assigned on a locked shelf. If that isn't done yet, it is the oldest
-    /// that can be delivered there, if there is one.
+    /// The message that is assigned on a locked shelf. If none is assigned yet, the oldest that can
+    /// be delivered there is assigned, if there is one.
     fn next_on<R: Wait>(
         &self,
         rt: &R,
@@ -217,13 +217,13 @@ impl<D: Disk, C: Chare, B: RuntimeName> Runtime<D, C, B> {
         assign_oldest(&mut self.lock_hub(rt, pace), locked)
     }
 
-    /// The hub, under its lock.
+    /// Takes the hub's lock.
     ///
-    /// Each try takes the bytes of the lock, and of the hub beside it, from the processor that has
-    /// them; and a worker that waits has to be woken by another one. So one that finds the lock
-    /// taken stays away for longer and longer, in which another worker makes several deliveries,
-    /// and waits only after many tries. It begins with half of what it stayed away before it had
-    /// the lock the last time, so that it comes back soon where others seldom take the lock.
+    /// Each try takes the bytes of the lock, and of the hub next to it, from the processor that has
+    /// them; and a waiting worker has to be woken by another one. So a worker that finds the lock
+    /// taken stays away for longer and longer, while another worker makes several deliveries, and
+    /// waits only after many tries. It begins with half of the time that it stayed away before it
+    /// last got the lock, so that it comes back soon if others seldom take the lock.
     fn lock_hub<R: Wait>(&self, rt: &R, pace: &mut Pace) -> MutexGuard<'_, Hub<D, C, B>> {
         if let Some(guard) = self.hub.try_lock() {
             return guard;
@@ -240,8 +240,8 @@ impl<D: Disk, C: Chare, B: RuntimeName> Runtime<D, C, B> {
         self.hub.lock(rt)
     }
 
-    /// Commits the delivery that was made on a locked shelf and couldn't be committed, without a
-    /// seat. Each call that takes a shelf's lock does so first. The only refusal is `Halted`.
+    /// Commits a performed delivery on a locked shelf that couldn't be committed, without a seat.
+    /// Each call that takes a shelf's lock does so first. The only refusal is `Halted`.
     pub(crate) fn catch_up<R: Wait>(
         &self,
         rt: &R,
@@ -262,15 +262,15 @@ impl<D: Disk, C: Chare, B: RuntimeName> Runtime<D, C, B> {
     }
 }
 
-/// Spins so often, and looks at nothing that other threads write.
+/// Spins this often, without a look at anything that other threads write.
 fn stay_away(spins: u32) {
     for _ in 0..spins {
         hint::spin_loop();
     }
 }
 
-/// Whether the hub is to be asked in this turn. All tickets of the processor's queue are taken,
-/// unless the message of the turn is assigned already.
+/// Whether to ask the hub in this turn. All tickets of the processor's queue are taken, unless the
+/// message of the turn is assigned already.
 fn is_called<B: RuntimeName>(seat: &mut Seat<SeatsOf<B>>, pace: &mut Pace) -> bool
     ensures { seat.new ≡ seat.old }
 {
@@ -284,7 +284,7 @@ fn is_called<B: RuntimeName>(seat: &mut Seat<SeatsOf<B>>, pace: &mut Pace) -> bo
     false
 }
 
-/// Takes all tickets of the processor's queue, and says whether there was one.
+/// Takes all tickets of the processor's queue, and returns whether there was one.
 fn takes_tickets<B: RuntimeName>(seat: &mut Seat<SeatsOf<B>>) -> bool
     ensures { seat.new ≡ seat.old }
 {
@@ -298,9 +298,9 @@ fn takes_tickets<B: RuntimeName>(seat: &mut Seat<SeatsOf<B>>) -> bool
     any
 }
 
-/// Commits the delivery that was made on the shelf. If it is committed and there is one more turn,
-/// the message of that turn is assigned: the oldest that can be delivered there, if there is one
-/// and it isn't refused.
+/// Commits the performed delivery on the shelf. If it is committed and there is one more turn, the
+/// message of that turn is assigned: the oldest that can be delivered there, if there is one and it
+/// isn't refused.
 fn commit_and_go_on<D: Disk, C: Chare, B: RuntimeName>(
     hub: &mut Hub<D, C, B>,
     locked: &mut ProcessorState<C, B>,
@@ -324,8 +324,9 @@ fn commit_and_go_on<D: Disk, C: Chare, B: RuntimeName>(
 }
 
 /// Assigns the oldest message that can be delivered on the shelf's processor, if there is one. If
-/// nothing is under way there, the refusal is the first that applies of `Halted`, `HistoryFull`,
-/// `NoBlank` and `Memory`. When refused, all is as before, beside the room in the hub's own list.
+/// no delivery is under way there, the refusal is the first that applies of `Halted`,
+/// `HistoryFull`, `NoBlank` and `Memory`. If refused, nothing changes, except the room in the hub's
+/// own list.
 fn assign_oldest<D: Disk, C: Chare, B: RuntimeName>(
     hub: &mut Hub<D, C, B>,
     locked: &mut ProcessorState<C, B>,
@@ -341,7 +342,8 @@ fn assign_oldest<D: Disk, C: Chare, B: RuntimeName>(
     assign_counted::<Brand, D, C, B>(hub, locked, Blank::new(1))
 }
 
-/// The same, with a count of its own of the looks at pending messages.
+/// Assigns a message as `assign_oldest` does, with a count of its own of the looks at pending
+/// messages.
 fn assign_counted<L: Ledger, D: Disk, C: Chare, B: RuntimeName>(
     hub: &mut Hub<D, C, B>,
     locked: &mut ProcessorState<C, B>,
@@ -366,21 +368,21 @@ fn assign_counted<L: Ledger, D: Disk, C: Chare, B: RuntimeName>(
     match hub.assign(locked, id) {
         Ok(()) => Ok(Some(id)),
         Err(refusal) => {
-            // If nothing is under way there, this shows that nothing is assigned there.
+            // If no delivery is under way there, this shows that nothing is assigned there.
             hub.agree(locked);
             Err(refusal)
         }
     }
 }
 
-/// A seat, and what its worker did.
+/// A seat, and the result of its worker's work.
 #[derive(Drop)]
 pub struct WorkerSlot<B: RuntimeName> {
     pub seat: Seat<SeatsOf<B>>,
     pub worked: Worked,
 }
 
-/// Each seat works, in a thread of its own, and what it did is noted beside it.
+/// Has each seat's worker work in a thread of its own, and notes its result beside the seat.
 pub fn work_all<D: Disk, C: Chare, B: RuntimeName + Send + Sync, G: Gate, R: Threads + Wait + Sync>(
     rt: &R,
     runtime: &Runtime<D, C, B>,
@@ -407,7 +409,7 @@ pub fn work_all<D: Disk, C: Chare, B: RuntimeName + Send + Sync, G: Gate, R: Thr
     );
 }
 
-/// A seat works, and what it did is noted.
+/// Has a seat's worker work, and notes its result.
 fn serve<D: Disk, C: Chare, B: RuntimeName, G: Gate, R: Wait>(
     rt: &R,
     runtime: &Runtime<D, C, B>,

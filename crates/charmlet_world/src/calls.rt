@@ -1,4 +1,4 @@
-//! The sequence numbers of messages to one element, followed through a table of envelopes.
+//! An iteration over the sequence numbers of messages to one element, through a table of envelopes.
 
 ghost use Rattle.std.specs.Prelude.{◌≡◌, ◌<◌, ◌≤◌, [], ◌∷◌, length, slice_get, take, Some, MatchOption, option_and_then};
 ghost use Rattle.charmlet_world.specs.Envelopes.{call_of, calls_in};
@@ -10,13 +10,13 @@ use charmlet_ready_queue::{Call, Chain};
 use indexmap::IndexMap;
 use std::marker::Model;
 
-/// The sequence numbers of the pending messages to an element that are left, the youngest first. A
+/// The sequence numbers that are left of the pending messages to an element, the youngest first. A
 /// contract sees the calls.
 #[derive(Drop)]
 pub(crate) struct Calls<'a> {
     envelopes: &'a IndexMap<MsgId, Envelope>,
     to: Elem,
-    /// Where the envelopes end that haven't been looked at.
+    /// The end of the envelopes that haven't been looked at.
     end: usize,
     /// How many calls are left, so that the search ends with the last one.
     count: usize,
@@ -36,7 +36,7 @@ impl<'a> Model for Calls<'a> {
 }
 
 impl<'a> Calls<'a> {
-    /// The calls of the element before this place, which are so many.
+    /// The `count` calls of the element before place `end`.
     pub(crate) fn new(
         envelopes: &'a IndexMap<MsgId, Envelope>,
         to: Elem,
@@ -63,7 +63,7 @@ impl<'a> Chain for Calls<'a> {
     }
 }
 
-/// The call of the last envelope before the end that has one, and where that envelope is.
+/// The call of the last envelope before the end that has one, and the place of that envelope.
 fn next_call(
     envelopes: &IndexMap<MsgId, Envelope>,
     to: Elem,

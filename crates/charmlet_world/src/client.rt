@@ -1,4 +1,4 @@
-//! What is kept of a client: its row in the present world, and in the durable one.
+//! Clients' rows in the present world and in the durable one.
 
 mod client;
 

@@ -1,4 +1,4 @@
-//! What events make of the clients' rows.
+//! Changes that events make to the clients' rows.
 
 ghost use Rattle.std.specs.Prelude.{◌≡◌, OnOk, OnErr};
 ghost use Rattle.charmlet_model.specs.Row.{with_request};

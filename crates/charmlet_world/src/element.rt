@@ -1,4 +1,4 @@
-//! What is kept of an element.
+//! Elements' places and counts.
 
 ghost use Rattle.std.specs.Prelude.{◌≡◌, ◌+◌, ◌≤◌, not};
 ghost use Rattle.charmlet_model.specs.Reaction.{greatest};
@@ -29,21 +29,21 @@ impl Element {
         }
     }
 
-    /// Whether its counts have room for one more delivery.
+    /// Whether the element's counts have room for one more delivery.
     pub fn has_room(&self) -> bool
         ensures { result ≡ not (lacks_count self.now) }
     {
         self.received < u64::MAX && self.sent <= u64::MAX - MAX_SENDS as u64
     }
 
-    /// Whether its world has a record of it: it is there, or it received a message.
+    /// Whether the world has a record of the element: it is there, or it received a message.
     pub fn has_record(&self) -> bool
         ensures { result ≡ has_record self.now }
     {
         self.place.is_some() || self.received > 0
     }
 
-    /// Whether its world has a record of it although it isn't there.
+    /// Whether the world has a record of the element although it isn't there.
     pub fn has_left(&self) -> bool
         ensures { result ≡ is_left self.now }
     {

@@ -1,4 +1,4 @@
-//! What is kept of each element.
+//! The table of elements' places and counts.
 
 ghost use Rattle.std.specs.Prelude.{◌≡◌, ◌≤◌, ◌<◌, [], ◌∷◌, ◌++◌, length, slice_get, Some, None, IfSome, IfOk, IsOk, OnOk, OnErr, is_some, true, if◌then◌else◌};
 ghost use Rattle.std.specs.Map.{keys_of, lookup, values_of};
@@ -17,8 +17,8 @@ use std::alloc::{AllocError, Global};
 use std::collections::BTreeMap;
 use std::marker::Model;
 
-/// Where an element is kept. It stays valid, since no element is ever forgotten. A contract sees
-/// its number.
+/// The number of an element's row. It stays valid, since no row is ever removed. A contract sees
+/// the number.
 #[derive(Clone, Copy, Debug)]
 pub struct Slot {
     index: usize,
@@ -34,12 +34,12 @@ impl Model for Slot {
     ghost inverse = { λ n. record { index = n } };
 }
 
-/// What is kept of the elements that ever received a message. A contract sees a list in the order
-/// in which they came, and the room for more.
+/// The places and counts of the elements that ever received a message. A contract sees a list in
+/// the order in which they came, and the room for more.
 #[derive(Drop)]
 pub struct Elements {
     rows: IndexMap<Elem, Element>,
-    /// The index at which a row is looked for first.
+    /// The index at which a search for a row begins.
     expected: usize,
 }
 
@@ -53,7 +53,7 @@ impl Model for Elements {
 }
 
 impl Elements {
-    /// No elements. It takes no memory.
+    /// A table with no elements. It takes no memory.
     pub fn new(alloc: Global) -> Self
         ensures { result.entries ≡ [] }
     {
@@ -63,7 +63,7 @@ impl Elements {
         }
     }
 
-    /// No elements, and room for `count` of them. It fails only when out of memory.
+    /// A table with no elements, and room for `count` of them. It fails only when out of memory.
     fn with_room(alloc: Global, count: usize) -> Result<Self, AllocError>
         ensures { IfOk result (λ elements. elements.entries ≡ []) }
     {
@@ -72,7 +72,7 @@ impl Elements {
         Ok(Elements { rows, expected: 0 })
     }
 
-    /// The elements of this tree. It fails only when out of memory.
+    /// The table of this tree's elements. It fails only when out of memory.
     pub fn of_tree(alloc: Global, tree: BTreeMap<Elem, Element>) -> Result<Self, AllocError>
         ensures { IfOk result (λ elements. risen elements.entries ≡ tree.entries) }
     {
@@ -83,7 +83,7 @@ impl Elements {
         Ok(elements)
     }
 
-    /// Sets what is kept of an element. It fails only when out of memory.
+    /// Sets an element's place and counts. It fails only when out of memory.
     fn put(&mut self, elem: Elem, element: Element) -> Result<(), AllocError>
         ensures { OnOk result (risen self.new.entries
             ≡ insert_entry elem_cmp (risen self.old.entries) elem element) }
@@ -105,7 +105,8 @@ impl Elements {
         }
     }
 
-    /// The same. The row after the expected one is tried too before it is looked for among all.
+    /// The slot of an element, if it has one. The search tries the expected row and the next one
+    /// before all others.
     fn slot_near(&self, elem: Elem) -> Option<Slot>
         ensures found { IfSome result (λ slot. slice_get self.now.entries slot
             ≡ Some (elem, element_in self.now.entries elem)) }
@@ -117,8 +118,8 @@ impl Elements {
         }
     }
 
-    /// What is kept of an element, as `element` says it. If it has a row, one comparison finds that
-    /// from now on. Nothing that is kept changes.
+    /// The place and counts of an element, as `element` returns them. If the element has a row, one
+    /// comparison finds it from now on. The table stays the same.
     #[inline(always)]
     pub(crate) fn expect(&mut self, elem: Elem) -> Element
         ensures same { self.new ≡ self.old }
@@ -131,13 +132,13 @@ impl Elements {
         self.at(slot)
     }
 
-    /// The index at which a row is looked for first.
+    /// The index at which a search for a row begins.
     pub(crate) fn expected(&self) -> usize {
         self.expected
     }
 
-    /// What is kept of an element. One that was never constructed stands nowhere, and its counts
-    /// are 0.
+    /// The place and counts of an element. An element that was never constructed stands nowhere,
+    /// and its counts are 0.
     pub fn element(&self, elem: Elem) -> Element
         ensures element { result ≡ element_in self.now.entries elem }
         ensures risen { lookup (is_at (elem_cmp elem)) (risen self.now.entries)
@@ -158,15 +159,15 @@ impl Elements {
         self.rows.len()
     }
 
-    /// A copy of what is kept, in rising order of the elements. It fails only when out of memory.
+    /// A copy of the table, in rising order of the elements. It fails only when out of memory.
     pub fn rising(&self, alloc: Global) -> Result<BTreeMap<Elem, Element>, AllocError>
         ensures { IfOk result (λ tree. tree.entries ≡ risen self.now.entries) }
     {
         rising_rows(&self.rows, alloc)
     }
 
-    /// A copy of what is kept of each element that isn't there and has received a message, in
-    /// rising order of the elements. It fails only when out of memory.
+    /// A copy of the rows whose elements aren't there and have received a message, in rising order
+    /// of the elements. It fails only when out of memory.
     pub fn left(&self, alloc: Global) -> Result<BTreeMap<Elem, Element>, AllocError>
         ensures { IfOk result (λ tree. tree.entries ≡ left_of (risen self.now.entries)) }
     {
@@ -182,7 +183,7 @@ impl Elements {
         rising_places(&self.rows, alloc)
     }
 
-    /// What is kept in this slot.
+    /// The place and counts in this slot.
     pub fn at(&self, slot: Slot) -> Element
         requires { slot < length self.now.entries }
         ensures { slice_get (values_of self.now.entries) slot ≡ Some result }
@@ -190,7 +191,7 @@ impl Elements {
         self.rows[slot.index]
     }
 
-    /// Sets what is kept in this slot.
+    /// Sets the place and counts in this slot.
     pub fn set(&mut self, slot: Slot, element: Element)
         requires { slot < length self.old.entries }
         ensures entries { self.new.entries ≡ set_value_at self.old.entries slot element }
@@ -228,13 +229,13 @@ impl Elements {
         let Some(element) = was else {
             return Ok(slot);
         };
-        // It had a row, to which its value comes back.
+        // The element had a row, to which its value comes back.
         self.set(slot, element);
         Ok(slot)
     }
 }
 
-/// The index of the element's row, if it has one. It is looked for where it is expected first.
+/// The index of the element's row, if it has one. The search tries the expected index first.
 fn index_of(rows: &IndexMap<Elem, Element>, expected: usize, elem: Elem) -> Option<usize>
     ensures found { IfSome result (λ i. slice_get rows.now.entries i
         ≡ Some (elem, element_in rows.now.entries elem)) }
@@ -246,7 +247,8 @@ fn index_of(rows: &IndexMap<Elem, Element>, expected: usize, elem: Elem) -> Opti
     search(rows, elem)
 }
 
-/// The same. The row after the expected one is tried too before it is looked for among all.
+/// The index of the element's row, if it has one. The search tries the expected row and the next
+/// one before all others.
 fn index_near(rows: &IndexMap<Elem, Element>, expected: usize, elem: Elem) -> Option<usize>
     ensures found { IfSome result (λ i. slice_get rows.now.entries i
         ≡ Some (elem, element_in rows.now.entries elem)) }
@@ -258,8 +260,8 @@ fn index_near(rows: &IndexMap<Elem, Element>, expected: usize, elem: Elem) -> Op
     search(rows, elem)
 }
 
-/// The index of the element's row, if it is this one or the one after it: elements that came one
-/// after another are often sent to one after another.
+/// The index of the element's row, if it is this one or the next one: elements that came one after
+/// another often get messages one after another.
 fn near(rows: &IndexMap<Elem, Element>, index: usize, elem: Elem) -> Option<usize>
     ensures found { IfSome result (λ i. slice_get rows.now.entries i
         ≡ Some (elem, element_in rows.now.entries elem)) }
@@ -276,8 +278,8 @@ fn near(rows: &IndexMap<Elem, Element>, index: usize, elem: Elem) -> Option<usiz
     None
 }
 
-/// The index of the element's row, if it has one, which is looked for among all. It is no part of
-/// the code around its calls, since it is seldom called.
+/// The index of the element's row among all, if it has one. It isn't inlined, since it is seldom
+/// called.
 #[inline(never)]
 fn search(rows: &IndexMap<Elem, Element>, elem: Elem) -> Option<usize>
     ensures found { IfSome result (λ i. slice_get rows.now.entries i
@@ -287,13 +289,13 @@ fn search(rows: &IndexMap<Elem, Element>, elem: Elem) -> Option<usize>
     rows.get_index_of(&elem)
 }
 
-/// Whether the element's row is there.
+/// Whether the element's row stands at this index.
 fn stands_at(rows: &IndexMap<Elem, Element>, index: usize, elem: Elem) -> bool
     ensures found { result ≡ true → slice_get rows.now.entries index
         ≡ Some (elem, element_in rows.now.entries elem) }
     ensures which { result ≡ true → is_some (lookup (same_elem elem) rows.now.entries) ≡ true }
 {
-    // The length is what tells that the elements are distinct.
+    // The length tells the prover that the elements are distinct.
     let _len = rows.len();
     match rows.get_index(index) {
         Some((here, _element)) => *here == elem,
@@ -320,7 +322,7 @@ fn rising_rows(
     Ok(tree)
 }
 
-/// Those of these rows whose elements aren't there and have received a message, in rising order.
+/// The rows whose elements aren't there and have received a message, in rising order.
 fn rising_left(
     rows: &IndexMap<Elem, Element>,
     alloc: Global,
@@ -356,8 +358,7 @@ fn put_left(
     Ok(())
 }
 
-/// The places of these rows in rising order of their elements. It takes no memory where there is
-/// none.
+/// The places of these rows in rising order of their elements. It takes no memory if there is none.
 fn rising_places(
     rows: &IndexMap<Elem, Element>,
     alloc: Global,

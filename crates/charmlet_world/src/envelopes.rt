@@ -1,4 +1,4 @@
-//! Where the message of a sequence number stands in a table of envelopes.
+//! The search for a sequence number in a table of envelopes.
 
 ghost use Rattle.std.specs.Prelude.{◌≡◌, ◌<◌, ◌≤◌, false, length, slice_get, Some, None, IfSome};
 ghost use Rattle.charmlet_ready_queue.specs.SeqNos.SeqNos.{Climbs};
@@ -9,9 +9,9 @@ use crate::envelope::Envelope;
 use charmlet_model::MsgId;
 use indexmap::IndexMap;
 
-/// The envelope of this sequence number. It is looked for near this place first, then where it
-/// stands if none of the younger ones has left a gap, and then where it stands if none of the older
-/// ones has.
+/// The place of the envelope with this sequence number. The search tries a place near this one
+/// first, then the place if none of the younger envelopes has left a gap, and then the place if
+/// none of the older ones has.
 pub(crate) fn envelope_of(
     envelopes: &IndexMap<MsgId, Envelope>,
     near: usize,
@@ -60,7 +60,7 @@ fn seq_at(envelopes: &IndexMap<MsgId, Envelope>, place: usize) -> u64
     envelopes[place].seq
 }
 
-/// The guess, if it is between the two, else what is in the middle.
+/// The guess, if it is between the two places, or the middle otherwise.
 fn within(low: usize, high: usize, guess: usize) -> usize
     ensures from { low < high → low ≤ result }
     ensures to { low < high → result < high }

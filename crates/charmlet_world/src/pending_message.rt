@@ -1,4 +1,4 @@
-//! What is kept of a message under its id.
+//! Pending messages without their ids.
 
 ghost use Rattle.std.specs.Prelude.{◌≡◌, IfOk};
 ghost use Rattle.charmlet_world.specs.Waiting.{message_of};
@@ -15,7 +15,7 @@ pub struct PendingMessage {
 }
 
 impl PendingMessage {
-    /// The message of this id.
+    /// Turns it into the message of this id.
     pub fn into_message(self, id: MsgId) -> Message
         ensures { result ≡ message_of id self }
     {

@@ -37,14 +37,14 @@ use std::collections::BTreeMap;
 use std::marker::Model;
 use std::sync::ledger::Ledger;
 
-/// The present world without its objects: the place and the counts of each element, the pending
+/// The present world without its objects: the place and counts of each element, the pending
 /// messages in order of arrival, and the clients' rows in the present and in the durable world. A
-/// contract sees what is kept, and how many deliveries there is room for.
+/// contract sees all of these, and how many deliveries there is room for.
 pub struct PresentWorld {
     manifest: Manifest,
     scheduler: Scheduler,
     clients: BTreeMap<u32, Client>,
-    /// How many deliveries have room for all that they may send.
+    /// How many deliveries have room for everything that they may send.
     promised: usize,
 }
 
@@ -65,8 +65,8 @@ impl Model for PresentWorld {
     ghost invariant = { λ w. HasRoom w.scheduler.processors w.promised w.scheduler.room };
 }
 
-// Written by hand, so that dropping all that it has is proved here, and not in each crate that
-// drops one.
+// Written by hand, so that dropping all its fields is proved here, and not in each crate that drops
+// a present world.
 impl Drop for PresentWorld {
     fn drop(self) {
         let PresentWorld {
@@ -164,7 +164,7 @@ impl PresentWorld {
         self.scheduler.pending().iter()
     }
 
-    /// What is kept of the pending message of this id.
+    /// The pending message of this id, if there is one.
     #[inline(always)]
     pub fn find(&self, id: MsgId) -> Option<&PendingMessage>
         ensures { option_map (λ pending_message. message_of id pending_message.now) result
@@ -173,14 +173,14 @@ impl PresentWorld {
         self.scheduler.pending().find(id)
     }
 
-    /// What is kept of an element.
+    /// The place and counts of an element.
     pub fn element(&self, elem: Elem) -> Element
         ensures { result ≡ element_at (seen self.now).elements elem }
     {
         self.scheduler.elements().element(elem)
     }
 
-    /// What is kept in this slot.
+    /// The place and counts in this slot.
     pub fn at(&self, slot: Slot) -> Element
         requires { slot < length self.now.rows }
         ensures { slice_get (values_of self.now.rows) slot ≡ Some result }
@@ -196,22 +196,21 @@ impl PresentWorld {
         self.scheduler.processors()
     }
 
-    /// The processor of an element, given what is kept of it, or the home of one that isn't there.
+    /// The processor of an element with this place and these counts, or its home if it isn't there.
     pub fn place_of(&self, elem: Elem, element: &Element) -> u16
         ensures { result ≡ unwrap_or element.now.place (home elem self.now.processors) }
     {
         place_in(self.scheduler.processors(), elem, element.place)
     }
 
-    /// The processor of an element, or the home of one that isn't there.
+    /// The processor of an element, or its home if it isn't there.
     pub fn place_or_home(&self, elem: Elem) -> u16
         ensures { result ≡ place_or_home_in (seen self.now) elem }
     {
         place_in(self.scheduler.processors(), elem, self.element(elem).place)
     }
 
-    /// Of how many elements something is kept: of each that is there, and of each that ever
-    /// received a message.
+    /// How many elements have a row: each that is there, and each that ever received a message.
     pub fn element_count(&self) -> usize
         ensures rows { result ≡ length self.now.rows }
         ensures elements { result ≡ length (seen self.now).elements }
@@ -219,16 +218,16 @@ impl PresentWorld {
         self.scheduler.elements().len()
     }
 
-    /// A copy of what is kept of each element, in rising order. It sorts, and fails only when out
-    /// of memory.
+    /// A copy of each element's place and counts, in rising order. It sorts, and fails only when
+    /// out of memory.
     pub fn rising(&self, alloc: Global) -> Result<BTreeMap<Elem, Element>, AllocError>
         ensures { IfOk result (λ tree. tree.entries ≡ (seen self.now).elements) }
     {
         self.scheduler.elements().rising(alloc)
     }
 
-    /// A copy of what is kept of each element that isn't there and has received a message, in
-    /// rising order of the elements. It fails only when out of memory.
+    /// A copy of the place and counts of each element that isn't there and has received a message,
+    /// in rising order of the elements. It fails only when out of memory.
     pub fn left(&self, alloc: Global) -> Result<BTreeMap<Elem, Element>, AllocError>
         ensures { IfOk result (λ tree. tree.entries ≡ left_of (seen self.now).elements) }
     {
@@ -244,7 +243,7 @@ impl PresentWorld {
         self.scheduler.elements().places(alloc)
     }
 
-    /// What is kept of a client, if it made a request.
+    /// A client's rows, if it made a request.
     pub fn client(&self, client: u32) -> Option<&Client>
         ensures { option_copied result ≡ lookup (is_at (nat_cmp client)) self.now.clients }
     {
@@ -283,8 +282,8 @@ impl PresentWorld {
         Some(id)
     }
 
-    /// The oldest pending message on the processor that can be delivered by the counts that are
-    /// kept. It is at most one look.
+    /// The oldest pending message on the processor that can be delivered by the elements' counts.
+    /// It takes at most one look.
     pub fn oldest_on<L: Ledger>(&self, processor: u16, ticks: &mut Ticks<L>) -> Option<MsgId>
         ensures oldest { result ≡ oldest_on (seen self.now) processor self.now.pending }
         ensures ticks { ticks.new ≤ ticks.old + 1 }
@@ -292,9 +291,9 @@ impl PresentWorld {
         self.scheduler.oldest_on(processor, ticks)
     }
 
-    /// The oldest pending message that can be delivered by the counts that are kept, and before it
-    /// the processor of its receiver, or the home of one that isn't there. It is at most one look
-    /// for each processor.
+    /// The oldest pending message that can be delivered by the elements' counts, together with the
+    /// processor of its receiver, or its home if it isn't there. It takes at most one look for each
+    /// processor.
     pub fn next_in<L: Ledger>(&self, ticks: &mut Ticks<L>) -> Option<(u16, MsgId)>
         ensures next { result ≡ next_due (seen self.now) self.now.pending }
         ensures ticks { ticks.new ≤ ticks.old + self.now.processors }
@@ -302,23 +301,23 @@ impl PresentWorld {
         self.scheduler.next_in(ticks)
     }
 
-    /// The oldest pending message that can be delivered by the counts that are kept, and before it
-    /// the processor of its receiver, or the home of one that isn't there. It takes no memory.
+    /// The oldest pending message that can be delivered by the elements' counts, together with the
+    /// processor of its receiver, or its home if it isn't there. It takes no memory.
     pub fn next(&self) -> Option<(u16, MsgId)>
         ensures { result ≡ next_due (seen self.now) self.now.pending }
     {
         self.scheduler.next()
     }
 
-    /// Whether no pending message can be delivered by the counts that are kept. It takes no memory.
+    /// Whether no pending message can be delivered by the elements' counts. It takes no memory.
     pub fn quiet(&self) -> bool
         ensures { result ≡ is_none (oldest (seen self.now) self.now.pending) }
     {
         self.scheduler.quiet()
     }
 
-    /// Accepts a client's request, whose id no pending message may have. The room for deliveries
-    /// stays. When out of memory, nothing changes.
+    /// Accepts a client's request, whose id differs from that of every pending message. The room
+    /// for deliveries stays. When out of memory, nothing changes.
     pub fn accept(
         &mut self,
         client: u32,
@@ -408,7 +407,7 @@ impl PresentWorld {
     }
 
     /// Delivers a pending message for which `assign` made room: the message is removed, its
-    /// receiver advances, what the receiver sent is appended, and its reply is kept for the client
+    /// receiver advances, the receiver's sends are appended, and its reply is kept for the client
     /// that asked. It takes no memory.
     pub fn commit(&mut self, slot: Slot, id: MsgId, output: Output)
         requires promised { 0 < self.old.promised }
@@ -435,8 +434,8 @@ impl PresentWorld {
         self.scheduler.hint_head();
     }
 
-    /// An element that is there stands on the processor from now on. It takes no memory where no
-    /// message to it is pending. Where memory is refused, nothing changes.
+    /// Moves a present element to the processor. It takes no memory if no message to it is pending.
+    /// If memory is refused, nothing changes.
     pub fn relocate(&mut self, elem: Elem, processor: u16) -> Result<(), AllocError>
         requires there { is_some (element_at (seen self.old).elements elem).place ≡ true }
         requires processor { processor < self.old.processors }

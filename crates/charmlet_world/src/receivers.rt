@@ -1,4 +1,4 @@
-//! How many messages to each element are pending.
+//! Counts of the pending messages to each element.
 
 ghost use Rattle.std.specs.Prelude.{◌≡◌, ◌+◌, ◌≤◌, ◌<◌, [], length, slice_get, Some, false, true, is_some, IfSome, IsOk, OnOk, if◌then◌else◌};
 ghost use Rattle.std.specs.Map.{lookup, values_of};
@@ -22,7 +22,7 @@ pub struct Receiver {
 }
 
 impl Receiver {
-    /// Of an element to which no message came.
+    /// The count of an element to which no message came.
     fn new() -> Self
         ensures { result ≡ no_receiver }
     {
@@ -33,12 +33,12 @@ impl Receiver {
     }
 }
 
-/// What is kept of each element to which a message ever came. A contract sees the list, and the
-/// room for more.
+/// A count for each element to which a message ever came. A contract sees the list, and the room
+/// for more.
 #[derive(Drop)]
 pub(crate) struct Receivers {
     table: IndexMap<Elem, Receiver>,
-    /// The index at which an element is looked for first: where the last message that left was
+    /// The index at which a search for an element begins: where the last message that left was
     /// counted.
     expected: usize,
 }
@@ -53,7 +53,7 @@ impl Model for Receivers {
 }
 
 impl Receivers {
-    /// None. It takes no memory.
+    /// A table with no elements. It takes no memory.
     pub(crate) fn new(alloc: Global) -> Self
         ensures { result.entries ≡ [] }
     {
@@ -63,7 +63,7 @@ impl Receivers {
         }
     }
 
-    /// Makes room for so many more. Where memory is refused, nothing changes.
+    /// Makes room for this many more elements. If memory is refused, nothing changes.
     pub(crate) fn reserve(&mut self, additional: usize) -> Result<(), AllocError>
         ensures entries { self.new.entries ≡ self.old.entries }
         ensures room { self.old.room ≤ self.new.room }
@@ -73,7 +73,7 @@ impl Receivers {
         self.table.reserve(additional)
     }
 
-    /// What is kept of an element.
+    /// An element's count of pending messages.
     pub(crate) fn receiver(&self, elem: Elem) -> Receiver
         ensures { result ≡ receiver_in self.now.entries elem }
     {
@@ -83,8 +83,8 @@ impl Receivers {
         }
     }
 
-    /// Counts a message that comes to an element, which is looked for at this place first, and says
-    /// where that is counted. It takes no memory.
+    /// Counts a message that comes to an element, and returns the index of that count. The search
+    /// tries the expected index first. It takes no memory.
     pub(crate) fn count_in(&mut self, elem: Elem, seq: u64, expected: usize) -> usize
         requires room { 0 < self.old.room }
         requires few { (receiver_in self.old.entries elem).count < greatest }
@@ -109,7 +109,8 @@ impl Receivers {
         index
     }
 
-    /// Counts a message that leaves. Its receiver is looked for where it was counted first.
+    /// Counts a message that leaves. The search tries the index at which its receiver was counted
+    /// first.
     pub(crate) fn count_out(&mut self, elem: Elem, expected: usize)
         requires some { 0 < (receiver_in self.old.entries elem).count }
         ensures count { (receiver_in self.new.entries elem).count + 1
@@ -131,7 +132,7 @@ impl Receivers {
     }
 }
 
-/// The index of the element's entry, if it has one. It is looked for where it is expected first.
+/// The index of the element's entry, if it has one. The search tries the expected index first.
 fn index_of(table: &IndexMap<Elem, Receiver>, expected: usize, elem: Elem) -> Option<usize>
     ensures found { IfSome result (λ i. slice_get table.now.entries i
         ≡ Some (elem, receiver_in table.now.entries elem)) }
@@ -143,8 +144,8 @@ fn index_of(table: &IndexMap<Elem, Receiver>, expected: usize, elem: Elem) -> Op
     search(table, elem)
 }
 
-/// The index of the element's entry, if it has one, which is looked for among all. It is no part of
-/// the code around its calls, since it is seldom called.
+/// The index of the element's entry among all, if it has one. It isn't inlined, since it is seldom
+/// called.
 #[inline(never)]
 fn search(table: &IndexMap<Elem, Receiver>, elem: Elem) -> Option<usize>
     ensures found { IfSome result (λ i. slice_get table.now.entries i
@@ -154,13 +155,13 @@ fn search(table: &IndexMap<Elem, Receiver>, elem: Elem) -> Option<usize>
     table.get_index_of(&elem)
 }
 
-/// Whether the element's entry is there.
+/// Whether the element's entry stands at this index.
 fn stands_at(table: &IndexMap<Elem, Receiver>, index: usize, elem: Elem) -> bool
     ensures found { result ≡ true → slice_get table.now.entries index
         ≡ Some (elem, receiver_in table.now.entries elem) }
     ensures which { result ≡ true → is_some (lookup (same_elem elem) table.now.entries) ≡ true }
 {
-    // The length is what says that the elements are distinct.
+    // The length tells the prover that the elements are distinct.
     let _len = table.len();
     match table.get_index(index) {
         Some((here, _receiver)) => *here == elem,
@@ -168,8 +169,8 @@ fn stands_at(table: &IndexMap<Elem, Receiver>, index: usize, elem: Elem) -> bool
     }
 }
 
-/// The index of the element's entry, which it gets if it had none. It is looked for where it is
-/// expected first. It takes no memory.
+/// The index of the element's entry, which is made if there is none. The search tries the expected
+/// index first. It takes no memory.
 fn index_for(table: &mut IndexMap<Elem, Receiver>, expected: usize, elem: Elem) -> usize
     requires { 0 < spare table.old }
     ensures found { slice_get table.new.entries result
@@ -187,12 +188,12 @@ fn index_for(table: &mut IndexMap<Elem, Receiver>, expected: usize, elem: Elem) 
     let Some(receiver) = was else {
         return index;
     };
-    // It had an entry, to which its value comes back.
+    // The element had an entry, to which its value comes back.
     set(table, index, receiver);
     index
 }
 
-/// What is kept there.
+/// The count at this index.
 fn at(table: &IndexMap<Elem, Receiver>, index: usize) -> Receiver
     requires { index < length table.now.entries }
     ensures { slice_get (values_of table.now.entries) index ≡ Some result }
@@ -200,7 +201,7 @@ fn at(table: &IndexMap<Elem, Receiver>, index: usize) -> Receiver
     table[index]
 }
 
-/// Keeps this there.
+/// Sets the count at this index.
 fn set(table: &mut IndexMap<Elem, Receiver>, index: usize, receiver: Receiver)
     requires { index < length table.old.entries }
     ensures entries { table.new.entries ≡ set_value_at table.old.entries index receiver }

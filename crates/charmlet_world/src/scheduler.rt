@@ -30,22 +30,22 @@ use std::collections::BTreeMap;
 use std::marker::Model;
 use std::sync::ledger::Ledger;
 
-/// A message that was delivered, and how many its receiver had sent before.
+/// A delivered message, and how many messages its receiver had sent before.
 #[derive(Drop)]
 pub(crate) struct Delivered {
     pub(crate) message: Message,
     pub(crate) sent: u64,
 }
 
-/// A message that is taken out, and the home of its receiver.
+/// A message that was taken out, and the home of its receiver.
 #[derive(Drop)]
 struct Removed {
     message: Message,
     at_home: u16,
 }
 
-/// The pending messages, what is kept of each element, and an index of both: the sequence numbers
-/// of the messages that can be delivered on each processor, and of those that wait there. A
+/// The pending messages, each element's place and counts, and an index of both: the sequence
+/// numbers of the messages that can be delivered on each processor, and of those that wait there. A
 /// contract sees the messages, the elements' rows, and the room for more messages.
 #[derive(Drop)]
 pub(crate) struct Scheduler {
@@ -73,7 +73,7 @@ impl Model for Scheduler {
 }
 
 impl Scheduler {
-    /// No messages and no elements. It takes no memory.
+    /// A scheduler with no messages and no elements. It takes no memory.
     pub(crate) fn new(alloc: Global, processors: u16) -> Self
         requires { is_processor_count processors ≡ true }
         ensures processors { result.processors ≡ processors }
@@ -88,7 +88,8 @@ impl Scheduler {
         }
     }
 
-    /// No messages, and these elements, whose processors there are. It takes no memory.
+    /// A scheduler with no messages, and with these elements, all on existing processors. It takes
+    /// no memory.
     fn with(alloc: Global, processors: u16, elements: Elements) -> Self
         requires processors { is_processor_count processors ≡ true }
         requires places { (x : AnElem) →
@@ -105,7 +106,7 @@ impl Scheduler {
         }
     }
 
-    /// These elements and messages. It fails only for lack of memory.
+    /// A scheduler with these elements and messages. It fails only when out of memory.
     pub(crate) fn of(
         alloc: Global,
         processors: u16,
@@ -137,7 +138,7 @@ impl Scheduler {
         self.processors
     }
 
-    /// What is kept of each element.
+    /// Each element's place and counts.
     pub(crate) fn elements(&self) -> &Elements
         ensures { result.now.entries ≡ self.now.rows }
     {
@@ -151,7 +152,7 @@ impl Scheduler {
         &self.pending
     }
 
-    /// Makes room for so many more messages. Where memory is refused, nothing changes.
+    /// Makes room for this many more messages. If memory is refused, nothing changes.
     pub(crate) fn reserve(&mut self, additional: usize) -> Result<(), AllocError>
         ensures processors { self.new.processors ≡ self.old.processors }
         ensures rows { self.new.rows ≡ self.old.rows }
@@ -164,7 +165,7 @@ impl Scheduler {
         self.index.reserve(additional)
     }
 
-    /// Adds a message, for which there is room. It takes no memory.
+    /// Adds a message. There has to be room for it. It takes no memory.
     pub(crate) fn push(&mut self, message: Message)
         requires room { 0 < self.old.room }
         requires apart { message_among message.id self.old.pending ≡ None }
@@ -176,11 +177,11 @@ impl Scheduler {
         let element = self.elements.expect(message.to);
         let readiness = readiness_of(self.processors, message.to, &element);
         let seq = self.index.push(readiness.place(message.entry == CONSTRUCT));
-        // Messages to an element are mostly counted at the place at which its row stands.
+        // The count of messages to an element mostly has the same index as its row.
         self.pending.push_to(message, seq, self.elements.expected());
     }
 
-    /// Where an element is kept, from now on if it wasn't. Where memory is refused, nothing
+    /// The slot of an element, which gets one if it has none. If memory is refused, nothing
     /// changes.
     pub(crate) fn slot_for(&mut self, elem: Elem) -> Result<Slot, AllocError>
         ensures slot { IfOk result (λ slot. IsSlot self.new.rows slot elem) }
@@ -198,8 +199,8 @@ impl Scheduler {
         self.elements.slot_for(elem)
     }
 
-    /// Delivers a pending message, by which its receiver sends so many, and is destroyed or not: it
-    /// leaves, and its receiver advances. It takes no memory.
+    /// Delivers a pending message, whose receiver sends this many messages and is destroyed or not:
+    /// the message leaves, and its receiver advances. It takes no memory.
     pub(crate) fn deliver(
         &mut self,
         slot: Slot,
@@ -230,9 +231,9 @@ impl Scheduler {
         Delivered { message, sent }
     }
 
-    /// An element that is kept there, and has this home, received one more message, by which it
-    /// sends so many, and is destroyed or not. Says how many it had sent before. It takes no
-    /// memory.
+    /// Advances the element in this slot, which has this home, by one received message and this
+    /// many sends, and by its destruction, if it is destroyed. Returns how many messages it had
+    /// sent before. It takes no memory.
     fn advance(
         &mut self,
         slot: Slot,
@@ -267,8 +268,8 @@ impl Scheduler {
         element.sent
     }
 
-    /// Takes a pending message out, whose receiver is kept there, and says where that has its home.
-    /// It takes no memory.
+    /// Takes out a pending message, whose receiver has this slot, with the receiver's home. It
+    /// takes no memory.
     fn take(&mut self, slot: Slot, id: MsgId) -> Removed
         requires pending { IsSome (message_among id self.old.pending) }
         requires receiver { IfSome (message_among id self.old.pending)
@@ -292,8 +293,8 @@ impl Scheduler {
         Removed { message, at_home }
     }
 
-    /// An element that is there stands on the processor from now on. It takes no memory where no
-    /// message to it is pending. Where memory is refused, nothing changes.
+    /// Moves a present element to the processor. It takes no memory if no message to it is pending.
+    /// If memory is refused, nothing changes.
     pub(crate) fn relocate(&mut self, elem: Elem, processor: u16) -> Result<(), AllocError>
         requires there { is_some (element_at (risen self.old.rows) elem).place ≡ true }
         requires processor { processor < self.old.processors }
@@ -319,7 +320,7 @@ impl Scheduler {
         Ok(())
     }
 
-    /// The oldest message on the processor that can be delivered. It is at most one look.
+    /// The oldest message on the processor that can be delivered. It takes at most one look.
     pub(crate) fn oldest_on<L: Ledger>(&self, processor: u16, ticks: &mut Ticks<L>) -> Option<MsgId>
         ensures oldest { (k : Seen) → k.processors ≡ self.now.processors →
             k.elements ≡ risen self.now.rows →
@@ -341,8 +342,8 @@ impl Scheduler {
         Some(id)
     }
 
-    /// The oldest message that can be delivered, and before it the processor of its receiver, or
-    /// the home of one that isn't there. It is at most one look for each processor.
+    /// The oldest message that can be delivered, together with the processor of its receiver, or
+    /// its home if it isn't there. It takes at most one look for each processor.
     pub(crate) fn next_in<L: Ledger>(&self, ticks: &mut Ticks<L>) -> Option<(u16, MsgId)>
         ensures next { (k : Seen) → k.processors ≡ self.now.processors →
             k.elements ≡ risen self.now.rows → result ≡ next_due k self.now.pending }
@@ -357,7 +358,7 @@ impl Scheduler {
         Some((on as u16, id))
     }
 
-    /// The same, with a count of its own. It takes no memory.
+    /// Answers as `next_in`, with a count of looks of its own. It takes no memory.
     pub(crate) fn next(&self) -> Option<(u16, MsgId)>
         ensures { (k : Seen) → k.processors ≡ self.now.processors →
             k.elements ≡ risen self.now.rows → result ≡ next_due k self.now.pending }
@@ -380,7 +381,7 @@ impl Scheduler {
     }
 
     /// Looks for the oldest message that can be delivered and for its receiver, since that message
-    /// is mostly the next one that is delivered. Nothing that is kept changes.
+    /// is mostly delivered next. The messages and the elements stay the same.
     pub(crate) fn hint_head(&mut self)
         ensures { self.new ≡ self.old }
     {
@@ -393,9 +394,9 @@ impl Scheduler {
     }
 }
 
-/// The sequence numbers of the messages to an element, which stood so, are where it stands from now
-/// on, where there is room for them: on a processor for which they didn't count before, that room
-/// was made. It takes no memory.
+/// Moves the sequence numbers of the messages to an element whose readiness changes from `old` to
+/// `new`. There is room for them: on a processor for which they didn't count before, that room was
+/// made. It takes no memory.
 fn update_readiness(pending: &Pending, index: &mut Index, to: Elem, old: Readiness, new: Readiness)
     requires old_on { old.on < length index.old.lists }
     requires new_on { new.on < length index.old.lists }
@@ -424,8 +425,8 @@ fn update_readiness(pending: &Pending, index: &mut Index, to: Elem, old: Readine
     index.update_readiness(&mut calls, old, new);
 }
 
-/// The same, with the room for it, which is made first. Where memory is refused, no sequence number
-/// changes.
+/// Moves the sequence numbers as `update_readiness` does, and makes the room for them first. If
+/// memory is refused, no sequence number changes.
 fn carry(
     pending: &Pending,
     index: &mut Index,
@@ -459,7 +460,7 @@ fn carry(
     Ok(())
 }
 
-/// How an element stands, of which this is kept.
+/// The readiness of an element with this place and these counts.
 fn readiness_of(processors: u16, elem: Elem, element: &Element) -> Readiness
     requires { is_processor_count processors ≡ true }
     ensures { result ≡ readiness_of processors elem element.now }
@@ -467,7 +468,7 @@ fn readiness_of(processors: u16, elem: Elem, element: &Element) -> Readiness
     readiness_at(home_of(processors, elem), element)
 }
 
-/// How an element stands that has this home, and of which this is kept.
+/// The readiness of an element with this home, this place and these counts.
 fn readiness_at(at_home: u16, element: &Element) -> Readiness
     ensures { result ≡ readiness_at at_home element.now }
 {
@@ -483,7 +484,7 @@ fn readiness_at(at_home: u16, element: &Element) -> Readiness
     }
 }
 
-/// Whether an element stands as before.
+/// Whether an element's readiness is the same as before.
 fn is_same_readiness(old: &Readiness, new: &Readiness) -> bool
     ensures { result ≡ true → new.now ≡ old.now }
 {
@@ -504,7 +505,7 @@ fn home_of(processors: u16, elem: Elem) -> u16
     home
 }
 
-/// The place of an element, or the home of one that has none.
+/// The place of an element, or its home if it has none.
 pub(crate) fn place_in(processors: u16, elem: Elem, place: Option<u16>) -> u16
     requires { is_processor_count processors ≡ true }
     ensures { result ≡ unwrap_or place (home elem processors) }
@@ -515,8 +516,8 @@ pub(crate) fn place_in(processors: u16, elem: Elem, place: Option<u16>) -> u16
     }
 }
 
-/// Where an element that has this home stands after a delivery, given what was kept of it before:
-/// nowhere, if that destroyed it.
+/// The place after a delivery of an element with this home and this former row: nowhere, if the
+/// delivery destroyed it.
 fn place_after(at_home: u16, element: &Element, is_destroyed: bool) -> Option<u16>
     ensures { result ≡ (if is_destroyed then None
         else Some (unwrap_or element.now.place at_home)) }

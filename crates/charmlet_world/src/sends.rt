@@ -1,4 +1,4 @@
-//! What a delivery adds to the pending messages.
+//! Additions of a delivery's sends to the pending messages.
 
 ghost use Rattle.std.specs.Prelude.{◌≡◌, ◌+◌, ◌≤◌, ◌++◌, length};
 ghost use Rattle.charmlet_model.specs.Fit.{AreDistinct};
@@ -8,7 +8,7 @@ ghost use Rattle.charmlet_model.specs.World.{numbered};
 use crate::scheduler::Scheduler;
 use charmlet_model::{Elem, Message, MsgId, Origin, Outgoing};
 
-/// Adds what an element sent, which had sent `sent` messages before. It takes no memory.
+/// Adds the sends of an element, which had sent `sent` messages before. It takes no memory.
 pub(crate) fn push_sends(scheduler: &mut Scheduler, from: Elem, sent: u64, sends: Vec<Outgoing>)
     requires counts { sent + length sends.items ≤ greatest }
     requires room { length sends.items ≤ scheduler.old.room }

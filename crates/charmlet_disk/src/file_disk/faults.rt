@@ -1,10 +1,10 @@
-//! The faults of a disk of files: how many there were, and why the first one was.
+//! The faults of a disk of files: their count, and the cause of the first one.
 ghost use Rattle.std.specs.Prelude.{◌≡◌, ◌↔◌, None};
 
 use crate::DeviceFault;
 use std::io;
 
-/// Faults, which are counted up to 2^64 - 1, where the count stays.
+/// A count of faults, up to 2^64 - 1, where it stays, and the first one's cause.
 #[derive(Drop)]
 pub struct Faults {
     count: u64,
@@ -16,7 +16,7 @@ impl Faults {
     ghost use Rattle.std.specs.Prelude.{◌≡◌, None, Some, is_ok, IfErr, IfOk, IsSome};
     ghost use Rattle.charmlet_disk.specs.Disk.{faults_after};
 
-    /// None yet.
+    /// No faults yet.
     pub fn none() -> Faults
         ensures { result.count ≡ 0 }
     {
@@ -26,7 +26,7 @@ impl Faults {
         }
     }
 
-    /// The answer of the system, whose error is a fault, and counts. That of the first one is kept.
+    /// Passes on the answer of the system, and counts an error as a fault. The first error is kept.
     pub fn counted<T: Drop>(&mut self, done: io::Result<T>) -> Result<T, DeviceFault>
         ensures answered { is_ok result ≡ is_ok done }
         ensures value { IfOk result (λ value. done ≡ Ok value) }
@@ -45,14 +45,14 @@ impl Faults {
         }
     }
 
-    /// How many there were.
+    /// How many faults there were.
     pub fn count(&self) -> u64
         ensures { result ≡ self.now.count }
     {
         self.count
     }
 
-    /// Why the first one was.
+    /// Why the first fault occurred.
     pub fn first(&self) -> Option<io::Error>
         ensures { result ≡ self.now.first }
     {

@@ -9,15 +9,15 @@ use std::io::{self, ErrorKind};
 use std::os::unix::fs::MetadataExt;
 
 /// A folder with the files `half0` and `half1`. Each call looks for the folder first, and locks it
-/// where none before could; then it opens its half, if that is there. After a failed sync each call
-/// is an error, also if it was the sync of a half that was found.
+/// if no earlier call could; then it opens its half, if the file is there. After a failed sync each
+/// call is an error, also after the sync of a half that was found.
 #[derive(Drop)]
 pub struct Folder {
     rt: HostRuntime,
     path: String,
     zero: HalfFile,
     one: HalfFile,
-    /// The lock, from the first call on that could take it. It is dropped after the files.
+    /// The lock, from the first call on that got it. It is dropped after the files.
     locked: Option<Locked>,
     /// A sync failed, so that nobody knows what the device has.
     is_lost: bool,
@@ -69,7 +69,7 @@ impl Folder {
         }
     }
 
-    /// Writes to a half, from an offset on that isn't past its end.
+    /// Writes to a half, from an offset on that is at most its end.
     pub fn write_at(&mut self, half: Half, offset: u64, bytes: &[u8]) -> io::Result<()>
         ensures lost { IsTrue self.old.is_lost → IsErr result }
         ensures kept { IsTrue self.old.is_lost → IsTrue self.new.is_lost }
@@ -90,7 +90,7 @@ impl Folder {
         self.write_out(half)
     }
 
-    // Makes a half durable that is open or missing. After an error no call succeeds.
+    // Syncs a half that is open or missing. After an error no call succeeds.
     fn write_out(&mut self, half: Half) -> io::Result<()>
         ensures failed { IsErr result → IsTrue self.new.is_lost }
     {
@@ -103,7 +103,8 @@ impl Folder {
         synced
     }
 
-    // Holds the folder, and opens the half if it is there. An error after a sync that failed.
+    // Holds the folder, and opens the half if its file is there. It is an error after a failed
+    // sync.
     fn enter(&mut self, half: Half) -> io::Result<()>
         ensures lost { IsTrue self.old.is_lost → IsErr result }
         ensures kept { IsTrue self.old.is_lost → IsTrue self.new.is_lost }
@@ -171,7 +172,7 @@ impl Locked {
     }
 }
 
-// What is said of a folder that isn't found, or isn't one.
+// The message for a folder that isn't found, or isn't a folder.
 fn said_of_folder(error: io::Error) -> io::Error {
     match error.kind() {
         ErrorKind::NotFound => io::Error::new(ErrorKind::NotFound, "there is no such folder"),

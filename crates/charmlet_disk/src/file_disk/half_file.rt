@@ -6,8 +6,7 @@ use std::io::{self, ErrorKind};
 use std::os::fd::AsRawFd;
 use std::os::unix::fs::{FileExt, MetadataExt};
 
-/// A file of a folder. It is opened where it is found, and the first write makes it where it is
-/// missing.
+/// A file of a folder. It is opened if it is there; if it is missing, the first write makes it.
 #[derive(Drop)]
 pub struct HalfFile {
     path: String,
@@ -45,7 +44,7 @@ impl HalfFile {
         }
     }
 
-    /// Reads the bytes from an offset on. An error where some of them are past the end.
+    /// Reads the bytes from an offset on. It is an error if some of them are past the end.
     pub fn read_at(&self, offset: u64, into: &mut [u8]) -> io::Result<()> {
         let len = self.len()?;
         if !is_inside(offset, into.len(), len) {
@@ -57,7 +56,7 @@ impl HalfFile {
         }
     }
 
-    /// Writes bytes from an offset on, and makes the file first where it is missing. An error where
+    /// Writes bytes from an offset on, and makes the file first if it is missing. It is an error if
     /// the offset is past the end.
     pub fn write_at(&mut self, rt: &HostRuntime, offset: u64, bytes: &[u8]) -> io::Result<()> {
         let len = self.len()?;
@@ -76,7 +75,8 @@ impl HalfFile {
         written
     }
 
-    /// Makes what an open file holds durable, with its length, and once its name in the folder too.
+    /// Makes the contents of an open file durable, with its length, and once its name in the folder
+    /// too.
     pub fn sync(&mut self, folder: &File) -> io::Result<()> {
         let Some(file) = &self.file else {
             return Ok(());
@@ -98,9 +98,9 @@ fn is_inside(offset: u64, count: usize, len: u64) -> bool
     offset <= len && count as u64 <= len - offset
 }
 
-// The file, synced, if it is there. It must be a regular file, and no link, and have no second
-// name, since the lock of another folder would not keep others from it. A pipe is not opened, since
-// that waits.
+// Opens and syncs the file, if it is there. It must be a regular file, no link, and have no second
+// name, since the lock of another folder would not protect it. A pipe is not opened, since opening
+// one waits.
 fn open(rt: &HostRuntime, path: &str, is_lost: &mut bool) -> io::Result<Option<File>>
     ensures kept { IsTrue is_lost.old → IsTrue is_lost.new }
 {
@@ -120,8 +120,8 @@ fn open(rt: &HostRuntime, path: &str, is_lost: &mut bool) -> io::Result<Option<F
     Ok(Some(file))
 }
 
-// Syncs a file that was found. If an earlier write failed and nobody was told yet, the system tells
-// it now, and not again: so the disk is lost then.
+// Syncs a file that was found. If an earlier write failed and nobody was told yet, the system
+// reports the failure now, and not again; so then the disk is lost.
 fn sync_found(file: &File, is_lost: &mut bool) -> io::Result<()>
     ensures failed { IsErr result → IsTrue is_lost.new }
     ensures kept { IsTrue is_lost.old → IsTrue is_lost.new }
@@ -133,7 +133,7 @@ fn sync_found(file: &File, is_lost: &mut bool) -> io::Result<()>
     synced
 }
 
-// The file, for reading alone where it may not be written.
+// Opens the file, for reading alone if it may not be written.
 fn open_for_all(rt: &HostRuntime, path: &str) -> io::Result<File> {
     match OpenOptions::new().read(true).write(true).open(rt, path) {
         Err(error) if is_denied(error.kind()) => fs::open(rt, path),
@@ -148,7 +148,8 @@ fn is_denied(kind: ErrorKind) -> bool {
     )
 }
 
-// What is meant for a standard stream that was closed must not land in the file.
+// Moves the file above the standard streams, since output to a closed one must not land in the
+// file.
 fn above_streams(file: File) -> io::Result<File> {
     if file.as_raw_fd() <= 2 {
         return file.try_clone();

@@ -6,7 +6,8 @@ use crate::CrashChoice;
 use crate::mem_disk::ranges::{copy, end_of, fill, halve};
 use std::alloc::{AllocError, Global};
 
-/// One file: what a read gives, its bytes at the last sync, and where it was written since.
+/// A file in memory: the bytes that a read gives, its bytes at the last sync, and the ranges that
+/// were written since.
 #[derive(Drop)]
 pub struct MemFile {
     bytes: Vec<u8>,
@@ -108,7 +109,7 @@ impl MemFile {
         self.ranges.is_empty()
     }
 
-    /// Writes. When out of memory, the file stays as it is.
+    /// Writes bytes at an offset. When out of memory, the file stays as it is.
     pub fn write(&mut self, offset: usize, bytes: &[u8]) -> Result<(), AllocError>
         requires { offset ≤ length (file_of self.old).now }
         ensures ok { OnOk result (file_of self.new ≡ wrote offset bytes.now (file_of self.old)) }
@@ -122,8 +123,8 @@ impl MemFile {
         Ok(())
     }
 
-    /// Makes sure what a read gives. It copies what was written since the last sync, and takes no
-    /// memory.
+    /// Makes all bytes of the file durable. It copies what was written since the last sync, and
+    /// takes no memory.
     pub fn make_sure(&mut self)
         requires { IsSound (file_of self.old) }
         ensures { file_of self.new ≡ clean (file_of self.old).now }
@@ -134,7 +135,7 @@ impl MemFile {
         self.ranges.clear();
     }
 
-    /// Becomes what a crash leaves. It takes no memory.
+    /// Turns the file into what a crash leaves of it. It takes no memory.
     pub fn leave(&mut self, choice: CrashChoice)
         requires { IsSound (file_of self.old) }
         ensures { file_of self.new ≡ clean (left_by choice (file_of self.old)) }
@@ -149,7 +150,7 @@ impl MemFile {
         }
     }
 
-    // Becomes what was sure.
+    // Goes back to the bytes at the last sync.
     fn go_back(&mut self)
         requires { IsSound (file_of self.old) }
         ensures { file_of self.new ≡ clean (file_of self.old).sure }

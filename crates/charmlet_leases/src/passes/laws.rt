@@ -2,7 +2,7 @@
 
 ghost use Rattle.charmlet_leases.specs.Passes.Steps.{StepsKeepPasses};
 
-/// After any step but a request all passes are still current: what their clients were told stays
+/// After any step except a request all passes are still current: what their clients were told stays
 /// true, and their accepts are still all those of their clients.
 pub fn steps_keep_passes()
     ensures { StepsKeepPasses }

@@ -6,8 +6,8 @@ use charmlet_requests as requests;
 use std::alloc::AllocError;
 use std::marker::{Brand, Model};
 
-/// What a pass holds, as only contracts see it. The values that code makes are those of passes that
-/// are being lent.
+/// The contents of a pass, which only contracts see. The values that code makes are those of passes
+/// that are being lent.
 #[derive(Drop)]
 pub struct GhostPass {
     pub(crate) client: u32,
@@ -30,9 +30,9 @@ impl GhostValue<GhostPass> for Brand {
 }
 
 /// The right to make requests for a client. A contract sees after how many events it was lent, its
-/// client's accepts since then, in order, all that its client was told, in order, and how many
-/// events the last flush counted that it was handed to. The accepts have no bytes: their numbers
-/// follow one another, up to `last`. Of what was told the highest of each request is kept.
+/// client's accepts since then, in order, everything that its client was told, in order, and the
+/// event count of the last flush that got the pass. The accepts have no bytes: their numbers follow
+/// one another, up to `last`. For each request the highest answer is kept.
 #[derive(Drop)]
 pub struct ClientPass<B: AuthorityName> {
     pub(crate) pass: requests::ClientPass,
@@ -56,14 +56,14 @@ impl<B: AuthorityName> ClientPass<B> {
     ghost use Rattle.charmlet_model.specs.Core.{has_words};
     ghost use Rattle.charmlet_requests.specs.Pass.{known};
 
-    /// The client whose pass it is.
+    /// The client that has the pass.
     pub fn client(&self) -> u32
         ensures { result ≡ self.now.pass.client }
     {
         self.pass.client()
     }
 
-    /// The number of its last accept, or, if there is none, the client's last number when the pass
+    /// The number of the client's last accept, or, if there is none, its last number when the pass
     /// was lent.
     pub fn last(&self) -> u64
         ensures { result ≡ self.now.pass.last }
@@ -78,9 +78,9 @@ impl<B: AuthorityName> ClientPass<B> {
         self.pass.accept_count()
     }
 
-    /// What is known about request `number`: the highest answer that the client was told about it,
-    /// or what follows from what it was told about others. It fails only when out of memory, and
-    /// takes none if what is known has no words.
+    /// The knowledge about request `number`: the highest answer that the client was told about it,
+    /// or what follows from answers about others. It fails only when out of memory, and takes none
+    /// if the answer has no words.
     pub fn known(&self, number: u64) -> Result<Told, AllocError>
         ensures known { IfOk result (λ told. told ≡ known self.now.pass number) }
         ensures words { OnErr result (has_words (known self.now.pass number) ≡ true) }

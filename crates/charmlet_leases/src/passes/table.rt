@@ -19,7 +19,7 @@ use charmlet_requests as requests;
 use std::alloc::Global;
 use std::marker::{Brand, Model};
 
-/// Which clients' passes are out, and what each of them holds. A contract sees both.
+/// The table of the passes that are out, and of their contents. A contract sees both.
 #[derive(Drop)]
 pub struct PassTable<B: AuthorityName> {
     out: requests::Passes,
@@ -37,8 +37,8 @@ impl<B: AuthorityName> Model for PassTable<B> {
     ghost invariant = { λ s. length (passes_out s.authority) ≡ length s.out };
 }
 
-/// Not all passes that are out were handed in, which is the refusal `PassOut`. The table and
-/// the passes that were handed in come back.
+/// The refusal `PassOut`, since not all passes that are out were handed in. The table and the
+/// passes that were handed in come back.
 #[derive(Drop)]
 pub struct PassesOut<B: AuthorityName> {
     pub table: PassTable<B>,
@@ -46,8 +46,7 @@ pub struct PassesOut<B: AuthorityName> {
 }
 
 impl<B: AuthorityName> PassTable<B> {
-    /// A table of passes, over a new authority of what they hold. No pass is out. It takes no
-    /// memory.
+    /// A table with no pass out, over a new authority of passes' contents. It takes no memory.
     pub fn new(alloc: Global, authority: Authority<GhostPass, B>) -> Self
         requires { authority ≡ [] }
         ensures out { result.out ≡ [] }
@@ -73,8 +72,8 @@ impl<B: AuthorityName> PassTable<B> {
         self.out.is_out(client)
     }
 
-    /// Lends a client its pass, which was told nothing. `PassOut` if it is out; otherwise `Memory`.
-    /// When refused, nothing changes.
+    /// Lends a client its pass, to which nothing was told. `PassOut` if it is out; otherwise
+    /// `Memory`. If refused, nothing changes.
     pub fn lend(&mut self, history: &History, client: u32) -> Result<ClientPass<B>, Refusal>
         requires { AreCurrent self.old (core_in history.now) }
         ensures current { AreCurrent self.new (core_in history.now) }
@@ -99,10 +98,10 @@ impl<B: AuthorityName> PassTable<B> {
         Ok(ClientPass { pass, fragment })
     }
 
-    /// A request of the pass's client, with the same answers and refusals as
+    /// Accepts a request of the pass's client, with the same answers and refusals as
     /// [`charmlet_requests::request`]. If it isn't refused, the pass records that it was accepted,
-    /// and what was told about it. What is told is no less than the pass knew, and no other words.
-    /// A refusal changes nothing.
+    /// and the answer. The answer is no less than the pass knew, and has no other words. A refusal
+    /// changes nothing.
     pub fn request(
         &mut self,
         history: &mut History,
@@ -139,8 +138,8 @@ impl<B: AuthorityName> PassTable<B> {
     }
 
     /// Tells the pass's client what is durable of its request, with the same answers and refusals
-    /// as [`charmlet_requests::status`]. The pass records the answer. What is told is no less than
-    /// the pass knew, and no other words. A refusal changes nothing.
+    /// as [`charmlet_requests::status`]. The pass records the answer. It is no less than the pass
+    /// knew, and has no other words. A refusal changes nothing.
     pub fn status(
         &mut self,
         history: &History,
@@ -178,8 +177,8 @@ impl<B: AuthorityName> PassTable<B> {
     }
 
     /// Tells the clients of these passes that the last of their requests is accepted, once a flush
-    /// has made all events durable. One that made none since its pass was lent, or was told more of
-    /// it than `Unknown` before, is told nothing of a request. Each pass records how many events
+    /// has made all events durable. A client that made no request since its pass was lent, or was
+    /// told more of it than `Unknown` before, is told nothing. Each pass records how many events
     /// there are, which is no less than it recorded before. It takes no memory.
     pub fn tell(&mut self, history: &History, passes: &mut [ClientPass<B>])
         requires current { AreCurrent self.old (core_in history.now) }
@@ -257,9 +256,9 @@ impl<B: AuthorityName> PassTable<B> {
         write_flush::<Brand, B>(&mut self.authority, &mut pass.fragment, history);
     }
 
-    /// Takes all passes in: each has exactly its client's accepts, and all that its client was told
-    /// is true of the durable events; a client that has none of them has no accepts. If a pass
-    /// stays out, all comes back. It takes no memory.
+    /// Takes all passes in: each has exactly its client's accepts, and everything that its client
+    /// was told is true of the durable events. A client that has none of them has no accepts. If a
+    /// pass stays out, everything comes back. It takes no memory.
     pub fn close(self, passes: Vec<ClientPass<B>>) -> Result<(), PassesOut<B>>
         ensures all { OnOk result (AreAll self.held passes.items) }
         ensures current { OnOk result ((c : Core) → AreCurrent self c →
@@ -303,8 +302,8 @@ fn write_told<N: GhostValue<GhostPass>, B: AuthorityName>(
     authority.change_to::<N>(fragment);
 }
 
-/// Writes what a pass's client was told about its request, and that this was accepted, into the
-/// authority and the pass's fragment, which had the same value before.
+/// Writes what a pass's client was told about its request, and that the request was accepted, into
+/// the authority and the pass's fragment, which had the same value before.
 fn write_accept<N: GhostValue<GhostPass>, B: AuthorityName>(
     authority: &mut Authority<GhostPass, B>,
     fragment: &mut Fragment<GhostPass, B>,
@@ -357,7 +356,7 @@ fn take_all<B: AuthorityName>(authority: Authority<GhostPass, B>, passes: Vec<Cl
     }
 }
 
-/// Takes in a pass: what it holds is what the authority has of it.
+/// Takes in a pass, whose contents are those that the authority has for it.
 fn take_in<B: AuthorityName>(authority: &mut Authority<GhostPass, B>, pass: ClientPass<B>)
     ensures { (place : ℕ) × (slice_get authority.old place ≡ Some (Some pass))
         × (authority.new ≡ slice_set authority.old place None) }

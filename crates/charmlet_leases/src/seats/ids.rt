@@ -4,7 +4,7 @@ use charmlet_model::MsgId;
 use std::alloc::{AllocError, Global};
 use std::marker::Model;
 
-/// Ids of deliveries, in the order of their commits. A contract sees them beside the room for more.
+/// Ids of deliveries, in the order of their commits. A contract sees them and the room for more.
 #[derive(Debug, Drop)]
 pub struct DeliveryIds {
     ids: Vec<MsgId>,
@@ -35,21 +35,22 @@ impl DeliveryIds {
         }
     }
 
-    /// The ids.
+    /// The ids, in the order of their commits.
     pub fn as_slice(&self) -> &[MsgId]
         ensures { result.now ≡ self.now.items }
     {
         self.ids.as_slice()
     }
 
-    /// For how many more there is room.
+    /// How many more ids there is room for.
     pub fn room(&self) -> usize
         ensures { result ≡ self.now.room }
     {
         self.ids.capacity() - self.ids.len()
     }
 
-    /// Makes room for `count` more, and never gives up room. It takes no memory if there is room.
+    /// Makes room for `count` more ids, and never gives up room. It takes no memory if there is
+    /// room.
     pub(crate) fn reserve(&mut self, count: usize) -> Result<(), AllocError>
         ensures items { self.new.items ≡ self.old.items }
         ensures room { OnOk result (count ≤ self.new.room) }
@@ -59,7 +60,7 @@ impl DeliveryIds {
         self.ids.reserve(count)
     }
 
-    /// Adds an id, for which there has to be room. It takes no memory.
+    /// Adds an id. There has to be room for it. It takes no memory.
     pub(crate) fn push(&mut self, id: MsgId)
         requires { 0 < self.old.room }
         ensures items { self.new.items ≡ self.old.items ++ id ∷ [] }

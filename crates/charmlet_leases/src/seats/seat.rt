@@ -1,4 +1,4 @@
-//! Seats.
+//! Seats: the rights of workers to work for their processors.
 
 use crate::seats::ids::DeliveryIds;
 use crate::tickets::{Ticket, TicketQueue};
@@ -7,8 +7,8 @@ use charmlet_model::MsgId;
 use std::alloc::AllocError;
 use std::marker::{Brand, Model};
 
-/// Names the table of the seats of one runtime, and says how many processors it has. The call that
-/// makes an authority picks both.
+/// The name of the table of one runtime's seats, with its number of processors. The call that makes
+/// an authority picks both.
 pub trait SeatTableName: AuthorityName {
     ghost use Rattle.std.specs.Prelude.{ℕ};
 
@@ -19,7 +19,7 @@ impl SeatTableName for Brand {
     ghost processors = { 0 };
 }
 
-/// The ids that a seat holds, as only contracts see them. The one value that code makes has none.
+/// The ids of a seat, which only contracts see. The one value that code makes has none.
 #[derive(Drop)]
 pub struct GhostIds;
 
@@ -39,8 +39,8 @@ impl GhostValue<GhostIds> for Brand {
 }
 
 /// The right to work for a processor. It holds the ids of the deliveries that were committed with
-/// it, in order, and a handle on its processor's queue of tickets. A contract sees the ids beside
-/// the seat's place in its authority, its processor, and the room for more ids.
+/// it, in order, and a handle on its processor's queue of tickets. A contract sees the ids, the
+/// seat's place in its authority, its processor, and the room for more ids.
 #[derive(Drop)]
 pub struct Seat<B: SeatTableName> {
     pub(crate) place: usize,
@@ -71,7 +71,7 @@ impl<B: SeatTableName> Model for Seat<B> {
 impl<B: SeatTableName> Seat<B> {
     ghost use Rattle.std.specs.Prelude.{◌≡◌, ◌<◌, ◌≤◌, IfSome, IsOk, OnOk};
 
-    /// The processor, one of those that the runtime has.
+    /// The seat's processor, one of the runtime's.
     pub fn processor(&self) -> u16
         ensures processor { result ≡ self.now.processor }
         ensures is_there { result < B.processors }
@@ -79,7 +79,7 @@ impl<B: SeatTableName> Seat<B> {
         self.processor
     }
 
-    /// The ids that it holds.
+    /// The ids of the deliveries that were committed with the seat.
     pub fn ids(&self) -> &[MsgId]
         ensures { result.now ≡ self.now.ids }
     {
@@ -94,7 +94,7 @@ impl<B: SeatTableName> Seat<B> {
         self.queue.pop()
     }
 
-    /// For how many more commits there is room.
+    /// How many more commits there is room for.
     pub fn room(&self) -> usize
         ensures { result ≡ self.now.room }
     {
@@ -102,7 +102,7 @@ impl<B: SeatTableName> Seat<B> {
     }
 
     /// Makes room for `count` more commits, and never gives up room. It fails only when out of
-    /// memory, and takes none if there is room. What it holds stays.
+    /// memory, and takes none if there is room. The seat's ids stay.
     pub fn reserve(&mut self, count: usize) -> Result<(), AllocError>
         ensures place { self.new.place ≡ self.old.place }
         ensures processor { self.new.processor ≡ self.old.processor }

@@ -13,13 +13,13 @@ use charmlet_model::{MsgId, Refusal};
 use std::alloc::{AllocError, Global};
 use std::marker::{Brand, Model};
 
-/// Which seats are out, what each of them holds, and the ids of the deliveries that were committed
-/// without a seat. A contract sees all three. Beside them the table has a handle on the queue
-/// of tickets of each processor whose seat is out.
+/// The table of the seats that are out, their ids, and the ids of the deliveries that were
+/// committed without a seat. A contract sees all three. At run time it also has a handle on the
+/// queue of tickets of each processor whose seat is out.
 #[derive(Drop)]
 pub struct SeatTable<B: SeatTableName> {
     alloc: Global,
-    /// The processors of the seats that are out, in the order in which these were lent.
+    /// The processors of the seats that are out, in the order in which the seats were lent.
     out: Vec<u16>,
     /// The queues of these processors.
     queues: Vec<TicketQueue>,
@@ -39,8 +39,8 @@ impl<B: SeatTableName> Model for SeatTable<B> {
         × (length (lists_out s.authority) ≡ length s.out.items) };
 }
 
-/// Not all seats that are out were handed in, which is the refusal `PassOut`. The table and the
-/// seats that were handed in come back.
+/// The refusal `PassOut`, since not all seats that are out were handed in. The table and the seats
+/// that were handed in come back.
 #[derive(Drop)]
 pub struct SeatsOut<B: SeatTableName> {
     pub table: SeatTable<B>,
@@ -48,8 +48,7 @@ pub struct SeatsOut<B: SeatTableName> {
 }
 
 impl<B: SeatTableName> SeatTable<B> {
-    /// A table of seats, over a new authority of ids. No seat is out, and nothing was committed. It
-    /// takes no memory.
+    /// A table with no seat out and no commits, over a new authority of ids. It takes no memory.
     pub fn new(alloc: Global, authority: Authority<GhostIds, B>) -> Self
         requires { authority ≡ [] }
         ensures out { result.out ≡ [] }
@@ -87,7 +86,7 @@ impl<B: SeatTableName> SeatTable<B> {
     }
 
     /// Lends a processor's seat, which has no ids yet, with a new queue of tickets. `PassOut` if it
-    /// is out; otherwise `Memory`. When refused, nothing changes.
+    /// is out; otherwise `Memory`. If refused, nothing changes.
     pub fn lend(&mut self, processor: u16) -> Result<Seat<B>, Refusal>
         requires { processor < B.processors }
         ensures seat { IfOk result (λ seat. (seat.processor ≡ processor) × (seat.ids ≡ [])) }
@@ -122,7 +121,7 @@ impl<B: SeatTableName> SeatTable<B> {
         ensures { self.new ≡ self.old }
     {
         let queues = self.queues.as_mut_slice();
-        // Mostly the seats are lent by rising processor.
+        // Mostly the seats are lent in rising order of their processors.
         if let Some(queue) = queues.get_mut(usize::from(processor)) {
             if queue.processor() == processor {
                 queue.push(id);
@@ -137,8 +136,8 @@ impl<B: SeatTableName> SeatTable<B> {
         }
     }
 
-    /// Adds the id of a delivery that is committed with a seat, which has to have room for it. Both
-    /// the seat and the authority have it then. It takes no memory.
+    /// Adds the id of a delivery that is committed with a seat, to the seat and to the authority.
+    /// The seat has to have room for it. It takes no memory.
     pub fn commit(&mut self, seat: &mut Seat<B>, id: MsgId)
         requires { 0 < seat.old.room }
         ensures ids { seat.new.ids ≡ seat.old.ids ++ id ∷ [] }
@@ -172,8 +171,8 @@ impl<B: SeatTableName> SeatTable<B> {
         self.own.reserve(count)
     }
 
-    /// Adds the id of a delivery that is committed without a seat, for which there has to be room.
-    /// It takes no memory.
+    /// Adds the id of a delivery that is committed without a seat. There has to be room for it. It
+    /// takes no memory.
     pub fn commit_without_seat(&mut self, id: MsgId)
         requires { 0 < self.old.own.room }
         ensures own { self.new.own.items ≡ self.old.own.items ++ id ∷ [] }
@@ -186,9 +185,9 @@ impl<B: SeatTableName> SeatTable<B> {
         self.own.push(id);
     }
 
-    /// Takes all seats in, and hands out the ids of the deliveries that were committed without one.
-    /// These and the ids that the seats hold are all deliveries: each stands in one of the lists,
-    /// in the order of the commits. If a seat stays out, all comes back. It takes no memory.
+    /// Takes all seats in, and returns the ids of the deliveries that were committed without one.
+    /// These and the ids of the seats are all deliveries: each is in one of the lists, in the order
+    /// of the commits. If a seat stays out, everything comes back. It takes no memory.
     pub fn close(self, seats: Vec<Seat<B>>) -> Result<DeliveryIds, SeatsOut<B>>
         ensures own { IfOk result (λ own. own ≡ self.own) }
         ensures woven { OnOk result ((deliveries : List names.MsgId) → HaveAll self deliveries →
@@ -223,7 +222,7 @@ fn add_queue(
     Ok(same)
 }
 
-/// Writes the ids that a seat holds into the authority and its fragment, which had the same before.
+/// Writes a seat's ids into the authority and the seat's fragment, which had the same ids before.
 fn write_ids<N: GhostValue<GhostIds>, B: SeatTableName>(
     authority: &mut Authority<GhostIds, B>,
     fragment: &mut Fragment<GhostIds, B>,
@@ -251,7 +250,7 @@ fn take_all<B: SeatTableName>(authority: Authority<GhostIds, B>, seats: Vec<Seat
     }
 }
 
-/// Takes in a seat: what it holds is what the authority has of it.
+/// Takes in a seat, whose ids are those that the authority has for it.
 fn take_in<B: SeatTableName>(authority: &mut Authority<GhostIds, B>, seat: Seat<B>)
     ensures agrees { slice_get authority.old seat.place ≡ Some (Some seat.ids) }
     ensures authority { authority.new ≡ slice_set authority.old seat.place None }

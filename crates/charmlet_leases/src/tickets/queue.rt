@@ -32,8 +32,8 @@ impl Model for TicketQueue {
         × (known_by q.token ≡ Some q.processor) };
 }
 
-// Written by hand, so that dropping what a handle has is proved here, and not in each crate that
-// drops one.
+// Written by hand, so that dropping its fields is proved here, and not in each crate that drops a
+// handle.
 impl Drop for TicketQueue {
     fn drop(self) {
         let TicketQueue {
@@ -54,15 +54,15 @@ impl TicketQueue {
         new_named::<Brand>(alloc, processor)
     }
 
-    /// The processor.
+    /// The processor that the queue's tickets name.
     pub fn processor(&self) -> u16
         ensures { result ≡ self.now }
     {
         self.processor
     }
 
-    /// Another handle on the same queue. It fails only when out of memory, and then this one is as
-    /// before.
+    /// Another handle on the same queue. It fails only when out of memory, and then this handle is
+    /// unchanged.
     pub fn try_clone(&mut self) -> Result<Self, AllocError>
         ensures same { self.new ≡ self.old }
         ensures clone { IfOk result (λ queue. queue ≡ self.old) }
@@ -76,8 +76,8 @@ impl TicketQueue {
         })
     }
 
-    /// Puts a ticket for the message behind the others. It doesn't wait: where the queue is full,
-    /// or another push is under way, the ticket is lost.
+    /// Puts a ticket for the message behind the others. It doesn't wait: if the queue is full, or
+    /// another push is under way, the ticket is lost.
     pub fn push(&mut self, id: MsgId)
         ensures { self.new ≡ self.old }
     {
@@ -89,7 +89,7 @@ impl TicketQueue {
     }
 
     /// Takes the foremost ticket, if there is one. It names the queue's processor. It doesn't wait:
-    /// where a push or another pop is under way, there may seem to be none.
+    /// if a push or another pop is under way, there may seem to be no ticket.
     pub fn pop(&mut self) -> Option<Ticket>
         ensures same { self.new ≡ self.old }
         ensures ticket { IfSome result (λ ticket. ticket.processor ≡ self.old) }

@@ -24,7 +24,7 @@ impl Protocol<Ticket, Option<u64>> for OneProcessor {
     ghost first = { None };
 }
 
-/// Names the processor of a new queue.
+/// The name of a new queue's processor.
 pub(crate) trait ProcessorName {
     ghost use Rattle.std.specs.Prelude.{ℕ};
 

@@ -11,7 +11,7 @@ use std::alloc::{AllocError, Global};
 use std::marker::{Model, PhantomData};
 use std::mem;
 
-/// The one atomic word that an authority and its fragments stand by.
+/// The one atomic word that an authority and its fragments share.
 type Shared<D> = Table<D, View<D>, (), Equal, Global>;
 
 /// A new authority before it has its name. It has no value yet.
@@ -45,8 +45,8 @@ impl<D: Drop, B: AuthorityName> Model for Authority<D, B> {
         × (s.seat.me.1 ≡ []) × (s.seat.me.0.keeps ≡ true) };
 }
 
-/// One of an authority's values. A contract sees its place in the authority, and the value, which
-/// has no bytes.
+/// A fragment of an authority, with one of its values. A contract sees its place in the authority,
+/// and the value, which has no bytes.
 #[derive(Drop)]
 pub struct Fragment<D, B: AuthorityName> {
     badge: Badge<View<D>>,
@@ -74,8 +74,7 @@ impl<D: Drop> UnnamedAuthority<D> {
         Ok(UnnamedAuthority { table, seat })
     }
 
-    /// The authority under its name, by which its fragments are known to be its own. It has no
-    /// value yet.
+    /// Names the authority, so that its fragments are known to be its own. It has no value yet.
     pub fn named<B: AuthorityName>(self) -> Authority<D, B>
         requires { table_of self ≡ B.table }
         ensures { result ≡ [] }
@@ -90,7 +89,7 @@ impl<D: Drop> UnnamedAuthority<D> {
 }
 
 impl<D: Drop, B: AuthorityName> Authority<D, B> {
-    /// Adds a value behind the others, and gives out its fragment. It takes no memory.
+    /// Adds a value behind the others, and returns its fragment. It takes no memory.
     pub fn issue(&mut self, value: &D) -> Fragment<D, B>
         ensures authority { self.new ≡ self.old ++ Some value.now ∷ [] }
         ensures fragment { result ≡ (length self.old, Some value.now) }
@@ -122,7 +121,7 @@ impl<D: Drop, B: AuthorityName> Authority<D, B> {
         fragment.badge = table.shared.split_seat::<Part>(seat).into_badge();
     }
 
-    /// Writes a new value into the authority and the fragment, which had the same one before.
+    /// Writes a new value into the authority and the fragment, which had the same value before.
     pub fn change(&mut self, fragment: &mut Fragment<D, B>, value: &D)
         ensures agrees { slice_get self.old fragment.old.0 ≡ Some fragment.old.1 }
         ensures authority { self.new ≡ slice_set self.old fragment.old.0 (Some value.now) }
@@ -139,7 +138,7 @@ impl<D: Drop, B: AuthorityName> Authority<D, B> {
     }
 
     /// Writes a new value, which no code holds, into the authority and the fragment, which had the
-    /// same one before.
+    /// same value before.
     pub fn change_to<N: GhostValue<D>>(&mut self, fragment: &mut Fragment<D, B>)
         ensures agrees { slice_get self.old fragment.old.0 ≡ Some fragment.old.1 }
         ensures authority { self.new ≡ slice_set self.old fragment.old.0 (Some N.value) }

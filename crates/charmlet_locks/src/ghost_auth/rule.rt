@@ -1,11 +1,11 @@
-//! What the authority and its fragments know, and the steps that keep them equal.
+//! The knowledge of the authority and its fragments, and the steps that keep them equal.
 
 use atomic_table::{Join, Play, Split, TableRule};
 use std::collections::LinkedList;
 use std::marker::{Brand, PhantomData};
 
-/// Names one authority, so that fragments of two authorities can't be mixed up. The call that makes
-/// an authority picks it.
+/// The name of one authority, so that fragments of two authorities can't be mixed up. The call that
+/// makes an authority picks its name.
 pub trait AuthorityName {
     ghost use Rattle.atomic_table.specs.Seated.{TableId};
 
@@ -18,8 +18,8 @@ impl AuthorityName for Brand {
     ghost table = { no_table };
 }
 
-/// What a seat at the word knows: the authority all values, and a fragment its place and its value.
-/// No value of this type is ever made.
+/// A seat's knowledge at the word: the authority knows all values, and a fragment its place and its
+/// value. No value of this type is ever made.
 pub struct View<D> {
     pub keeps: bool,
     pub values: LinkedList<Option<D>>,
@@ -90,12 +90,12 @@ impl<D> Play<D, View<D>> for End {
     ghost then = { Ends };
 }
 
-/// Names a value that only contracts see. The call that writes it picks it.
+/// The name of a value that only contracts see. The call that writes the value picks its name.
 pub trait GhostValue<D> {
     ghost value: { D };
 }
 
-/// The same as `Update`, with the value that `N` names.
+/// Like `Update`, with the value that `N` names.
 pub struct UpdateTo<N> {
     names: PhantomData<N>,
 }

@@ -1,9 +1,9 @@
-//! What a replayer does again of a log.
+//! The tasks of a replayer.
 
 use charmlet_model::{Effect, Message, Sends};
 
-/// A delivery that a replayer makes again: how many bytes are left from the first byte of its
-/// record on, its message, and what is written of it.
+/// A delivery that a replayer repeats: how many bytes are left from the first byte of its record
+/// on, its message, and its written count, effect and sends.
 #[derive(Debug, Drop)]
 pub struct Task {
     pub bytes_left: usize,

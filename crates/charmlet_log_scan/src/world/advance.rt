@@ -1,4 +1,4 @@
-//! An element that received one more message.
+//! The advance of an element by one received message.
 
 ghost use Rattle.std.specs.Prelude.{◌≡◌, ◌+◌, ◌≤◌, None, Some, if◌then◌else◌, true, unwrap_or};
 ghost use Rattle.std.specs.BTreeMap.{insert_entry};
@@ -14,8 +14,9 @@ use charmlet_locate::home;
 use charmlet_model::Elem;
 use charmlet_world::{Element, Elements, Slot};
 
-/// An element that is kept there received one more message, by which it sends so many, and is
-/// destroyed or not. Says how many it had sent before. It takes no memory.
+/// Advances the element in this slot by one received message and this many sends, and by its
+/// destruction, if it is destroyed. Returns how many messages it had sent before. It takes no
+/// memory.
 pub(crate) fn advance(
     elements: &mut Elements,
     processors: u16,
@@ -43,8 +44,8 @@ pub(crate) fn advance(
     element.sent
 }
 
-/// Where an element stands after a delivery that may have destroyed it, given where it stood: at
-/// its home, if it is new.
+/// An element's place after a delivery that may have destroyed it, given its place before: its
+/// home, if it is new.
 fn place_after(processors: u16, elem: Elem, place: Option<u16>, is_destroyed: bool) -> Option<u16>
     requires { is_processor_count processors ≡ true }
     ensures { result ≡ (if is_destroyed then None

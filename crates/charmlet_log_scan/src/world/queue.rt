@@ -1,4 +1,4 @@
-//! Pending messages, each of which comes after all others.
+//! The queue of pending messages, to which each message is added behind all others.
 
 ghost use Rattle.std.specs.Prelude.{◌≡◌, ◌+◌, ◌≤◌, ◌<◌, [], ◌∷◌, ◌++◌, IfOk, None, OnOk, length};
 ghost use Rattle.charmlet_model.specs.Fit.{AreDistinct};
@@ -9,8 +9,8 @@ use charmlet_model::{Elem, Message, MsgId, Origin, Outgoing};
 use charmlet_world::Pending;
 use std::alloc::{AllocError, Global};
 
-/// Makes room for so many more messages, and sees that there is a number for the sequence number of
-/// each. Where memory is refused, no message changes.
+/// Makes room for this many more messages, and makes sure that there is a sequence number for each.
+/// If memory is refused, no message changes.
 pub(crate) fn make_room(pending: &mut Pending, additional: usize) -> Result<(), AllocError>
     ensures messages { pending.new.messages ≡ pending.old.messages }
     ensures room { OnOk result (additional ≤ pending.new.room) }
@@ -22,7 +22,7 @@ pub(crate) fn make_room(pending: &mut Pending, additional: usize) -> Result<(), 
     pending.reserve(additional)
 }
 
-/// Adds a message, for which there is room. It takes no memory.
+/// Adds a message. There has to be room for it. It takes no memory.
 pub(crate) fn push(pending: &mut Pending, message: Message)
     requires room { 0 < pending.old.room }
     requires few { pending.old.next + 1 ≤ greatest }
@@ -35,7 +35,7 @@ pub(crate) fn push(pending: &mut Pending, message: Message)
     pending.push(message, seq);
 }
 
-/// Adds what an element sent, which had sent `sent` messages before. It takes no memory.
+/// Adds the sends of an element, which had sent `sent` messages before. It takes no memory.
 pub(crate) fn push_sends(pending: &mut Pending, from: Elem, sent: u64, sends: Vec<Outgoing>)
     requires counts { sent + length sends.items ≤ greatest }
     requires room { length sends.items ≤ pending.old.room }

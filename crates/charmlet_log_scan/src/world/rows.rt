@@ -1,4 +1,4 @@
-//! The clients' rows.
+//! The table of clients' rows.
 
 ghost use Rattle.std.specs.Prelude.{◌≡◌, IfOk, IfSome, None, OnErr, OnOk, length, nat_eq, option_copied, true};
 ghost use Rattle.std.specs.BTreeMap.{is_at};
@@ -16,14 +16,14 @@ use std::alloc::{AllocError, Global};
 use std::collections::BTreeMap;
 use std::marker::Model;
 
-/// What is kept of the clients that made a request. A contract sees each client with its rows, in
+/// The rows of the clients that made a request. A contract sees each client with its rows, in
 /// rising order of the clients.
 #[derive(Drop)]
 pub(crate) struct ClientRows {
     rows: IndexMap<u32, Client>,
-    /// The place at which a client that makes a request is looked for first.
+    /// The index at which a search for a client that makes a request begins.
     asking: usize,
-    /// The place at which a client that is answered is looked for first.
+    /// The index at which a search for a client that is answered begins.
     answered: usize,
 }
 
@@ -57,7 +57,7 @@ impl ClientRows {
         self.rows.len()
     }
 
-    /// What is kept of a client, if it made a request.
+    /// A client's rows, if it made a request.
     pub(crate) fn get(&self, client: u32) -> Option<&Client>
         ensures { option_copied result ≡ lookup (is_at (nat_cmp client)) self.now }
     {
@@ -138,7 +138,7 @@ fn present_of(
     Ok(tree)
 }
 
-/// Records the next request of the client whose rows stand there. It takes no memory.
+/// Records the next request of the client with this index. It takes no memory.
 fn ask_at(rows: &mut IndexMap<u32, Client>, place: usize, client: u32, number: u64)
     requires { IsPlace rows.old.entries place client }
     ensures { risen_clients rows.new.entries ≡ with_row (risen_clients rows.old.entries) client
@@ -148,7 +148,7 @@ fn ask_at(rows: &mut IndexMap<u32, Client>, place: usize, client: u32, number: u
     row.accept(number);
 }
 
-/// Records the first request of a client, and answers where its rows stand. When out of memory,
+/// Records the first request of a client, and answers the index of its rows. When out of memory,
 /// nothing changes.
 fn ask_first(
     rows: &mut IndexMap<u32, Client>,
@@ -167,7 +167,7 @@ fn ask_first(
     Ok(place)
 }
 
-/// Keeps the reply that the client whose rows stand there waits for. It takes no memory.
+/// Keeps the reply for which the client with this index waits. It takes no memory.
 fn answer_at(rows: &mut IndexMap<u32, Client>, place: usize, client: u32, number: u64, reply: Words)
     requires place { IsPlace rows.old.entries place client }
     requires waits { awaits (client_at (risen_clients rows.old.entries) client).present number
@@ -179,8 +179,8 @@ fn answer_at(rows: &mut IndexMap<u32, Client>, place: usize, client: u32, number
     row.answer(number, reply);
 }
 
-/// Where the client's rows stand, if it has any: looked for where they are expected, at the place
-/// after that, and then among all.
+/// The index of the client's rows, if it has any. The search tries the expected index, the next
+/// one, and then all others.
 fn place_of(rows: &IndexMap<u32, Client>, expected: usize, client: u32) -> Option<usize>
     ensures found { IfSome result (λ place. IsPlace rows.now.entries place client) }
     ensures nowhere { result ≡ None → lookup (nat_eq client) rows.now.entries ≡ None }
@@ -195,13 +195,13 @@ fn place_of(rows: &IndexMap<u32, Client>, expected: usize, client: u32) -> Optio
     search(rows, client)
 }
 
-/// The place after this one, of so many, or the first one: clients often ask in turn.
+/// The index after this one, of `count` indexes, or the first one: clients often ask in turn.
 fn place_after(place: usize, count: usize) -> usize {
     let next = place.saturating_add(1);
     if next < count { next } else { 0 }
 }
 
-/// Whether the client's rows stand there.
+/// Whether the client's rows have this index.
 fn stands_at(rows: &IndexMap<u32, Client>, place: usize, client: u32) -> bool
     ensures { result ≡ true → IsPlace rows.now.entries place client }
 {
@@ -211,8 +211,8 @@ fn stands_at(rows: &IndexMap<u32, Client>, place: usize, client: u32) -> bool
     }
 }
 
-/// Where the client's rows stand, if it has any, looked for among all. It is no part of the code
-/// around its calls, since it is seldom called.
+/// The index of the client's rows among all, if it has any. It isn't inlined, since it is seldom
+/// called.
 #[inline(never)]
 fn search(rows: &IndexMap<u32, Client>, client: u32) -> Option<usize>
     ensures found { IfSome result (λ place. IsPlace rows.now.entries place client) }

@@ -1,4 +1,4 @@
-//! Pending messages that are copied out of a world.
+//! Copies of a world's pending messages.
 
 ghost use Rattle.std.specs.Prelude.{◌≡◌, IfOk};
 

@@ -1,4 +1,4 @@
-//! Clients' rows that are copied out of a world, and put into one.
+//! Copies of a world's clients' rows, and clients made of rows.
 
 ghost use Rattle.std.specs.Prelude.{◌≡◌, IfOk};
 ghost use Rattle.charmlet_world.specs.Seen.{present_rows};
@@ -17,8 +17,7 @@ pub fn rows_of(alloc: Global, world: &ReplayWorld) -> Result<BTreeMap<u32, Clien
     world.present_rows(alloc)
 }
 
-/// Each client with its row in both worlds. It takes the rows over. It fails only when out of
-/// memory.
+/// Each client with its row in both worlds. The rows are moved. It fails only when out of memory.
 pub(crate) fn clients_of(
     alloc: Global,
     rows: BTreeMap<u32, ClientRow>,

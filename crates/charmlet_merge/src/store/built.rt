@@ -1,4 +1,4 @@
-//! The store of what several replayers brought back.
+//! The store that several replayers restored.
 
 ghost use Rattle.std.specs.Prelude.{◌≡◌, ◌+◌, ◌≤◌, ◌^◌, ℕ, List, IfErr, IfOk};
 ghost use Rattle.charmlet_model.specs.declared.kind.Kind as kinds;
@@ -25,21 +25,20 @@ use charmlet_stock::Stock;
 use charmlet_store::Store;
 use std::alloc::Global;
 
-/// What was to become a store when memory was refused: the replayers, and the stock from
-/// which they drew, as they were.
+/// The replayers, and the stock from which they drew, unchanged, after memory was refused for their
+/// store.
 #[derive(Drop)]
 pub struct NotBuilt<C: Chare> {
     pub replayers: Vec<Replayer<C>>,
     pub stock: Stock<C>,
 }
 
-/// The store that opens with the world after a log, whose tasks all replayers have done, given its
-/// arrays, and what a scan over the log kept. The world came after so many events, and is that of
-/// the file with this generation, whose log ends at this place. The shelves that are given are
-/// empty ones of all processors, and the replayers' stocks go back into the one from which they
-/// drew.
+/// Builds the store that opens with the world after a log, whose tasks all replayers have done,
+/// given its arrays, and the world of the log scan. The world came after `before` events, and is
+/// that of the file with this generation, whose log ends at this place. `shelves` are empty ones of
+/// all processors, and the replayers' stocks go back into the one from which they drew.
 ///
-/// Only where memory is refused, the replayers and the stock come back, as they were.
+/// Only if memory is refused, the replayers and the stock come back, unchanged.
 pub fn build_store<C: Chare>(
     alloc: Global,
     seen: GhostWorld,

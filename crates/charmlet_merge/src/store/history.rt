@@ -1,4 +1,4 @@
-//! The opening of what several replayers brought back.
+//! The history's opening with a world that several replayers restored.
 
 ghost use Rattle.std.specs.Prelude.{◌≡◌, ℕ, List, IfOk, length};
 ghost use Rattle.charmlet_model.specs.declared.logged.Logged as logs;
@@ -19,7 +19,7 @@ use charmlet_model::Manifest;
 use std::alloc::{AllocError, Global};
 
 /// The opening with the world after a log, whose tasks all replayers have done, given its arrays,
-/// and what a scan over the log kept. It fails only when out of memory.
+/// and the world of the log scan. It fails only when out of memory.
 pub(crate) fn merged_opening<C: Chare>(
     alloc: Global,
     seen: GhostWorld,

@@ -1,8 +1,9 @@
-//! Laws of stores that were brought back. Each is the contract of a function that does nothing.
+//! Laws of restored stores. Each is the contract of a function that does nothing.
 
 ghost use Rattle.charmlet_merge.specs.Store.Laws.{ReopenedIsRepeated};
 
-/// A store that opens with the world after a half's log is what a replay of the half gives.
+/// A store that opens with the world after a half's log is the store that a replay of the half
+/// gives.
 pub fn reopened_is_repeated()
     ensures { ReopenedIsRepeated }
 {}

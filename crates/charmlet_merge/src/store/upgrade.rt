@@ -1,4 +1,4 @@
-//! A store that goes on in the newest versions of its kinds.
+//! The upgrade of a restored store to the newest versions of its kinds.
 
 ghost use Rattle.std.specs.Prelude.{◌≡◌, ℕ};
 ghost use Rattle.charmlet_image.specs.Images.{Saved};
@@ -11,8 +11,8 @@ use charmlet_chare::Chare;
 use charmlet_replay::Replayed;
 use charmlet_store::Store;
 
-/// The store of a half, in the versions that are written there, goes on in the newest versions of
-/// its kinds. Its stock keeps retired objects if it did. It takes no memory.
+/// Brings the store of a half, in the kind versions that are written there, forward to the newest
+/// ones. Its stock keeps retired objects if it did before. It takes no memory.
 pub fn upgrade_store<C: Chare>(store: Store<C>) -> Replayed<C>
     requires ready { IsReady store }
     ensures ok { (processors : ℕ) (given : Blanks) (s : Saved) →

@@ -1,4 +1,4 @@
-//! A blank that a replayer is given.
+//! Blanks that a replayer gets.
 
 ghost use Rattle.std.specs.Prelude.{◌≡◌, ◌+◌, ◌≤◌, ◌&&◌, true, IsSome, OnOk};
 ghost use Rattle.std.specs.BTreeMap.{is_at};
@@ -16,7 +16,7 @@ use charmlet_replay::RestoredShard;
 use charmlet_stock::Stock;
 use std::alloc::AllocError;
 
-/// The kind of an array that there is.
+/// The kind of an existing array.
 fn kind_of_array(manifest: &Manifest, array: u16) -> Kind
     requires { IsSome (lookup (is_at (nat_cmp array)) manifest.now) }
     ensures is { array_is manifest.now result array ≡ true }
@@ -29,8 +29,8 @@ fn kind_of_array(manifest: &Manifest, array: u16) -> Kind
     kind_version.kind()
 }
 
-/// Gives a replayer a blank of an array's kind from the stock, which has one. It fails only when
-/// out of memory.
+/// Gives a replayer a blank of an array's kind from the stock, which has to have one. It fails only
+/// when out of memory.
 fn draw_blank<C: Chare>(
     manifest: &Manifest,
     stock: &mut Stock<C>,
@@ -52,8 +52,8 @@ fn draw_blank<C: Chare>(
     restored.stock.transfer_from(stock, kind, 1)
 }
 
-/// Gives a replayer a blank of an array's kind from the stock, which then has one, if the replayer
-/// is to have it. It fails only when out of memory.
+/// Gives a replayer a blank of an array's kind from the stock, which has to have one, if the blank
+/// is wanted. It fails only when out of memory.
 pub(crate) fn draw_if<C: Chare>(
     is_wanted: bool,
     manifest: &Manifest,

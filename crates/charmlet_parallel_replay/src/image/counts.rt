@@ -27,8 +27,8 @@ use charmlet_world::Element;
 use std::alloc::{AllocError, Global};
 use std::collections::BTreeMap;
 
-/// How many messages an element has received, by the deliveries that were read, or else as it came
-/// back.
+/// How many messages an element has received, by the deliveries read so far, or otherwise by its
+/// restored counts.
 fn received_by(counts: &BTreeMap<Elem, u64>, elements: &BTreeMap<Elem, Element>, elem: Elem) -> u64
     ensures { result ≡ count_at counts.now.entries elements.now.entries elem }
 {
@@ -41,8 +41,8 @@ fn received_by(counts: &BTreeMap<Elem, u64>, elements: &BTreeMap<Elem, Element>,
     }
 }
 
-/// Notes how many messages the receiver of a delivery has received, and says whether the delivery
-/// isn't skipped. It fails only when out of memory.
+/// Notes how many messages the receiver of a delivery has received, and returns whether the
+/// delivery isn't skipped. It fails only when out of memory.
 fn note_received(
     counts: &mut BTreeMap<Elem, u64>,
     elements: &BTreeMap<Elem, Element>,
@@ -65,7 +65,8 @@ fn note_received(
     Ok(true)
 }
 
-/// Whether a blank is wanted for a delivery with this effect, given whether it isn't skipped.
+/// Whether a delivery with this effect wants a blank: it constructs its receiver, and isn't
+/// skipped.
 fn wants_blank(is_new: bool, effect: Effect) -> bool
     ensures { result ≡ (is_new && same_effect effect Constructed) }
 {
@@ -73,7 +74,7 @@ fn wants_blank(is_new: bool, effect: Effect) -> bool
 }
 
 /// Gives a replayer a blank for a delivery, if it constructs its receiver and isn't skipped by the
-/// counts so far, which then count it too. It fails only when out of memory.
+/// counts so far. The counts then include the delivery. It fails only when out of memory.
 fn draw_for_one<C: Chare>(
     manifest: &Manifest,
     stock: &mut Stock<C>,

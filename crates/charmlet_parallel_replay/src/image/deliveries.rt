@@ -1,4 +1,4 @@
-//! Deliveries of a catch-up list that are given to replayers.
+//! Deliveries of a catch-up list, given to their replayers.
 
 ghost use Rattle.std.specs.Prelude.{◌≡◌, ◌<◌, ◌∷◌, [], OnOk, length, true};
 ghost use Rattle.std.specs.List.{All};

@@ -1,4 +1,4 @@
-//! The elements of a replayer, which come back from an image.
+//! The elements of an image, restored by their replayer.
 
 ghost use Rattle.std.specs.Prelude.{◌≡◌, ◌+◌, ◌≤◌, ◌<◌, ◌&&◌, List, [], None, IsSome, OnOk, is_some, map, true};
 ghost use Rattle.std.specs.BTreeMap.{insert_entry, is_at};
@@ -26,8 +26,8 @@ use charmlet_replayers::worker_of;
 use charmlet_stock::Stock;
 use std::alloc::AllocError;
 
-/// Brings an element back, of which its replayer knows nothing yet: its object, if it has one, from
-/// a blank of the stock. It fails only when out of memory.
+/// Restores an element, which has no entry at its replayer yet: its object, if it has one, from a
+/// blank of the stock. It fails only when out of memory.
 fn restore_entry<C: Chare>(
     manifest: &Manifest,
     stock: &mut Stock<C>,
@@ -58,9 +58,9 @@ fn restore_entry<C: Chare>(
     restored.restore(manifest, entry)
 }
 
-/// Brings the elements of an image back that are this replayer's, of so many replayers: the entries
-/// rise and are of the manifest's arrays, and the stock has a blank for each of its objects. It
-/// fails only when out of memory.
+/// Restores the elements of an image that belong to this replayer, of `workers` replayers. The
+/// entries rise and are of the manifest's arrays, and the stock has a blank for each of its
+/// objects. It fails only when out of memory.
 pub(crate) fn restore_own<C: Chare>(
     manifest: &Manifest,
     stock: &mut Stock<C>,

@@ -1,4 +1,4 @@
-//! Replayers who get their elements back, and the blanks for their deliveries.
+//! Replayers that get their elements, and the blanks for their deliveries.
 
 ghost use Rattle.std.specs.Prelude.{◌≡◌, ◌+◌, ◌≤◌, ◌<◌, ℕ, List, OnOk, length, map};
 ghost use Rattle.std.specs.List.{AllByRecursion};
@@ -27,8 +27,8 @@ use charmlet_replayers::Replayer;
 use charmlet_stock::Stock;
 use std::alloc::{AllocError, Global};
 
-/// Brings the elements of an image back that are this replayer's, of so many replayers, and gives
-/// it the blanks for its deliveries. It fails only when out of memory.
+/// Restores the elements of an image that belong to this replayer, of `workers` replayers, and
+/// gives it the blanks for its deliveries. It fails only when out of memory.
 fn fill_replayer<C: Chare>(
     alloc: Global,
     manifest: &Manifest,
@@ -87,8 +87,8 @@ fn fill_replayer<C: Chare>(
     )
 }
 
-/// Brings the elements of an image back, each for the replayer that has it, and gives each replayer
-/// the blanks for its deliveries. It fails only when out of memory; whatever it answers, no object
+/// Restores the elements of an image, each for the replayer that has it, and gives each replayer
+/// the blanks for its deliveries. It fails only when out of memory. Whatever it answers, no object
 /// is lost.
 pub(crate) fn fill_replayers<C: Chare>(
     alloc: Global,

@@ -1,4 +1,4 @@
-//! Replayers who have nothing yet.
+//! Replayers that have nothing yet.
 
 ghost use Rattle.std.specs.Prelude.{◌≡◌, IfOk, length, true};
 ghost use Rattle.std.specs.List.{All};
@@ -11,7 +11,7 @@ use charmlet_replayers::Replayer;
 use charmlet_stock::Stock;
 use std::alloc::{AllocError, Global};
 
-/// A replayer on so many processors that has no element and no object yet, and nothing to do. It
+/// A replayer on this many processors that has no element and no object yet, and nothing to do. It
 /// fails only when out of memory.
 fn empty_replayer<C: Chare>(alloc: Global, processors: u16) -> Result<Replayer<C>, AllocError>
     requires { is_processor_count processors ≡ true }
@@ -30,7 +30,7 @@ fn empty_replayer<C: Chare>(alloc: Global, processors: u16) -> Result<Replayer<C
     }
 }
 
-/// So many replayers, who have nothing yet. It fails only when out of memory.
+/// Makes `workers` replayers, which have nothing yet. It fails only when out of memory.
 pub fn empty_replayers<C: Chare>(
     alloc: Global,
     processors: u16,

@@ -1,4 +1,4 @@
-//! What waits in an image, and the world that an image gives.
+//! The world of an image, with its pending messages and its clients.
 
 ghost use Rattle.std.specs.Prelude.{◌≡◌, List, Err, IfOk, None, OnOk, true};
 ghost use Rattle.std.specs.List.Sorted.{IsStrictlySortedBy};
@@ -34,8 +34,8 @@ fn copy_of(alloc: Global, manifest: &Manifest) -> Result<Manifest, AllocError>
     Manifest::of_rising(alloc, arrays.as_slice())
 }
 
-/// The world of these elements, of which each has its place and its counts, with these clients'
-/// rows, which rise, and these pending messages, once it is tested that each of them was sent.
+/// The world of these elements, with their places and counts, these clients' rows, which rise, and
+/// these pending messages, after a test that each message was sent.
 ///
 /// `Damaged` has the place of the first message that was never sent; `Memory`.
 pub(crate) fn world_of(

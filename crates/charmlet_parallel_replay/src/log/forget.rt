@@ -1,4 +1,4 @@
-//! Replayers that keep no reply.
+//! Replayers that keep no replies.
 
 ghost use Rattle.std.specs.List.{AllZip};
 ghost use Rattle.charmlet_parallel_replay.specs.Log.LogRound.{HasNoReplies};
@@ -6,14 +6,14 @@ ghost use Rattle.charmlet_parallel_replay.specs.Log.LogRound.{HasNoReplies};
 use charmlet_chare::Chare;
 use charmlet_replayers::Replayer;
 
-/// Drops what a replayer had of replies.
+/// Drops the replies of a replayer.
 fn forget_own<C: Chare>(replayer: &mut Replayer<C>)
     ensures { HasNoReplies replayer.old replayer.new }
 {
     replayer.replies = Vec::new(replayer.alloc);
 }
 
-/// Drops what all replayers had of replies.
+/// Drops the replies of all replayers.
 pub(crate) fn forget_replies<C: Chare>(replayers: &mut [Replayer<C>])
     ensures { AllZip HasNoReplies replayers.old replayers.new }
 {

@@ -1,4 +1,4 @@
-//! Why a log wasn't made again to its end.
+//! Why the replay of a log stopped early.
 
 ghost use Rattle.std.specs.Prelude.{◌≡◌};
 ghost use Rattle.charmlet_record.specs.declared.reader.ReadError.TheVariants as errors;
@@ -6,12 +6,12 @@ ghost use Rattle.charmlet_record.specs.declared.reader.ReadError.TheVariants as 
 use charmlet_record::ReadError;
 use std::alloc::AllocError;
 
-/// Why the events of a log weren't made again to its end.
+/// Why the events of a log weren't repeated to its end.
 #[derive(Clone, Copy, Debug, PartialEq, Eq)]
 pub enum ReplayError {
-    /// A record is at fault, or memory was refused.
+    /// A record is faulty, or memory was refused.
     Read(ReadError),
-    /// It is written that an event constructs its receiver, and no blank was left for that.
+    /// The log says that an event constructs its receiver, and no blank was left for it.
     OutOfBlanks,
 }
 

@@ -15,9 +15,9 @@ use std::alloc::{AllocError, Global};
 use std::collections::BTreeMap;
 
 impl FuzzyCheckpoint {
-    /// Begins a checkpoint, with room for so many deliveries: as many as are assigned already. An
-    /// element that isn't there is captured by its record now, if it has one. For the others there
-    /// is room. It fails only when out of memory.
+    /// Begins a checkpoint, with room for `deliveries` deliveries, the number of messages that are
+    /// assigned already. An absent element is captured by its record now, if it has one. There is
+    /// room for the other elements. It fails only when out of memory.
     pub fn begin(alloc: Global, history: &History, deliveries: usize) -> Result<Self, AllocError>
         ensures begun { IfOk result (λ running. running ≡ begun_in history.now deliveries) }
         ensures running { IfOk result (λ running. IsRunning (core_in history.now) running) }
@@ -37,7 +37,7 @@ impl FuzzyCheckpoint {
     }
 }
 
-/// Elements that aren't there and have a record, captured by it, with room for at most so many
+/// Captures each absent element that has a record, in a table with room for at most `most`
 /// elements. It fails only when out of memory.
 fn capture_all(
     alloc: Global,

@@ -1,4 +1,4 @@
-//! Elements that are captured: what the image will have of them is fixed.
+//! Captured elements, whose entries in the image are fixed.
 
 ghost use Rattle.std.specs.Prelude.{◌≡◌, ◌+◌, ◌≤◌, ◌<◌, IsOk, OnOk, OnErr, is_some};
 ghost use Rattle.std.specs.BTreeMap.{insert_entry};
@@ -11,8 +11,8 @@ use charmlet_model::Elem;
 use indexmap::IndexMap;
 use std::alloc::AllocError;
 
-/// What the image will have of an element: how many messages it sent and received in its whole
-/// life, and its packed state if it was there.
+/// An element's entry in the image: how many messages it sent and received in its whole life, and
+/// its packed state if it was there.
 #[derive(Debug, Drop)]
 pub struct CapturedElement {
     pub sent: u64,
@@ -20,7 +20,7 @@ pub struct CapturedElement {
     pub packed: Option<Vec<u8>>,
 }
 
-/// Captures an element. When out of memory, the table is as before.
+/// Captures an element. When out of memory, the table is unchanged.
 pub(crate) fn put(
     table: &mut IndexMap<Elem, Option<CapturedElement>>,
     elem: Elem,

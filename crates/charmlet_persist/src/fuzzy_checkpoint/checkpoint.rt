@@ -1,4 +1,4 @@
-//! What a checkpoint has of a store while that goes on.
+//! The data of a fuzzy checkpoint while its store goes on.
 
 ghost use Rattle.std.specs.Prelude.{◌≡◌, max, OnOk, OnErr};
 
@@ -11,21 +11,21 @@ use std::marker::Model;
 /// The most bytes that a delivery takes in a catch-up list.
 pub(crate) const MAX_CAUGHT_UP: usize = 4_140;
 
-/// What a checkpoint has of a store while that goes on: what the image will have of each element
-/// that is captured, and the deliveries since the checkpoint began. A contract sees these, and for
-/// how many more deliveries there is room; `IsRunning` says what they are of the store.
+/// A fuzzy checkpoint of a store that goes on: the image's entry of each captured element, and the
+/// deliveries since the checkpoint began. A contract sees these, and how many more deliveries there
+/// is room for; `IsRunning` ties them to the store.
 #[derive(Drop)]
 pub struct FuzzyCheckpoint {
-    /// How many events there were when it began, those before the opening world among them.
+    /// How many events there were when it began, including those before the opening world.
     pub(crate) begun: u64,
-    /// The elements that are captured. One that was constructed since, and had no record, has no
+    /// The captured elements. An element that was constructed since, and had no record, has no
     /// entry.
     pub(crate) captured: IndexMap<Elem, Option<CapturedElement>>,
-    /// The bytes of the deliveries since then.
+    /// The bytes of the deliveries since the checkpoint began.
     pub(crate) caught_up: Vec<u8>,
-    /// How many these are.
+    /// How many deliveries these are.
     pub(crate) count: u64,
-    /// How many more there is room for.
+    /// How many more deliveries there is room for.
     pub(crate) room: usize,
 }
 
@@ -50,8 +50,8 @@ impl Model for FuzzyCheckpoint {
 }
 
 impl FuzzyCheckpoint {
-    /// Makes room for so many deliveries, whatever they are, if there is less. When out of memory,
-    /// the room is as before. It never gives up room.
+    /// Makes room for this many deliveries, whatever they are, if there is less. It never gives up
+    /// room. When out of memory, the room is unchanged.
     pub fn reserve(&mut self, deliveries: usize) -> Result<(), AllocError>
         ensures ok { OnOk result (self.new
             ≡ record self.old { room = max self.old.room deliveries }) }

@@ -22,10 +22,10 @@ use charmlet_world::{Element, PendingMessage};
 use indexmap::IndexMap;
 
 impl FuzzyCheckpoint {
-    /// Adds the delivery of the processor's assigned message to the catch-up list, before it is
-    /// added to the history, and captures its receiver where it is constructed or destroyed, unless
-    /// it was captured before. It is for whoever adds the delivery to the history by another call,
-    /// which then has to follow, and may not be refused. It takes no memory, since there is room.
+    /// Records the delivery of the processor's assigned message in the catch-up list, before it is
+    /// added to the history. If the receiver is constructed or destroyed, it is captured, unless it
+    /// was captured before. The caller adds the delivery to the history by another call, which has
+    /// to follow, and may not be refused. It takes no memory, since there is room.
     pub fn record_delivery(&mut self, history: &History, processor: u16, output: &Output)
         requires running { IsRunning (core_in history.now) self.old }
         requires output { IsAssignedOutput (core_in history.now) processor output.now }
@@ -51,7 +51,7 @@ impl FuzzyCheckpoint {
     }
 }
 
-/// What a delivery did to its receiver, by whether that was there before, and is destroyed.
+/// The effect of a delivery on its receiver, from the receiver's row and its output.
 fn effect_of(receiver: &Element, output: &Output) -> Effect
     ensures { result
         ≡ effect_by (is_some receiver.now.place) (not output.now.is_destroyed) }
@@ -68,7 +68,7 @@ fn effect_of(receiver: &Element, output: &Output) -> Effect
     }
 }
 
-/// Captures the receiver of a delivery where it was constructed or destroyed, unless it is captured
+/// Captures the receiver of a delivery if it was constructed or destroyed, unless it is captured
 /// already. It takes no memory.
 fn capture(
     table: &mut IndexMap<Elem, Option<CapturedElement>>,
@@ -108,7 +108,7 @@ fn capture(
     put_reserved(table, elem, Some(left));
 }
 
-/// Captures an element, for which there is room.
+/// Captures an element. There has to be room for it.
 fn put_reserved(
     table: &mut IndexMap<Elem, Option<CapturedElement>>,
     elem: Elem,

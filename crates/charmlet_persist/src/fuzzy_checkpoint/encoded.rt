@@ -1,4 +1,4 @@
-//! The end of a checkpoint.
+//! The end of a fuzzy checkpoint: its bytes in a half file.
 
 ghost use Rattle.std.specs.Prelude.{◌≡◌, ◌++◌, IfErr, IfOk, OnOk};
 ghost use Rattle.charmlet_history.specs.Kept.{core_in};
@@ -14,15 +14,15 @@ use charmlet_image::{HEADER_SIZE, Header, MAX_GENERATION, Mark};
 use charmlet_model::{MAX_HALF, Refusal};
 use std::alloc::Global;
 
-/// The gate after an image: a log that has no batch yet ends there.
+/// The closed gate after an image, where a log without batches ends.
 const CLOSED: u8 = 0;
 
 impl FuzzyCheckpoint {
-    /// What the seal of the checkpoint writes into a half file after its open gate: a header of the
-    /// next generation, the image, and the closed gate of a log that has no batch yet. Each element
-    /// that is there is captured. The header counts each event, those that aren't durable among
-    /// them. `Memory` where memory is lacking; `ImageFull` where the next generation would be past
-    /// 2^40, or the file past 2^31 bytes. The checkpoint stays as it was in any case.
+    /// Encodes the checkpoint as a half file after its open gate. The bytes are a header of the
+    /// next generation, the image, and the closed gate of a log that has no batch yet. Each present
+    /// element is captured. The header counts all events, including those that aren't durable.
+    /// `Memory` if out of memory; `ImageFull` if the next generation would be past 2^40, or the
+    /// file past 2^31 bytes. In any case the checkpoint is unchanged.
     pub fn encode(&mut self, alloc: Global, history: &History) -> Result<Vec<u8>, Refusal>
         requires running { IsRunning (core_in history.now) self.old }
         requires captured { AreAllCaptured (core_in history.now) self.old }
@@ -57,8 +57,8 @@ impl FuzzyCheckpoint {
         Ok(bytes)
     }
 
-    /// Appends the five lists of the image. `Memory` where memory is lacking; `ImageFull` where a
-    /// list has more items than its count can say, which is past the limit of a file too.
+    /// Appends the five lists of the image. `Memory` if out of memory; `ImageFull` if a list has
+    /// more items than its count can say, which is past the limit of a file too.
     fn append_lists(
         &mut self,
         alloc: Global,

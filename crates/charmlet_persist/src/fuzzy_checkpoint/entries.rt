@@ -1,4 +1,4 @@
-//! The entries of an image as bytes.
+//! Writers of an image's entries.
 
 ghost use Rattle.std.specs.Prelude.{◌≡◌, ◌≤◌, ◌++◌, All, IfSome, OnOk};
 ghost use Rattle.indexmap.specs.IndexMap.{spare};
@@ -13,7 +13,7 @@ use charmlet_record::{write_bytes, write_u32};
 use indexmap::IndexMap;
 use std::alloc::AllocError;
 
-/// Brings a table into rising order of its elements. When out of memory, it is as before.
+/// Sorts a table in rising order of its elements. When out of memory, it is unchanged.
 pub(crate) fn rise(table: &mut IndexMap<Elem, Option<CapturedElement>>) -> Result<(), AllocError>
     ensures ok { OnOk result (table.new.entries ≡ risen table.old.entries) }
     ensures same { risen table.new.entries ≡ risen table.old.entries }
@@ -36,7 +36,7 @@ pub(crate) fn count_entries(table: &IndexMap<Elem, Option<CapturedElement>>) -> 
     count
 }
 
-/// Appends how many entries there are, and each of them. It fails only when out of memory.
+/// Appends the number of entries, and each entry. It fails only when out of memory.
 pub(crate) fn append_entries(
     out: &mut Vec<u8>,
     count: u32,
@@ -91,7 +91,7 @@ fn append_entry(out: &mut Vec<u8>, elem: Elem, captured: &CapturedElement) -> Re
     Ok(())
 }
 
-/// Appends a list by its items' bytes, after how many they are. It fails only when out of memory.
+/// Appends a list: its number of items, and the items' bytes. It fails only when out of memory.
 pub(crate) fn append_list(out: &mut Vec<u8>, count: u32, bytes: &[u8]) -> Result<(), AllocError>
     ensures { OnOk result (out.new.items ≡ out.old.items ++ (number_bytes 4 count ++ bytes.now)) }
 {

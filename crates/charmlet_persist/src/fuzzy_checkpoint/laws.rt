@@ -1,10 +1,11 @@
-//! What other steps of a store keep of its fuzzy checkpoint, as functions that do nothing.
+//! Laws of a fuzzy checkpoint under the other steps of its store. Each is the contract of a
+//! function that does nothing.
 
 ghost use Rattle.charmlet_persist.specs.FuzzyCheckpoint.Laws.{AssignmentsKeepRunning, DeliveriesKeepCaptured, FlushesKeepRunning, HaltsKeepRunning, ImagesKeepCaptured, ImagesCapture, RecordedDeliveriesKeepRunning, ProcessorsAreAll, ReleasesKeepRunning, RequestsKeepRunning, ShelvesAreTaken};
 
-/// Requests, flushes, assignments, releases and failures of the device keep a checkpoint running as
-/// it is: none of them changes a record or is a delivery. A delivery that was recorded keeps it
-/// running with what was recorded.
+/// Requests, flushes, assignments, releases and failures of the device keep a checkpoint running
+/// unchanged: none of them changes a record or is a delivery. A recorded delivery keeps it running
+/// with the delivery added.
 pub fn others_keep_running()
     ensures requests { RequestsKeepRunning }
     ensures flushes { FlushesKeepRunning }
@@ -14,9 +15,9 @@ pub fn others_keep_running()
     ensures deliveries { RecordedDeliveriesKeepRunning }
 {}
 
-/// Images capture their elements, and what is captured stays so. Once all that stands on a
-/// processor is captured, deliveries keep that: a new element is captured when it is constructed.
-/// Where that is so of each processor, all that is there is captured.
+/// Images capture their elements, and captured elements stay captured. Once all elements on a
+/// processor are captured, deliveries keep that: a new element is captured when it is constructed.
+/// If that holds on each processor, all present elements are captured.
 pub fn captured_stays()
     ensures images { ImagesCapture }
     ensures kept { ImagesKeepCaptured }
@@ -25,7 +26,7 @@ pub fn captured_stays()
 {}
 
 /// The images of a shelf that shows its part of the present world can be taken, and capture all
-/// that stands on its processor.
+/// elements on its processor.
 pub fn shelves_are_taken()
     ensures { ShelvesAreTaken }
 {}

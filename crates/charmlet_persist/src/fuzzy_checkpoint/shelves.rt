@@ -16,9 +16,9 @@ use indexmap::IndexMap;
 use std::alloc::AllocError;
 
 impl FuzzyCheckpoint {
-    /// Captures the elements of a shelf by their images, those that aren't captured already. Each
-    /// image is as the present world has its element, which is there. When out of memory, nothing
-    /// changes.
+    /// Captures the elements of a shelf by their images, except those that are captured already.
+    /// Each image agrees with the present world, in which its element is present. When out of
+    /// memory, nothing changes.
     pub fn capture_shelf(&mut self, history: &History, images: Vec<Image>) -> Result<(), AllocError>
         requires running { IsRunning (core_in history.now) self.old }
         requires shown { All (IsShownBy (present (core_in history.now))) images.items }
@@ -31,7 +31,7 @@ impl FuzzyCheckpoint {
         self.capture_images(images)
     }
 
-    /// Captures the elements of these images, those that aren't captured already. When out of
+    /// Captures the elements of these images, except those that are captured already. When out of
     /// memory, nothing changes.
     fn capture_images(&mut self, images: Vec<Image>) -> Result<(), AllocError>
         ensures ok { OnOk result (self.new
@@ -47,7 +47,7 @@ impl FuzzyCheckpoint {
     }
 }
 
-/// Captures elements by their images, those that aren't captured already. It takes no memory.
+/// Captures elements by their images, except those that are captured already. It takes no memory.
 fn capture_all(table: &mut IndexMap<Elem, Option<CapturedElement>>, images: Vec<Image>)
     requires { length images.items ≤ spare table.old }
     ensures captured { risen table.new.entries

@@ -14,7 +14,7 @@ use charmlet_world::Client;
 use std::alloc::AllocError;
 use std::collections::BTreeMap;
 
-/// Appends how many clients there are, and each with its present row. It fails only when out of
+/// Appends the number of clients, and each client with its present row. It fails only when out of
 /// memory.
 pub fn append_clients(out: &mut Vec<u8>, clients: &BTreeMap<u32, Client>) -> Result<(), AllocError>
     requires few { length clients.now.entries ≤ 1024 }

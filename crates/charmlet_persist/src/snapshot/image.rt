@@ -1,4 +1,4 @@
-//! The image as a whole.
+//! The image of the present world, with its header.
 
 ghost use Rattle.std.specs.Prelude.{◌≡◌, ◌≤◌, ◌^◌, ◌++◌, IfErr, IfOk, OnOk, drop, length, vec_len};
 ghost use Rattle.charmlet_pup.specs.Fields.{number_bytes};
@@ -23,15 +23,15 @@ use charmlet_record::write_u32;
 use charmlet_shelf::Shelf;
 use std::alloc::{AllocError, Global};
 
-/// The gate after an image: a log that has no batch yet ends there.
+/// The closed gate after an image, where a log without batches ends.
 const CLOSED: u8 = 0;
 
-/// What a checkpoint writes into a half file after its open gate: a header of the next generation,
-/// the image of the present world, and the closed gate of a log that has no batch yet. The header
-/// counts each event, those that aren't durable among them. The shelves show the present world, and
-/// no delivery is under way. `Memory` where memory is lacking; `ImageFull` where the next
-/// generation would be past 2^40, or the file past 2^31 bytes. The history and the shelves are as
-/// before.
+/// Encodes a checkpoint as a half file after its open gate. The bytes are a header of the next
+/// generation, the image of the present world, and the closed gate of a log that has no batch yet.
+/// The header counts all events, including those that aren't durable. The shelves show the present
+/// world, and no delivery is under way. `Memory` if out of memory; `ImageFull` if the next
+/// generation would be past 2^40, or the file past 2^31 bytes. The history and the shelves are
+/// unchanged.
 pub fn image_of<C: Chare>(
     alloc: Global,
     history: &History,
@@ -67,8 +67,8 @@ pub fn image_of<C: Chare>(
 }
 
 /// Appends the five lists of the image of the present world, the last of which is empty. `Memory`
-/// where memory is lacking; `ImageFull` where a list has more items than its count can say, which
-/// is past the limit of a file too. The shelves are as before.
+/// if out of memory; `ImageFull` if a list has more items than its count can say, which is past the
+/// limit of a file too. The shelves are unchanged.
 fn append_lists<C: Chare>(
     alloc: Global,
     out: &mut Vec<u8>,
@@ -93,7 +93,7 @@ fn append_lists<C: Chare>(
     Ok(())
 }
 
-/// Appends how many arrays there are, and each of them. It fails only when out of memory.
+/// Appends the number of arrays, and each array. It fails only when out of memory.
 pub fn append_arrays(
     alloc: Global,
     out: &mut Vec<u8>,
@@ -118,8 +118,7 @@ fn append_no_items(out: &mut Vec<u8>) -> Result<(), AllocError>
     Ok(())
 }
 
-/// The length of a list as the count before its items. `ImageFull` where that has more than 32
-/// bits.
+/// The length of a list as the count before its items. `ImageFull` if it needs more than 32 bits.
 pub fn count_of(len: usize) -> Result<u32, Refusal>
     ensures ok { IfOk result (λ count. count ≡ len) }
     ensures err { IfErr result (λ refusal. (refusal ≡ refusals.ImageFull) × (2 ^ 32 ≤ len)) }

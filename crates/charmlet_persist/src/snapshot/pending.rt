@@ -11,7 +11,7 @@ use charmlet_record::{append_message, write_u32};
 use charmlet_world::{Messages, PendingMessage};
 use std::alloc::{AllocError, Global};
 
-/// Appends how many messages there are, and each of them. It fails only when out of memory.
+/// Appends the number of messages, and each message. It fails only when out of memory.
 pub fn append_pending(
     alloc: Global,
     out: &mut Vec<u8>,

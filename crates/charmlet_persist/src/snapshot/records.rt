@@ -39,8 +39,8 @@ pub(crate) fn count_records(elements: &BTreeMap<Elem, Element>) -> usize
     count
 }
 
-/// Appends how many records there are, and each of them, in rising order of elements. It fails only
-/// for lack of memory. The shelves are as before.
+/// Appends the number of records, and each record, in rising order of elements. It fails only when
+/// out of memory. The shelves are unchanged.
 pub(crate) fn append_records<C: Chare>(
     out: &mut Vec<u8>,
     count: u32,
@@ -70,7 +70,7 @@ pub(crate) fn append_records<C: Chare>(
 }
 
 /// Appends an element with its counts, and with its packed state if it is there. It fails only when
-/// out of memory. The shelves are as before.
+/// out of memory. The shelves are unchanged.
 fn append_record<C: Chare>(
     out: &mut Vec<u8>,
     history: &History,

@@ -27,15 +27,14 @@ pub struct Created<D: Disk> {
 }
 
 /// Makes a store with these arrays and this number of processors, in which nothing has happened, on
-/// a settled disk of which no half is open. It stands in half 0, at generation 1, as
-/// [`Halves::create`] writes it, and all of it is durable.
+/// a settled disk with no open half. It stands in half 0, at generation 1, as [`Halves::create`]
+/// writes it, and is durable.
 ///
-/// Its kinds have to be of their newest versions, as those of [`Manifest::of`] are.
+/// Its kinds have to be in their newest versions, as those of [`Manifest::of`] are.
 ///
-/// `BadPes` where there aren't 1 to 64 processors; `AlreadyHere` if a half is open, but a look at
-/// half 0 that fails hides an open half 1; `Memory`: then nothing is written. `Device`: then a
-/// crash leaves no store, or the new one. The refusals are tested in this order, and each hands the
-/// disk back.
+/// `BadPes` if there aren't 1 to 64 processors; `AlreadyHere` if a half is open, but a failed look
+/// at half 0 hides an open half 1; `Memory`: then nothing is written. `Device`: then a crash leaves
+/// no store, or the new one. The refusals are tested in this order, and each hands the disk back.
 pub fn create<D: Disk>(
     alloc: Global,
     disk: D,

@@ -10,13 +10,13 @@ pub struct Call {
     pub constructs: bool,
 }
 
-/// The sequence numbers of messages to one element, which are gone through one after another. They
-/// move least where they come in rising or in falling order.
+/// An iteration over the sequence numbers of messages to one element. Changes move the fewest
+/// numbers if they come in rising or in falling order.
 pub trait Chain {
-    /// Those that are left.
+    /// The sequence numbers that are left.
     ghost left: { Self → List ACall };
 
-    /// The next one, if there is one.
+    /// The next sequence number, if there is one.
     fn next(&mut self) -> Option<Call>
         ensures { MatchOption result ((left self.old ≡ []) × (left self.new ≡ []))
             (λ call. left self.old ≡ call ∷ left self.new) };

@@ -17,13 +17,13 @@ use std::alloc::{AllocError, Global};
 use std::marker::{Brand, Model};
 use std::sync::ledger::{Blank, Ledger};
 
-/// How many more sequence numbers there is room for where room is made, so that the lists are
-/// seldom gone through for it.
+/// How many more sequence numbers each reservation makes room for, so that the lists are seldom
+/// gone through for it.
 const MORE: usize = 256;
 
 /// For each processor the sequence numbers that are ready on it, and those that wait there. A
-/// contract sees these lists, for how many more sequence numbers each has room, and the number of
-/// the next sequence number.
+/// contract sees these lists, the room of each for more sequence numbers, and the next sequence
+/// number.
 #[derive(Drop)]
 pub struct Index {
     alloc: Global,
@@ -43,7 +43,7 @@ impl Model for Index {
 }
 
 impl Index {
-    /// No sequence numbers, and no processors until it is opened. It takes no memory.
+    /// An index with no sequence numbers, and no processors until it is opened. It takes no memory.
     pub fn new(alloc: Global) -> Self
         ensures lists { result.lists ≡ [] }
         ensures headroom { result.headroom ≡ 0 }
@@ -57,8 +57,8 @@ impl Index {
         }
     }
 
-    /// Has lists for so many processors from now on. Where it had them for another number, there
-    /// are no sequence numbers. Where memory is refused, nothing changes.
+    /// Opens lists for this many processors. If it had lists for another number of them, it has no
+    /// sequence numbers afterwards. If memory is refused, nothing changes.
     pub fn open(&mut self, processors: usize) -> Result<(), AllocError>
         ensures ok { OnOk result (length self.new.lists ≡ processors) }
         ensures same { length self.old.lists ≡ processors → self.new ≡ self.old }
@@ -77,7 +77,7 @@ impl Index {
         Ok(())
     }
 
-    /// Makes room for so many more sequence numbers, wherever each of them is. Where memory is
+    /// Makes room for this many more sequence numbers, wherever each of them is. If memory is
     /// refused, no sequence number changes.
     pub fn reserve(&mut self, additional: usize) -> Result<(), AllocError>
         ensures index { (seq_nos : List ℕ) (place : ℕ → APlace) →
@@ -92,7 +92,7 @@ impl Index {
             return Ok(());
         }
         let wanted = additional.saturating_add(MORE);
-        // There has to be a number for each of them.
+        // Each of them needs a number.
         if u64::MAX - self.next < wanted as u64 {
             return Err(AllocError);
         }
@@ -101,8 +101,8 @@ impl Index {
         Ok(())
     }
 
-    /// Makes room for so many sequence numbers that come to the processor from others, beside the
-    /// room that there is for more. Where memory is refused, no sequence number changes.
+    /// Makes room for this many sequence numbers that come to the processor from others, besides
+    /// the room that there is for more. If memory is refused, no sequence number changes.
     pub fn reserve_on(&mut self, on: usize, additional: usize) -> Result<(), AllocError>
         requires { on < length self.old.lists }
         ensures index { (seq_nos : List ℕ) (place : ℕ → APlace) →
@@ -116,7 +116,7 @@ impl Index {
         reserve_one(&mut self.lists, self.headroom, on, additional)
     }
 
-    /// Adds a sequence number, which is after all others, and says its number. It takes no memory.
+    /// Adds a sequence number behind all others, and returns it. It takes no memory.
     pub fn push(&mut self, at: QueuePlace) -> u64
         requires on { at.on < length self.old.lists }
         requires home { at.home < length self.old.lists }
@@ -139,7 +139,7 @@ impl Index {
         number
     }
 
-    /// Takes a sequence number out, which is there. It takes no memory.
+    /// Takes out a sequence number that is there. It takes no memory.
     pub fn take(&mut self, number: u64, at: QueuePlace)
         requires on { at.on < length self.old.lists }
         requires home { at.home < length self.old.lists }
@@ -154,8 +154,8 @@ impl Index {
         take_from(&mut self.lists, at, number);
     }
 
-    /// A sequence number, which is here, is there from now on, where there is room for it: on a
-    /// processor for which it didn't count before, that room was made. It takes no memory.
+    /// Moves a sequence number from its queue place to another one that has room for it. On a
+    /// processor for which the number didn't count before, that room was made. It takes no memory.
     pub fn shift(&mut self, number: u64, from: QueuePlace, into: QueuePlace)
         requires from_on { from.on < length self.old.lists }
         requires into_on { into.on < length self.old.lists }
@@ -176,9 +176,10 @@ impl Index {
         put_in(&mut self.lists, into, number);
     }
 
-    /// An element stands otherwise from now on: on another processor, or so that it takes other
-    /// messages. These are its sequence numbers, each once, and for them there is room: on a
-    /// processor for which they didn't count before, that room was made. It takes no memory.
+    /// Moves an element's sequence numbers after a change of its readiness: it stands on another
+    /// processor, or takes other messages. `calls` has each of its sequence numbers once, and there
+    /// is room for them: on a processor for which they didn't count before, that room was made. It
+    /// takes no memory.
     pub fn update_readiness<C: Chain>(&mut self, calls: &mut C, old: Readiness, new: Readiness)
         requires old_on { old.on < length self.old.lists }
         requires new_on { new.on < length self.old.lists }
@@ -203,7 +204,7 @@ impl Index {
         }
     }
 
-    /// The oldest sequence number that is ready on the processor. It is at most one look.
+    /// The oldest sequence number that is ready on the processor. It takes at most one look.
     pub fn oldest_on<L: Ledger>(&self, on: usize, ticks: &mut Ticks<L>) -> Option<u64>
         ensures index { (seq_nos : List ℕ) (place : ℕ → APlace) →
             IsIndexOf seq_nos place self.now.lists → on < length self.now.lists →
@@ -213,8 +214,8 @@ impl Index {
         oldest_of(&self.lists, on, ticks)
     }
 
-    /// The oldest sequence number that is ready on any processor, and before it that processor. It
-    /// is at most one look for each processor.
+    /// The oldest sequence number that is ready on any processor, together with that processor. It
+    /// takes at most one look for each processor.
     pub fn next_in<L: Ledger>(&self, ticks: &mut Ticks<L>) -> Option<(usize, u64)>
         ensures index { (seq_nos : List ℕ) (place : ℕ → APlace) →
             IsIndexOf seq_nos place self.now.lists → Climbs seq_nos →
@@ -227,7 +228,7 @@ impl Index {
         next_of(&self.lists, ticks)
     }
 
-    /// The same, with a count of its own. It takes no memory.
+    /// Answers as `next_in`, with a count of looks of its own. It takes no memory.
     pub fn next(&self) -> Option<(usize, u64)>
         ensures index { (seq_nos : List ℕ) (place : ℕ → APlace) →
             IsIndexOf seq_nos place self.now.lists → Climbs seq_nos →
@@ -265,7 +266,7 @@ impl Index {
     }
 }
 
-/// Empty lists for so many processors.
+/// Empty lists for this many processors.
 fn empty_lists(alloc: Global, processors: usize) -> Result<Vec<Lists>, AllocError>
     ensures index { IfOk result (λ lists. (place : ℕ → APlace) →
         IsIndexOf [] place lists.items) }
@@ -299,7 +300,7 @@ fn reserve_each(lists: &mut Vec<Lists>, headroom: usize, wanted: usize) -> Resul
     Ok(())
 }
 
-/// Makes this room in the lists of one processor, beside the room that all have.
+/// Makes this room in the lists of one processor, besides the room that all have.
 fn reserve_one(
     lists: &mut Vec<Lists>,
     headroom: usize,
@@ -358,7 +359,7 @@ fn next_of<L: Ledger>(lists: &Vec<Lists>, ticks: &mut Ticks<L>) -> Option<(usize
     best
 }
 
-/// The earlier one of the best one so far and one that is on this processor.
+/// The earlier of the best number so far and one on this processor.
 fn earlier_of(best: Option<(usize, u64)>, on: usize, here: Option<u64>) -> Option<(usize, u64)>
     ensures seq_no { option_map (λ e. e.1) result ≡ earlier (option_map (λ e. e.1) best) here }
     ensures placed { (place : ℕ → APlace) → IsPlaced place best →

@@ -7,8 +7,8 @@ ghost use Rattle.charmlet_ready_queue.specs.Index.Index.{IsBelow, IsRoomy};
 use crate::seq_nos::SeqNos;
 use std::alloc::{AllocError, Global};
 
-/// The sequence numbers on one processor: those that are ready, and those that wait. Beside them,
-/// how many sequence numbers of elements that have their home here are on other processors.
+/// The sequence numbers on one processor: those that are ready, and those that wait. It also counts
+/// the sequence numbers on other processors whose elements have their home here.
 #[derive(Drop)]
 pub struct Lists {
     pub ready: SeqNos,
@@ -17,7 +17,7 @@ pub struct Lists {
 }
 
 impl Lists {
-    /// None. It takes no memory.
+    /// Lists with no sequence numbers. It takes no memory.
     pub(crate) fn new(alloc: Global) -> Self
         ensures ready { result.ready.seq_nos ≡ [] }
         ensures waiting { result.waiting.seq_nos ≡ [] }
@@ -31,8 +31,8 @@ impl Lists {
         }
     }
 
-    /// Makes room in each list for all sequence numbers that may have to stand there, and for so
-    /// many more. Where memory is refused, no sequence number changes.
+    /// Makes room in each list for all sequence numbers that may have to stand there, and for this
+    /// many more. If memory is refused, no sequence number changes.
     pub(crate) fn reserve(&mut self, headroom: usize) -> Result<(), AllocError>
         ensures ready { self.new.ready.seq_nos ≡ self.old.ready.seq_nos }
         ensures waiting { self.new.waiting.seq_nos ≡ self.old.waiting.seq_nos }
@@ -72,7 +72,7 @@ impl Lists {
         }
     }
 
-    /// Puts a sequence number in its place of one list, where there is room.
+    /// Puts a sequence number in its place in one list. There has to be room for it.
     pub(crate) fn put(&mut self, number: u64, is_ready: bool)
         requires { IsRoomy 1 self.old }
         ensures ready { self.new.ready.seq_nos ≡ (if is_ready
@@ -90,7 +90,7 @@ impl Lists {
         }
     }
 
-    /// Adds the last sequence number of all to one list, where there is room.
+    /// Adds the last sequence number of all to one list. There has to be room for it.
     pub(crate) fn push(&mut self, number: u64, is_ready: bool)
         requires roomy { IsRoomy 1 self.old }
         requires last { IsBelow number self.old }
@@ -109,19 +109,19 @@ impl Lists {
         }
     }
 
-    /// One more sequence number of an element that has its home here is elsewhere.
+    /// Counts one more sequence number elsewhere whose element has its home here.
     pub(crate) fn send_away(&mut self)
         requires { IsRoomy 1 self.old }
         ensures ready { self.new.ready ≡ self.old.ready }
         ensures waiting { self.new.waiting ≡ self.old.waiting }
         ensures away { self.new.away ≡ self.old.away + 1 }
     {
-        // The room is what says that the count fits.
+        // The room tells the prover that the count fits.
         let _capacity = self.ready.capacity();
         self.away += 1;
     }
 
-    /// One of the sequence numbers that were elsewhere isn't any more.
+    /// Counts one sequence number fewer elsewhere whose element has its home here.
     pub(crate) fn take_back(&mut self)
         requires { 0 < self.old.away }
         ensures ready { self.new.ready ≡ self.old.ready }
@@ -132,8 +132,8 @@ impl Lists {
     }
 }
 
-/// Makes room for so many sequence numbers in all, and, where that takes memory, for a quarter
-/// more, so that a list that grows is seldom moved.
+/// Makes room for this many sequence numbers in all. If that takes memory, it makes room for a
+/// quarter more, so that a growing list is seldom moved.
 fn grow(seq_nos: &mut SeqNos, wanted: usize) -> Result<(), AllocError>
     ensures seq_nos { seq_nos.new.seq_nos ≡ seq_nos.old.seq_nos }
     ensures capacity { seq_nos.old.capacity ≤ seq_nos.new.capacity }

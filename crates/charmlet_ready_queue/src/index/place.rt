@@ -1,10 +1,10 @@
-//! Where sequence numbers are.
+//! Places of sequence numbers, and the readiness of elements.
 
 ghost use Rattle.std.specs.Prelude.{◌≡◌};
 ghost use Rattle.charmlet_ready_queue.specs.Index.Index.{place_by};
 
-/// Where a sequence number is: on which processor, where its receiver has its home, and whether it
-/// is ready there or waits.
+/// The queue place of a sequence number: its processor, its receiver's home, and whether it is
+/// ready there or waits.
 #[derive(Clone, Copy, Debug, PartialEq, Eq)]
 pub struct QueuePlace {
     pub on: usize,
@@ -12,8 +12,8 @@ pub struct QueuePlace {
     pub is_ready: bool,
 }
 
-/// How an element stands: on which processor, which is its home if it isn't there; where that home
-/// is; whether it is there; and whether its counts have room for one more delivery.
+/// The readiness of an element: its processor, which is its home if it isn't there; its home;
+/// whether it is there; and whether its counts have room for one more delivery.
 #[derive(Clone, Copy, Debug, PartialEq, Eq)]
 pub struct Readiness {
     pub on: usize,
@@ -23,7 +23,7 @@ pub struct Readiness {
 }
 
 impl Readiness {
-    /// Where the sequence number of a message to the element is, which may construct it.
+    /// The queue place of a message to the element, which may construct it.
     pub fn place(&self, constructs: bool) -> QueuePlace
         ensures { result ≡ place_by self.now constructs }
     {

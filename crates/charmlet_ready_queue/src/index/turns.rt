@@ -1,4 +1,4 @@
-//! One sequence number in the lists of all processors.
+//! Changes of one sequence number in the lists of all processors.
 
 ghost use Rattle.std.specs.Prelude.{◌≡◌, ◌≢◌, ℕ, ◌<◌, true, length, slice_get, Some};
 ghost use Rattle.charmlet_ready_queue.specs.Index.Index.{IsBelow, IsRoomy, IsWith, IsWithout, OnEach, touches};
@@ -38,7 +38,7 @@ fn push_on(lists: &mut Vec<Lists>, on: usize, number: u64, is_ready: bool)
     lists[on].push(number, is_ready);
 }
 
-/// One fewer is away from this processor.
+/// Counts one sequence number fewer away from this processor.
 fn take_back_on(lists: &mut Vec<Lists>, home: usize)
     requires within { home < length lists.old.items }
     requires away { (l : ALists) → slice_get lists.old.items home ≡ Some l → 0 < l.away }
@@ -48,7 +48,7 @@ fn take_back_on(lists: &mut Vec<Lists>, home: usize)
     lists[home].take_back();
 }
 
-/// One more is away from this processor.
+/// Counts one more sequence number away from this processor.
 fn send_away_on(lists: &mut Vec<Lists>, home: usize)
     requires within { home < length lists.old.items }
     requires room { (l : ALists) → slice_get lists.old.items home ≡ Some l → IsRoomy 1 l }

@@ -1,6 +1,6 @@
-//! Numbers in rising order, in a ring that has a cursor. Those before the cursor stand last in the
-//! ring, so that what changes at the cursor changes at the ring's two ends. A change elsewhere
-//! turns the ring by as much as lies between the two places: a run of rising changes goes round it
+//! Numbers in rising order, in a ring with a cursor. The numbers before the cursor stand last in
+//! the ring, so that a change at the cursor is a change at the ring's two ends. A change elsewhere
+//! turns the ring by the distance between the two places: a run of rising changes goes round it
 //! once.
 
 ghost use Rattle.std.specs.Prelude.{◌≡◌, ◌+◌, ◌<◌, ◌≤◌, [], ◌∷◌, ◌++◌, length, take, drop, slice_get, Some};
@@ -11,7 +11,8 @@ use crate::seq_nos::ticks::Ticks;
 use std::collections::VecDeque;
 use std::sync::ledger::Ledger;
 
-/// The number at this place of the order. It is one look, and the only way to a number.
+/// The number at this place of the order. It takes one look, and it is the only way to read a
+/// number.
 pub(crate) fn look<L: Ledger>(
     ring: &VecDeque<u64>,
     behind: usize,
@@ -31,8 +32,8 @@ pub(crate) fn look<L: Ledger>(
     }
 }
 
-/// The place of the number, or, where it isn't there, of the first one after it. It is looked for
-/// at this place first, and then beside it.
+/// The place of the number, or, if it isn't there, of the first number after it. The search tries
+/// this place first, and then its neighbours.
 fn place_of<L: Ledger>(
     ring: &VecDeque<u64>,
     behind: usize,
@@ -66,8 +67,8 @@ fn place_of<L: Ledger>(
     low
 }
 
-/// Where to look next between two places: after the first look at the nearer one, the lower one if
-/// the number was after what was there, and later in the middle.
+/// The next place to look at between two places: after the first look it is the nearer one, that
+/// is, the lower one if the search goes on upwards; later it is the middle.
 fn guess(low: usize, high: usize, was_first: bool, goes_on: bool) -> usize
     ensures from { low < high → low ≤ result }
     ensures to { low < high → result < high }
@@ -95,7 +96,7 @@ fn turn_to(ring: &mut VecDeque<u64>, behind: usize, place: usize)
     }
 }
 
-/// Takes the number out, if it is there, and says where the cursor stands then.
+/// Takes the number out, if it is there, and returns the cursor's new place.
 pub(crate) fn take_out<L: Ledger>(
     ring: &mut VecDeque<u64>,
     behind: usize,
@@ -121,7 +122,7 @@ pub(crate) fn take_out<L: Ledger>(
     place
 }
 
-/// Puts the number in its place, if it isn't there, and says where the cursor stands then.
+/// Puts the number in its place, if it isn't there, and returns the cursor's new place.
 pub(crate) fn put_in<L: Ledger>(
     ring: &mut VecDeque<u64>,
     behind: usize,
@@ -145,7 +146,7 @@ pub(crate) fn put_in<L: Ledger>(
     place + 1
 }
 
-/// Puts a number behind all others, and says where the cursor stands then.
+/// Puts a number behind all others, and returns the cursor's new place.
 pub(crate) fn put_last(ring: &mut VecDeque<u64>, behind: usize, number: u64) -> usize
     requires behind { behind ≤ length ring.old.items }
     requires room { deque_len ring.old < deque_capacity ring.old }

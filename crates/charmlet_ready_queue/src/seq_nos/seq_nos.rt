@@ -10,9 +10,9 @@ use std::collections::VecDeque;
 use std::marker::{Brand, Model};
 use std::sync::ledger::{Blank, Ledger};
 
-/// Sequence numbers of messages, in rising order. A contract sees their numbers, and for how many
-/// there is room in all. A change costs a few looks, and moves as many numbers as lie between its
-/// place and the last change's, so that many changes in rising order move each number once.
+/// Sequence numbers of messages, in rising order. A contract sees the numbers, and the room for
+/// them in all. A change costs a few looks, and moves as many numbers as lie between its place and
+/// the last change's, so many changes in rising order move each number once.
 #[derive(Drop)]
 pub struct SeqNos {
     ring: VecDeque<u64>,
@@ -36,7 +36,7 @@ impl Model for SeqNos {
 }
 
 impl SeqNos {
-    /// None. It takes no memory.
+    /// An empty list of sequence numbers. It takes no memory.
     pub fn new(alloc: Global) -> Self
         ensures { result.seq_nos ≡ [] }
     {
@@ -46,14 +46,14 @@ impl SeqNos {
         }
     }
 
-    /// How many there are.
+    /// How many sequence numbers there are.
     pub fn len(&self) -> usize
         ensures { result ≡ length self.now.seq_nos }
     {
         self.ring.len()
     }
 
-    /// For how many there is room in all.
+    /// How many sequence numbers there is room for in all.
     pub fn capacity(&self) -> usize
         ensures capacity { result ≡ self.now.capacity }
         ensures fits { length self.now.seq_nos ≤ self.now.capacity }
@@ -61,7 +61,8 @@ impl SeqNos {
         self.ring.capacity()
     }
 
-    /// Makes room for so many in all. Where memory is refused, no sequence number changes.
+    /// Makes room for this many sequence numbers in all. If memory is refused, no sequence number
+    /// changes.
     pub fn reserve(&mut self, capacity: usize) -> Result<(), AllocError>
         ensures seq_nos { self.new.seq_nos ≡ self.old.seq_nos }
         ensures capacity { self.old.capacity ≤ self.new.capacity }
@@ -71,7 +72,7 @@ impl SeqNos {
         self.ring.reserve(capacity.saturating_sub(self.ring.len()))
     }
 
-    /// The sequence number at this place. It is one look.
+    /// The sequence number at this place. It takes one look.
     pub fn at<L: Ledger>(&self, place: usize, ticks: &mut Ticks<L>) -> u64
         requires { place < length self.now.seq_nos }
         ensures seq_no { slice_get self.now.seq_nos place ≡ Some result }
@@ -80,8 +81,7 @@ impl SeqNos {
         look(&self.ring, self.behind, place, ticks)
     }
 
-    /// Adds a sequence number that is after all others, and for which there is room. It takes no
-    /// memory.
+    /// Adds a sequence number behind all others. There has to be room for it. It takes no memory.
     pub fn push(&mut self, number: u64)
         requires room { length self.old.seq_nos < self.old.capacity }
         requires last { AllBefore number self.old.seq_nos }
@@ -92,8 +92,8 @@ impl SeqNos {
         self.behind = put_last(&mut self.ring, self.behind, number);
     }
 
-    /// Takes a sequence number out, if it is there. It is looked for first where the last one was
-    /// taken. It takes no memory.
+    /// Takes a sequence number out, if it is there. The search begins where the last one was taken.
+    /// It takes no memory.
     pub fn take(&mut self, number: u64)
         ensures seq_nos { self.new.seq_nos ≡ without_number number self.old.seq_nos }
         ensures capacity { self.new.capacity ≡ self.old.capacity }
@@ -112,7 +112,7 @@ impl SeqNos {
         self.put_counted::<Brand>(number, Blank::new(1));
     }
 
-    /// The same, with a count of its own.
+    /// Works as `take`, with a count of looks of its own.
     fn take_counted<L: Ledger>(&mut self, number: u64, blank: Blank)
         requires name { blank.name ≡ L.name }
         requires parts { blank.parts ≡ L.parts }
@@ -125,7 +125,7 @@ impl SeqNos {
         self.behind = take_out(&mut self.ring, self.behind, number, &mut ticks);
     }
 
-    /// The same, with a count of its own.
+    /// Works as `put`, with a count of looks of its own.
     fn put_counted<L: Ledger>(&mut self, number: u64, blank: Blank)
         requires room { length self.old.seq_nos < self.old.capacity }
         requires name { blank.name ≡ L.name }

@@ -1,11 +1,11 @@
-//! How many steps were taken.
+//! Counts of the looks that a search takes.
 
 ghost use Rattle.std.specs.Prelude.{◌≡◌, ◌+◌, ◌<◌};
 
 use std::marker::Model;
 use std::sync::ledger::{Blank, Book, Ledger, Share};
 
-/// How many items of lists were looked at. It counts without limit, takes no bytes, and only a look
+/// How many items of lists were looked at. The count has no limit, takes no bytes, and only a look
 /// changes it.
 #[derive(Drop)]
 pub struct Ticks<L: Ledger> {
@@ -24,7 +24,7 @@ impl<L: Ledger> Model for Ticks<L> {
 }
 
 impl<L: Ledger> Ticks<L> {
-    /// None were taken.
+    /// A count of no looks.
     pub fn new(blank: Blank) -> Self
         requires name { blank.name ≡ L.name }
         requires parts { blank.parts ≡ L.parts }
@@ -35,7 +35,7 @@ impl<L: Ledger> Ticks<L> {
         Ticks { book, share }
     }
 
-    /// One more was taken.
+    /// Counts one more look.
     pub(crate) fn tick(&mut self)
         ensures { self.new ≡ self.old + 1 }
     {

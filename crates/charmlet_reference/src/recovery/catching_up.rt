@@ -10,8 +10,8 @@ use crate::PlainWorld;
 use charmlet_model::{CatchUpEntry, Effect, Message, State};
 use std::alloc::AllocError;
 
-/// Makes the deliveries of a catch-up list, in order, up to the first one that is at fault, and
-/// returns its place, if there is one. A delivery that its receiver's record already has is
+/// Makes the deliveries of a catch-up list, in order, up to the first faulty one, and returns the
+/// place of that one, if there is any. A delivery that its receiver's record already has is
 /// skipped. It fails only when out of memory.
 pub fn catch_up(
     plain: &mut PlainWorld,
@@ -58,7 +58,7 @@ fn is_skipped(plain: &PlainWorld, delivery: &CatchUpEntry) -> bool
     delivery.received <= received
 }
 
-/// Whether the delivery is the next one of its receiver, can be made, and has the effect that is
+/// Whether the delivery is its receiver's next one, can be made, and has the effect that is
 /// written. It fails only when out of memory.
 fn is_next_delivery(plain: &PlainWorld, delivery: &CatchUpEntry) -> Result<bool, AllocError>
     ensures { IfOk result (λ good. good ≡ is_next_delivery plain.now.manifest (record_of plain.now

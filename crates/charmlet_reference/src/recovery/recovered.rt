@@ -27,12 +27,12 @@ const GENERATION_BEGINS: u64 = 5;
 pub enum Recovered {
     /// Both halves are closed.
     Nothing,
-    /// A half is damaged: the first field or record that is at fault begins at this offset.
+    /// A half is damaged: its first faulty field or record begins at this offset.
     Damaged {
         half: Half,
         offset: u64,
     },
-    /// A world, how many events led to it, and the generation of the image that is taken.
+    /// A world, how many events led to it, and the generation of the taken image.
     Found {
         world: PlainWorld,
         events: u64,
@@ -40,8 +40,8 @@ pub enum Recovered {
     },
 }
 
-/// What the bytes of two files recover to, whatever they are. A world that is found is brought
-/// forward to the newest versions of its kinds. It fails only when out of memory.
+/// What the bytes of two files recover to, for all bytes. A world that is found is brought forward
+/// to the newest versions of its kinds. It fails only when out of memory.
 pub fn recover(alloc: Global, zero: &[u8], one: &[u8]) -> Result<Recovered, AllocError>
     ensures { IfOk result (λ r. seen r ≡ recovered (files zero.now one.now)) }
 {
@@ -49,7 +49,7 @@ pub fn recover(alloc: Global, zero: &[u8], one: &[u8]) -> Result<Recovered, Allo
     Ok(gone_on(written))
 }
 
-/// A world that is found is brought forward to the newest versions of its kinds.
+/// Brings a world that is found forward to the newest versions of its kinds.
 fn gone_on(written: Recovered) -> Recovered
     ensures { seen result ≡ gone_on (seen written) }
 {
@@ -72,7 +72,7 @@ fn gone_on(written: Recovered) -> Recovered
     }
 }
 
-/// What the bytes of two files recover to, whatever they are, in the versions that are written
+/// What the bytes of two files recover to, for all bytes, in the kind versions that are written
 /// there. It fails only when out of memory.
 #[tactic(auto, unfolding(crate::specs::Recovery::Written::recovered_as_written))]
 pub fn recover_as_written(alloc: Global, zero: &[u8], one: &[u8]) -> Result<Recovered, AllocError>
@@ -86,7 +86,7 @@ pub fn recover_as_written(alloc: Global, zero: &[u8], one: &[u8]) -> Result<Reco
     }
 }
 
-/// Which of two halves is taken.
+/// The half that is taken of two, or why none is.
 enum Choice {
     Neither,
     Take(Half),
@@ -103,8 +103,8 @@ fn top_of(bytes: &[u8]) -> Beginning
     read_top(&bytes[..TOP_SIZE])
 }
 
-/// Which of two halves with these beginnings is taken: a fault in a header comes first, and of two
-/// open halves the later one is taken, if their generations are consecutive.
+/// Chooses the half that is taken of two halves with these beginnings. A fault in a header comes
+/// first; of two open halves the later one is taken, if their generations are consecutive.
 fn choose(zero: Beginning, one: Beginning) -> Choice
     ensures { (first second : List ℕ) → zero ≡ beginning (top first) → one ≡ beginning (top second)
         →
@@ -138,7 +138,8 @@ fn later(zero: Header, one: Header) -> Choice
     Choice::Damaged(Half::One, GENERATION_BEGINS)
 }
 
-/// What a half that is taken recovers to as written. It fails only when out of memory.
+/// What a taken half recovers to, in the kind versions that are written there. It fails only when
+/// out of memory.
 fn recover_half(alloc: Global, half: Half, bytes: &[u8]) -> Result<Recovered, AllocError>
     ensures { IfOk result (λ r. seen r ≡ as_written_from (taken_half half (found bytes.now))) }
 {
@@ -152,7 +153,8 @@ fn recover_half(alloc: Global, half: Half, bytes: &[u8]) -> Result<Recovered, Al
     }
 }
 
-/// What the parts of a half recover to as written. It fails only when out of memory.
+/// What the parts of a half recover to, in the kind versions that are written there. It fails only
+/// when out of memory.
 fn recover_parts(alloc: Global, half: Half, parts: Parts) -> Result<Recovered, AllocError>
     requires { parts.before ≤ 2 ^ 40 }
     ensures { (s : Saved) → AreParts s parts → IfOk result (λ r. seen r ≡ recovered_by half s

@@ -1,4 +1,4 @@
-//! The blank that a task is dispatched.
+//! The blank for a task.
 
 ghost use Rattle.std.specs.Prelude.{◌≡◌, ◌+◌, true, false, IfOk, IfSome, IsSome, None};
 ghost use Rattle.std.specs.BTreeMap.{is_at};
@@ -20,8 +20,8 @@ use charmlet_shard::RestoredShard;
 use charmlet_stock::Stock;
 use std::alloc::AllocError;
 
-/// Gives a replayer a blank from the stock, where it is written that the task constructs its
-/// receiver. `Ok(false)` if the stock has none. It fails only when out of memory.
+/// Gives a replayer a blank from the stock, if the log says that the task constructs its receiver.
+/// `Ok(false)` if the stock has none. It fails only when out of memory.
 pub fn dispatch_blank<C: Chare>(
     manifest: &Manifest,
     stock: &mut Stock<C>,
@@ -40,7 +40,7 @@ pub fn dispatch_blank<C: Chare>(
         ≡ blanks_in stock.old kind) }
     ensures lacks { IfOk result (λ done. done ≡ false →
         LacksBlank manifest.now task.now stock.old) }
-    // No object is lost: what went out of the stock was supplied to the replayer.
+    // No object is lost: each one that went out of the stock was supplied to the replayer.
     ensures total { (kind : kinds.Kind) →
         supplied_to restored.new.stock kind + blanks_in stock.new kind
         ≡ supplied_to restored.old.stock kind + blanks_in stock.old kind }
@@ -61,7 +61,7 @@ pub fn dispatch_blank<C: Chare>(
     Ok(true)
 }
 
-/// The kind of the object that a task constructs, by what is written.
+/// The kind of the object that a task constructs, as the log says.
 fn kind_wanted(manifest: &Manifest, task: &Task) -> Option<Kind>
     requires { IsSome (lookup (is_at (nat_cmp task.now.message.to.array)) manifest.now) }
     ensures some { IfSome result (λ kind. (task.now.effect ≡ effects.Constructed)

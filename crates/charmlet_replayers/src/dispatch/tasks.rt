@@ -1,4 +1,4 @@
-//! What a replayer is given.
+//! Tasks and blanks that a replayer gets.
 
 ghost use Rattle.std.specs.Prelude.{◌≡◌, ◌+◌, ◌<◌, ◌∷◌, [], IfOk, IfSome, IsSome, length, true, false};
 ghost use Rattle.std.specs.BTreeMap.{is_at};
@@ -21,7 +21,7 @@ use charmlet_model::Manifest;
 use charmlet_stock::Stock;
 use std::alloc::AllocError;
 
-/// Gives a replayer one more task, and a blank from the stock where it is written that the task
+/// Gives a replayer one more task, and a blank from the stock if the log says that the task
 /// constructs its receiver. `Ok(false)` if the stock has none. It fails only when out of memory.
 pub fn give_task<C: Chare>(
     manifest: &Manifest,
@@ -55,9 +55,9 @@ pub fn give_task<C: Chare>(
     Ok(true)
 }
 
-/// Gives one of several replayers one more task, and a blank from the stock where it is written
-/// that the task constructs its receiver. `Ok(false)` if the stock has none: then nothing changes.
-/// It fails only when out of memory.
+/// Gives one of several replayers one more task, and a blank from the stock if the log says that
+/// the task constructs its receiver. `Ok(false)` if the stock has none: then nothing changes. It
+/// fails only when out of memory.
 fn give_one<C: Chare>(
     manifest: &Manifest,
     stock: &mut Stock<C>,
@@ -81,9 +81,9 @@ fn give_one<C: Chare>(
     give_task(manifest, stock, &mut replayers[worker], task)
 }
 
-/// Gives its task to the replayer that has the home of its receiver, if there is a task, and a
-/// blank from the stock where it is written that the task constructs its receiver. `Ok(false)` if
-/// the stock has none: then nothing changes. It fails only when out of memory.
+/// Gives a task, if there is one, to the replayer that has its receiver's home, and a blank from
+/// the stock if the log says that the task constructs its receiver. `Ok(false)` if the stock has
+/// none: then nothing changes. It fails only when out of memory.
 pub(crate) fn give_if<C: Chare>(
     world: &ReplayWorld,
     stock: &mut Stock<C>,

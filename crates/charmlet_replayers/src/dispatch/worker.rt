@@ -7,8 +7,8 @@ ghost use Rattle.charmlet_replayers.specs.Dispatch.Sharing.{worker_of};
 use charmlet_locate::home;
 use charmlet_model::Elem;
 
-/// The replayer of an element, of so many on so many processors: each replayer has the shelves of
-/// some processors, and an element is its home's replayer's.
+/// The replayer of an element, of `workers` replayers on this many processors. Each replayer has
+/// the shelves of some processors, and an element belongs to the replayer of its home.
 pub fn worker_of(elem: Elem, processors: u16, workers: usize) -> usize
     requires processors { is_processor_count processors ≡ true }
     requires some { 0 < workers }

@@ -1,4 +1,4 @@
-//! What a replayer does in its thread.
+//! The work of one replayer in its thread.
 
 ghost use Rattle.charmlet_replayers.specs.Replayer.Replayers.{IsCaughtUpReplayer, IsReadyReplayer};
 ghost use Rattle.charmlet_replayers.specs.Replayer.Tasks.{IsDoneReplayer, IsReadyToDo};
@@ -10,7 +10,7 @@ use charmlet_chare::Chare;
 use charmlet_model::Manifest;
 use std::mem;
 
-/// Makes the deliveries of a replayer again, up to the first one that is at fault.
+/// Repeats the deliveries of a replayer, up to the first faulty one.
 pub(crate) fn catch_up_replayer<C: Chare>(manifest: &Manifest, replayer: &mut Replayer<C>)
     requires { IsReadyReplayer manifest.now replayer.old }
     ensures { IsCaughtUpReplayer manifest.now replayer.old replayer.new }
@@ -19,8 +19,8 @@ pub(crate) fn catch_up_replayer<C: Chare>(manifest: &Manifest, replayer: &mut Re
     replayer.stopped = stop_of(replayer.restored.catch_up(manifest, deliveries));
 }
 
-/// Does the tasks of a replayer, up to the first one that does something else than is written. The
-/// replayer then has what they reply to clients, besides the replies that it had, and no task.
+/// Does the tasks of a replayer, up to the first one whose effects differ from the log. The
+/// replayer then has their replies to clients, besides its earlier replies, and no task.
 pub(crate) fn redo_replayer<C: Chare>(manifest: &Manifest, replayer: &mut Replayer<C>)
     requires { IsReadyToDo manifest.now replayer.old }
     ensures { IsDoneReplayer manifest.now replayer.old replayer.new }

@@ -1,4 +1,4 @@
-//! What a replayer has.
+//! One replayer's part of a recovery.
 
 use crate::replies::Reply;
 use charmlet_chare::Chare;
@@ -8,8 +8,8 @@ use charmlet_record::{Positioned, ReadError};
 use charmlet_shard::RestoredShard;
 use std::alloc::Global;
 
-/// What a replayer has of a recovery: its elements, with a shelf for each processor and a stock of
-/// its own, the deliveries and the tasks that it makes again, and why it stopped.
+/// A replayer's part of a recovery: its elements, with a shelf for each processor and a stock of
+/// its own, the deliveries and tasks that it repeats, and why it stopped.
 #[derive(Drop)]
 pub struct Replayer<C: Chare> {
     pub alloc: Global,

@@ -1,4 +1,4 @@
-//! Where the first of several replayers stopped.
+//! The first point at which one of several replayers stopped.
 
 ghost use Rattle.std.specs.Prelude.{◌≡◌, false, Err, IfOk, None, OnOk, Some, length};
 ghost use Rattle.std.specs.List.{All};
@@ -22,8 +22,8 @@ pub(crate) fn stop_of(answer: Result<(), ReadError>) -> Option<ReadError>
     }
 }
 
-/// The earlier one of a fault and of the one at which another replayer stopped, if it did. It fails
-/// where that replayer was refused memory.
+/// The earlier of a fault and another replayer's fault, if it stopped. It fails if that replayer
+/// was refused memory.
 fn earlier(first: Option<Fault>, stopped: Option<ReadError>) -> Result<Option<Fault>, AllocError>
     ensures { IfOk result (λ found. (left_in found ≡ earlier (left_in first) (left_of stopped))
         × (is_refused stopped ≡ false)) }
@@ -45,7 +45,7 @@ fn earlier(first: Option<Fault>, stopped: Option<ReadError>) -> Result<Option<Fa
 }
 
 /// Why replayers stopped, if one did: the earliest of their faults, whichever of them found it; or
-/// `Memory`, where one was refused memory.
+/// `Memory`, if one was refused memory.
 pub(crate) fn stop_of_replayers<C: Chare>(replayers: &[Replayer<C>]) -> Result<(), ReadError>
     ensures ok { OnOk result ((earliest_stop (length replayers.now) (left_at replayers.now) ≡ None)
         × All IsSpared replayers.now) }

@@ -1,4 +1,4 @@
-//! Replayers that are lent in halves to work that is done at once.
+//! Parallel work of replayers, which are lent in halves to threads.
 
 ghost use Rattle.std.specs.List.{All, AllZip};
 ghost use Rattle.std.specs.Thread.{IsSync};
@@ -12,8 +12,8 @@ use charmlet_chare::Chare;
 use charmlet_model::Manifest;
 use std::thread::{Threads, join_mut};
 
-/// Makes the deliveries of all replayers again, in as many threads as can be started. A half of the
-/// replayers for which none can be started is done by the thread that lends it.
+/// Repeats the deliveries of all replayers, in as many threads as can be started. If no thread can
+/// be started for a half of the replayers, the thread that lends the half does its work.
 pub(crate) fn lend_deliveries<R: Threads + Sync, C: Chare>(
     rt: &R,
     manifest: &Manifest,
@@ -42,8 +42,8 @@ pub(crate) fn lend_deliveries<R: Threads + Sync, C: Chare>(
     );
 }
 
-/// Does the tasks of all replayers, in as many threads as can be started. A half of the replayers
-/// for which none can be started is done by the thread that lends it.
+/// Does the tasks of all replayers, in as many threads as can be started. If no thread can be
+/// started for a half of the replayers, the thread that lends the half does its work.
 pub(crate) fn lend_tasks<R: Threads + Sync, C: Chare>(
     rt: &R,
     manifest: &Manifest,

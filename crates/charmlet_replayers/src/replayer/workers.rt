@@ -1,4 +1,4 @@
-//! Several replayers replay what one would.
+//! A replay by several replayers, with the result of one.
 
 ghost use Rattle.std.specs.Prelude.{◌≡◌, ℕ, Err, List, None, OnOk};
 ghost use Rattle.std.specs.List.{All, AllZip};
@@ -27,9 +27,9 @@ use charmlet_model::Manifest;
 use charmlet_record::ReadError;
 use std::thread::Threads;
 
-/// Makes the deliveries of a catch-up list again, each by the replayer that has its receiver, in as
-/// many threads as can be started. `Damaged` has the place of the first one of the list that is at
-/// fault, whichever replayer finds it; `Memory`.
+/// Repeats the deliveries of a catch-up list, each by the replayer that has its receiver, in as
+/// many threads as can be started. `Damaged` has the place of the list's first faulty delivery,
+/// whichever replayer finds it; `Memory`.
 pub fn catch_up_by_workers<R: Threads + Sync, C: Chare>(
     rt: &R,
     manifest: &Manifest,
@@ -55,9 +55,9 @@ pub fn catch_up_by_workers<R: Threads + Sync, C: Chare>(
 }
 
 /// Does the tasks of a log, each by the replayer that has its receiver, in as many threads as can
-/// be started. Each replayer then has what its tasks reply to clients, after the replies that it
-/// had, and no task. `Damaged` has the place of the first one of the log that does something else
-/// than is written, whichever replayer finds it; `Memory`.
+/// be started. Each replayer then has its tasks' replies to clients, after its earlier replies, and
+/// no task. `Damaged` has the place of the log's first task whose effects differ from the log,
+/// whichever replayer finds it; `Memory`.
 pub fn redo_by_workers<R: Threads + Sync, C: Chare>(
     rt: &R,
     manifest: &Manifest,

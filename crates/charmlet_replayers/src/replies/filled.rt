@@ -8,8 +8,9 @@ use charmlet_model::{ClientRow, Words};
 use std::alloc::{AllocError, Global};
 use std::collections::BTreeMap;
 
-/// Puts copies of replies into the rows of the clients that asked, each over what the row has for
-/// its request. One that the window has no more is left out. It fails only when out of memory.
+/// Puts copies of replies into the rows of the clients that asked, each in place of the row's reply
+/// to the same request. A reply whose request isn't in the window any more is left out. It fails
+/// only when out of memory.
 pub fn fill(
     alloc: Global,
     rows: &mut BTreeMap<u32, ClientRow>,
@@ -34,8 +35,8 @@ fn put(alloc: Global, rows: &mut BTreeMap<u32, ClientRow>, reply: &Reply) -> Res
     Ok(())
 }
 
-/// Puts a copy of these words over what the row has for the request, if that is in the window. It
-/// fails only when out of memory.
+/// Puts a copy of these words in place of the row's reply to the request, if the request is in the
+/// window. It fails only when out of memory.
 fn put_over(
     alloc: Global,
     row: &mut ClientRow,

@@ -2,8 +2,8 @@
 
 ghost use Rattle.charmlet_replayers.specs.Replies.Laws.{FilledAreWorlds, ScanKeepsOthers, RepliesAreOfEvents};
 
-/// A request is delivered once. So of the replies that replayers make again there is one for each
-/// request that the log replies to, with the words of the event that delivered it, however the
+/// A request is delivered once. So among the replies that replayers give again there is one for
+/// each request that the log replies to, with the words of the event that delivered it, however the
 /// elements are shared out.
 pub fn replies_are_of_events()
     ensures { RepliesAreOfEvents }

@@ -1,11 +1,11 @@
-//! A reply that a replayer makes again.
+//! Replies that a replayer gives again.
 
 ghost use Rattle.std.specs.Prelude.{◌≡◌, option_to_list};
 ghost use Rattle.charmlet_replayers.specs.Replies.Replies.{kept_reply};
 
 use charmlet_model::{MsgId, Origin, Words};
 
-/// What is replied to one of a client's requests.
+/// A reply to one of a client's requests.
 #[derive(Debug, Drop)]
 pub struct Reply {
     pub client: u32,
@@ -13,8 +13,8 @@ pub struct Reply {
     pub words: Words,
 }
 
-/// What these words are for the client that sent the message of this id. Of a message that an
-/// element sent no reply is kept.
+/// The reply with these words for the client that sent the message of this id, or `None` for a
+/// message that an element sent.
 pub fn reply_of(id: MsgId, words: Words) -> Option<Reply>
     ensures { option_to_list result ≡ kept_reply id.origin id.number words }
 {

@@ -1,4 +1,4 @@
-//! Calls in well formed scripts of names that no `handler` line has.
+//! Calls of names without a `handler` line, in well-formed scripts.
 
 use crate::reasons::line::{Meant, word_at};
 use crate::reasons::near::Search;
@@ -10,7 +10,7 @@ use indexmap::IndexSet;
 use std::alloc::{AllocError, Global};
 use std::fmt;
 
-/// The most names that are shown, and the most lines that are shown of each.
+/// The most names that are shown, and the most lines that are shown for each.
 const MOST_SHOWN: usize = 20;
 
 /// A name that no `handler` line has, and the lines that call it.
@@ -19,24 +19,24 @@ struct Called<'a> {
     name: &'a [u8],
     /// The first of these lines.
     lines: Vec<u64>,
-    /// How many more there are.
+    /// How many more such lines there are.
     more: u64,
     /// The nearest name of a handler.
     meant: Option<&'a [u8]>,
 }
 
-/// What is told of a script without a malformed line: that there is none, and which names its lines
-/// call that no `handler` line has. It is printed without a line feed at the end.
+/// The report on a script without a malformed line: that there is none, and the called names that
+/// no `handler` line has. It is printed without a line feed at the end.
 #[derive(Debug, Drop)]
 pub struct WellFormed<'a> {
     purpose: Purpose,
     /// The first of these names.
     called: Vec<Called<'a>>,
-    /// How many there are in all.
+    /// How many such names there are in all.
     names: usize,
 }
 
-/// Says what may be wrong in a script that is well formed.
+/// Reports which called names no `handler` line has, in a script that is well formed.
 pub fn well_formed<'a>(
     alloc: Global,
     text: &'a [u8],
@@ -56,7 +56,7 @@ struct Calls<'a> {
     handlers: IndexSet<&'a [u8]>,
     /// The names without a handler.
     names: IndexSet<&'a [u8]>,
-    /// The first of these, each with the lines that call it.
+    /// The first of these names, each with the lines that call it.
     called: Vec<Called<'a>>,
 }
 
@@ -80,7 +80,7 @@ impl<'a> Calls<'a> {
         }
     }
 
-    /// Notes that the line with this number calls a name, if that has no handler.
+    /// Notes that the line with this number calls a name, if the name has no handler.
     fn note_call(&mut self, alloc: Global, name: &'a [u8], number: u64) -> Result<(), AllocError> {
         if self.handlers.contains(&name) {
             return Ok(());
@@ -95,7 +95,7 @@ impl<'a> Calls<'a> {
         }
     }
 
-    /// What is told of them, with the nearest handler of each name.
+    /// The report on these calls, with the nearest handler of each name.
     fn into_well_formed(self, purpose: Purpose) -> WellFormed<'a> {
         let Calls {
             handlers,
@@ -132,7 +132,7 @@ impl<'a> Called<'a> {
         }
     }
 
-    /// Adds a line that calls it.
+    /// Adds a line that calls the name.
     fn add(&mut self, line: u64) -> Result<(), AllocError> {
         if self.lines.len() < MOST_SHOWN {
             self.lines.push(line)?;
@@ -154,7 +154,7 @@ fn write_numbers<W: fmt::Write>(f: &mut fmt::Formatter<W>, numbers: &[u64]) -> f
     Ok(())
 }
 
-/// Writes which lines call a name: these, and so many more.
+/// Writes the lines that call a name: these, and `more` others.
 fn write_callers<W: fmt::Write>(
     f: &mut fmt::Formatter<W>,
     lines: &[u64],

@@ -27,22 +27,22 @@ pub struct Explanation<'a> {
     near: Option<Fault<'a>>,
 }
 
-/// What looks for the reasons in one script.
+/// The search for the reasons in one script.
 #[derive(Drop)]
 struct Explainer<'a> {
     alloc: Global,
     setting: Setting,
     source: Source<'a>,
-    /// The words with which its lines begin.
+    /// The words with which the script's lines begin.
     beginnings: Vec<&'static [u8]>,
     search: Search,
 }
 
-/// Says why this line of a script is malformed. Lines count from 1.
+/// Explains why this line of a script is malformed. Lines count from 1.
 ///
-/// `text` is the script as `crate::ScriptText` has it, or as it was read, with any part
-/// of what is past its greatest length. `line` is the one that `ReadError::Malformed` names. Of a
-/// line that isn't malformed it says that it spells nothing.
+/// `text` is the script as `crate::ScriptText` has it, or as it was read, with any part of the
+/// bytes past its greatest length. `line` is the one that `ReadError::Malformed` names. For a line
+/// that isn't malformed the explanation is that it spells nothing.
 pub fn explain<'a>(
     alloc: Global,
     text: &'a [u8],
@@ -67,7 +67,7 @@ pub fn explain<'a>(
     Ok(explainer.explanation(place, reason))
 }
 
-/// Whether a line has the word `array` first, but for bytes that aren't printed.
+/// Whether a line has the word `array` first, except for bytes that aren't printed.
 fn begins_like_array(line: &[u8]) -> bool {
     let start = line.iter().position(|byte| byte.is_ascii_graphic());
     let printed = start.and_then(|start| line.get(start..)).unwrap_or(&[]);
@@ -78,7 +78,7 @@ fn begins_like_array(line: &[u8]) -> bool {
     }
 }
 
-/// Whether the reason is that the line's first word is unknown, and near to `array`.
+/// Whether the reason is that the line's first word is unknown, but near to `array`.
 fn is_near_array(reason: Reason<'_>) -> bool {
     match reason {
         Reason::Line(
@@ -116,7 +116,7 @@ impl<'a> Explainer<'a> {
     }
 
     /// Whether the line in this place is malformed by the line ends of Windows, which all lines
-    /// have. A comment of a restart's script isn't: it may end with a carriage return.
+    /// have. A comment in a restart's script isn't: it may end with a carriage return.
     fn has_line_ends(&self, place: usize) -> bool {
         let may_end_so = self.setting.purpose == Purpose::Restart
             && self.source.whole_line(place).starts_with(b"#");
@@ -170,7 +170,7 @@ impl<'a> Explainer<'a> {
         Some(Reason::Place { word, fault })
     }
 
-    /// Why the line in this place is malformed, where each line before it is well formed.
+    /// Why the line in this place is malformed, if each line before it is well formed.
     fn reason(&mut self, place: usize) -> Result<Reason<'a>, AllocError> {
         match self.spelling_reason(place)? {
             Some(reason) => Ok(reason),
@@ -193,7 +193,7 @@ impl<'a> Explainer<'a> {
         Ok(true)
     }
 
-    /// The first line that begins like an `array` line, and is none, and why.
+    /// The first line that begins like an `array` line but isn't one, and why.
     fn near_array(&mut self) -> Result<Option<(usize, Reason<'a>)>, AllocError> {
         for place in 0..self.source.lines().len() {
             if let Some(reason) = self.spelling_reason(place)? {
@@ -205,7 +205,7 @@ impl<'a> Explainer<'a> {
         Ok(None)
     }
 
-    /// Why the first line of a run's script is malformed in which no line spells an array.
+    /// Why the first line of a run's script is malformed if no line spells an array.
     fn no_array(&mut self) -> Result<Explanation<'a>, AllocError> {
         let is_long = self.source.is_long();
         match self.near_array()? {

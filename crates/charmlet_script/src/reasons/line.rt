@@ -24,7 +24,8 @@ pub(crate) enum LineFault<'a> {
         word: &'a [u8],
         fault: BeginningFault<'a>,
     },
-    /// There are too few words, and this one has what is no space.
+    /// There are too few words, and this one contains a byte that looks like a space, or like
+    /// nothing at all.
     OneWord {
         word: &'a [u8],
         no_space: NoSpace,
@@ -43,7 +44,7 @@ pub(crate) enum LineFault<'a> {
     },
 }
 
-/// Which words may stand in the place of one, if there are any.
+/// The word that may have been meant, if there is one.
 #[derive(Clone, Copy, Debug)]
 pub(crate) struct Meant<'a>(pub Option<&'a [u8]>);
 
@@ -54,7 +55,7 @@ pub(crate) fn words_of<'a>(alloc: Global, line: &'a [u8]) -> Result<Vec<&'a [u8]
         .collect(alloc)
 }
 
-/// The word of a line in this place, if the line is no comment.
+/// The word of a line in this place, if the line isn't a comment.
 pub(crate) fn word_at<'a>(line: &'a [u8], place: usize) -> Option<&'a [u8]> {
     if line.starts_with(b"#") {
         return None;
@@ -78,7 +79,7 @@ fn beginning_fault<'a>(
     }
 }
 
-/// Why there are fewer words than this line has, of these after its first one.
+/// Why the words after a line's first one are fewer than the line has.
 fn too_few<'a>(line: &LineForm, words: &[&'a [u8]]) -> LineFault<'a> {
     for word in words {
         if let Some(no_space) = no_space_in(word) {
@@ -90,7 +91,7 @@ fn too_few<'a>(line: &LineForm, words: &[&'a [u8]]) -> LineFault<'a> {
     }
 }
 
-/// Why a word isn't of the form that it has in its line.
+/// Why a word doesn't have the form that its place in the line demands.
 fn form_fault<'a>(
     alloc: Global,
     line: &LineForm,
@@ -130,8 +131,8 @@ fn words_fault<'a>(
     Ok(None)
 }
 
-/// Why a first word and the words after it spell nothing, if they don't. The lines of the script
-/// begin with one of these.
+/// Why a first word and the words after it spell nothing, if they don't. `beginnings` are the words
+/// with which the script's lines begin.
 pub(crate) fn line_fault<'a>(
     alloc: Global,
     search: &mut Search,

@@ -1,4 +1,4 @@
-//! Why a line that is spelled well may not stand where it does.
+//! Why a well-spelled line may not stand in its place.
 
 use crate::reasons::line::word_at;
 use crate::reasons::table::{ARRAY, PES, is_of_header};
@@ -6,14 +6,14 @@ use crate::reasons::word::number_of;
 use charmlet_model::MAX_ARRAYS;
 use std::fmt;
 
-/// Why a line of a header may not stand there, by those before it.
+/// Why a line of a header may not stand in its place, by the lines before it.
 #[derive(Clone, Copy, Debug, PartialEq, Eq)]
 pub(crate) enum PlaceFault {
-    /// A line that is none of a header stands before it.
+    /// A line that isn't part of a header stands before it.
     OutOfPlace,
     /// A `pes` line stands before it.
     Twice,
-    /// It is an array too many.
+    /// There are too many arrays.
     TooMany,
     /// The array has a line already.
     ArrayTwice,
@@ -32,7 +32,7 @@ fn array_of(line: &[u8]) -> Option<u64> {
     number_of(word_at(line, 1)?)
 }
 
-/// Whether a line has words, and is none of a header.
+/// Whether a line has words, and isn't part of a header.
 fn is_after_header(line: &[u8]) -> bool {
     word_at(line, 0).is_some_and(|first| !is_of_header(first))
 }

@@ -23,9 +23,9 @@ pub(crate) enum Reason<'a> {
     TooLong {
         /// How many bytes it has, if that is known.
         length: Option<u64>,
-        /// The line with the first byte past its greatest length, or the one that this byte ends.
+        /// The line that has, or ends with, the first byte past the greatest length.
         line: u64,
-        /// Where it stands in its line, unless it ends it.
+        /// The place of that byte in its line, unless it ends the line.
         column: Option<u64>,
     },
     SpacesAlone,
@@ -34,9 +34,9 @@ pub(crate) enum Reason<'a> {
         word: &'a [u8],
         absence: Absence,
     },
-    /// Its words spell nothing.
+    /// The line's words spell nothing.
     Line(LineFault<'a>),
-    /// It may not stand there.
+    /// The line may not stand there.
     Place {
         word: &'a [u8],
         fault: PlaceFault,
@@ -82,7 +82,7 @@ fn write_length<W: fmt::Write>(
     write_first_past(f, line, column)
 }
 
-/// Writes how many bytes a script has that is too long, as far as is known.
+/// Writes the length of a script that is too long, as far as it is known.
 fn write_size<W: fmt::Write>(f: &mut fmt::Formatter<W>, length: Option<u64>) -> fmt::Result {
     match length {
         Some(length) => write!(
@@ -93,7 +93,7 @@ fn write_size<W: fmt::Write>(f: &mut fmt::Formatter<W>, length: Option<u64>) -> 
     }
 }
 
-/// Writes where the first byte stands that is too much.
+/// Writes the place of the first byte past the greatest length.
 fn write_first_past<W: fmt::Write>(
     f: &mut fmt::Formatter<W>,
     line: u64,

@@ -2,18 +2,19 @@
 
 use std::fmt;
 
-/// The most bytes of which all are shown.
+/// The most bytes that are shown in full.
 const MOST_SHOWN: usize = 100;
 
-/// How many are shown of more than these.
+/// How many bytes are shown of a longer text.
 const FIRST_SHOWN: usize = 60;
 
-/// A part of a script. What isn't printed, or not ASCII, is `\x` and two hexadecimal digits. Of
-/// more than 100 bytes it is the first 60, and two full stops.
+/// A part of a script. A byte that isn't printed, or isn't ASCII, is shown as `\x` and two
+/// hexadecimal digits. If there are more than 100 bytes, the first 60 are shown, and two full
+/// stops.
 #[derive(Clone, Copy, Debug)]
 pub(crate) struct Shown<'a>(pub &'a [u8]);
 
-/// The same in quotes.
+/// A part of a script, in quotes.
 #[derive(Clone, Copy, Debug)]
 pub(crate) struct Quoted<'a>(pub &'a [u8]);
 

@@ -3,22 +3,22 @@
 use crate::MAX_LENGTH;
 use std::alloc::{AllocError, Global};
 
-/// What stands in a script's text for bytes past its greatest length that aren't known.
+/// The stand-in for unknown bytes past a script's greatest length.
 const UNKNOWN: [u8; 1] = [255];
 
 /// The last line of a script that is too long.
 #[derive(Clone, Copy, Debug)]
 struct LongLine<'a> {
-    /// What is known of it, with what is past the script's greatest length.
+    /// The known part of the line, including bytes past the script's greatest length.
     text: &'a [u8],
-    /// Whether the first byte past the greatest length is the line feed that ends it.
+    /// Whether the first byte past the greatest length is the line feed that ends the line.
     ends: bool,
 }
 
 /// The lines of a script's text.
 #[derive(Debug, Drop)]
 pub(crate) struct Source<'a> {
-    /// What stands of each line within the script's greatest length, without its line feed.
+    /// The part of each line within the script's greatest length, without its line feed.
     lines: Vec<&'a [u8]>,
     /// The last one, if the script is too long.
     long: Option<LongLine<'a>>,
@@ -35,8 +35,8 @@ fn ends_with_return(line: &[u8]) -> bool {
 }
 
 impl<'a> Source<'a> {
-    /// The lines of a text, up to the one with the first byte past a script's greatest length. A
-    /// byte 255 alone stands for what is past it and isn't known.
+    /// The lines of a text, up to the line with the first byte past a script's greatest length. A
+    /// single byte 255 stands for unknown bytes past it.
     pub(crate) fn new(alloc: Global, text: &'a [u8]) -> Result<Self, AllocError> {
         if text.len() <= MAX_LENGTH {
             let lines = split_lines(alloc, text.strip_suffix(b"\n").unwrap_or(text))?;
@@ -60,7 +60,7 @@ impl<'a> Source<'a> {
         })
     }
 
-    /// What stands of each line within the script's greatest length.
+    /// The part of each line within the script's greatest length.
     pub(crate) fn lines(&self) -> &[&'a [u8]] {
         self.lines.as_slice()
     }
@@ -70,7 +70,7 @@ impl<'a> Source<'a> {
         self.long.is_some()
     }
 
-    /// The last line, if the script is too long, and its place is this one.
+    /// The last line, if the script is too long, and the line has this place.
     fn long_line(&self, place: usize) -> Option<LongLine<'a>> {
         if place.saturating_add(1) == self.lines.len() {
             self.long
@@ -79,7 +79,7 @@ impl<'a> Source<'a> {
         }
     }
 
-    /// A line as it is shown: with what is known of it past the script's greatest length.
+    /// A line as it is shown, including the known bytes past the script's greatest length.
     pub(crate) fn whole_line(&self, place: usize) -> &'a [u8] {
         match self.long_line(place) {
             Some(long) => long.text,
@@ -87,13 +87,13 @@ impl<'a> Source<'a> {
         }
     }
 
-    /// Whether this line has the first byte past the script's greatest length, or is ended by it.
+    /// Whether this line has, or ends with, the first byte past the script's greatest length.
     pub(crate) fn is_too_long(&self, place: usize) -> bool {
         self.long_line(place).is_some()
     }
 
-    /// Where in the last line the first byte past the script's greatest length stands, counted from
-    /// 1, unless it ends that line.
+    /// The column in the last line of the first byte past the script's greatest length, counted
+    /// from 1, unless that byte ends the line.
     pub(crate) fn column_past(&self) -> Option<u64> {
         match (self.long, self.lines.last()) {
             (Some(LongLine { ends: false, .. }), Some(last)) => {

@@ -4,7 +4,7 @@ use crate::reasons::setting::{Purpose, Setting};
 use crate::{MAX_BLANKS, MAX_DELIVERIES, Runner};
 use std::alloc::{AllocError, Global};
 
-/// What a word of a line has to be.
+/// The form of a word in a line.
 #[derive(Clone, Copy, Debug, PartialEq, Eq)]
 pub(crate) enum Form {
     /// A number, at most this one.
@@ -17,19 +17,19 @@ pub(crate) enum Form {
     Id,
 }
 
-/// Why a line that there is doesn't stand in some scripts.
+/// Why some scripts can't have a line that others can.
 #[derive(Clone, Copy, Debug, PartialEq, Eq)]
 pub(crate) enum Absence {
-    /// A store that comes back has its arrays.
+    /// A restarted store has its arrays.
     ArraysAreKept,
-    /// The command line says on how many processors a store comes back.
+    /// The command line says on how many processors a store is restarted.
     ProcessorsAreGiven,
     /// Workers deliver what they find.
     WorkersDeliver,
 }
 
 impl Absence {
-    /// Whether it holds of a script in this setting.
+    /// Whether the absence applies to a script in this setting.
     pub(crate) fn holds_in(self, setting: Setting) -> bool {
         match self {
             Absence::ArraysAreKept | Absence::ProcessorsAreGiven => {
@@ -43,20 +43,20 @@ impl Absence {
 /// A line that a script may have.
 #[derive(Debug)]
 pub(crate) struct LineForm {
-    /// Its first word.
+    /// The first word of the line.
     pub name: &'static str,
-    /// How the manual spells it.
+    /// The spelling of the line in the manual.
     pub spelling: &'static str,
     /// The forms of the words after the first one.
     pub words: &'static [Form],
     /// The form of each further word, if any may follow.
     pub further: Option<Form>,
-    /// Why it doesn't stand in some scripts, if there are any.
+    /// Why some scripts can't have the line, if there are any.
     pub absence: Option<Absence>,
 }
 
 impl LineForm {
-    /// Why the line doesn't stand in a script in this setting, if it doesn't.
+    /// Why a script in this setting can't have the line, if it can't.
     pub(crate) fn absence_in(&self, setting: Setting) -> Option<Absence> {
         self.absence.filter(|absence| absence.holds_in(setting))
     }
@@ -196,7 +196,7 @@ pub(crate) fn form_of(name: &[u8]) -> Option<&'static LineForm> {
     LINES.iter().find(|line| line.name.as_bytes() == name)
 }
 
-/// The first words of the lines that stand in a script in this setting.
+/// The first words of the lines that a script in this setting can have.
 pub(crate) fn beginnings(
     alloc: Global,
     setting: Setting,
@@ -208,7 +208,7 @@ pub(crate) fn beginnings(
         .collect(alloc)
 }
 
-/// Whether a line that begins with this word stands before all others.
+/// Whether a line that begins with this word is part of a header.
 pub(crate) fn is_of_header(name: &[u8]) -> bool {
     name == ARRAY.as_bytes() || name == PES.as_bytes() || name == HANDLER.as_bytes()
 }

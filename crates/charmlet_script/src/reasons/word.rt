@@ -1,4 +1,4 @@
-//! Why a word isn't of its form.
+//! Why a word doesn't have its form.
 
 use crate::reasons::shown::Quoted;
 use crate::reasons::table::{Form, U16, U32, U64};
@@ -8,7 +8,7 @@ use std::fmt;
 /// The most letters of a name.
 const MAX_LETTERS: usize = 32;
 
-/// Why a word is no number, or none of those that may stand there.
+/// Why a word isn't a number, or is out of the range of its place.
 #[derive(Clone, Copy, Debug, PartialEq, Eq)]
 pub(crate) enum NumberFault {
     NoDigits,
@@ -17,25 +17,25 @@ pub(crate) enum NumberFault {
     PastLimit(u64),
 }
 
-/// Why a word isn't of its form.
+/// Why a word doesn't have its form.
 #[derive(Clone, Copy, Debug)]
 pub(crate) enum WordFault<'a> {
     Number(NumberFault),
     Kind,
     Name,
     Message,
-    /// This part of a message's id is no number of its form.
+    /// This part of a message's id isn't a number of its form.
     MessagePart { part: &'a [u8], fault: NumberFault },
 }
 
-/// A byte that looks like a space, or like no byte.
+/// A byte that looks like a space, or like nothing at all.
 #[derive(Clone, Copy, Debug, PartialEq, Eq)]
 pub(crate) enum NoSpace {
     Return,
     Tab,
 }
 
-/// A decimal number, if it has 64 bits.
+/// A decimal number, if it fits in 64 bits.
 pub(crate) fn number_of(digits: &[u8]) -> Option<u64> {
     let mut number: u64 = 0;
     for digit in digits {
@@ -49,7 +49,7 @@ pub(crate) fn number_of(digits: &[u8]) -> Option<u64> {
     Some(number)
 }
 
-/// Why a word is no number up to this one.
+/// Why a word isn't a number up to this one.
 fn number_fault(word: &[u8], most: u64) -> Option<NumberFault> {
     if word.is_empty() {
         return Some(NumberFault::NoDigits);
@@ -63,7 +63,7 @@ fn number_fault(word: &[u8], most: u64) -> Option<NumberFault> {
     }
 }
 
-/// Why a word is no kind: those are 1 to 6.
+/// Why a word isn't a kind: kinds are 1 to 6.
 fn kind_fault<'a>(word: &'a [u8]) -> Option<WordFault<'a>> {
     if !word.iter().all(|byte| byte.is_ascii_digit()) {
         return Some(WordFault::Number(NumberFault::OtherBytes));
@@ -74,7 +74,7 @@ fn kind_fault<'a>(word: &'a [u8]) -> Option<WordFault<'a>> {
     }
 }
 
-/// Why a word is no name.
+/// Why a word isn't a name.
 fn name_fault<'a>(word: &'a [u8]) -> Option<WordFault<'a>> {
     let are_letters = word.iter().all(|byte| byte.is_ascii_alphabetic());
     if are_letters && !word.is_empty() && word.len() <= MAX_LETTERS {
@@ -84,7 +84,7 @@ fn name_fault<'a>(word: &'a [u8]) -> Option<WordFault<'a>> {
     }
 }
 
-/// Why one of these parts of an id is no number of its form, if one isn't.
+/// Why one of these parts of an id isn't a number of its form, if one isn't.
 fn parts_fault<'a>(parts: &[&'a [u8]], forms: &[Form]) -> Option<WordFault<'a>> {
     for (part, form) in parts.iter().zip(forms) {
         if let Form::UpTo(most) = form {
@@ -96,7 +96,7 @@ fn parts_fault<'a>(parts: &[&'a [u8]], forms: &[Form]) -> Option<WordFault<'a>> 
     None
 }
 
-/// Why a word is no message's id: `cC.N` or `eA.I.N`.
+/// Why a word isn't a message's id: `cC.N` or `eA.I.N`.
 fn id_fault<'a>(alloc: Global, word: &'a [u8]) -> Result<Option<WordFault<'a>>, AllocError> {
     let [first, rest @ ..] = word else {
         return Ok(Some(WordFault::Message));
@@ -109,7 +109,7 @@ fn id_fault<'a>(alloc: Global, word: &'a [u8]) -> Result<Option<WordFault<'a>>, 
     })
 }
 
-/// Why a word isn't of this form, if it isn't.
+/// Why a word doesn't have this form, if it doesn't.
 pub(crate) fn word_fault<'a>(
     alloc: Global,
     word: &'a [u8],
@@ -126,7 +126,7 @@ pub(crate) fn word_fault<'a>(
     }
 }
 
-/// What looks like a space in a word and is none, if it has that.
+/// A byte of a word that looks like a space, or like nothing at all, if there is one.
 pub(crate) fn no_space_in(word: &[u8]) -> Option<NoSpace> {
     if word.contains(&b'\r') {
         Some(NoSpace::Return)

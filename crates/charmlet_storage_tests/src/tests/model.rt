@@ -18,7 +18,7 @@ const ITEMS: [u64; 2] = [1, 258];
 
 const TAPE: [u8; 20] = [2, 0, 0, 0, 1, 0, 0, 0, 0, 0, 0, 0, 2, 1, 0, 0, 0, 0, 0, 0];
 
-// What a message makes.
+// The reaction to a message.
 fn answer(
     rt: &(impl AllocGlobal + Abort),
     kind_version: KindVersion,
@@ -61,7 +61,7 @@ fn account_pays_what_it_has(rt: HostRuntime) {
     pays(&rt, 11, 0);
 }
 
-// A message with this word makes this of an object, and has this reply.
+// An object becomes this by a message with this word, and has this reply.
 fn makes(
     rt: &(impl AllocGlobal + Abort),
     kind_version: KindVersion,
@@ -268,7 +268,7 @@ fn full_row(rt: &(impl AllocGlobal + Abort)) -> ClientRow {
     row
 }
 
-// The same with one more request.
+// That client's row after one more request.
 fn moved_row(rt: &(impl AllocGlobal + Abort), row: &ClientRow) -> ClientRow {
     let mut moved = row.copy(rt.alloc()).expect(rt, "memory");
     moved.accept(9);

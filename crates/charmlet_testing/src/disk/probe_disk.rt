@@ -9,8 +9,8 @@ use std::alloc::{AllocError, Global};
 use std::sync::Arc;
 use std::sync::atomic::{AtomicBool, AtomicU64, Ordering};
 
-/// How a disk misbehaves, and the calls that it had. Whoever has it may set it while a store has
-/// the disk.
+/// Switches by which a disk misbehaves, and counts of its calls. A holder may set them while a
+/// store has the disk.
 #[derive(Drop)]
 pub struct Switches {
     /// How many writes and syncs pass before each fails.
@@ -40,14 +40,14 @@ impl Switches {
         }
     }
 
-    /// The disk fails no more.
+    /// Makes the disk fail no more.
     pub fn mend(&self) {
         self.fuse.store(u64::MAX, Ordering::SeqCst);
         self.once.store(u64::MAX, Ordering::SeqCst);
     }
 
     /// How many lengths, reads, writes and syncs the disk in memory was asked for, and how many
-    /// calls failed before it.
+    /// calls failed before they reached it.
     pub fn counts(&self) -> [u64; 5] {
         [
             self.lengths.load(Ordering::SeqCst),
@@ -58,7 +58,7 @@ impl Switches {
         ]
     }
 
-    /// Counts a call as one more, and answers whether it passes.
+    /// Counts a call, and answers whether it passes.
     fn passes(&self, count: &AtomicU64, changes: bool) -> bool {
         let is_whole = spend(&self.once, true) && !(changes && is_blown(&self.fuse));
         if is_whole {
@@ -70,7 +70,7 @@ impl Switches {
     }
 }
 
-/// One call less before the one that fails, if one is to fail. Whether this one passes.
+/// Counts down to the call that fails, if one is to fail, and answers whether this one passes.
 fn spend(left: &AtomicU64, ends: bool) -> bool {
     match left.load(Ordering::SeqCst) {
         u64::MAX => true,
@@ -87,7 +87,7 @@ fn spend(left: &AtomicU64, ends: bool) -> bool {
     }
 }
 
-/// One call less before all fail, if they are to fail. Whether this one does.
+/// Counts down until all calls fail, if they are to fail, and answers whether this one does.
 fn is_blown(left: &AtomicU64) -> bool {
     !spend(left, false)
 }
@@ -124,12 +124,12 @@ impl ProbeDisk {
         })
     }
 
-    /// Its switches.
+    /// The switches of the disk.
     pub fn switches(&self) -> Result<Arc<Switches>, AllocError> {
         self.switches.clone()
     }
 
-    /// What a crash leaves of it.
+    /// The disk that a crash leaves.
     pub fn crash(self, choice: CrashChoice) -> ProbeDisk {
         let ProbeDisk {
             disk,
@@ -144,7 +144,7 @@ impl ProbeDisk {
         }
     }
 
-    /// The disk in memory, a call of which isn't counted and doesn't fail.
+    /// The disk in memory, whose calls aren't counted and don't fail.
     pub fn inner(&mut self) -> &mut MemDisk {
         &mut self.disk
     }
@@ -154,14 +154,14 @@ impl ProbeDisk {
         bytes_of(alloc, &mut self.disk, half)
     }
 
-    /// Writes these bytes to a half, where they begin inside or at its end, and makes them sure,
+    /// Writes these bytes to a half, if they begin inside or at its end, and makes them durable,
     /// which is no call of the disk.
     pub fn put(&mut self, half: Half, offset: u64, bytes: &[u8]) -> Result<(), DeviceFault> {
         write(&mut self.disk, half, offset, bytes)?;
         self.disk.sync(half)
     }
 
-    /// Keeps the first bytes of a half, up to so many, which is no call of the disk.
+    /// Keeps the first `length` bytes of a half, which is no call of the disk.
     pub fn cut(&mut self, alloc: Global, half: Half, length: u64) -> Result<(), DeviceFault> {
         let kept = bytes_of(alloc, &mut self.disk, half)?;
         let other = bytes_of(alloc, &mut self.disk, half.other())?;
@@ -194,7 +194,7 @@ fn bytes_of(alloc: Global, disk: &mut MemDisk, half: Half) -> Result<Vec<u8>, De
     Ok(bytes)
 }
 
-/// Reads bytes, where they are inside.
+/// Reads bytes, if they are inside.
 fn read(disk: &mut MemDisk, half: Half, offset: u64, into: &mut [u8]) -> Result<(), DeviceFault> {
     let length = disk.len(half)?;
     if length < offset || length - offset < into.len() as u64 {
@@ -203,7 +203,7 @@ fn read(disk: &mut MemDisk, half: Half, offset: u64, into: &mut [u8]) -> Result<
     disk.read_at(half, offset, into)
 }
 
-/// Writes bytes, where they begin inside or at the end.
+/// Writes bytes, if they begin inside or at the end.
 fn write(disk: &mut MemDisk, half: Half, offset: u64, bytes: &[u8]) -> Result<(), DeviceFault> {
     if disk.len(half)? < offset {
         return Err(DeviceFault);
@@ -218,8 +218,8 @@ fn filled(alloc: Global, half: Half, bytes: &[u8], others: &[u8]) -> Result<MemD
     Ok(disk)
 }
 
-/// Writes these bytes to a half of a new disk in memory, and those to the other one, and makes
-/// them sure.
+/// Writes these bytes to a half of a new disk in memory, and those to the other one, and makes them
+/// durable.
 fn fill(disk: &mut MemDisk, half: Half, bytes: &[u8], others: &[u8]) -> Result<(), DeviceFault> {
     write(disk, half, 0, bytes)?;
     write(disk, half.other(), 0, others)?;

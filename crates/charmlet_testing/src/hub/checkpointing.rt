@@ -1,4 +1,4 @@
-//! A checkpoint of a hub that runs while others work.
+//! Checkpoints of a hub that run while others work.
 
 use crate::disk::ProbeDisk;
 use crate::hub::hub_machine::HubMachine;
@@ -8,14 +8,14 @@ use charmlet_hub::{Checkpoint, Hub, NotSealed};
 use charmlet_model::Refusal;
 use charmlet_sequencer::{ProcessorState, RuntimeName};
 
-/// What lacks where no checkpoint runs.
+/// What is lacking if no checkpoint runs.
 const CHECKPOINT: Failed = Failed::Lacks("checkpoint");
 
-/// What lacks where it isn't this shelf's turn, or a shelf wasn't handed in yet.
+/// What is lacking if it isn't this shelf's turn, or a shelf wasn't handed in yet.
 const SHELF: Failed = Failed::Lacks("shelf");
 
 impl<B: RuntimeName> HubMachine<B> {
-    /// Does this with the checkpoint that runs. A seal answers its generation.
+    /// Makes this call with the running checkpoint. A seal answers its generation.
     pub(crate) fn call_running(&mut self, call: Running) -> Result<Option<u64>, Failed> {
         match call {
             Running::Begin => self.begin(),
@@ -82,8 +82,8 @@ impl<B: RuntimeName> HubMachine<B> {
     }
 }
 
-/// Makes a checkpoint at once: it begins, all shelves are handed in, and it is sealed. Where that
-/// is refused, it is given up.
+/// Makes a checkpoint at once: it begins, all shelves are handed in, and it is sealed. If that is
+/// refused, the checkpoint is given up.
 pub(crate) fn checkpoint<B: RuntimeName>(
     hub: &mut Hub<ProbeDisk, Object, B>,
     shelves: &mut [ProcessorState<Object, B>],

@@ -1,4 +1,4 @@
-//! What is handed in where a hub is closed, and what comes of it.
+//! The end of a hub: its hand-ins and its result.
 
 use crate::disk::ProbeDisk;
 use crate::hub::places::{place_of_pass, place_of_seat};
@@ -34,15 +34,14 @@ pub(crate) fn take_pass<B: RuntimeName>(
     Some(passes.swap_remove(place))
 }
 
-/// Puts back what was taken out of a list, which has room for it.
+/// Puts an item back that was taken out of a list, which has room for it.
 pub(crate) fn put_back<T: Drop>(items: &mut Vec<T>, taken: Option<T>) {
     if let Some(item) = taken {
         let _ = items.push(item);
     }
 }
 
-/// What a store was made of. Where memory is refused for the list of its objects it is tried once
-/// more.
+/// The parts of a store. If memory is refused for the list of its objects, it is tried once more.
 pub(crate) fn end(store: Store<Object>, halves: Halves<ProbeDisk>) -> Ended {
     let disk = halves.into_disk();
     let result = match store.dismantle() {

@@ -1,4 +1,4 @@
-//! What a worker does with a hub and what lies under the locks of processors.
+//! A worker's calls of a hub and of the shelves under the locks of processors.
 
 use crate::disk::ProbeDisk;
 use crate::objects::Object;
@@ -8,7 +8,7 @@ use charmlet_leases::Seat;
 use charmlet_model::{Elem, MsgId, Refusal};
 use charmlet_sequencer::{ProcessorState, RuntimeName};
 
-/// What lacks where no delivery is under way, or where it isn't as far as it has to be.
+/// What is lacking if no delivery is under way, or if it isn't as far as it has to be.
 const DELIVERY: Failed = Failed::Lacks("delivery");
 
 /// Delivers a message as a worker does, with the seat of the shelf's processor.
@@ -28,7 +28,7 @@ pub(crate) fn deliver<B: RuntimeName>(
     Ok(())
 }
 
-/// Commits what was done on a shelf, with the seat of its processor.
+/// Commits the performed delivery on a shelf, with the seat of its processor.
 pub(crate) fn commit<B: RuntimeName>(
     hub: &mut Hub<ProbeDisk, Object, B>,
     shelf: &mut ProcessorState<Object, B>,
@@ -42,7 +42,7 @@ pub(crate) fn commit<B: RuntimeName>(
     Ok(())
 }
 
-/// Has the receiver on a shelf react.
+/// Runs the reaction of the receiver on a shelf.
 pub(crate) fn enter<B: RuntimeName>(shelf: &mut ProcessorState<Object, B>) -> Result<(), Failed> {
     if !shelf.is_assigned() {
         return Err(DELIVERY);
@@ -50,7 +50,7 @@ pub(crate) fn enter<B: RuntimeName>(shelf: &mut ProcessorState<Object, B>) -> Re
     Ok(shelf.enter()?)
 }
 
-/// Calls this on a shelf, for which no seat is needed.
+/// Makes this call on a shelf, for which no seat is needed.
 pub(crate) fn turn<B: RuntimeName>(
     hub: &mut Hub<ProbeDisk, Object, B>,
     shelf: &mut ProcessorState<Object, B>,

@@ -1,4 +1,4 @@
-//! A hub with all that is under its locks and what it has lent.
+//! A hub with its shelves, and the seats and passes that it has lent.
 
 ghost use Rattle.std.specs.Prelude.{◌≡◌, ◌≤◌, vec_len};
 ghost use Rattle.std.specs.Vec.{vec_capacity};
@@ -31,7 +31,7 @@ pub struct Authorities {
 }
 
 impl Authorities {
-    /// New authorities. It fails only when out of memory.
+    /// New authorities of a hub. It fails only when out of memory.
     pub fn new(alloc: Global) -> Result<Authorities, AllocError> {
         let parts = UnnamedAuthority::new(alloc)?;
         let seats = UnnamedAuthority::new(alloc)?;
@@ -46,8 +46,8 @@ impl Authorities {
     }
 }
 
-/// A hub, the shelves that lie under their locks, and the seats and the passes that it has lent.
-/// One thread works for all processors.
+/// A hub, the shelves under their locks, and the seats and passes that it has lent. One thread
+/// works for all processors.
 pub struct HubMachine<B: RuntimeName> {
     pub(crate) alloc: Global,
     pub(crate) hub: Hub<ProbeDisk, Object, B>,
@@ -59,7 +59,7 @@ pub struct HubMachine<B: RuntimeName> {
     pub(crate) passes: Vec<ClientPass<PassesOf<B>>>,
     /// The clients whose passes were asked for, and how many accepts each pass had by then.
     pub(crate) lent: BTreeMap<u32, u64>,
-    /// The checkpoint that runs.
+    /// The running checkpoint.
     pub(crate) checkpoint: Option<Checkpoint<B>>,
 }
 
@@ -107,7 +107,7 @@ impl<B: RuntimeName> HubMachine<B> {
         }
     }
 
-    /// The same, with a list that has room for its shelves.
+    /// Opens a hub over a store, with a list that has room for its shelves.
     fn open_with(
         alloc: Global,
         store: ProbeStore,
@@ -148,8 +148,8 @@ impl<B: RuntimeName> HubMachine<B> {
         }
     }
 
-    /// It comes apart, where all but this is handed in, or comes back with the reason. A checkpoint
-    /// that runs is given up.
+    /// Takes the machine apart, handing in everything except `without`, or returns it with the
+    /// refusal. A running checkpoint is given up.
     pub(crate) fn come_apart(self, without: Without) -> Result<Ended, (Refusal, Self)> {
         if self.shelves.len() != usize::from(self.hub.processors()) {
             return Err((Refusal::Strayed, self));

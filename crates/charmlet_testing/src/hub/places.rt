@@ -1,4 +1,4 @@
-//! Where seats and passes stand in their lists.
+//! Searches for seats and passes in their lists.
 
 ghost use Rattle.std.specs.Prelude.{◌<◌, IfSome, length};
 

@@ -17,13 +17,13 @@ use std::alloc::AllocError;
 use std::sync::Wait;
 
 impl<B: RuntimeName> HubMachine<B> {
-    /// A client's pass, where it is lent.
+    /// A client's pass, if it is lent.
     fn pass_in(&self, client: u32) -> Option<&ClientPass<PassesOf<B>>> {
         let place = place_of_pass(self.passes.as_slice(), client)?;
         self.passes.get(place)
     }
 
-    /// The place of a client's pass, which is lent where it isn't yet.
+    /// The place of a client's pass, which is lent if it isn't yet.
     fn pass_of(&mut self, client: u32) -> Result<usize, Refusal> {
         match place_of_pass(self.passes.as_slice(), client) {
             Some(place) => Ok(place),
@@ -42,7 +42,7 @@ impl<B: RuntimeName> HubMachine<B> {
         Ok(place)
     }
 
-    /// The place of a processor's seat, which is lent where it isn't yet.
+    /// The place of a processor's seat, which is lent if it isn't yet.
     fn seat_of(&mut self, processor: u16) -> Result<usize, Refusal> {
         match place_of_seat(self.seats.as_slice(), processor) {
             Some(place) => Ok(place),
@@ -61,7 +61,7 @@ impl<B: RuntimeName> HubMachine<B> {
         Ok(place)
     }
 
-    /// A client's request, by its pass.
+    /// Makes a client's request, by its pass.
     fn request(&mut self, client: u32, request: &Request<'_>) -> Result<Told, Refusal> {
         let place = self.pass_of(client)?;
         match self.passes.get_mut(place) {
@@ -70,7 +70,7 @@ impl<B: RuntimeName> HubMachine<B> {
         }
     }
 
-    /// What a client is told, by its pass.
+    /// Tells a client what is durable of its request, by its pass.
     fn status(&mut self, client: u32, number: u64) -> Result<Told, Refusal> {
         let place = self.pass_of(client)?;
         match self.passes.get_mut(place) {
@@ -94,7 +94,7 @@ impl<B: RuntimeName> HubMachine<B> {
         deliver(&mut self.hub, shelf, seat, id)
     }
 
-    /// Commits what was done on a processor.
+    /// Commits the performed delivery on a processor.
     fn commit(&mut self, processor: u16) -> Result<(), Failed> {
         let place = self.seat_of(processor)?;
         let Some(shelf) = self.shelves.get_mut(usize::from(processor)) else {
@@ -123,7 +123,7 @@ impl<B: RuntimeName> HubMachine<B> {
         self.hub.flush(none.as_mut_slice())
     }
 
-    /// Where an element stands, and its packed state.
+    /// The processor of an element, and its packed state.
     fn standing_on(&mut self, processor: u16, elem: Elem) -> Result<Option<Standing>, Failed> {
         let Some(shelf) = self.shelves.get_mut(usize::from(processor)) else {
             return Ok(None);

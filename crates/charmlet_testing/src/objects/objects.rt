@@ -1,4 +1,4 @@
-//! Objects of all kinds, which count what is done with them.
+//! Objects of all kinds, which count their calls.
 
 use charmlet_chare::{Chare, Outbox};
 use charmlet_kinds::{Account, Counter, Ring, Sum, Tape, Tree};
@@ -19,7 +19,7 @@ pub enum AnyObject {
     Tape(Tape),
 }
 
-/// What any object does.
+/// The calls of any object.
 macro_rules! by_kind {
     ($any:expr, $object:ident => $done:expr) => {
         match $any {
@@ -81,7 +81,7 @@ impl Chare for AnyObject {
     }
 }
 
-/// What was done with all objects.
+/// Counts of the calls of all objects.
 #[derive(Drop)]
 pub struct Tally {
     entries: AtomicU64,
@@ -93,7 +93,7 @@ pub struct Tally {
 }
 
 impl Tally {
-    /// Nothing yet.
+    /// A tally of no calls.
     pub fn new() -> Tally {
         Tally {
             entries: AtomicU64::new(0),
@@ -115,7 +115,7 @@ impl Tally {
         ]
     }
 
-    /// How often objects were made blanks of a version, and told to go on in the newest one.
+    /// How often objects were made blanks of a version, and brought forward to the newest one.
     pub fn versions(&self) -> [u64; 2] {
         [
             self.retros.load(Ordering::SeqCst),
@@ -124,7 +124,7 @@ impl Tally {
     }
 }
 
-/// An object that counts what is done with it.
+/// An object that counts its calls.
 pub struct Object {
     object: AnyObject,
     tally: Arc<Tally>,
@@ -190,7 +190,7 @@ impl Chare for Object {
     }
 }
 
-/// So many blanks of each of these kinds. It fails only when out of memory.
+/// Makes this many blanks of each of these kinds. It fails only when out of memory.
 pub fn blanks(
     alloc: Global,
     tally: &Arc<Tally>,

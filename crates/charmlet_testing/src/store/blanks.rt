@@ -11,7 +11,7 @@ use std::alloc::{AllocError, Global};
 use std::marker::Model;
 use std::sync::Arc;
 
-/// Blanks for a restart, of which none was used yet.
+/// Blanks for a restart, all unused.
 pub struct Blanks {
     stock: Stock<Object>,
 }
@@ -44,14 +44,14 @@ impl Blanks {
         }
     }
 
-    /// The blanks that are in this stock.
+    /// The blanks in this stock.
     pub(crate) fn of_stock(stock: Stock<Object>) -> Blanks
         requires { IsUnused stock }
     {
         Blanks { stock }
     }
 
-    /// The stock that they are in.
+    /// The stock of the blanks.
     pub(crate) fn into_stock(self) -> Stock<Object>
         ensures { IsUnused result }
     {
@@ -59,7 +59,7 @@ impl Blanks {
         stock
     }
 
-    /// How many there are, of all kinds.
+    /// How many blanks there are, of all kinds.
     pub fn count(&self) -> u64 {
         let mut count = 0u64;
         for kind in &Kind::ALL {
@@ -68,8 +68,8 @@ impl Blanks {
         count
     }
 
-    /// Appends the objects to others. It fails only when out of memory, and then those that found
-    /// no room are dropped.
+    /// Appends the objects to others. It fails only when out of memory, and then objects without
+    /// room are dropped.
     pub fn append_to(self, objects: &mut Vec<Object>) -> Result<(), AllocError> {
         let mut stock = self.into_stock();
         empty_into(&mut stock, objects)
@@ -107,7 +107,7 @@ fn by_kind(wanted: &Wanted) -> [(Kind, u64); 6] {
     ]
 }
 
-/// The objects that a restart from a disk wants as blanks, none where no store is found there. It
+/// The objects that a restart from a disk wants as blanks, or none if no store is found there. It
 /// looks for the store by calls that aren't counted and don't fail. It fails only when out of
 /// memory.
 pub fn wanted_objects(

@@ -14,7 +14,7 @@ use std::alloc::{AllocError, Global};
 use std::collections::BTreeMap;
 use std::sync::Wait;
 
-/// What lacks where a line is one of a hub.
+/// What is lacking for a line that only hubs have.
 const HUB: Failed = Failed::Lacks("hub");
 
 /// An engine, and the passes of its clients.
@@ -39,7 +39,7 @@ impl Drop for EngineMachine {
     }
 }
 
-/// The answer of a client's request or question.
+/// The answer to a client's request or question.
 fn answer_of(told: Result<Told, Refusal>) -> Result<Answer, Failed> {
     match told {
         Ok(told) => Ok(Answer::Told(told)),
@@ -48,7 +48,7 @@ fn answer_of(told: Result<Told, Refusal>) -> Result<Answer, Failed> {
 }
 
 impl EngineMachine {
-    /// The machine over a store, of which no pass is out.
+    /// The machine over a store with no pass out.
     pub fn new(alloc: Global, store: ProbeStore) -> EngineMachine {
         EngineMachine {
             engine: store.into_engine(),
@@ -57,7 +57,7 @@ impl EngineMachine {
         }
     }
 
-    /// Takes a step, by nobody's pass.
+    /// Takes a step, without a pass.
     fn take(&mut self, step: &Step) -> Result<Answer, Failed> {
         match self.engine.step(step) {
             Answer::Refused(refusal) => Err(Failed::Refused(refusal)),
@@ -65,7 +65,7 @@ impl EngineMachine {
         }
     }
 
-    /// A client goes by this pass, which is given back at once where memory is refused.
+    /// Keeps a client's pass, which is given back at once if memory is refused.
     fn keep(&mut self, client: u32, pass: ClientPass) -> Result<(), Failed> {
         match self.held.insert(client, pass) {
             Ok(_) => Ok(()),

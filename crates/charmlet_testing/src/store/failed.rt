@@ -10,7 +10,7 @@ use std::io;
 #[derive(Clone, Copy, Debug, PartialEq, Eq)]
 pub enum Failed {
     Refused(Refusal),
-    /// No store came back, but so many blanks.
+    /// No store was restarted, but this many blanks came back.
     NotRestarted(Refusal, u64),
     /// The line lacks this.
     Lacks(&'static str),
@@ -19,7 +19,7 @@ pub enum Failed {
 }
 
 impl Failed {
-    /// Memory was refused.
+    /// The failure of refused memory.
     pub const MEMORY: Failed = Failed::Refused(Refusal::Memory);
 
     /// Whether memory was refused.
@@ -55,7 +55,7 @@ impl From<DeviceFault> for Failed {
     }
 }
 
-/// What is printed is kept in memory at first.
+/// The output is kept in memory at first.
 impl From<io::Error> for Failed {
     fn from(_error: io::Error) -> Failed {
         Failed::MEMORY

@@ -1,4 +1,4 @@
-//! What the lines of a probe run on.
+//! Machines on which the lines of a probe run.
 
 use crate::disk::ProbeDisk;
 use crate::objects::Object;
@@ -10,7 +10,7 @@ use charmlet_store::{Census, Look};
 use std::alloc::AllocError;
 use std::sync::Wait;
 
-/// What a store counts.
+/// The counts of a store.
 #[derive(Clone, Copy)]
 pub struct Counts {
     pub generation: u64,
@@ -20,7 +20,7 @@ pub struct Counts {
     pub is_halted: bool,
 }
 
-/// What is called on a processor of a hub, on whose shelf a delivery is under way.
+/// A call on a processor of a hub, on whose shelf a delivery is under way.
 #[derive(Clone, Copy)]
 pub enum Turn {
     Enter,
@@ -31,7 +31,7 @@ pub enum Turn {
     Settle,
 }
 
-/// What is called of a checkpoint that runs while others work.
+/// A call of a checkpoint that runs while others work.
 #[derive(Clone, Copy)]
 pub enum Running {
     Begin,
@@ -41,7 +41,7 @@ pub enum Running {
     Abandon,
 }
 
-/// What isn't handed in where a hub is closed.
+/// The seat or pass that isn't handed in when a hub is closed.
 #[derive(Clone, Copy)]
 pub enum Without {
     Nothing,
@@ -49,15 +49,15 @@ pub enum Without {
     Pass(u32),
 }
 
-/// What a store that was closed was made of: its disk, and its objects, unless memory was refused
-/// for the list of them.
+/// The parts of a closed store: its disk, and its objects, unless memory was refused for the list
+/// of them.
 #[derive(Drop)]
 pub struct Ended {
     pub disk: ProbeDisk,
     pub parts: Option<Parts>,
 }
 
-/// What a client's pass counts.
+/// The counts of a client's pass.
 #[derive(Clone, Copy)]
 pub struct PassCounts {
     pub last: u64,
@@ -76,17 +76,17 @@ pub struct Call<'a> {
 
 /// A store on the disk of probes, and the passes of its clients.
 pub trait Machine: Drop {
-    /// Takes a step that is no checkpoint, by the client's pass where it has one and the step is
-    /// the client's.
+    /// Takes a step that isn't a checkpoint, by the client's pass if it has one and the step is the
+    /// client's.
     fn step(&mut self, step: &Step) -> Result<Answer, Failed>;
 
     /// Makes all events durable in an image, which may have to wait for locks.
     fn checkpoint<R: Wait>(&mut self, rt: &R) -> Result<u64, Failed>;
 
-    /// A request to a named handler, by the client's pass.
+    /// Makes a request to a named handler, by the client's pass.
     fn call(&mut self, handlers: &Handlers, call: &Call<'_>) -> Result<Told, Failed>;
 
-    /// Takes blanks into the stock. Where memory is refused they are dropped.
+    /// Takes blanks into the stock. If memory is refused, they are dropped.
     fn supply(&mut self, blanks: Vec<Object>) -> Result<(), Failed>;
 
     /// The message that is delivered next, and the processor that delivers it.
@@ -95,51 +95,51 @@ pub trait Machine: Drop {
     /// The ids of the pending messages.
     fn pending(&self) -> Result<Vec<MsgId>, AllocError>;
 
-    /// What is seen of an element.
+    /// Looks at an element.
     fn look(&mut self, elem: Elem) -> Result<Look, Failed>;
 
     /// Where the objects of a kind are.
     fn census(&self, kind: Kind) -> Census;
 
-    /// What it counts.
+    /// The machine's counts.
     fn counts(&self) -> Counts;
 
     /// The bytes of an image.
     fn image(&mut self) -> Result<Vec<u8>, Failed>;
 
-    /// A client gets its pass.
+    /// Lends a client its pass.
     fn lend(&mut self, client: u32) -> Result<(), Failed>;
 
-    /// A client's pass is given back.
+    /// Gives a client's pass back.
     fn give(&mut self, client: u32) -> Result<(), Failed>;
 
-    /// What a client's pass counts.
+    /// The counts of a client's pass.
     fn pass(&self, client: u32) -> Result<PassCounts, Failed>;
 
-    /// What a client's pass knows of a request.
+    /// The knowledge of a client's pass about a request.
     fn known(&self, client: u32, number: u64) -> Result<Told, Failed>;
 
-    /// It comes apart, or comes back with the reason.
+    /// Takes the machine apart, or returns it with the refusal.
     fn close(self, without: Without) -> Result<Ended, (Refusal, Self)>;
 
-    /// Its disk. The objects are dropped. There is none where memory is refused twice.
+    /// The machine's disk. The objects are dropped. It is `None` if memory is refused twice.
     fn into_disk(self) -> Option<ProbeDisk>;
 
-    /// A message is assigned to a processor of a hub.
+    /// Assigns a message to a processor of a hub.
     fn assign(&mut self, processor: u16, id: MsgId) -> Result<(), Failed>;
 
-    /// This is called on a processor of a hub.
+    /// Makes this call on a processor of a hub.
     fn turn(&mut self, turn: Turn, processor: u16) -> Result<(), Failed>;
 
-    /// The seat of a processor of a hub is lent.
+    /// Lends the seat of a processor of a hub.
     fn lend_seat(&mut self, processor: u16) -> Result<(), Failed>;
 
-    /// The ids that the seat of a processor of a hub holds.
+    /// The ids of the seat of a processor of a hub.
     fn held(&self, processor: u16) -> Result<&[MsgId], Failed>;
 
-    /// A flush of a hub to which all passes are lent.
+    /// Flushes a hub, with all passes lent to the flush.
     fn tell(&mut self) -> Result<u64, Failed>;
 
-    /// This is called of a checkpoint of a hub. A seal answers its generation.
+    /// Makes this call of a checkpoint of a hub. A seal answers its generation.
     fn running(&mut self, call: Running) -> Result<Option<u64>, Failed>;
 }

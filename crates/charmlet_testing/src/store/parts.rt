@@ -1,11 +1,11 @@
-//! What a store was made of.
+//! The parts of a closed store.
 
 use crate::objects::Object;
 use crate::store::blanks::count_in;
 use charmlet_model::{Elem, Kind, Resident};
 use charmlet_store::Dismantled;
 
-/// The objects that a store was made of.
+/// The objects of a closed store.
 pub struct Parts {
     parts: Dismantled<Object>,
 }

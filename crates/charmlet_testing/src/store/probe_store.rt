@@ -1,4 +1,4 @@
-//! Stores on the disk of probes, with the objects of probes.
+//! Stores on the probes' disk, with the probes' objects.
 
 ghost use Rattle.std.specs.Prelude.{◌≡◌, []};
 ghost use Rattle.charmlet_model.specs.KindVersion.{AreNewest};
@@ -16,8 +16,8 @@ use std::alloc::Global;
 use std::marker::Model;
 use std::thread::Threads;
 
-/// A store on a disk that fails as told, with objects that count what is done with them. It was
-/// just made or came back, and nothing has happened since.
+/// A store on a disk that fails as told, with objects that count their calls. It was just made or
+/// restarted, and nothing has happened since.
 pub struct ProbeStore {
     engine: Engine<ProbeDisk, Object>,
     processors: u16,
@@ -37,7 +37,7 @@ impl Model for ProbeStore {
         × ((core_of store.engine).processors ≡ store.processors) };
 }
 
-/// Why no store came back, the disk, and all blanks.
+/// Why no store was restarted, with the disk and all blanks.
 #[derive(Drop)]
 pub struct NotBack {
     pub refusal: Refusal,
@@ -58,7 +58,7 @@ impl Drop for ProbeStore {
 }
 
 impl ProbeStore {
-    /// A new store on a disk, with these arrays, or the refusal and the disk.
+    /// Makes a store on a disk, with these arrays, or returns the refusal and the disk.
     pub fn create(
         alloc: Global,
         disk: ProbeDisk,
@@ -73,7 +73,7 @@ impl ProbeStore {
         }
     }
 
-    /// The store that stands on a disk, with objects made of these blanks.
+    /// Restarts the store of a disk, with objects made of these blanks.
     pub fn restart<R: Threads + Sync>(
         rt: &R,
         alloc: Global,
@@ -97,7 +97,7 @@ impl ProbeStore {
         }
     }
 
-    /// The generation of its image.
+    /// The generation of the store's image.
     pub fn generation(&self) -> u64 {
         self.engine.generation()
     }
@@ -107,14 +107,14 @@ impl ProbeStore {
         self.engine.durable()
     }
 
-    /// How many processors it has.
+    /// How many processors the store has.
     pub fn processors(&self) -> u16
         ensures { result ≡ self.now.processors }
     {
         self.processors
     }
 
-    /// The engine that it is.
+    /// The engine of the store.
     pub(crate) fn into_engine(self) -> Engine<ProbeDisk, Object> {
         let ProbeStore {
             engine,
@@ -123,7 +123,7 @@ impl ProbeStore {
         engine
     }
 
-    /// What it is made of.
+    /// The parts of the store.
     pub fn into_parts(self) -> (Store<Object>, Halves<ProbeDisk>)
         ensures shown { core_in result.0.history ≡ self }
         ensures history { (core_in result.0.history).history ≡ [] }

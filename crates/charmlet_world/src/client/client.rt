@@ -20,8 +20,8 @@ pub struct Client {
     durable_last: u64,
     /// The items of the durable window that the present one has dropped.
     dropped: Window,
-    /// For each other item of the durable window, whether its reply is durable. These are the first
-    /// items of the present window.
+    /// For each other item of the durable window, whether its reply is durable. These items come
+    /// first in the present window.
     durable: ArrayVec<bool, 8>,
 }
 

@@ -1,4 +1,4 @@
-//! What the laboratory finds over an honest disk, and over one that forgets.
+//! The laboratory's findings over an honest disk, and over one that forgets.
 
 use super::counters::{Counters, blank_counters};
 use super::forgetful::ForgetfulDisk;
@@ -21,7 +21,7 @@ const EACH_LINE: &str = "array 0 1\npes 2\nhandler make 0 65535\nhandler bump 0 
     call 7 1 make 0 5\ndrain 9\nmove 0 0 1\ncheckpoint\ncall 7 2 bump 0 3\nstate 0 0\npending\n\
     census\ndeliver 1 c7.2\nreq 8 1 0 0 0 2\nflush\nstatus 7 2\n";
 
-// What it was told, and how often.
+// The counts that it was told last, and how often it was told.
 #[derive(Drop)]
 struct Told {
     times: u64,
@@ -63,7 +63,7 @@ fn an_honest_disk_is_found_good(rt: HostRuntime) -> Result<(), Fail> {
         bad: 0,
     };
     assert_eq!(rt; found, good);
-    // It is told of what was found so far, after each stop.
+    // It is told the counts so far, after each stop.
     assert_eq!(rt; told.times, 14);
     let first = LabLine {
         stops: 1,
@@ -78,7 +78,7 @@ fn an_honest_disk_is_found_good(rt: HostRuntime) -> Result<(), Fail> {
     Ok(())
 }
 
-// How many are bad was counted separately, by a model of the same files and crashes.
+// The number of bad restarts was counted separately, by a model of the same files and crashes.
 #[test]
 fn a_disk_that_forgets_is_found_bad(rt: HostRuntime) -> Result<(), Fail> {
     let rt = &rt;
@@ -103,7 +103,7 @@ fn durable_after(alloc: Global, calls: u64) -> Result<Option<u64>, Fail> {
     Ok(round.durable)
 }
 
-// How many writes and syncs failed of a run whose disk fails from some call on.
+// How many writes and syncs failed in a run whose disk fails from some call on.
 fn failures_after(alloc: Global, calls: u64) -> Result<u64, Fail> {
     let script = read_script(alloc, &mut SCRIPT.as_bytes(), Runner::Engine)?;
     let disk = AnyDisk::failing(alloc, calls);

@@ -1,4 +1,4 @@
-//! Restarts that are judged by other events than those of their run.
+//! Restarts that are judged by events other than those of their run.
 
 use super::counters::blank_counters;
 use charmlet_disk::{AnyDisk, CrashChoice};

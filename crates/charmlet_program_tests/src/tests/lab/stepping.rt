@@ -79,8 +79,8 @@ fn are_answered(rt: &impl Abort, answers: &[Answer], failed: usize) {
     }
 }
 
-// What a crash leaves of a run whose disk failed after so many calls, in the midst of the image in
-// this place.
+// What a crash leaves of a run whose disk failed after this many calls, in the middle of the image
+// in this place.
 fn left_by(
     rt: &(impl AllocGlobal + Abort),
     calls: u64,
@@ -98,7 +98,7 @@ fn left_by(
     Ok(engine.into_disk().crash(choice))
 }
 
-// The store that a crash leaves has this generation, and so many events, of which every other one
+// The store that a crash leaves has this generation, and this many events, of which every other one
 // is a delivery to the counter.
 fn comes_back<R: Threads + Sync + AllocGlobal + Abort>(
     rt: &R,
@@ -120,10 +120,10 @@ fn comes_back<R: Threads + Sync + AllocGlobal + Abort>(
     Ok(())
 }
 
-// The disk fails after so many calls, in the midst of the image in this place, and crashes in each
-// way. Until the gate of the image is written the store is the one before it, of this generation
-// and with so many events. Where the gate wasn't synced, it is that one, or the image, by what the
-// crash makes of the gate.
+// The disk fails after this many calls, in the middle of the image in this place, and crashes in
+// each way. Until the gate of the image is written the store is the one before it, of this
+// generation and with this many events. If the gate wasn't synced, it is that store or the image,
+// by what the crash makes of the gate.
 fn leaves<R: Threads + Sync + AllocGlobal + Abort>(
     rt: &R,
     calls: u64,

@@ -1,4 +1,4 @@
-//! How the program ends after failures that no command line leads to.
+//! The program's end after failures that no command line leads to.
 
 use charmlet_cli::{CommandError, ExitReason, Failure, RunError, end_program};
 use charmlet_kinds::Counter;

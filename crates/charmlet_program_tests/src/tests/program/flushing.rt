@@ -1,4 +1,4 @@
-//! When what is printed reaches its reader.
+//! The moments at which the output reaches its reader.
 
 use super::noting::{Notes, new_notes, noted_counters};
 use super::runs::{run_anew, script_of};

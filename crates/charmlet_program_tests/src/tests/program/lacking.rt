@@ -34,7 +34,7 @@ fn too_few_objects_come_back(rt: HostRuntime) {
 // A script that leaves a store of one counter.
 const ONE: &str = "array 0 1\nsupply 1 1\nreq 7 1 0 0 65535 5\ndeliver 0 c7.1\nflush\n";
 
-// One that asks this counter something too, and leaves two more to be constructed.
+// A script that also asks this counter something, and leaves two more to be constructed.
 const TWO_MORE: &str = "array 0 1\nsupply 1 1\nreq 7 1 0 0 65535 5\ndeliver 0 c7.1\n\
                         req 7 2 0 0 0 3\nreq 8 1 0 1 65535\nreq 9 1 0 2 65535\nflush\n";
 
@@ -112,8 +112,8 @@ fn blanks_that_lack_are_named(rt: HostRuntime) {
     wants_one(&rt, ended.disk);
 }
 
-// What was pending when the store came back is counted before the script's lines: both elements are
-// there in the end.
+// The messages that were pending at the restart are counted before the script's lines: both
+// elements are there in the end.
 #[test]
 fn pending_constructions_are_counted(rt: HostRuntime) {
     let mut output = Vec::new(rt.alloc());

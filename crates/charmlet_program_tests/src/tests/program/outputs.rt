@@ -1,4 +1,4 @@
-//! What is printed if the output fails.
+//! The output if the writer fails.
 
 use super::runs::{counters, run_anew, script_of};
 use charmlet_cli::RunError;
@@ -63,7 +63,7 @@ impl Write for Trickle {
     }
 }
 
-// With room for `room` bytes of what the script prints, only these are written, and the run goes to
+// With room for `room` bytes of the script's output, only these are written, and the run goes to
 // its end if they are all.
 fn fills(rt: &(impl AllocGlobal + Abort), script: &Script, wanted: &[u8], room: usize) {
     let mut output = Trickle {

@@ -1,4 +1,4 @@
-//! What a pass knows after it was told less than before, which no history does.
+//! The knowledge of a pass after it was told less than before, which no history does.
 
 use super::passes::new_history;
 use charmlet_model::{Told, Words};

@@ -67,7 +67,7 @@ fn carry_between(from: &mut Sum, to: &mut Sum)
     from.sum = 0;
 }
 
-/// So many locks, with sums of 0.
+/// This many locks, with sums of 0.
 fn locks_of(alloc: Global, count: usize) -> Result<Locks<Sum, ByPlace>, AllocError>
     requires { count < 2 ^ 32 }
     ensures { IfOk result (λ locks. locks ≡ count) }
@@ -75,7 +75,7 @@ fn locks_of(alloc: Global, count: usize) -> Result<Locks<Sum, ByPlace>, AllocErr
     Ok(filled(LockRoom::new(alloc, count)?, count))
 }
 
-/// The same, in a room for so many.
+/// This many locks, with sums of 0, in a room for them.
 fn filled(room: LockRoom<Sum, ByPlace>, count: usize) -> Locks<Sum, ByPlace>
     requires { room ≡ shown count 0 }
     ensures { result ≡ count }
@@ -107,7 +107,7 @@ fn sums_of(
     Ok(sums)
 }
 
-/// Two threads add to two places many times, and carry what is there to and fro.
+/// Two threads add to two places many times, and carry the sums to and fro.
 fn add_both<R: Threads + Wait + Sync>(rt: &R, locks: &Locks<Sum, ByPlace>, rounds: u64)
     requires { 2 ≤ locks.now }
 {

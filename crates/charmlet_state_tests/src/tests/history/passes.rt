@@ -116,7 +116,7 @@ fn tell<B: AuthorityName>(
 
 // ---- what passes and their table show
 
-// Writes a pass's client, how many accepts it has, the last one, and what is known of request 1.
+// Writes a pass's client, how many accepts it has, the last one, and its knowledge of request 1.
 fn write_pass<B: AuthorityName>(rt: &impl Abort, pass: &ClientPass<B>, text: &mut String) {
     let known = pass.known(1).expect(rt, "memory");
     let (client, count, last) = (pass.client(), pass.accept_count(), pass.last());
@@ -171,7 +171,7 @@ fn serve<B: AuthorityName, R: AllocGlobal + Abort>(
     close(rt, table, passes);
 }
 
-// The same by a name that is picked here.
+// Serves both passes by a name that is picked here.
 fn run<R: AllocGlobal + Abort>(rt: &R, unnamed: UnnamedAuthority<GhostPass>, text: &mut String) {
     serve::<Brand, R>(rt, unnamed, text)
 }

@@ -129,7 +129,7 @@ fn work<B: SeatTableName, R: AllocGlobal + Abort>(
     close(rt, table, first, second)
 }
 
-// The same by a name that is picked here.
+// Works with both seats by a name that is picked here.
 fn run<R: AllocGlobal + Abort>(rt: &R, unnamed: UnnamedAuthority<GhostIds>) -> DeliveryIds {
     work::<Brand, R>(rt, unnamed)
 }

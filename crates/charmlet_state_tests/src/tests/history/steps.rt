@@ -23,7 +23,7 @@ pub enum Step {
     // The client's request, which is to a counter at an entry that it doesn't have, is assigned to
     // the processor and committed.
     Deliver(u16, u32, u64),
-    // The same, but it isn't committed.
+    // Like `Deliver`, but the message isn't committed.
     Assign(u16, u32, u64),
     Release(u16),
     // The message that is assigned to the processor.
@@ -39,8 +39,8 @@ pub enum Step {
     Counts(Elem),
     Next,
     Pending,
-    // The same as `Assign`, and then the store is halted and the message committed. Only a refusal
-    // may come back.
+    // Like `Assign`; then the store is halted and the message committed. Only a refusal may come
+    // back.
     HaltAssigned(u16, u32, u64),
 }
 
@@ -235,7 +235,7 @@ fn halt_assigned(history: &mut History, alloc: Global, processor: u16, id: MsgId
     }
 }
 
-// The refusal, if nothing that was sent or replied came back with it.
+// The refusal, if no send and no reply came back with it.
 fn came_back(refused: RefusedCommit) -> Answer {
     let RefusedCommit { refusal, output } = refused;
     if output.sends.as_slice().is_empty() && output.reply.is_empty() && !output.is_destroyed {

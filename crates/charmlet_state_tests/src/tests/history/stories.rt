@@ -1,4 +1,5 @@
-//! What histories that open with a small world answer, at their limits and after they were halted.
+//! The answers of histories that open with a small world, at their limits and after they were
+//! halted.
 
 ghost use Rattle.std.specs.Prelude.{◌≡◌, ◌≤◌, ◌<◌, ◌^◌};
 
@@ -35,14 +36,14 @@ fn answers_from(
     run(rt, &mut history, steps, wanted);
 }
 
-// The same for the first file, whose log has no bytes.
+// Such answers for the first file, whose log has no bytes.
 fn answers(rt: &(impl AllocGlobal + Abort), before: u64, steps: &[Step], wanted: &str)
     requires { before ≤ 2 ^ 40 }
 {
     answers_from(rt, before, 1, 0, steps, wanted);
 }
 
-// The same for the last file, whose log has room for this many more bytes.
+// Such answers for the last file, whose log has room for this many more bytes.
 fn answers_at_limits(
     rt: &(impl AllocGlobal + Abort),
     before: u64,

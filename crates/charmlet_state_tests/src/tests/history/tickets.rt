@@ -11,7 +11,7 @@ fn fill(queue: &mut TicketQueue) {
     }
 }
 
-// The queue has a ticket for each message but the last one, in their order.
+// The queue has a ticket for each message except the last one, in their order.
 fn drain(rt: &impl Abort, queue: &mut TicketQueue) {
     for number in 0..CAPACITY as u64 {
         let ticket = queue.pop().expect(rt, "a ticket is there");

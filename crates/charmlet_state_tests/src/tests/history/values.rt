@@ -6,7 +6,7 @@ ghost use Rattle.charmlet_locks.specs.GhostAuth.Naming.{table_of};
 use charmlet_locks::{Authority, AuthorityName, GhostValue, UnnamedAuthority};
 use std::marker::Brand;
 
-// What the authority has values of.
+// The type of the authority's values.
 #[derive(Drop)]
 struct Amount {
     count: u64,
@@ -16,8 +16,8 @@ impl GhostValue<Amount> for Brand {
     ghost value = { record { count = 0 } };
 }
 
-// Two values are issued. The first is changed twice, the second time to one that no code has. Then
-// both are taken back, and no value is left.
+// Two values are issued. The first is changed twice, the second time to a value that no code has.
+// Then both are taken back, and no value is left.
 fn change_amounts<B: AuthorityName>(authority: &mut Authority<Amount, B>)
     requires { authority.old ≡ [] }
     ensures { authority.new ≡ None ∷ None ∷ [] }
@@ -31,7 +31,7 @@ fn change_amounts<B: AuthorityName>(authority: &mut Authority<Amount, B>)
     authority.take_back(first);
 }
 
-// The same over a new authority.
+// Changes the values of a new authority.
 fn change_all<B: AuthorityName>(unnamed: UnnamedAuthority<Amount>)
     requires { table_of unnamed ≡ B.table }
 {
@@ -39,7 +39,7 @@ fn change_all<B: AuthorityName>(unnamed: UnnamedAuthority<Amount>)
     change_amounts(&mut authority);
 }
 
-// The same by a name that is picked here.
+// Changes the values by a name that is picked here.
 fn run(unnamed: UnnamedAuthority<Amount>) {
     change_all::<Brand>(unnamed)
 }

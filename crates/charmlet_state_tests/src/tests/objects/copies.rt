@@ -1,4 +1,4 @@
-//! Copies that are refused while a delivery is under way, which happens in no run.
+//! Copies that are refused while a delivery is under way, which no run does.
 
 ghost use Rattle.std.specs.Prelude.{◌≡◌, ◌∷◌, []};
 ghost use Rattle.charmlet_kinds.specs.Ring.{state_of};

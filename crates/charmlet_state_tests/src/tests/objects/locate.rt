@@ -73,7 +73,7 @@ fn are_at(rt: &impl Abort, locations: &Locations, of_me: u16, of_last: u16) {
     is_at(rt, locations, LAST, of_last);
 }
 
-// The elements restart at their homes on so many processors.
+// The elements restart at their homes on this many processors.
 fn placed(rt: &(impl AllocGlobal + Abort), elems: &[Elem], processors: u16) -> Locations {
     restart_map(rt.alloc(), elems, processors)
         .ok()
@@ -107,7 +107,8 @@ fn row(alloc: Global) -> Result<Vec<Elem>, AllocError> {
     Ok(elems)
 }
 
-// Where the elements restart on three processors. When out of memory, it is tried once more.
+// The places of the restarted elements on three processors. When out of memory, it is tried once
+// more.
 fn restarted(rt: &(impl AllocGlobal + Abort), elems: &[Elem]) -> Result<Locations, Fail> {
     match restart_map(rt.alloc(), elems, 3) {
         Ok(locations) => Ok(locations),
@@ -142,7 +143,7 @@ fn refused_memory_leaves_the_places(rt: HostRuntime) -> Result<(), Fail> {
     Ok(())
 }
 
-// Restarts elements; so it fails where any allocation is refused.
+// Restarts elements; so it fails if any allocation is refused.
 #[test]
 fn places_meet_no_refusal(rt: HostRuntime) -> Result<(), Fail> {
     restart_map(rt.alloc(), &row(rt.alloc())?, 3)?;

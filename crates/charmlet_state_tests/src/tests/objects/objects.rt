@@ -1,5 +1,5 @@
-//! What no run shows of the objects of each kind: bytes that aren't their own, a construction of
-//! one that was used, and versions.
+//! Behaviour of each kind's objects that no run shows: bytes that aren't their own, the
+//! construction of a used object, and versions.
 
 ghost use Rattle.std.specs.Prelude.{◌≤◌, length};
 

@@ -67,7 +67,7 @@ impl<C: Chare> Chare for Packer<C> {
     }
 }
 
-// The same element, with such a counting object.
+// The element with such a counting object.
 fn counted<C: Chare>(
     rt: &impl Abort,
     element: Resident<C>,

@@ -20,7 +20,7 @@ pub(super) const OTHER: Elem = Elem { array: 2, index: 8 };
 // A ring's element whose next one has index 9, and that has seen 2 tokens.
 pub(super) const RING: [u8; 16] = [9, 0, 0, 0, 0, 0, 0, 0, 2, 0, 0, 0, 0, 0, 0, 0];
 
-// It has seen one more.
+// The element after one more token.
 const SEEN: [u8; 16] = [9, 0, 0, 0, 0, 0, 0, 0, 3, 0, 0, 0, 0, 0, 0, 0];
 
 // The object takes this packed form at the first try.
@@ -73,7 +73,7 @@ pub(super) fn message(
     }
 }
 
-// The shelf of processor 3, with one element. When out of memory, the shelf is as before, and the
+// The shelf of processor 3, with one element. When out of memory, the shelf is unchanged, and the
 // element is placed at the second try.
 pub(super) fn shelf_with<C: Chare>(
     rt: &(impl AllocGlobal + Abort),
@@ -112,7 +112,7 @@ pub(super) fn assigned<C: Chare>(
 }
 
 // The shelf of processor 3, where an element is to be constructed from a blank. When out of memory,
-// the shelf is as before, and the message is assigned at the second try.
+// the shelf is unchanged, and the message is assigned at the second try.
 fn constructing<C: Chare>(
     rt: &(impl AllocGlobal + Abort),
     blank: Resident<C>,
@@ -227,12 +227,12 @@ fn settles<C: Chare>(
     lifts(rt, shelf, ME, counts, packed);
 }
 
-// The message that is assigned is taken back, and no object comes out.
+// The assigned message is released, and no object comes out.
 pub(super) fn releases<C: Chare>(rt: &impl Abort, shelf: &mut Shelf<C>) {
     assert!(rt; shelf.release().is_none());
 }
 
-// The output has that many messages, and destroys the object or doesn't.
+// The output has this many messages, and destroys the object or doesn't.
 fn has_effects(rt: &impl Abort, output: &Output, sends: usize, is_destroyed: bool) {
     assert!(rt; output.sends.as_slice().len() == sends && output.is_destroyed == is_destroyed);
 }
@@ -242,7 +242,7 @@ fn has_no_output<C: Chare>(rt: &impl Abort, shelf: &mut Shelf<C>) {
     assert!(rt; shelf.take_output().is_none());
 }
 
-// The output can be taken once. It has that many messages and this reply, and destroys the object
+// The output can be taken once. It has this many messages and this reply, and destroys the object
 // or doesn't.
 fn gives<C: Chare>(
     rt: &impl Abort,

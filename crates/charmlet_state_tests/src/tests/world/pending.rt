@@ -1,5 +1,4 @@
-// The pending messages against a plain list, on long random sequences of sequence numbers and
-// takes.
+// The pending messages against a plain list, on long random sequences of additions and takes.
 
 ghost use Rattle.std.specs.Prelude.{◌≡◌, ◌<◌, None};
 ghost use Rattle.charmlet_model.specs.Reaction.{greatest};
@@ -68,7 +67,7 @@ fn next_seq_no(rt: &impl Abort, pending: &Pending) -> u64
     seq
 }
 
-// Adds a message at both ends of both lists. Where memory is refused, nothing has changed.
+// Adds a message at both ends of both lists. If memory is refused, nothing has changed.
 fn seq_no(
     rt: &(impl AllocGlobal + Abort),
     lists: &mut Lists,
@@ -108,7 +107,7 @@ fn take_message(rt: &impl Abort, pending: &mut Pending, number: u64) {
     assert!(rt; pending.take(id).is_none(), "{number} is taken twice");
 }
 
-// Takes the message at this place of the plain list.
+// Takes the message at this place in the plain list.
 fn take(rt: &impl Abort, lists: &mut Lists, place: usize) {
     if place < lists.plain.len() {
         let number = lists.plain.remove(place);
@@ -132,13 +131,13 @@ fn are_same(rt: &impl Abort, lists: &Lists) {
 struct Choice {
     seed: u64,
     steps: u64,
-    // How many of a hundred steps are sequence numbers.
+    // How many of a hundred steps add a message.
     seq_nos: u32,
     // How many of a hundred takes are at random. The others take the oldest.
     random: u32,
 }
 
-// A place of a list of this length, which isn't 0.
+// A place in a list of this length, which isn't 0.
 fn some_place(rng: &mut Pcg32, random: u32, length: usize) -> usize {
     if rng.next_word() % 100 < random {
         (rng.next_word() as usize).checked_rem(length).unwrap_or(0)
@@ -147,7 +146,7 @@ fn some_place(rng: &mut Pcg32, random: u32, length: usize) -> usize {
     }
 }
 
-// A sequence number of this number, or a take.
+// Adds the message of this number, or takes one.
 fn step(
     rt: &(impl AllocGlobal + Abort),
     rng: &mut Pcg32,

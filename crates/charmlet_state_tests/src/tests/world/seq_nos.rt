@@ -28,7 +28,7 @@ impl Lists {
     }
 }
 
-// The place of the first number of the list that isn't before this one.
+// The place of the list's first number that isn't before this one.
 fn place_in(plain: &Vec<u64>, number: u64) -> usize {
     let mut place = 0;
     for other in plain {
@@ -51,7 +51,7 @@ fn put_plain(plain: &mut Vec<u64>, number: u64) -> Result<(), AllocError> {
     Ok(())
 }
 
-// Where memory is refused, nothing has changed.
+// If memory is refused, nothing has changed.
 fn put(lists: &mut Lists, number: u64) -> Result<(), AllocError> {
     lists.plain.reserve(1)?;
     let wanted = lists.seq_nos.len().saturating_add(1);
@@ -81,7 +81,7 @@ fn are_same<L: Ledger>(rt: &impl Abort, lists: &Lists, ticks: &mut Ticks<L>) {
     }
 }
 
-// How the steps of a run are chosen: so many of a hundred are puts, and the numbers are below this.
+// How the steps of a run are chosen: how many of a hundred are puts, and the limit of the numbers.
 #[derive(Clone, Copy)]
 struct Choice {
     seed: u64,
@@ -150,7 +150,7 @@ fn most_seq_nos_are_taken_at_once(rt: HostRuntime) {
     run::<Brand, HostRuntime>(&rt, Blank::new(1), choice);
 }
 
-// Adds a sequence number, and once more where memory is refused, after which nothing has changed.
+// Adds a sequence number, and once more if memory is refused, after which nothing has changed.
 fn put_again<L: Ledger>(
     rt: &impl Abort,
     lists: &mut Lists,

@@ -38,7 +38,7 @@ const ELEMENTS: [Elem; 13] = [
     Elem { array: 9, index: 0 },
 ];
 
-// What a client asks of an element.
+// A client's request to an element.
 #[derive(Clone, Copy)]
 struct Request<'a> {
     client: u32,
@@ -143,7 +143,7 @@ fn oldest_there(world: &PresentWorld, plain: &PlainWorld, processor: u16) -> Opt
     None
 }
 
-// The same, as the present world says it, with a count of its own.
+// The oldest message on a processor, as the present world finds it, with a count of its own.
 fn oldest_on<L: Ledger>(world: &PresentWorld, processor: u16, blank: Blank) -> Option<MsgId>
     requires name { blank.name ≡ L.name }
     requires parts { blank.parts ≡ L.parts }
@@ -153,7 +153,7 @@ fn oldest_on<L: Ledger>(world: &PresentWorld, processor: u16, blank: Blank) -> O
     world.oldest_on(processor, &mut ticks)
 }
 
-// What is found by the index is what a search through the messages finds.
+// The index finds the same messages as a search through all of them.
 fn found_are_same(rt: &impl Abort, world: &PresentWorld, plain: &PlainWorld) {
     let first = oldest(plain);
     assert_eq!(rt; world.oldest(), first);

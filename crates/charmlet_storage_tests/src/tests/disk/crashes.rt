@@ -1,4 +1,4 @@
-// What a crash leaves of a disk in memory, by its bytes.
+// What a crash leaves on a disk in memory, by its bytes.
 use super::{has_failures, has_len, syncs};
 use charmlet_disk::{CrashChoice, Disk, MemDisk, sync_both, write_and_sync};
 use charmlet_model::Half;
@@ -59,14 +59,15 @@ fn written(rt: &(impl AllocGlobal + Abort), half: Half, old: &[u8], writes: &[Wr
     disk
 }
 
-// The half has these bytes, all of which are sure, and the other half is empty.
+// The half has these bytes, all of them durable, and the other half is empty.
 fn stays(rt: &(impl AllocGlobal + Abort), mut disk: MemDisk, half: Half, bytes: &[u8]) {
     has_bytes(rt, &mut disk, half, bytes);
     has_len(rt, &mut disk, half.other(), 0);
     has_bytes(rt, &mut disk.crash(CrashChoice::Old), half, bytes);
 }
 
-// Each choice leaves of the half what is wanted, all of it is sure, and the other half stays empty.
+// Each choice leaves the wanted bytes in the half, all of them durable, and the other half stays
+// empty.
 fn leaves(
     rt: &(impl AllocGlobal + Abort),
     half: Half,
@@ -124,7 +125,7 @@ fn first_half_counts_where_any_range_has_it(rt: HostRuntime) {
     leaves(&rt, Half::Zero, b"01234567", &writes, &wanted);
 }
 
-// Past the old end, what is in no first half is cut off, or 00 before one.
+// Past the old end, a place outside every first half is cut off, or 00 before a place inside one.
 #[test]
 fn crashes_cut_off_what_is_past_the_old_end(rt: HostRuntime) {
     let writes = [Write(4, b"EFGH"), Write(8, b"IJKLM"), Write(13, b"N")];
@@ -142,7 +143,7 @@ fn crashes_cut_off_what_is_past_the_old_end(rt: HostRuntime) {
     leaves(&rt, Half::One, b"", &one, &wanted);
 }
 
-// A disk with all of half 0 sure, and nothing of half 1.
+// A disk whose half 0 is all durable, and half 1 not at all.
 fn half_sure(rt: &(impl AllocGlobal + Abort)) -> MemDisk {
     let mut disk = written(rt, Half::Zero, b"sure", &[]);
     puts(rt, &mut disk, Half::One, 0, b"lost");
@@ -150,7 +151,7 @@ fn half_sure(rt: &(impl AllocGlobal + Abort)) -> MemDisk {
     disk
 }
 
-// A sync of one half makes nothing sure of the other one.
+// A sync of one half makes nothing durable in the other one.
 #[test]
 fn crashes_leave_what_was_synced(rt: HostRuntime) {
     let mut left = half_sure(&rt).crash(CrashChoice::Old);
@@ -201,7 +202,7 @@ fn has_end(rt: &impl Abort, disk: &mut MemDisk, end: u64) {
     assert!(rt; last == Ok(end) || last == Ok(end.saturating_sub(2)));
 }
 
-// Whatever memory is refused, the answers and the failures tell what the disk has.
+// Whatever memory is refused, the answers and the failures agree with the state of the disk.
 #[test]
 fn refused_memory_is_a_fault_that_changes_nothing(rt: HostRuntime) {
     let mut disk = MemDisk::new(rt.alloc());

@@ -16,7 +16,7 @@ struct OpenDisk {
     files: FileDisk,
 }
 
-// Written by hand, so that dropping a disk is proved here, and not in each test that has one.
+// Written by hand, so that dropping a disk is proved here, and not in each test with a disk.
 impl Drop for OpenDisk {
     fn drop(self) {
         let OpenDisk { files } = self;
@@ -49,12 +49,12 @@ fn count_names(rt: &HostRuntime, folder: &str) -> io::Result<u64> {
     Ok(names)
 }
 
-// So many names were counted.
+// This many names were counted.
 fn are_names(rt: &impl Abort, counted: io::Result<u64>, wanted: u64) {
     assert_eq!(rt; counted.ok(), Some(wanted));
 }
 
-// What the system was asked for is done.
+// The system did what it was asked to do.
 fn done(rt: &impl Abort, answer: io::Result<()>, what: &str) {
     answer.expect(rt, what);
 }
@@ -104,7 +104,7 @@ fn fails_to_sync(rt: &impl Abort, disk: &mut FileDisk, half: Half) {
     has_failures(rt, disk, before.saturating_add(1));
 }
 
-// Each call of this half but its sync is a fault, and is counted.
+// Each call of this half except its sync is a fault, and is counted.
 fn half_has_faults(rt: &impl Abort, disk: &mut FileDisk, half: Half) {
     let before = disk.failures();
     assert_eq!(rt; disk.len(half), Err(DeviceFault), "{half}");

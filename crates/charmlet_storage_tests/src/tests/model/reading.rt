@@ -1,4 +1,4 @@
-//! Scripts of readers that fail, which no file does at will.
+//! Reads of scripts by readers that fail, which no file does at will.
 
 use charmlet_script::{ReadError, Runner, read_restart_script, read_script};
 use std::alloc::AllocGlobal;

@@ -396,7 +396,7 @@ impl Story {
         }
     }
 
-    // What a line answers.
+    // The answer to a line.
     fn answer(&mut self, rt: &(impl AllocGlobal + Abort), line: &str) -> String {
         let (name, rest) = line.split_once(' ').unwrap_or((line, ""));
         if name == "deliver" {
@@ -406,7 +406,7 @@ impl Story {
         self.answer_to(rt, name, &numbers)
     }
 
-    // What a line with this name and these numbers answers.
+    // The answer to a line with this name and these numbers.
     fn answer_to(
         &mut self,
         rt: &(impl AllocGlobal + Abort),
@@ -443,7 +443,7 @@ fn number_at(rt: &impl Abort, numbers: &[u64], at: usize) -> u64 {
     *numbers.get(at).expect(rt, "a number")
 }
 
-// The same, which has 16 bits.
+// The number at this place, which has 16 bits.
 fn short_at(rt: &impl Abort, numbers: &[u64], at: usize) -> u16 {
     u16::try_from(number_at(rt, numbers, at)).expect(rt, "16 bits")
 }
@@ -526,7 +526,8 @@ fn go_on(rt: &(impl AllocGlobal + Abort), story: &mut Story, transcript: &str) {
     assert_eq!(rt; printed.as_str(), transcript);
 }
 
-// The same in a new world with an array of this kind.
+// Runs the steps of a transcript in a new world with an array of this kind, and compares what they
+// answer with it.
 fn play(rt: &(impl AllocGlobal + Abort), array: u16, kind: u16, transcript: &str) {
     let mut story = Story::new(rt, array, kind);
     go_on(rt, &mut story, transcript);
@@ -559,7 +560,7 @@ fn asks_first(
     is_answer(rt, answer.as_str(), wanted, client);
 }
 
-// What the first request of a client is answered.
+// The answer to the first request of a client.
 fn ask_first(
     rt: &(impl AllocGlobal + Abort),
     story: &mut Story,
@@ -630,7 +631,7 @@ fn live_as_a_tree(alloc: Global, events: &mut Vec<Event>) -> Result<(), AllocErr
     Ok(())
 }
 
-// Whether an event happened. When out of memory, the world has to be as it was, and the event is
+// Whether an event happened. When out of memory, the world has to be unchanged, and the event is
 // tried again.
 fn happened(alloc: Global, world: &mut PlainWorld, event: &Event) -> Result<bool, AllocError> {
     let before = format!(in alloc; "{world:?}")?;
@@ -673,7 +674,7 @@ fn was_a_tree(rt: &impl Abort, world: &PlainWorld) {
     assert!(rt; matches!(row.reply(2), Some(words) if words.as_slice() == [1].as_slice()));
 }
 
-// What memory is refused outside the events is tried again here.
+// A refusal of memory outside the events is tried again here.
 #[test]
 fn refused_memory_leaves_the_world(rt: HostRuntime) -> Result<(), Fail> {
     let world = match world_of_a_tree(rt.alloc()) {

@@ -1,5 +1,4 @@
-// What two files recover to, and what they do if one of them is cut or has a byte changed: as
-// texts.
+// What two files recover to, and the answers if one of them is cut or has a byte changed: as texts.
 
 use charmlet_model::Half;
 use charmlet_reference::{Recovered, recover};
@@ -42,7 +41,7 @@ pub struct Files<'a> {
     pub altered: Half,
 }
 
-// What they recover to with these bytes in place of those of the half that is altered.
+// What the files recover to with these bytes in place of the altered half's.
 fn altered_answer(alloc: Global, files: Files<'_>, bytes: &[u8]) -> Result<String, AllocError> {
     match files.altered {
         Half::Zero => answer(alloc, bytes, files.one),
@@ -58,8 +57,8 @@ fn bytes_of(files: Files<'_>) -> &[u8] {
     }
 }
 
-// The line of a table of changes again, with the answer that comes where the half has this byte at
-// this place.
+// Adds a line of a table of changes again, with the actual answer if the half has this byte at this
+// place.
 fn add_change(
     alloc: Global,
     files: Files<'_>,
@@ -75,7 +74,7 @@ fn add_change(
     write!(text, "{at} {byte} {answer}\n")
 }
 
-// The same for all lines.
+// Adds all lines of a table of changes again, with the actual answers.
 fn add_changes(
     alloc: Global,
     files: Files<'_>,
@@ -88,15 +87,15 @@ fn add_changes(
     Ok(())
 }
 
-// The table again, with the answers that come.
+// The table again, with the actual answers.
 fn changes_of(alloc: Global, files: Files<'_>, table: &str) -> Result<String, AllocError> {
     let mut text = String::new(alloc);
     add_changes(alloc, files, table, &mut text)?;
     Ok(text)
 }
 
-// Each line of the table has a place in the half that is altered, a byte, and what is answered
-// where that byte is there.
+// Each line of the table has a place in the altered half, a byte, and the answer if that byte is
+// there.
 pub fn assert_changes(rt: &(impl AllocGlobal + Abort), files: Files<'_>, table: &str) {
     let text = changes_of(rt.alloc(), files, table).expect(rt, "memory");
     assert_eq!(rt; text.as_str(), table);
@@ -119,7 +118,7 @@ fn add_cut(
     Ok(())
 }
 
-// The answers to all cuts of the half that is altered: a line for the first cut with each answer.
+// The answers to all cuts of the altered half: a line for the first cut with each answer.
 fn cuts_of(alloc: Global, files: Files<'_>) -> Result<String, AllocError> {
     let bytes = bytes_of(files);
     let mut last = String::new(alloc);
@@ -130,8 +129,8 @@ fn cuts_of(alloc: Global, files: Files<'_>) -> Result<String, AllocError> {
     Ok(text)
 }
 
-// Each line of the table has a length, and what is answered where the half is cut to that or more,
-// up to the next line's.
+// Each line of the table has a length, and the answer if the half is cut to that length or more, up
+// to the next line's.
 pub fn assert_cuts(rt: &(impl AllocGlobal + Abort), files: Files<'_>, table: &str) {
     let text = cuts_of(rt.alloc(), files).expect(rt, "memory");
     assert_eq!(rt; text.as_str(), table);

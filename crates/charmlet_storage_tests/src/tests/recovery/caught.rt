@@ -20,18 +20,18 @@ fn world_of(rt: &(impl AllocGlobal + Abort), zero: &[u8], one: &[u8]) -> PlainWo
     found(rt, recover(rt.alloc(), zero, one))
 }
 
-// The same in the versions that are written.
+// The world to which two files recover, in the kind versions that are written.
 fn world_as_written(rt: &(impl AllocGlobal + Abort), zero: &[u8], one: &[u8]) -> PlainWorld {
     found(rt, recover_as_written(rt.alloc(), zero, one))
 }
 
-// What is kept of the element of array 0 with this index.
+// The record of the element of array 0 with this index.
 fn record_text(alloc: Global, world: &PlainWorld, index: u64) -> Result<String, AllocError> {
     let record = world.record(Elem { array: 0, index });
     format!(in alloc; "{record:?}")
 }
 
-// This is kept of the element.
+// The element has this record.
 fn assert_kept(rt: &(impl AllocGlobal + Abort), world: &PlainWorld, index: u64, wanted: &str) {
     let text = record_text(rt.alloc(), world, index).expect(rt, "memory");
     assert_eq!(rt; text.as_str(), wanted);
@@ -48,7 +48,7 @@ const EIGHT: &str =
 const SIX: &str =
     "Some(Record { state: Some(Counter { count: 6, peak: 6 }), sent: 0, received: 2 })";
 
-// The first delivery is made again, and the second one is skipped. Then the counters, which are of
+// The first delivery is repeated, and the second one is skipped. Then the counters, which are of
 // version 1, go on in version 2.
 #[test]
 fn counters_are_caught_up(rt: HostRuntime) {
@@ -111,7 +111,7 @@ fn older_log_happens_in_its_version(rt: HostRuntime) {
 
 const TREE: &str = "Some(Record { state: Some(Tree { depth: 0 }), sent: 0, received: 3 })";
 
-// The destruction is skipped, and the construction is made again.
+// The destruction is skipped, and the construction is repeated.
 #[test]
 fn tree_is_caught_up(rt: HostRuntime) {
     let world = world_of(&rt, &NEW_STORE, &GROWN_STORE);

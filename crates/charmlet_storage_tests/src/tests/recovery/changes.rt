@@ -17,7 +17,7 @@ const FIRST_CUTS: &str = "0 nothing\n\
     124 damaged 0 124\n\
     125 events 2 generation 1\n";
 
-// Cut short the first half is at fault.
+// Cut short, the first half is faulty.
 #[test]
 fn cuts_of_the_first_half(rt: HostRuntime) {
     let files = Files {
@@ -36,7 +36,7 @@ const SECOND_CUTS: &str = "0 events 0 generation 1\n\
     269 damaged 1 269\n\
     270 events 8 generation 2\n";
 
-// The first half is the older one, and is taken where the second one is closed.
+// The first half is the older one, and is taken if the second one is closed.
 #[test]
 fn cuts_of_the_second_half(rt: HostRuntime) {
     let files = Files {
@@ -104,7 +104,7 @@ fn changes_of_pending_messages(rt: HostRuntime) {
     assert_changes(&rt, files, PENDING_CHANGES);
 }
 
-// Whether a half at fault is at fault within its bytes, or at its end.
+// Whether a faulty half has its fault within its bytes, or at its end.
 fn has_answer(alloc: Global, bytes: &[u8]) -> Result<bool, AllocError> {
     match recover(alloc, bytes, &[])? {
         Recovered::Damaged { half, offset } => {

@@ -1,4 +1,4 @@
-// Which half is taken, and what its log comes to.
+// Which half is taken, and to which world its log leads.
 
 use super::answers::{Files, assert_answer, assert_changes, changed};
 use super::stores::{CAUGHT_STORE, FLUSHED_STORE, IMAGE_STORE, NEW_STORE, WAITING_STORE};

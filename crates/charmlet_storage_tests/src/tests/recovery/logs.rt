@@ -17,7 +17,7 @@ fn empty_world(rt: &(impl AllocGlobal + Abort)) -> PlainWorld {
     PlainWorld::new(rt.alloc(), manifest.expect(rt, "a manifest"))
 }
 
-// A history: its events, what stands of each in a log, and of each delivery in a catch-up list.
+// A history: its events, and the record of each in a log, and of each delivery in a catch-up list.
 #[derive(Drop)]
 struct History {
     world: PlainWorld,
@@ -73,7 +73,7 @@ fn effect_of(before: bool, after: bool) -> Effect {
     }
 }
 
-// What stands of the delivery of this message, in a catch-up list and in a log.
+// The records of this message's delivery, in a catch-up list and in a log.
 fn noted(rt: &(impl AllocGlobal + Abort), world: &PlainWorld, id: MsgId) -> (CatchUpEntry, Logged) {
     let message = world.message(id).expect(rt, "a message");
     let reaction = world
@@ -97,14 +97,14 @@ fn noted(rt: &(impl AllocGlobal + Abort), world: &PlainWorld, id: MsgId) -> (Cat
     (caught_up, logged)
 }
 
-// Adds to the history what stands of the delivery of this message.
+// Adds the records of this message's delivery to the history.
 fn note_delivery(rt: &(impl AllocGlobal + Abort), history: &mut History, id: MsgId) {
     let (caught_up, logged) = noted(rt, &history.world, id);
     history.caught_up.push(caught_up).expect(rt, "memory");
     history.log.push(logged).expect(rt, "memory");
 }
 
-// A copy of the request, as it stands in a log, or nothing for a delivery.
+// A copy of the request, as a log has it, or nothing for a delivery.
 fn logged_request(alloc: Global, event: &Event) -> Result<Option<Logged>, AllocError> {
     let Event::Accept {
         client,
@@ -126,7 +126,7 @@ fn logged_request(alloc: Global, event: &Event) -> Result<Option<Logged>, AllocE
     }))
 }
 
-// Adds to the history what stands of this event.
+// Adds the records of this event to the history.
 fn note_event(rt: &(impl AllocGlobal + Abort), history: &mut History, event: &Event) {
     if let Event::Deliver(id) = event {
         note_delivery(rt, history, *id);
@@ -175,7 +175,7 @@ fn folded(rt: &(impl AllocGlobal + Abort), events: &[Event]) -> PlainWorld {
     world
 }
 
-// The world that the image, the catch-up list and the log come to, and how many events led to it.
+// The world to which the image, the catch-up list and the log lead, and how many events led to it.
 fn replayed(
     rt: &(impl AllocGlobal + Abort),
     image: PlainWorld,
@@ -195,7 +195,7 @@ fn text_of(alloc: Global, world: &PlainWorld, events: u64) -> Result<String, All
     format!(in alloc; "{events} {world:?}")
 }
 
-// An image of this moment and the log after it come to the world of the fold.
+// An image of this moment and the log after it lead to the world of the fold.
 fn assert_fold(rt: &(impl AllocGlobal + Abort), history: &History, moment: usize, wanted: &str) {
     let before = history.events.get(..moment).expect(rt, "events");
     let log = history.log.get(moment..).expect(rt, "a log");
@@ -205,7 +205,7 @@ fn assert_fold(rt: &(impl AllocGlobal + Abort), history: &History, moment: usize
     assert_eq!(rt; text.as_str(), wanted);
 }
 
-// An image of any moment and the log after it come to the world of the fold.
+// An image of any moment and the log after it lead to the world of the fold.
 fn assert_folds(rt: &(impl AllocGlobal + Abort), history: &History) {
     let count = history.events.len();
     let wanted = text_of(rt.alloc(), &history.world, count as u64).expect(rt, "memory");
@@ -215,7 +215,7 @@ fn assert_folds(rt: &(impl AllocGlobal + Abort), history: &History) {
     }
 }
 
-// Adds what is kept of some elements of each array.
+// Adds the records of some elements of each array.
 fn add_records(world: &PlainWorld, text: &mut String) -> Result<(), AllocError> {
     for array in 0..6 {
         for index in 0..6 {
@@ -226,14 +226,14 @@ fn add_records(world: &PlainWorld, text: &mut String) -> Result<(), AllocError> 
     Ok(())
 }
 
-// What is kept of some elements of each array.
+// The records of some elements of each array.
 fn records_of(alloc: Global, world: &PlainWorld) -> Result<String, AllocError> {
     let mut text = String::new(alloc);
     add_records(world, &mut text)?;
     Ok(text)
 }
 
-// Records of this moment and all deliveries come to the records of the fold; the deliveries before
+// Records of this moment and all deliveries lead to the records of the fold; the deliveries before
 // the moment are skipped.
 fn assert_record(rt: &(impl AllocGlobal + Abort), history: &History, moment: usize, wanted: &str) {
     let before = history.events.get(..moment).expect(rt, "events");
@@ -243,7 +243,7 @@ fn assert_record(rt: &(impl AllocGlobal + Abort), history: &History, moment: usi
     assert_eq!(rt; records.as_str(), wanted);
 }
 
-// The same for any moment.
+// Records of any moment and all deliveries lead to the records of the fold.
 fn assert_records(rt: &(impl AllocGlobal + Abort), history: &History) {
     let wanted = records_of(rt.alloc(), &history.world).expect(rt, "memory");
     for moment in 0..=history.events.len() {
@@ -251,7 +251,7 @@ fn assert_records(rt: &(impl AllocGlobal + Abort), history: &History) {
     }
 }
 
-// Adds to the count that is written of the delivery at this place, if there is one.
+// Adds to the written count of the delivery at this place, if there is one.
 fn miscounted(log: &mut Vec<Logged>, place: usize, by: u64) -> bool {
     match log.get_mut(place) {
         Some(Logged::Deliver { received, .. }) => {
@@ -262,7 +262,7 @@ fn miscounted(log: &mut Vec<Logged>, place: usize, by: u64) -> bool {
     }
 }
 
-// The delivery at this place, if there is one, is at fault with a wrong count.
+// The delivery at this place, if there is one, is faulty with a wrong count.
 fn assert_fault(rt: &(impl AllocGlobal + Abort), log: &mut Vec<Logged>, place: usize) {
     if miscounted(log, place, 1) {
         let wanted = format!(in rt.alloc(); "InEvents({place})").expect(rt, "memory");
@@ -271,7 +271,7 @@ fn assert_fault(rt: &(impl AllocGlobal + Abort), log: &mut Vec<Logged>, place: u
     }
 }
 
-// A delivery with a wrong count is at fault, wherever it stands, and whatever stands after it.
+// A delivery with a wrong count is faulty, wherever it stands, and whatever follows it.
 fn assert_faults(rt: &(impl AllocGlobal + Abort), log: &mut Vec<Logged>) {
     for place in 0..log.len() {
         assert_fault(rt, log, place);

@@ -28,7 +28,7 @@ fn client_id(client: u32, number: u64) -> MsgId {
     MsgId { origin, number }
 }
 
-// What the image and the log come to, as a text.
+// The result of the image and the log, as a text.
 fn verdict(
     alloc: Global,
     image: PlainWorld,
@@ -45,7 +45,7 @@ fn verdict(
     }
 }
 
-// The image and the log come to this.
+// The image and the log have this result.
 pub fn assert_verdict(
     rt: &(impl AllocGlobal + Abort),
     image: PlainWorld,
@@ -243,8 +243,8 @@ fn faults_in_pending_messages(rt: HostRuntime) {
 
 // ---- the third round
 
-// What is written of a request's number, of a delivery's count and effect, and of the second send
-// of another one: the index of the receiver, the entry and the word.
+// The written number of a request, the count and effect of a delivery, and the second send of
+// another one: the index of the receiver, the entry and the word.
 #[derive(Clone, Copy)]
 struct Written {
     number: u64,
@@ -388,7 +388,7 @@ fn events_are_limited(rt: HostRuntime) {
     happens(&rt, MAX_EVENTS - 4, TRUE, "whole 1099511627776");
 }
 
-// The image, these deliveries and a log with a wrong number come to this.
+// The image, these deliveries and a log with a wrong number have this result.
 fn goes_wrong(
     rt: &(impl AllocGlobal + Abort),
     image: PlainWorld,
@@ -400,7 +400,8 @@ fn goes_wrong(
     assert_verdict(rt, image, caught_up, 4, &log, wanted);
 }
 
-// The same with deliveries of which the last one is written like this.
+// The image, a log with a wrong number, and deliveries of which the last one is written like this
+// have this result.
 fn goes_wrong_after(rt: &(impl AllocGlobal + Abort), last: (u64, Effect), wanted: &str) {
     let list = deliveries(rt.alloc(), [BORN, GONE, last]).expect(rt, "memory");
     goes_wrong(rt, planted(rt), &list, wanted);

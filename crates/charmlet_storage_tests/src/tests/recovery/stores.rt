@@ -1,5 +1,5 @@
-// Halves byte for byte. docs/FORMAT.md has the first three, and the definitions' examples have some
-// of the others.
+// Halves byte for byte. docs/STORAGE.md has the first three, and the definitions' examples have
+// some of the others.
 
 // A new store with one array of counters, by the third mark.
 pub const NEW_STORE: [u8; 52] = [
@@ -7,7 +7,7 @@ pub const NEW_STORE: [u8; 52] = [
     0, 1, 0, 2, 0, 0, 0, 0, 0, 0, 0, 0, 0, 0, 0, 0, 0, 0, 0, 0, 0, 0,
 ];
 
-// The same after a request that constructs (0, 0) with 5, and its delivery.
+// The new store after a request that constructs (0, 0) with 5, and its delivery.
 pub const FLUSHED_STORE: [u8; 125] = [
     1, 67, 75, 80, 51, 1, 0, 0, 0, 0, 0, 0, 0, 0, 0, 0, 0, 0, 0, 0, 0, 26, 0, 0, 0, 1, 0, 0, 0, 0,
     0, 1, 0, 2, 0, 0, 0, 0, 0, 0, 0, 0, 0, 0, 0, 0, 0, 0, 0, 0, 0, 1, 64, 0, 0, 0, 2, 0, 0, 0, 1,
@@ -16,7 +16,7 @@ pub const FLUSHED_STORE: [u8; 125] = [
     0, 0,
 ];
 
-// The image that is made then.
+// The image that is then made of it.
 pub const IMAGE_STORE: [u8; 117] = [
     1, 67, 75, 80, 51, 2, 0, 0, 0, 0, 0, 0, 0, 2, 0, 0, 0, 0, 0, 0, 0, 91, 0, 0, 0, 1, 0, 0, 0, 0,
     0, 1, 0, 2, 0, 1, 0, 0, 0, 7, 0, 0, 0, 1, 0, 0, 0, 0, 0, 0, 0, 1, 1, 0, 0, 0, 0, 0, 0, 0, 0, 1,
@@ -24,7 +24,7 @@ pub const IMAGE_STORE: [u8; 117] = [
     0, 0, 0, 5, 0, 0, 0, 0, 0, 0, 0, 5, 0, 0, 0, 0, 0, 0, 0, 0, 0, 0, 0, 0,
 ];
 
-// The same image of a counter of version 1, which the format has too, though no store writes it.
+// The same image with a counter of version 1, which the format has too, though no store writes it.
 pub const KEPT_STORE: [u8; 109] = [
     1, 67, 75, 80, 51, 2, 0, 0, 0, 0, 0, 0, 0, 2, 0, 0, 0, 0, 0, 0, 0, 83, 0, 0, 0, 1, 0, 0, 0, 0,
     0, 1, 0, 1, 0, 1, 0, 0, 0, 7, 0, 0, 0, 1, 0, 0, 0, 0, 0, 0, 0, 1, 1, 0, 0, 0, 0, 0, 0, 0, 0, 1,

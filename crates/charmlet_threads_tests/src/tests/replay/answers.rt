@@ -1,4 +1,5 @@
-// What two files come to by the plain replay, by several workers, and by a restart: as texts.
+// The results of the plain replay of two files, of one by several workers, and of a restart: as
+// texts.
 
 ghost use Rattle.charmlet_halves.specs.Found.{Reads};
 ghost use Rattle.charmlet_replay.specs.Unused.{IsUnused};
@@ -36,7 +37,7 @@ pub struct Files<'a> {
     pub one: &'a [u8],
 }
 
-// What stands ready for a replay: the objects are counted by the tally.
+// A disk and blanks that are ready for a replay. The tally counts the objects.
 #[derive(Drop)]
 struct Ready {
     tally: Arc<Tally>,
@@ -44,7 +45,7 @@ struct Ready {
     stock: Stock<Object>,
 }
 
-// A disk with these bytes, which are sure.
+// A disk with these bytes, which are durable.
 pub fn disk_of(rt: &(impl AllocGlobal + Abort), files: Files<'_>) -> ProbeDisk {
     let mut disk = ProbeDisk::new(rt.alloc()).expect(rt, "memory");
     disk.put(Half::Zero, 0, files.zero).expect(rt, "memory");
@@ -110,7 +111,7 @@ fn refused(
     text
 }
 
-// Adds what is seen of an element, if anything happened to it.
+// Adds the view of an element, if anything happened to it.
 fn add_element(text: &mut String, store: &mut Store<Object>, elem: Elem) -> Result<(), AllocError> {
     let look = store.look(elem)?;
     if look.received > 0 {
@@ -119,7 +120,7 @@ fn add_element(text: &mut String, store: &mut Store<Object>, elem: Elem) -> Resu
     Ok(())
 }
 
-// Adds what is kept of clients and of messages, and which message is delivered next.
+// Adds the clients' rows, the pending messages, and which message is delivered next.
 fn add_waiting(text: &mut String, store: &Store<Object>) -> Result<(), AllocError> {
     for (client, rows) in store.history.clients() {
         let row = rows.present();
@@ -134,7 +135,7 @@ fn add_waiting(text: &mut String, store: &Store<Object>) -> Result<(), AllocErro
     Ok(())
 }
 
-// Adds all that a store shows of its world, and of its objects.
+// Adds everything that a store shows of its world, and of its objects.
 fn add_store(text: &mut String, store: &mut Store<Object>) -> Result<(), AllocError> {
     let events = store.history.event_count();
     let generation = store.history.generation();
@@ -155,7 +156,7 @@ fn add_store(text: &mut String, store: &mut Store<Object>) -> Result<(), AllocEr
     Ok(())
 }
 
-// All that a store shows that came back, and whether its half is of the newest versions alone.
+// Everything that a restored store shows, and whether its half is only of the newest versions.
 fn stands(rt: &(impl AllocGlobal + Abort), store: Store<Object>, is_current: bool) -> String {
     let mut store = store;
     let mut text = String::new(rt.alloc());
@@ -175,7 +176,7 @@ fn refusal_of(found: &Surveyed, why: ReadError) -> Refusal {
     }
 }
 
-// What a replay of the half that was surveyed came to.
+// The result of a replay of the surveyed half.
 fn told(
     rt: &(impl AllocGlobal + Abort),
     tally: &Tally,
@@ -188,7 +189,7 @@ fn told(
     }
 }
 
-// The plain replay of the half that was surveyed, for which there are blanks enough.
+// The plain replay of the surveyed half, for which there are enough blanks.
 fn replay_plainly(
     rt: &(impl AllocGlobal + Abort),
     found: &Surveyed,
@@ -205,7 +206,7 @@ fn replay_plainly(
     }
 }
 
-// The same by so many workers.
+// The replay of the surveyed half by this many workers.
 fn replay_by_workers<R: Threads + Sync + AllocGlobal + Abort>(
     rt: &R,
     found: &Surveyed,
@@ -230,7 +231,7 @@ fn replay_by_workers<R: Threads + Sync + AllocGlobal + Abort>(
     }
 }
 
-// What two files come to by the plain replay.
+// The result of the plain replay of two files.
 pub fn by_one(rt: &(impl AllocGlobal + Abort), files: Files<'_>, processors: u16) -> String {
     let Ready {
         tally,
@@ -246,7 +247,7 @@ pub fn by_one(rt: &(impl AllocGlobal + Abort), files: Files<'_>, processors: u16
     }
 }
 
-// What they come to by so many workers.
+// The result of a replay of two files by this many workers.
 pub fn by_many<R: Threads + Sync + AllocGlobal + Abort>(
     rt: &R,
     files: Files<'_>,
@@ -267,7 +268,7 @@ pub fn by_many<R: Threads + Sync + AllocGlobal + Abort>(
     }
 }
 
-// What they come to by a restart by so many workers.
+// The result of a restart from two files by this many workers.
 pub fn by_restart<R: Threads + Sync + AllocGlobal + Abort>(
     rt: &R,
     files: Files<'_>,

@@ -99,8 +99,8 @@ fn ask_both(
     }
 }
 
-// A disk whose log makes a counter with 5 on each of two processors, and then, if that is asked
-// for, adds 1 to each.
+// A disk whose log makes a counter with 5 on each of two processors, and then, if asked, adds 1 to
+// each.
 pub fn logged(rt: &(impl AllocGlobal + Abort), adds: bool) -> ProbeDisk {
     let mut engine = new_engine(rt);
     ask_both(rt, &mut engine, 1, CONSTRUCT, 5);
@@ -111,8 +111,8 @@ pub fn logged(rt: &(impl AllocGlobal + Abort), adds: bool) -> ProbeDisk {
     engine.into_disk()
 }
 
-// A disk whose log makes these counters, and then has so many batches, in each of which 1 is added
-// so often to each counter.
+// A disk whose log makes these counters, and then has this many batches, each of which adds 1 to
+// each counter this many times.
 pub fn logged_often(rt: &(impl AllocGlobal + Abort), batches: u64, times: u64) -> ProbeDisk {
     let mut engine = new_engine(rt);
     ask_both(rt, &mut engine, 1, CONSTRUCT, 5);

@@ -1,5 +1,5 @@
-// A log of more events than several workers are dispatched at a time comes back by them as by one,
-// also where an event is at fault that they are dispatched later.
+// A log of more events than are dispatched to several workers at a time is replayed by them as by
+// one, even if an event is faulty that is dispatched later.
 
 use super::answers::{Files, by_many, by_one, by_restart};
 use super::counters::logged_often;
@@ -8,10 +8,10 @@ use std::alloc::{AllocError, AllocGlobal, Global};
 use std::process::Abort;
 use std::thread::Threads;
 
-// Every sixth one of so many last bytes of the log is changed, one at a time.
+// Every sixth of this many last bytes of the log is changed, one at a time.
 const CHANGES: usize = 48;
 
-// The bytes with another one so far from their end.
+// The bytes with another byte this far from their end.
 fn changed(alloc: Global, bytes: &[u8], from_end: usize) -> Result<Vec<u8>, AllocError> {
     let mut copy = bytes.to_vec(alloc)?;
     let at = bytes.len().saturating_sub(from_end);
@@ -21,7 +21,7 @@ fn changed(alloc: Global, bytes: &[u8], from_end: usize) -> Result<Vec<u8>, Allo
     Ok(copy)
 }
 
-// The files come to the same by one worker and by three.
+// The files have the same result by one worker and by three.
 fn assert_same<R: Threads + Sync + AllocGlobal + Abort>(rt: &R, files: Files<'_>) -> String {
     let wanted = by_one(rt, files, 2);
     let found = by_many(rt, files, 2, 3);

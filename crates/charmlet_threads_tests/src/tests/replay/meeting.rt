@@ -1,5 +1,5 @@
-// Two objects on two processors, of which each waits in its entry until the other one is in its
-// own. By one thread neither could go on; so each waits so many turns and no more.
+// Two objects on two processors, each of which waits in its entry until the other one is in its
+// own. In one thread neither could go on; so each waits at most a number of turns.
 
 ghost use Rattle.charmlet_replay.specs.Unused.{IsUnused};
 
@@ -18,10 +18,10 @@ use std::sync::Arc;
 use std::sync::atomic::{AtomicBool, Ordering};
 use std::thread::Threads;
 
-// How many turns an object waits at most, where the other one is to come.
+// How many turns an object waits at most, if the other one is to come.
 const TURNS: u64 = 100_000_000;
 
-// How many it waits where the other one can't come.
+// How many turns an object waits if the other one can't come.
 const FEW_TURNS: u64 = 1_000;
 
 // Whether an object is in its entry, or was; and whether it has seen the other one there.
@@ -39,7 +39,7 @@ impl Flag {
         }
     }
 
-    // Raises this one, and waits for the other one.
+    // Raises this flag, and waits for the other one.
     fn wait_for(&self, other: &Flag, turns: u64) {
         self.is_up.store(true, Ordering::SeqCst);
         for _ in 0..turns {
@@ -155,8 +155,8 @@ fn two_that_meet(rt: &(impl AllocGlobal + Abort), flags: &Arc<Flags>) -> Stock<M
     }
 }
 
-// Whether two objects, of which each waits so many turns, meet as the store on this disk comes back
-// on two processors by so many workers.
+// Whether two objects meet, each of which waits this many turns, as the store on this disk is
+// replayed on two processors by this many workers.
 fn meet<R: Threads + Sync + AllocGlobal + Abort>(
     rt: &R,
     disk: ProbeDisk,
@@ -190,7 +190,7 @@ const CAUGHT_UP: [u8; 300] = [
     0, 0, 0, 0, 0, 0, 2, 0, 0, 0, 0, 0, 0, 0, 0, 0,
 ];
 
-// So are the deliveries of a catch-up list made again.
+// The deliveries of a catch-up list are repeated by both workers at once, too.
 #[test]
 fn objects_meet_in_a_catch_up_list(rt: HostRuntime) {
     let files = Files {

@@ -1,5 +1,5 @@
-// Random stores come back by several workers as they do by the plain replay, as their runs left
-// them, with gates that are closed, and with other bytes.
+// Random stores are restored by several workers as by the plain replay: as their runs left them,
+// with gates that are closed, and with other bytes.
 
 ghost use Rattle.charmlet_model.specs.KindVersion.{AreNewest};
 
@@ -14,7 +14,7 @@ use std::process::Abort;
 use std::sync::Arc;
 use std::thread::Threads;
 
-// On how many processors stores come back, and by how many workers.
+// The numbers of processors on which stores are restored, and of workers.
 const NUMBERS: [u16; 4] = [1, 2, 3, 64];
 
 // Where the length of an image stands in a half, and where its bytes begin.
@@ -136,7 +136,7 @@ fn relocate(rng: &mut Pcg32, life: &mut Life) {
     let _answer = life.engine.step(&Step::Move { elem, processor });
 }
 
-// Something happens: mostly a delivery, and else a request, a move, a flush or an image.
+// Something happens: mostly a delivery, and otherwise a request, a move, a flush or an image.
 fn go_on(rt: &(impl AllocGlobal + Abort), rng: &mut Pcg32, life: &mut Life) {
     let choice = rng.next_word() % 60;
     if choice < 20 {
@@ -152,7 +152,7 @@ fn go_on(rt: &(impl AllocGlobal + Abort), rng: &mut Pcg32, life: &mut Life) {
     }
 }
 
-// Both halves of a store to which so much has happened, all of which is durable.
+// Both halves of a store to which this many things have happened, all of them durable.
 fn some_halves(
     rt: &(impl AllocGlobal + Abort),
     rng: &mut Pcg32,
@@ -169,15 +169,15 @@ fn some_halves(
     (zero, one)
 }
 
-// How many stores came back, and how many were refused for what stands in their records.
+// How many stores were restored, and how many were refused for their records.
 #[derive(Drop)]
 struct Counts {
     whole: u64,
     faulty: u64,
 }
 
-// The files come to the same, whichever replay brings them back, and by however many workers; and
-// to what the plain program of recovery says. It is counted what that is.
+// The files have the same result, whichever replay restores them, and by however many workers; and
+// the plain program of recovery agrees. The results are counted.
 fn assert_same<R: Threads + Sync + AllocGlobal + Abort>(
     rt: &R,
     files: Files<'_>,
@@ -252,7 +252,7 @@ fn some_change(alloc: Global, rng: &mut Pcg32, bytes: &[u8]) -> Result<Vec<u8>, 
     Ok(copy)
 }
 
-// The same where each gate of the log is closed, so that it ends there.
+// The files have the same result if each gate of the log is closed, so that the log ends there.
 fn assert_gates<R: Threads + Sync + AllocGlobal + Abort>(
     rt: &R,
     zero: &[u8],
@@ -272,7 +272,7 @@ fn assert_gates<R: Threads + Sync + AllocGlobal + Abort>(
     }
 }
 
-// The same where both halves have other bytes.
+// The files have the same result if both halves have other bytes.
 fn assert_changes<R: Threads + Sync + AllocGlobal + Abort>(
     rt: &R,
     rng: &mut Pcg32,

@@ -25,7 +25,7 @@ fn two_blanks(rt: &(impl AllocGlobal + Abort)) -> Stock<Object>
     }
 }
 
-// There can't be so many processors and workers: nothing is read or synced, and both blanks come
+// There can't be this many processors and workers: nothing is read or synced, and both blanks come
 // back.
 fn assert_bad<R: Threads + Sync + AllocGlobal + Abort>(
     rt: &R,
@@ -101,8 +101,8 @@ const FIRST: &str =
 const SECOND: &str =
     "refused 14 Damaged 0 289\ndrops 0\n1 Tally { supplied: 3, in_stock: 3, retired: 0 }\n";
 
-// Of each counter it is written that it is destroyed as it is added to, of one on each processor.
-// The one that stands first is answered, whichever worker finds its own sooner.
+// The log says that each counter, one on each processor, is destroyed as it is added to. The answer
+// is the fault that stands first, whichever worker finds its own sooner.
 #[test]
 fn first_of_two_faults_is_answered(rt: HostRuntime) {
     let mut disk = logged(&rt, true);

@@ -1,12 +1,12 @@
-// Blanks that pending constructions want, and deliveries that end for want of one.
+// Blanks that pending constructions want, and deliveries that end for lack of one.
 
 use super::counters::{ask, new_engine};
 use charmlet_engine::Deliveries;
 use charmlet_kinds::Counter;
 use charmlet_model::{CONSTRUCT, Kind, Refusal};
 
-// Three elements are to be constructed, and there are two blanks. What is asked of one that is
-// there wants none.
+// Three elements are to be constructed, and there are two blanks. A request to a present element
+// wants none.
 #[test]
 fn constructions_want_blanks(rt: HostRuntime) {
     let mut engine = new_engine(&rt);

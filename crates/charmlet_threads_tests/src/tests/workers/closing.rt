@@ -81,7 +81,7 @@ impl<B: RuntimeName> Open<B> {
         }
     }
 
-    // A close is refused, since not all that is out is handed in, and all comes back.
+    // A close is refused, since not everything that is out is handed in, and everything comes back.
     fn stay(self, rt: &impl Abort) -> Self {
         let Open {
             runtime,
@@ -157,7 +157,7 @@ fn halt<B: RuntimeName + Send + Sync, R: Wait + AllocGlobal + Abort + Sync>(
     }
 }
 
-// The runtime is closed. The delivery that was left on its shelf stands once in its history, by no
+// The runtime is closed. The delivery that was left on its shelf is once in its history, without a
 // seat, and the counter is there. No blank is lost.
 fn end<B: RuntimeName>(rt: &impl Abort, open: Open<B>) {
     let Open {
@@ -241,7 +241,7 @@ fn close_quietly<B: RuntimeName, R: Wait + AllocGlobal + Abort>(
     assert!(rt; !history.is_halted());
 }
 
-// The same under the name `B`, of a store that is halted or not.
+// Closes under the name `B` a store that is halted or not.
 fn close_named<B: RuntimeName + Send + Sync, R: Wait + AllocGlobal + Abort + Sync>(
     rt: &R,
     start: Start,
@@ -270,7 +270,7 @@ fn close_named<B: RuntimeName + Send + Sync, R: Wait + AllocGlobal + Abort + Syn
     }
 }
 
-// The same, under a name of its own.
+// Closes such a store under a name of its own.
 fn close_once<R: Wait + AllocGlobal + Abort + Sync>(rt: &R, start: Start, halts: bool)
     requires { IsReady start.store start.halves }
 {

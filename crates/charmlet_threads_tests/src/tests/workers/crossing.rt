@@ -124,7 +124,8 @@ fn has_worked<B: RuntimeName>(rt: &impl Abort, slot: &WorkerSlot<B>, client: u32
     assert_eq!(rt; slot.seat.ids(), [first_of(client)].as_slice());
 }
 
-// A flush fails at this call of the disk, whose later calls would all pass. Then all is refused.
+// A flush fails at this call of the disk, whose later calls would all pass. Then everything is
+// refused.
 fn fail<B: RuntimeName, R: Wait + Abort>(
     rt: &R,
     runtime: &Runtime<ProbeDisk, Object, B>,
@@ -158,8 +159,8 @@ fn fail<B: RuntimeName, R: Wait + Abort>(
     }
 }
 
-// The runtime is closed. Both deliveries stand in its history, processor 1's first, and no other;
-// and both counters on its shelves.
+// The runtime is closed. Its history has both deliveries, processor 1's first, and no other; and
+// both counters are on its shelves.
 fn end<B: RuntimeName>(
     rt: &impl Abort,
     runtime: Runtime<ProbeDisk, Object, B>,
@@ -221,7 +222,7 @@ fn stand<B: RuntimeName>(
     seats
 }
 
-// The same over a store, with authorities that `B` names.
+// Crosses over a store, with authorities that `B` names.
 fn cross_named<B: RuntimeName + Send + Sync, R: Threads + Wait + Sync + AllocGlobal + Abort>(
     rt: &R,
     start: Start,
@@ -250,7 +251,7 @@ fn cross_named<B: RuntimeName + Send + Sync, R: Threads + Wait + Sync + AllocGlo
     }
 }
 
-// The same, under a name of its own.
+// Crosses over a store, under a name of its own.
 fn cross_once<R: Threads + Wait + Sync + AllocGlobal + Abort>(
     rt: &R,
     start: Start,
@@ -262,7 +263,7 @@ fn cross_once<R: Threads + Wait + Sync + AllocGlobal + Abort>(
     cross_named::<Brand, R>(rt, start, gate, call)
 }
 
-// What a crash leaves of the disk restarts, with so many events.
+// The disk that a crash leaves restarts, with this many events.
 fn restarts<R: Threads + Sync + AllocGlobal + Abort>(
     rt: &R,
     tally: &Arc<Tally>,

@@ -48,7 +48,7 @@ fn create(rt: &(impl AllocGlobal + Abort), kind: Kind) -> RuntimeBuilder<ProbeDi
     }
 }
 
-// The client asks something of an element, whose worker delivers it.
+// The client makes a request to an element, whose worker delivers it.
 fn ask<B: RuntimeName, R: Wait + Abort>(
     rt: &R,
     runtime: &Runtime<ProbeDisk, Object, B>,
@@ -127,7 +127,7 @@ fn grow<B: RuntimeName, R: Wait + AllocGlobal + Abort>(
     has_ticket(rt, &mut second, 1);
 }
 
-// One of the two under the name `B`: a tree is made, or a token goes on.
+// Runs one of the two under the name `B`: a tree is made, or a token goes on.
 fn run_named<B: RuntimeName, R: Wait + AllocGlobal + Abort>(
     rt: &R,
     begun: RuntimeBuilder<ProbeDisk, Object>,
@@ -152,7 +152,7 @@ fn run_named<B: RuntimeName, R: Wait + AllocGlobal + Abort>(
     }
 }
 
-// The same of elements of this kind, under a name of its own.
+// Runs elements of this kind, under a name of its own.
 fn run_once<R: Wait + AllocGlobal + Abort>(rt: &R, kind: Kind) {
     let tally = Arc::new(rt.alloc(), Tally::new()).expect(rt, "memory");
     let authorities = UnnamedAuthorities::new(rt.alloc()).expect(rt, "memory");

@@ -1,5 +1,5 @@
 //! A worker that finds nothing for a while, and then what others send it: a request for an element
-//! on its processor, and a message that comes with an element which moves there, without a ticket.
+//! on its processor, and a message without a ticket that comes with an element that moves there.
 
 ghost use Rattle.std.specs.Prelude.{◌≡◌};
 ghost use Rattle.charmlet_locks.specs.GhostAuth.Naming.{table_of};
@@ -98,8 +98,8 @@ fn idle() {
     }
 }
 
-// The client's side: the worker commits what it is asked for, one after another, and the store is
-// halted once it has the last one.
+// The client's side: the worker commits the requests, one after another, and the store is halted
+// once it has the last one.
 fn send<B: RuntimeName, R: Wait + AllocGlobal + Abort + Clock>(
     rt: &R,
     runtime: &Runtime<ProbeDisk, Object, B>,
@@ -147,8 +147,8 @@ fn act<B: RuntimeName, R: Wait + AllocGlobal + Abort + Clock>(
     }
 }
 
-// The runtime is closed. The worker's three deliveries stand with its seat, and the one that the
-// halted store refused in the hub's own list.
+// The runtime is closed. The worker's three deliveries are in its seat, and the one that the halted
+// store refused is in the hub's own list.
 fn end<B: RuntimeName>(
     rt: &(impl AllocGlobal + Abort),
     runtime: Runtime<ProbeDisk, Object, B>,
@@ -218,7 +218,7 @@ fn meet<B: RuntimeName + Send + Sync, R: Threads + Wait + Sync + AllocGlobal + A
     end(rt, runtime, first, sides);
 }
 
-// The same under the name `B`.
+// The worker and the client meet under the name `B`.
 fn meet_named<B: RuntimeName + Send + Sync, R: Threads + Wait + Sync + AllocGlobal + Abort + Clock>(
     rt: &R,
     start: Start,
@@ -246,7 +246,7 @@ fn meet_named<B: RuntimeName + Send + Sync, R: Threads + Wait + Sync + AllocGlob
     }
 }
 
-// The same, under a name of its own.
+// The worker and the client meet under a name of its own.
 fn meet_once<R: Threads + Wait + Sync + AllocGlobal + Abort + Clock>(
     rt: &R,
     start: Start,

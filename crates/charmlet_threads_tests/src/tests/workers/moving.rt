@@ -1,4 +1,4 @@
-//! An element that moves while a runtime goes on, a checkpoint, one that fails, and what comes back
+//! An element that moves while a runtime goes on, a checkpoint, one that fails, and the restart
 //! after a crash.
 
 ghost use Rattle.std.specs.Prelude.{◌≡◌};
@@ -43,14 +43,14 @@ fn give<B: RuntimeName, R: Wait + AllocGlobal + Abort>(
 }
 
 // One object was packed and is gone, and the other one was unpacked and stands in its place, and
-// has been entered so often.
+// has been entered this many times.
 fn has_followed(rt: &impl Abort, before: &Tally, after: &Tally, entries: u64) {
     let [_, packs, _, drops] = before.counts();
     assert_eq!(rt; [packs, drops], [1, 1]);
     assert_eq!(rt; after.counts(), [entries, 0, 1, 0]);
 }
 
-// The client asks something of the counter, whose message is then the only one.
+// The client makes a request to the counter, whose message is then the only one.
 fn ask<B: RuntimeName, R: Wait + AllocGlobal + Abort>(
     rt: &R,
     runtime: &Runtime<ProbeDisk, Object, B>,
@@ -117,8 +117,8 @@ fn flush<B: RuntimeName, R: Wait + AllocGlobal + Abort>(
     assert_eq!(rt; runtime.flush(rt, none.as_mut_slice()), Ok(2));
 }
 
-// The counter is made on processor 0, and goes to 1, back to 0, and to 1 again. What is asked of it
-// is delivered where it stands, to the object that was its last blank.
+// The counter is made on processor 0, and goes to 1, back to 0, and to 1 again. Its requests are
+// delivered where it stands, to the object that was its last blank.
 fn roam<B: RuntimeName, R: Wait + AllocGlobal + Abort>(
     rt: &R,
     runtime: &Runtime<ProbeDisk, Object, B>,
@@ -188,7 +188,8 @@ fn repeat<B: RuntimeName, R: Wait + AllocGlobal + Abort>(
     );
 }
 
-// A checkpoint makes all durable. At the next one the device fails, and then all is refused.
+// A checkpoint makes everything durable. At the next one the device fails, and then everything is
+// refused.
 fn seal<B: RuntimeName, R: Wait + AllocGlobal + Abort>(
     rt: &R,
     runtime: &Runtime<ProbeDisk, Object, B>,
@@ -226,7 +227,7 @@ fn is_seen<B: RuntimeName, R: Wait + Abort>(
     assert!(rt; stands(&look, processor));
 }
 
-// A close without the pass that is out is refused, and all comes back.
+// A close without the pass that is out is refused, and everything comes back.
 fn stay_open<B: RuntimeName>(
     rt: &(impl AllocGlobal + Abort),
     runtime: Runtime<ProbeDisk, Object, B>,
@@ -297,7 +298,7 @@ fn live<B: RuntimeName, R: Wait + AllocGlobal + Abort>(
     end(rt, runtime, seats, passes, processor)
 }
 
-// The first one under the name `B`.
+// The first life under the name `B`.
 fn live_named<B: RuntimeName, R: Wait + AllocGlobal + Abort>(
     rt: &R,
     begun: RuntimeBuilder<ProbeDisk, Object>,
@@ -317,7 +318,7 @@ fn live_named<B: RuntimeName, R: Wait + AllocGlobal + Abort>(
     live(rt, begun.open_in::<B>(authorities, room), Some(switches))
 }
 
-// The same, under a name of its own.
+// The first life, under a name of its own.
 fn live_once<R: Wait + AllocGlobal + Abort>(
     rt: &R,
     begun: RuntimeBuilder<ProbeDisk, Object>,
@@ -329,7 +330,7 @@ fn live_once<R: Wait + AllocGlobal + Abort>(
     live_named::<Brand, R>(rt, begun, authorities, switches)
 }
 
-// The second one under the name `B`.
+// The second life under the name `B`.
 fn live_again_named<B: RuntimeName, R: Wait + AllocGlobal + Abort>(
     rt: &R,
     reopened: Reopened<ProbeDisk, Object>,
@@ -349,7 +350,7 @@ fn live_again_named<B: RuntimeName, R: Wait + AllocGlobal + Abort>(
     }
 }
 
-// The same, under a name of its own.
+// The second life, under a name of its own.
 fn live_again<R: Wait + AllocGlobal + Abort>(
     rt: &R,
     reopened: Reopened<ProbeDisk, Object>,

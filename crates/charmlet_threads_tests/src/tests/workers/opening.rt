@@ -1,4 +1,4 @@
-//! Stores to open a runtime over: new ones, and one that comes back.
+//! Stores over which a runtime opens: new ones, and a restored one.
 
 ghost use Rattle.std.specs.Prelude.{◌≡◌};
 ghost use Rattle.charmlet_model.specs.KindVersion.{AreNewest};
@@ -30,7 +30,7 @@ pub(super) fn counters(rt: &impl Abort, alloc: Global) -> Manifest
         .expect(rt, "one array")
 }
 
-// A store with these arrays on so many processors, whose events are noted.
+// A store with these arrays on this many processors, whose events are noted.
 pub(super) fn new_store(
     rt: &impl Abort,
     alloc: Global,
@@ -83,8 +83,7 @@ impl Start {
     }
 }
 
-// So many of the two counters of a store that was closed are on its shelves, and the others in its
-// stock.
+// This many of the two counters of a closed store are on its shelves, and the others in its stock.
 pub(super) fn has_counters(rt: &impl Abort, store: &Store<Object>, on_shelves: u64) {
     let census = store.census(Kind::Counter);
     assert_eq!(rt;
@@ -108,8 +107,7 @@ pub(super) fn create_on(
     }
 }
 
-// The store that comes back on two processors, with the objects that it wants, and doesn't go on
-// yet.
+// The restored store on two processors, with the objects that it wants, which doesn't go on yet.
 pub(super) fn reopen_on<R: Threads + Sync + AllocGlobal + Abort>(
     rt: &R,
     disk: ProbeDisk,
@@ -126,7 +124,7 @@ pub(super) fn reopen_on<R: Threads + Sync + AllocGlobal + Abort>(
     }
 }
 
-// The store that stands on a disk, on so many processors, with the objects that it wants.
+// The restarted store of a disk, on this many processors, with the objects that it wants.
 pub(super) fn come_back<R: Threads + Sync + AllocGlobal + Abort>(
     rt: &R,
     disk: ProbeDisk,

@@ -71,7 +71,7 @@ enum Hand<B: RuntimeName> {
     Watcher,
 }
 
-// Blanks are there for all that is made.
+// Supplies blanks for everything that is made.
 fn supply<B: RuntimeName, R: Wait + AllocGlobal + Abort>(
     rt: &R,
     runtime: &Runtime<ProbeDisk, Object, B>,
@@ -297,7 +297,7 @@ impl Start {
     }
 }
 
-// The same under the name `B`.
+// The two movers' life under the name `B`.
 fn live_named<B: RuntimeName + Send + Sync, R: Threads + Wait + Sync + AllocGlobal + Abort + Clock>(
     rt: &R,
     start: Start,
@@ -323,7 +323,7 @@ fn live_named<B: RuntimeName + Send + Sync, R: Threads + Wait + Sync + AllocGlob
     }
 }
 
-// The same, under a name of its own.
+// The two movers' life, under a name of its own.
 fn live_once<R: Threads + Wait + Sync + AllocGlobal + Abort + Clock>(
     rt: &R,
     start: Start,

@@ -1,5 +1,5 @@
-//! A checkpoint in the midst of one shelf, while the worker of another one delivers: an object that
-//! is packed waits until the other one's delivery is committed, or long enough.
+//! A checkpoint in the middle of one shelf, while the worker of another one delivers: a packed
+//! object waits until the other one's delivery is committed, or long enough.
 
 ghost use Rattle.std.specs.Prelude.{◌≡◌};
 ghost use Rattle.charmlet_locks.specs.GhostAuth.Naming.{table_of};
@@ -25,7 +25,7 @@ use std::sync::atomic::{AtomicBool, AtomicU64, Ordering};
 use std::sync::{Arc, Wait};
 use std::thread::{Threads, join};
 
-// How many turns an object waits at most that is packed.
+// How many turns a packed object waits at most.
 const TURNS: u64 = 100_000_000;
 
 // Whether an object is being packed, or was; whether a delivery was committed after that; and how
@@ -181,7 +181,7 @@ fn work<B: RuntimeName, R: Wait + Abort, G: Gate>(
     assert_eq!(rt; worked.refusal, None);
 }
 
-// The same, once an object is being packed.
+// The worker makes one delivery, once an object is being packed.
 fn work_meanwhile<B: RuntimeName, R: Wait + Abort>(
     rt: &R,
     runtime: &Runtime<ProbeDisk, Slow<Counter>, B>,
@@ -219,7 +219,7 @@ fn meet<B: RuntimeName + Send + Sync, R: Threads + Wait + Sync + AllocGlobal + A
     assert_eq!(rt; [runtime.durable(rt), runtime.event_count(rt)], [6, 6]);
 }
 
-// The same under the name `B`.
+// Both counters meet under the name `B`.
 fn meet_named<B: RuntimeName + Send + Sync, R: Threads + Wait + Sync + AllocGlobal + Abort>(
     rt: &R,
     begun: RuntimeBuilder<ProbeDisk, Slow<Counter>>,
@@ -239,7 +239,7 @@ fn meet_named<B: RuntimeName + Send + Sync, R: Threads + Wait + Sync + AllocGlob
     meet(rt, begun.open_in::<B>(authorities, room), meeting)
 }
 
-// The same, under a name of its own.
+// Both counters meet under a name of its own.
 fn meet_once<R: Threads + Wait + Sync + AllocGlobal + Abort>(
     rt: &R,
     begun: RuntimeBuilder<ProbeDisk, Slow<Counter>>,

@@ -1,5 +1,5 @@
-//! A checkpoint while which clients ask, workers deliver and a flush makes all durable; the bytes
-//! that it leaves, and what comes back from them.
+//! A checkpoint during which clients ask, workers deliver and a flush makes everything durable; its
+//! bytes, and the restart from them.
 
 ghost use Rattle.std.specs.Prelude.{◌≡◌};
 ghost use Rattle.charmlet_locks.specs.GhostAuth.Naming.{table_of};
@@ -54,7 +54,7 @@ fn counter(index: u64) -> Elem {
 }
 
 impl<B: RuntimeName> Hands<B> {
-    // All that a runtime lends.
+    // Everything that a runtime lends.
     fn of<R: Wait + AllocGlobal + Abort>(
         rt: &R,
         runtime: &Runtime<ProbeDisk, Object, B>,
@@ -110,7 +110,7 @@ impl<B: RuntimeName> Hands<B> {
         );
     }
 
-    // What is done after the first shelf: element 0 is imaged already, and element 1 isn't.
+    // The work after the first shelf: element 0 is imaged already, and element 1 isn't.
     fn go_on<R: Wait + Abort>(&mut self, rt: &R, runtime: &Runtime<ProbeDisk, Object, B>) {
         self.ask(rt, runtime, 0, 0, 3);
         self.ask(rt, runtime, 1, 0, 1);
@@ -123,7 +123,7 @@ impl<B: RuntimeName> Hands<B> {
     }
 }
 
-// A checkpoint's pause, after the first of whose shelves others go on.
+// A checkpoint's pause: others go on after its first shelf.
 #[derive(Drop)]
 struct Meanwhile<'a, B: RuntimeName, R: Wait> {
     rt: &'a R,
@@ -195,7 +195,7 @@ fn pause<B: RuntimeName + Send + Sync, R: Wait + Sync + AllocGlobal + Abort>(
     }
 }
 
-// The same under the name `B`.
+// The pause under the name `B`.
 fn pause_named<B: RuntimeName + Send + Sync, R: Wait + Sync + AllocGlobal + Abort>(
     rt: &R,
     begun: RuntimeBuilder<ProbeDisk, Object>,
@@ -215,7 +215,7 @@ fn pause_named<B: RuntimeName + Send + Sync, R: Wait + Sync + AllocGlobal + Abor
     pause(rt, begun.open_in::<B>(authorities, room), tally)
 }
 
-// The same, under a name of its own.
+// The pause, under a name of its own.
 fn pause_once<R: Wait + Sync + AllocGlobal + Abort>(
     rt: &R,
     begun: RuntimeBuilder<ProbeDisk, Object>,
@@ -240,7 +240,7 @@ fn is_back<M: Machine>(rt: &impl Abort, machine: &mut M, index: u64, count: u8) 
     assert_eq!(rt; [look.sent, look.received], [0, 2]);
 }
 
-// What a crash leaves of the disk restarts from the image.
+// The disk that a crash leaves restarts from the image.
 fn restarts<R: Threads + Sync + AllocGlobal + Abort>(
     rt: &R,
     disk: ProbeDisk,

@@ -1,5 +1,5 @@
 //! Random stores whose checkpoints run while clients ask and workers deliver. Each crashes and
-//! comes back, and is compared with the world after the events that were durable.
+//! restarts, and is compared with the world after the durable events.
 
 ghost use Rattle.std.specs.Prelude.{◌<◌, ◌≡◌, ◌≤◌};
 ghost use Rattle.charmlet_locks.specs.GhostAuth.Naming.{table_of};
@@ -37,7 +37,7 @@ const CLIENTS: u32 = 3;
 // How many things are done before the first checkpoint.
 const FIRST: u32 = 24;
 
-// How many turns each worker has that works in a thread of its own.
+// How many turns each worker has in a thread of its own.
 const TURNS: u64 = 12;
 
 // An array of each kind. Those of trees have the most to do, since a tree's elements come and go.
@@ -45,7 +45,7 @@ const ARRAYS: [(u16, u16); 6] = [(0, 1), (1, 2), (2, 3), (3, 4), (4, 5), (5, 6)]
 
 const TREES: u16 = 4;
 
-// Blanks for all that is made, and for the moves.
+// Blanks for everything that is made, and for the moves.
 const SUPPLY: [(Kind, u64); 6] = [
     (Kind::Counter, 60),
     (Kind::Ring, 60),
@@ -65,7 +65,8 @@ fn some(rng: &mut Pcg32, below: u32) -> u32
     rng.next_word() % below
 }
 
-// What clients and workers have, and how many deliveries were made while a checkpoint ran.
+// The passes of clients and the seats of workers, and how many deliveries were made while a
+// checkpoint ran.
 #[derive(Drop)]
 struct Hands<B: RuntimeName> {
     rng: Pcg32,
@@ -83,7 +84,7 @@ fn some_elem(rng: &mut Pcg32) -> Elem {
 }
 
 impl<B: RuntimeName> Hands<B> {
-    // All that a runtime lends.
+    // Everything that a runtime lends.
     fn of<R: Wait + AllocGlobal + Abort>(
         rt: &R,
         runtime: &Runtime<ProbeDisk, Object, B>,
@@ -108,8 +109,8 @@ impl<B: RuntimeName> Hands<B> {
         }
     }
 
-    // A client constructs an element that isn't there, or mostly asks something else of one that
-    // is. Its window may be full.
+    // A client constructs an absent element, or mostly makes another request to a present one. Its
+    // window may be full.
     fn ask<R: Wait + Abort>(&mut self, rt: &R, runtime: &Runtime<ProbeDisk, Object, B>) {
         let to = some_elem(&mut self.rng);
         let look = runtime.look(rt, to).expect(rt, "memory");
@@ -180,7 +181,7 @@ impl<B: RuntimeName> Hands<B> {
         }
     }
 
-    // So many things, one after another.
+    // This many things, one after another.
     fn act_often<R: Wait + Abort>(
         &mut self,
         rt: &R,
@@ -194,7 +195,7 @@ impl<B: RuntimeName> Hands<B> {
     }
 }
 
-// A checkpoint's pause, after each of whose shelves others go on.
+// A checkpoint's pause: others go on after each of its shelves.
 #[derive(Drop)]
 struct Meanwhile<'a, B: RuntimeName, R: Wait> {
     rt: &'a R,
@@ -210,7 +211,7 @@ impl<B: RuntimeName + Send + Sync, R: Wait + Sync + Abort> Pause for Meanwhile<'
     }
 }
 
-// A checkpoint, while which one thread asks and works.
+// A checkpoint during which one thread asks and works.
 fn seal<B: RuntimeName + Send + Sync, R: Wait + Sync + Abort>(
     rt: &R,
     runtime: &Runtime<ProbeDisk, Object, B>,
@@ -247,7 +248,7 @@ fn slots<B: RuntimeName>(
     slots
 }
 
-// A checkpoint, while which one thread asks and each seat works in a thread of its own.
+// A checkpoint during which one thread asks and each seat works in a thread of its own.
 fn seal_beside_workers<
     B: RuntimeName + Send + Sync,
     R: Threads + Wait + Sync + AllocGlobal + Abort,
@@ -289,7 +290,7 @@ struct Left {
     meanwhile: u64,
 }
 
-// A runtime's life, with one or two checkpoints, beside workers in threads or not.
+// A runtime's life, with one or two checkpoints, with workers in threads or without.
 fn live<B: RuntimeName + Send + Sync, R: Threads + Wait + Sync + AllocGlobal + Abort>(
     rt: &R,
     runtime: Runtime<ProbeDisk, Object, B>,
@@ -333,7 +334,7 @@ fn live<B: RuntimeName + Send + Sync, R: Threads + Wait + Sync + AllocGlobal + A
     }
 }
 
-// What a life begins with.
+// The beginning of a life.
 #[derive(Drop)]
 struct Start {
     store: Store<Object>,
@@ -343,7 +344,7 @@ struct Start {
     processors: u16,
 }
 
-// The same over a store, with authorities that `B` names.
+// A life over a store, with authorities that `B` names.
 fn live_named<B: RuntimeName + Send + Sync, R: Threads + Wait + Sync + AllocGlobal + Abort>(
     rt: &R,
     start: Start,
@@ -371,7 +372,7 @@ fn live_named<B: RuntimeName + Send + Sync, R: Threads + Wait + Sync + AllocGlob
     }
 }
 
-// The same, under a name of its own.
+// A life over a store, under a name of its own.
 fn live_once<R: Threads + Wait + Sync + AllocGlobal + Abort>(
     rt: &R,
     start: Start,
@@ -417,7 +418,7 @@ fn found(rt: &(impl AllocGlobal + Abort), zero: &[u8], one: &[u8], wanted: u64) 
     }
 }
 
-// What a restart of the product has, by the image that it would write, as a text.
+// The world of a product's restart, by the image that it would write, as a text.
 fn restarted<R: Threads + Sync + AllocGlobal + Abort>(
     rt: &R,
     disk: ProbeDisk,
@@ -435,8 +436,8 @@ fn restarted<R: Threads + Sync + AllocGlobal + Abort>(
     found(rt, &half, &[], wanted)
 }
 
-// What a crash leaves of the disk is the world after the durable events: to the plain program, and
-// to a restart.
+// The disk that a crash leaves has the world after the durable events: for the plain program, and
+// for a restart.
 fn comes_back<R: Threads + Sync + AllocGlobal + Abort>(
     rt: &R,
     left: Left,
@@ -465,8 +466,8 @@ fn comes_back<R: Threads + Sync + AllocGlobal + Abort>(
     meanwhile
 }
 
-// A store of this seed lives, crashes and comes back. It answers how many deliveries were made
-// while a checkpoint ran.
+// A store of this seed lives, crashes and restarts. It answers how many deliveries were made while
+// a checkpoint ran.
 fn store_of<R: Threads + Wait + Sync + AllocGlobal + Abort>(rt: &R, seed: u64) -> u64 {
     let mut rng = Pcg32::new(seed, 60);
     let tally = Arc::new(rt.alloc(), Tally::new()).expect(rt, "memory");

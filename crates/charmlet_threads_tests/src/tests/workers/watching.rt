@@ -5,12 +5,12 @@ use std::sync::atomic::{AtomicU64, Ordering};
 use std::thread;
 use std::time::{Clock, Duration};
 
-// How often it is looked, and how many milliseconds it is waited in between.
+// How many looks there are, and how many milliseconds pass between two of them.
 const LOOKS: u32 = 12_000;
 
 const PAUSE: u64 = 10;
 
-// How many threads have done what they had to, or how far one has come.
+// How many threads have finished, or how far one of them has come.
 #[derive(Drop)]
 pub(super) struct Watch {
     done: AtomicU64,
@@ -23,17 +23,17 @@ impl Watch {
         }
     }
 
-    // One more.
+    // Counts one more.
     pub(super) fn note(&self) {
         self.done.fetch_add(1, Ordering::SeqCst);
     }
 
-    // How many there are.
+    // The count.
     pub(super) fn count(&self) -> u64 {
         self.done.load(Ordering::SeqCst)
     }
 
-    // Waits until there are so many.
+    // Waits until the count is at least `wanted`.
     pub(super) fn wait_for(&self, rt: &(impl Abort + Clock), wanted: u64) {
         for _ in 0..LOOKS {
             if self.count() >= wanted {

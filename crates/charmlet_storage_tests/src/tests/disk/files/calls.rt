@@ -1,5 +1,5 @@
-// The same calls of a disk of files and of one in memory give the same answers, and leave the same
-// bytes.
+// The same calls of a disk of files and of a disk in memory give the same answers, and leave the
+// same bytes.
 ghost use Rattle.std.specs.Prelude.{◌≤◌};
 
 use super::{OpenDisk, done, make_folder, open};
@@ -13,7 +13,7 @@ use std::process::Abort;
 const MAX_LEN: usize = 9000;
 
 // A call. An offset is brought inside the half, or to its end. A read ends inside the half too, and
-// a write ends where the half would have `MAX_LEN` bytes.
+// a write ends before the half would have more than `MAX_LEN` bytes.
 #[derive(Clone, Copy, Debug)]
 enum Call {
     Len(Half),
@@ -124,7 +124,7 @@ fn contents<D: Disk>(disk: &mut D, half: Half, into: &mut [u8]) -> Result<u64, D
     Ok(len)
 }
 
-// What reads of both disks filled.
+// The buffers that reads of both disks filled.
 #[derive(Drop)]
 struct Buffers {
     of_files: [u8; MAX_LEN],

@@ -150,7 +150,7 @@ fn folder_that_is_moved_is_a_fault_until_it_is_back(rt: HostRuntime) {
     done(&rt, fs::remove_dir_all(&rt, folder), "a folder");
 }
 
-// Who may do what with a file or a folder.
+// Sets who may do what with a file or a folder.
 fn permit(rt: &HostRuntime, path: &str, mode: u32) -> io::Result<()> {
     fs::set_permissions(rt, path, Permissions::from_mode(mode))
 }
@@ -166,7 +166,7 @@ fn make_read_only(rt: &HostRuntime, folder: &str, half: &str) -> io::Result<()> 
     permit(rt, folder, 0o555)
 }
 
-// What can be read of that folder is read.
+// Everything that can be read in that folder is read.
 fn is_read(rt: &impl Abort, disk: &mut FileDisk) {
     has_len(rt, disk, Half::Zero, 0);
     syncs(rt, disk, Half::Zero);
@@ -183,7 +183,7 @@ fn is_not_written(rt: &impl Abort, disk: &mut FileDisk) {
     reads(rt, disk, Half::One, 0, b"abc");
 }
 
-// The superuser may do everything. So what is refused is only tried if the system refuses it.
+// The superuser may do everything. So a refusal is only tried if the system refuses at all.
 #[test]
 fn folder_without_the_right_to_write_is_read(rt: HostRuntime) {
     let folder = "file_disk_read_only";

@@ -1,4 +1,4 @@
-// The files of a disk of files, and what is a fault at them.
+// The files of a disk of files, and their faults.
 
 use super::{
     are_names, count_names, done, fails_to_read, fails_to_sync, fails_to_write, half_has_faults,

@@ -4,7 +4,7 @@ use charmlet_image::{Beginning, HalfView, Header, Mark, read_half, read_top};
 use std::alloc::AllocGlobal;
 use std::process::Abort;
 
-// Where a half is damaged, if it is.
+// The offset at which a half is damaged, if it is.
 fn damage(rt: &(impl AllocGlobal + Abort), bytes: &[u8]) -> Option<u64> {
     match read_half(rt.alloc(), bytes).expect(rt, "memory") {
         HalfView::Damaged(offset) => Some(offset),
@@ -12,14 +12,14 @@ fn damage(rt: &(impl AllocGlobal + Abort), bytes: &[u8]) -> Option<u64> {
     }
 }
 
-// A half at fault is at fault within its bytes, or at its end.
+// A faulty half has its fault within its bytes, or at its end.
 fn has_answer(rt: &(impl AllocGlobal + Abort), bytes: &[u8]) {
     if let Some(offset) = damage(rt, bytes) {
         assert!(rt; offset <= bytes.len() as u64, "{offset} of {bytes:?}");
     }
 }
 
-// The same with another byte at this place.
+// A half with another byte at this place has an answer.
 fn has_answer_changed(rt: &(impl AllocGlobal + Abort), bytes: &[u8], at: usize, byte: u8) {
     has_answer(rt, &changed(rt, bytes, at, byte));
 }
@@ -35,7 +35,7 @@ fn has_answers(rt: &(impl AllocGlobal + Abort), bytes: &[u8]) {
     }
 }
 
-// Where a flushed store that is cut to this length is damaged.
+// The offset at which a flushed store is damaged that is cut to this length.
 fn fault_of_cut(cut: usize) -> Option<u64> {
     match cut {
         0 | 1 => None,
@@ -139,8 +139,8 @@ fn images_have_answers(rt: HostRuntime) {
     has_answers(&rt, &WAITING_STORE);
 }
 
-// A count of pending messages, of elements or of deliveries that no file could hold is at fault
-// where the bytes end, and takes no memory for it.
+// If no file could hold this many pending messages, elements or deliveries, the fault is at the end
+// of the bytes, and no memory is taken for them.
 #[test]
 fn counts_past_the_file_take_no_memory(rt: HostRuntime) {
     has_fault(&rt, &NEW_STORE, 42, 0xff, Some(48));

@@ -96,7 +96,7 @@ fn packed_of(kind_version: KindVersion, packed: &[u8; 36]) -> &[u8]
     }
 }
 
-// Notes what a value says, in a line.
+// Notes a value, in a line.
 fn note<T: Debug>(rt: &impl Abort, said: &mut String, value: &T) {
     write!(said, "{value:?}\n").expect(rt, "memory");
 }
@@ -119,7 +119,7 @@ fn has_grown(rt: &impl Abort, out: &[u8], before: usize, size: usize) {
     assert_eq!(rt; out.len().checked_sub(before), Some(size));
 }
 
-// Appends a client, and notes what it says.
+// Appends a client, and notes it.
 fn append_client(
     rt: &impl Abort,
     out: &mut Vec<u8>,
@@ -137,7 +137,7 @@ fn append_client(
     note(rt, said, &(client, row));
 }
 
-// Appends an element with these packed bytes, or one that is gone, and notes what it says.
+// Appends an element with these packed bytes, or one that is gone, and notes it.
 fn append_entry(
     rt: &impl Abort,
     rng: &mut Pcg32,
@@ -241,7 +241,7 @@ fn append_entries(rt: &impl Abort, rng: &mut Pcg32, out: &mut Vec<u8>, said: &mu
     }
 }
 
-// An image, and what it says.
+// An image, with a note of its contents.
 fn some_image(rt: &(impl AllocGlobal + Abort), rng: &mut Pcg32, said: &mut String) -> Vec<u8> {
     note_arrays(rt, said, &ARRAYS);
     let mut out = Vec::new(rt.alloc());
@@ -283,7 +283,7 @@ fn some_header(rt: &impl Abort, rng: &mut Pcg32, size: usize) -> Header {
     }
 }
 
-// A half with an image and two batches, and what they say.
+// A half with an image and two batches, with a note of their contents.
 fn some_half(rt: &(impl AllocGlobal + Abort), rng: &mut Pcg32, said: &mut String) -> Vec<u8> {
     let image = some_image(rt, rng, said);
     let header = some_header(rt, rng, image.len());
@@ -299,7 +299,7 @@ fn some_half(rt: &(impl AllocGlobal + Abort), rng: &mut Pcg32, said: &mut String
     out
 }
 
-// What an image and its header say, as they were read.
+// Notes the contents of an image and its header, as they were read.
 fn read_again(rt: &(impl AllocGlobal + Abort), half: &OpenHalf<'_>, said: &mut String) {
     let arrays = half.image.manifest.arrays(rt.alloc()).expect(rt, "memory");
     note_arrays(rt, said, arrays.as_slice());
@@ -318,7 +318,7 @@ fn read_again(rt: &(impl AllocGlobal + Abort), half: &OpenHalf<'_>, said: &mut S
     note(rt, said, &half.header);
 }
 
-// What the next batch says, as it was read.
+// Notes the contents of the next batch, as it was read.
 fn read_events_again(
     rt: &(impl AllocGlobal + Abort),
     manifest: &Manifest,
@@ -347,7 +347,7 @@ fn has_ended(rt: &(impl AllocGlobal + Abort), manifest: &Manifest, batches: &mut
     assert!(rt; batch.is_none());
 }
 
-// What the bytes of a half with two batches say, a line for each part.
+// The contents of a half with two batches, a line for each part.
 fn said_by(rt: &(impl AllocGlobal + Abort), bytes: &[u8]) -> String {
     let half = opened(rt, bytes);
     let mut said = String::new(rt.alloc());

@@ -20,7 +20,7 @@ const TWO_BATCHES: [u8; 155] = [
     0, 0, 0, 0, 0, 0, 0, // a closed gate, and what follows it
 ];
 
-// How many bytes are left at the first fault of a log, if it has one.
+// How many bytes are left at the first fault of a log, if there is one.
 fn first_fault(rt: &(impl AllocGlobal + Abort), bytes: &[u8]) -> Option<usize> {
     let manifest = arrays(rt);
     let mut reader = Reader::new(bytes);
@@ -31,19 +31,19 @@ fn first_fault(rt: &(impl AllocGlobal + Abort), bytes: &[u8]) -> Option<usize> {
     }
 }
 
-// The log is read with no fault, or with one among its bytes.
+// The log is read with no fault, or with a fault among its bytes.
 fn has_answer(rt: &(impl AllocGlobal + Abort), bytes: &[u8]) {
     if let Some(left) = first_fault(rt, bytes) {
         assert!(rt; left <= bytes.len(), "{left} of {bytes:?}");
     }
 }
 
-// The same with another byte at this place.
+// The log with another byte at this place has an answer.
 fn has_answer_changed(rt: &(impl AllocGlobal + Abort), bytes: &[u8], at: usize, byte: u8) {
     has_answer(rt, &changed(rt, bytes, at, byte));
 }
 
-// Each cut, and each of four bytes at each place, is read with no fault, or with one among the
+// Each cut, and each of four bytes at each place, is read with no fault, or with a fault among the
 // bytes.
 fn has_answers(rt: &(impl AllocGlobal + Abort), bytes: &[u8]) {
     for cut in 0..bytes.len() {
@@ -61,8 +61,8 @@ fn has_fault(rt: &(impl AllocGlobal + Abort), at: usize, byte: u8, fault: Option
     assert_eq!(rt; found, fault, "{byte} at {at}");
 }
 
-// In the file of the first flush the log begins at offset 51, and 125 bytes are all: what changes
-// there at offset 52 changes here at 1, and a fault at offset 120 has 5 bytes left.
+// In the file of the first flush the log begins at offset 51, and there are 125 bytes. So a change
+// at offset 52 there is at 1 here, and a fault at offset 120 has 5 bytes left.
 #[test]
 fn single_changes_have_their_offsets(rt: HostRuntime) {
     has_fault(&rt, 0, 0x07, None);

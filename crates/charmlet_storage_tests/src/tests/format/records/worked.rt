@@ -74,7 +74,7 @@ pub fn changed(rt: &(impl AllocGlobal + Abort), bytes: &[u8], at: usize, byte: u
     copy
 }
 
-// `count` events are read from a log, and so many bytes are left.
+// `count` events are read from a log, and `left` bytes are left.
 pub fn has_counts(rt: &(impl AllocGlobal + Abort), log: &[u8], count: usize, left: usize) {
     let manifest = arrays(rt);
     let mut reader = Reader::new(log);
@@ -130,7 +130,7 @@ fn is_written(rt: &(impl AllocGlobal + Abort), event: &Logged, wanted: &[u8])
     are_bytes(rt, &bytes, wanted);
 }
 
-// What was read in words. No byte is left after it.
+// The value that was read, in words. No byte is left after it.
 fn in_words<T: Debug>(rt: &(impl AllocGlobal + Abort), read: &T, left: usize) -> String {
     assert_eq!(rt; left, 0);
     format!(in rt.alloc(); "{read:?}").expect(rt, "memory")
@@ -263,7 +263,7 @@ fn message_in(rt: &(impl AllocGlobal + Abort), bytes: &[u8]) -> String {
     in_words(rt, &message, reader.left())
 }
 
-// The same, with the id read first.
+// A message in words, with its id read first.
 fn message_after_id(rt: &(impl AllocGlobal + Abort), bytes: &[u8]) -> String {
     let manifest = arrays(rt);
     let mut reader = Reader::new(bytes);
