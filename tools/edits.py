@@ -1,4 +1,4 @@
-"""Tries edits: wrong bodies that the prover has to refuse. For ./test and for must-fail-too.
+"""Tries edits: wrong bodies that the prover has to refuse. For ./test and for tools/must-fail-too.
 
   edits.py FOLDER [CRATE..]
 
@@ -25,7 +25,7 @@ An edit falls in one of three ways, and each line names that of an edit:
   name  A name in the text of a proof is gone.
 
 Only those that fall by a goal show that a contract refuses the edit, and pass. Of the others those
-pass that stand in edits-by-text.txt, each with its reason; it fails to stand there without need.
+pass that stand in tests/edits-by-text.txt, each with its reason; it fails to stand there without need.
 
 What came of each edit is kept in out/edits, under a sum of all that it rests on, and with --anew
 nothing is taken from there. With --beside LOG the libraries are those of out/tree, which are proved
@@ -95,7 +95,7 @@ REWRITES = {("rw", 3), ("simp", 3), ("subst", 4)}
 # The answer to a goal.
 ANSWER = re.compile(r"^pub (\S+) : goal\.\1$", re.M)
 # The list of edits that may fall by the text of a proof or by a name, each with the reason.
-REASONS = "edits-by-text.txt"
+REASONS = "tests/edits-by-text.txt"
 # What a crate is made from.
 PARTS = ("src", "specs", "proofs")
 # What the log of a proof of the tree says of a crate that is proved, and at its end.

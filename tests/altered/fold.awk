@@ -5,7 +5,7 @@
 BEGIN {
   FS = "|"
   print "# What `show` and `restart` have to print after a file of a store was altered, as the plain program of"
-  print "# recovery gives it; `./altered-files --answers` writes it. Of the stores `flushed` has a log of two"
+  print "# recovery gives it; `stress/altered-files --answers` writes it. Of the stores `flushed` has a log of two"
   print "# events in half 0, which is altered; `image` has an image in half 1 besides, which is altered; `older` is"
   print "# the same store, of which half 0 is altered; `caught` has a new store in half 0, and in half 1, which is"
   print "# altered, an image that was taken shelf by shelf; `again` is such a store too, whose one element was destroyed"
