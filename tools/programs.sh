@@ -1,4 +1,44 @@
-# What the scripts that run and build the programs share. It is sourced, with `top` set to the folder of the tree.
+# What the scripts of the tree share. It is sourced, with `top` set to the folder of the tree.
+
+# What this script is called where it says something.
+script=${0##*/}
+
+# Answers --help with the comment at the head of this script, and ends it.
+answer_help() {
+  [ "$*" = --help ] || return 0
+  sed -n '2,/^[^#]/s/^# \{0,1\}//p' "$0"
+  exit
+}
+
+# Says what is wrong and ends this script, with 1 or with the status that follows.
+fail() {
+  echo "$script: $1" >&2
+  exit "${2-1}"
+}
+
+# Ends this script where a command isn't there: `need COMMAND WHY`.
+need() { command -v "$1" >/dev/null 2>&1 || fail "the command '$1' isn't on the PATH, and $2" 127; }
+
+# Ends this script where the toolchain isn't there.
+need_rt() {
+  command -v rt >/dev/null 2>&1 ||
+    fail "the command 'rt' of the Rattle toolchain isn't on the PATH, and ${1-nothing can be proved without it}" 127
+}
+
+# Makes a folder for passing files, `work`, which goes as this script ends. The words are mktemp's.
+make_work() {
+  work=$(mktemp -d "$@") || exit 1
+  trap clean_up EXIT
+}
+clean_up() { rm -rf "$work"; }
+
+# Why the last command failed, as it said in $work/said.
+reason() {
+  local said
+  said=$(tail -n 1 "$work/said")
+  [ -n "$said" ] || said='no reason was given (is there room for passing files?)'
+  echo "${said##*: }"
+}
 
 # The crates that a program stands on, itself last, each after those below it.
 crates_of() {
