@@ -50,8 +50,3 @@ tried_program() {
 program_of_probes() {
   "$top/tools/keep" --fast charmlet_probe || fail "the program of probes isn't compiled" "${1-1}"
 }
-
-# Makes a library of a C file, which stands between a program and the system's: `make_library C SO`.
-make_library() {
-  cc -shared -fPIC -O1 -o "$2" "$1" -ldl || fail "the C compiler made no library of ${1##*/}"
-}
