@@ -186,7 +186,7 @@ names_what_is_there() {
     printf '%s\n' must-fail rattle-kit-13{b,f} first-halves
   } | sort -u >"$work/files"
   {
-    grep -rhoE '[a-z0-9]+(_[a-z0-9]+)+' crates/*/src crates/*/specs crates/*/proofs crates.txt tools/programs.sh
+    grep -rhoE '[a-z0-9]+(_[a-z0-9]+)+' crates/*/src crates/*/specs crates/*/proofs crates.txt tools/*.sh
     find crates -path '*/out' -prune -o -name '*_*' -printf '%f\n'
     # Those of others: of the library, and of the kit.
     printf '%s\n' write_fmt sqlite_disk
@@ -201,7 +201,7 @@ names_what_is_there() {
       lacking++
     }
     { named[$1]++ }
-    END { exit lacking > 0 || named["test"] < 50 || named["probe"] < 40 || named["transcript"] < 40 || named["file"] < 80 }
+    END { exit lacking > 0 || named["test"] < 20 || named["probe"] < 15 || named["transcript"] < 10 || named["script"] < 30 || named["file"] < 30 }
   ' "$work/there" "$work/files" "$work/words" "$work/names" >&2
 }
 
