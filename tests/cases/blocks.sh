@@ -8,7 +8,7 @@ is_in_its_file() {
 }
 
 group='blocks of pages'
-for page in TUTORIAL SCENARIO COOKBOOK OPERATING; do
+for page in GUIDE OPERATING; do
   awk -v blocks="$work/$page-" '
     /^```/ { inside = !inside; if (inside) file = sprintf("%s%02d", blocks, ++block); next }
     inside { print >file }

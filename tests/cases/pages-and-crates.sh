@@ -20,66 +20,13 @@ can_be_applied() {
   [ "$stale" -eq 0 ]
 }
 
-# Whether the page of promises has each public function with the clauses of its contract, and no other one.
-has_each_function() {
-  diff <(tools/public-functions --clauses | sort) \
-    <(awk '/^## `/ { split($0, part, "`"); crate = part[2] }
-      crate && /^\| `/ { split($0, part, "`"); split($0, column, / \| /); print crate, part[2], "|", column[3] }' docs/PROMISES.md | sort)
-}
-
-# Whether it names each edit at its crate, those that the gate tries in bold, and no other one.
-names_each_edit() {
-  diff <(for edit in crates/*/must-fail{,-too}/*.edit; do
-    IFS=/ read -r _ crate folder name <<<"${edit%.edit}"
-    [ "$folder" = must-fail ] && name="**$name**"
-    echo "$crate ${name//_/ }"
-  done | sort) \
-    <(awk '
-      function tell(names, name, count, place) {
-        count = split(names, name, ", ")
-        for (place = 1; place <= count; place++) {
-          gsub(/^ +|[ .]+$|'\''/, "", name[place])
-          if (name[place] != "") print crate, name[place]
-        }
-      }
-      /^## `/ { split($0, part, "`"); crate = part[2] }
-      crate && /^\| `/ { split($0, column, / \|( |$)/); tell(column[4]) }
-      crate && /^Others: / { count = split(substr($0, 9), of, "; "); for (place = 1; place <= count; place++) tell(substr(of[place], index(of[place], ": ") + 2)) }
-    ' docs/PROMISES.md | sort -u)
-}
-
-# Whether the table of wrong bodies there has each edit of must-fail, and none but those and, in italics, others of must-fail-too.
-names_each_wrong_body() {
-  awk '
-    /^## Wrong bodies/ { inside = 1 }
-    /^No clause refuses/ { exit }
-    inside && /^\| / {
-      split($0, column, / \| ?/)
-      count = split(column[2], part, "; ")
-      for (place = 1; place <= count; place++) {
-        if (part[place] !~ /^\*?`charmlet/) continue
-        folder = part[place] ~ /^\*/ ? "must-fail-too" : "must-fail"
-        gsub(/[*'\'']/, "", part[place])
-        split(part[place], crate, "`")
-        names = split(substr(part[place], index(part[place], ": ") + 2), name, ", ")
-        for (one = 1; one <= names; one++) {
-          gsub(/^ +| +$/, "", name[one])
-          gsub(/ /, "_", name[one])
-          print "crates/" crate[2] "/" folder "/" name[one] ".edit"
-        }
-      }
-    }
-  ' docs/PROMISES.md | sort -u >"$work/wrong-bodies"
-  diff <(grep /must-fail/ "$work/wrong-bodies") <(printf '%s\n' crates/*/must-fail/*.edit | sort) &&
-    [ -z "$(grep /must-fail-too/ "$work/wrong-bodies" | xargs ls 2>&1 >/dev/null)" ]
-}
-
 # Whether no name that was given up has come back.
 has_no_retired_word() {
   ! grep -rnwIFf tests/retired-words --exclude=retired-words --exclude-dir=.git --exclude-dir=out . >&2
 }
 
-# The files of definitions in these folders: all but those that only name the files of a folder.
+# The files of definitions below these folders: all but the lists of a crate's files, and a file whose
+# folder of the same name has them.
 definitions_in() {
   local file
   find "$@" -name '*.antt' ! -name Lib.antt | while IFS= read -r file; do
@@ -87,35 +34,82 @@ definitions_in() {
   done
 }
 
-# Whether the page of what is proved names each file of definitions that the contracts cite, with the lines that they have.
+# Whether the section "Definitions to read" of docs/PROVED.md lists 10 to 15 files of the crates, each
+# with its lines; and whether each file of definitions of the product stands in backquotes on its
+# crate's page of docs/reference: by its name, or by its path, which it takes where two of a crate have
+# that name.
 has_each_definition() {
-  local names lines name crate files named=() short=0
-  sed -n '/^## Definitions to read/,/^## What is trusted/p' docs/PROVED.md >"$work/definitions"
-  while IFS='|' read -r _ names lines _; do
-    files=()
-    for name in $(grep -o '`[^`]*`' <<<"$names" | tr -d '`'); do
-      case $name in
-        */*) crate=${name%%/*} && name=${name#*/} ;;
-        *) name=specs/$name ;;
-      esac
-      if [ -d "crates/$crate/$name" ]; then
-        mapfile -t -O "${#files[@]}" files < <(definitions_in "crates/$crate/$name")
-      else
-        files+=("crates/$crate/$name")
-      fi
+  local name lines crate page file path files amiss=0 count=0
+  local -A named paths
+  while IFS='|' read -r _ name lines _; do
+    name=$(tr -d '` ' <<<"$name") lines=${lines// /} count=$((count + 1))
+    if [ ! -f "crates/$name" ]; then
+      echo "test: docs/PROVED.md lists a file that isn't there: $name" >&2
+      amiss=1
+    elif [ "$(wc -l <"crates/$name")" -ne "$lines" ]; then
+      echo "test: docs/PROVED.md gives $lines lines to $name, which has $(wc -l <"crates/$name")" >&2
+      amiss=1
+    fi
+  done < <(sed -n '/^## Definitions to read/,/^## What is trusted/p' docs/PROVED.md | grep '^| `')
+  if [ "$count" -lt 10 ] || [ "$count" -gt 15 ]; then
+    echo "test: docs/PROVED.md lists $count files of definitions, and not 10 to 15" >&2
+    amiss=1
+  fi
+  for crate in crates/*/; do
+    crate=$(basename "$crate")
+    case $crate in charmlet_testing | charmlet_probe | *_tests) continue ;; esac
+    [ -d "crates/$crate/specs" ] || continue
+    mapfile -t files < <(definitions_in "crates/$crate/specs" | sort)
+    [ "${#files[@]}" -gt 0 ] || continue
+    page=docs/reference/$crate.md
+    if [ ! -f "$page" ]; then
+      echo "test: $crate has definitions, and no page $page" >&2
+      amiss=1
+      continue
+    fi
+    named=() paths=()
+    while IFS= read -r name; do
+      named[$name]=1
+    done < <(grep -o '`[^`]*`' "$page" | tr -d '`')
+    for file in "${files[@]}"; do
+      name=${file##*/}
+      paths[$name]=${paths[$name]-}/
     done
-    named+=("${files[@]}")
-    [ -z "${lines// /}" ] || [ "$(cat "${files[@]}" | wc -l)" -eq "$lines" ] || {
-      echo "test: these are $(cat "${files[@]}" | wc -l) lines, and not$lines:$names" >&2
-      short=$((short + 1))
-    }
-  done < <(grep '^| `' "$work/definitions"; sed -n '/^`.*lemmas alone/s/ have lemmas alone.*//p' "$work/definitions" | sed 's/^/|/; s/$/||/')
-  diff <(definitions_in crates/*/specs | grep -v '^crates/charmlet_test\|_tests/' | sort) <(printf '%s\n' "${named[@]}" | sort) && [ "$short" -eq 0 ]
+    for file in "${files[@]}"; do
+      path=${file#"crates/$crate/specs/"} name=${file##*/}
+      [ "${paths[$name]}" = / ] || name=$path
+      [ -n "${named[$name]-}${named[$path]-}${named["specs/$path"]-}${named["$crate/specs/$path"]-}${named["$file"]-}" ] || {
+        echo "test: $page doesn't name $path" >&2
+        amiss=1
+      }
+    done
+  done
+  [ "$amiss" -eq 0 ]
+}
+
+# Whether docs/reference/ is what the sources, the edits and the READMEs give, with no page too many,
+# and each public item has a doc comment.
+has_the_reference() {
+  tools/reference --check
+}
+
+# Whether the text that each edit changes stands once, in an item of its crate.
+places_each_edit() {
+  tools/reference --check-edits
+}
+
+# Whether tests/wrong-bodies names each edit of must-fail, and no edit that isn't there.
+names_each_wrong_body() {
+  tools/reference --check-wrong-bodies
+}
+
+# Whether the figures of docs/ are what the crates and their text give.
+has_each_figure() {
+  tools/figures --check
 }
 
 # The pages that are written by hand.
-pages=(README.md docs/*.md tools/bench/README.md crates/*/README.md)
-[ ! -d docs/dev ] || pages+=(docs/dev/*.md)
+pages=(README.md docs/*.md docs/dev/*.md tools/bench/README.md crates/*/README.md)
 
 # How many words these pages may have together.
 MOST_WORDS=50000
@@ -166,7 +160,7 @@ names_what_is_there() {
     inside { line = $0; sub(/^\$ /, "", line); path(line, FILENAME) }
     !inside { text = text (text == "" ? "" : " ") $0 }
     END { tell(page, text) }
-  ' "${pages[@]}" | sort -u >"$work/names"
+  ' "${pages[@]}" docs/reference/*.md | sort -u >"$work/names"
   {
     find crates/*_tests/src -name '*.rt' -exec sed -nE '/^#\[test\]$/,/fn /s/^(pub )?fn ([a-z0-9_]+).*/test \2/p' {} +
     # A module of tests goes by its name.
@@ -207,9 +201,10 @@ names_what_is_there() {
 
 group='pages and crates'
 count "the text that each edit of must-fail-too changes" can_be_applied
-count "the functions and clauses of docs/PROMISES.md" has_each_function
-count "the edits of docs/PROMISES.md" names_each_edit
-count "the wrong bodies of docs/PROMISES.md" names_each_wrong_body
+count "the pages of docs/reference" has_the_reference
+count "the places of all edits" places_each_edit
+count "the wrong bodies of tests/wrong-bodies" names_each_wrong_body
+count "the figures of docs" has_each_figure
 count "the definitions of docs/PROVED.md" has_each_definition
 count "the names that were given up" has_no_retired_word
 count "the names of tests and of files on pages" names_what_is_there
