@@ -177,6 +177,19 @@ crates_unproved() {
 # All crates but these.
 crates_without() { sed -n 's/^\(charmlet[a-z_]*\):.*/\1/p' "$top/crates.txt" | grep -vxF "$1"; }
 
+# Makes a toolchain in this folder, as FOLDER/toolchain: the kit's, except that a script on standard
+# input stands in its compiler's place. The compiler is FOLDER/kit/clang.
+make_toolchain() {
+  local folder=$1 kit
+  kit=$(dirname "$(rt doc)")
+  mkdir -p "$folder/toolchain/bin" "$folder/kit"
+  ln -s "$kit/toolchain/lib" "$folder/toolchain/lib"
+  ln -s "$kit/toolchain/bin/"* "$folder/toolchain/bin/"
+  mv "$folder/toolchain/bin/clang" "$folder/kit/clang"
+  cat >"$folder/toolchain/bin/clang"
+  chmod +x "$folder/toolchain/bin/clang"
+}
+
 # What the toolchain's quick build is told of the libraries that a crate in this copy of the tree stands on: the words by which
 # it is given each one's name, those that it uses, and its source. `rt try` tells it the same.
 words_of_sources() {
