@@ -1,7 +1,7 @@
 # What the scripts of the tree share. It is sourced, with `top` set to the folder of the tree.
 
 # What this script is called where it says something.
-script=${0##*/}
+SCRIPT=${0##*/}
 
 # Answers --help with the comment at the head of this script, and ends it.
 answer_help() {
@@ -12,7 +12,7 @@ answer_help() {
 
 # Says what is wrong and ends this script, with 1 or with the status that follows.
 fail() {
-  echo "$script: $1" >&2
+  echo "$SCRIPT: $1" >&2
   exit "${2-1}"
 }
 
