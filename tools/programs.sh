@@ -213,6 +213,16 @@ copy_crates() {
   done >"$tree/crates.txt"
 }
 
+# Adds a program to a copy of the tree, as a crate over these others, whose source is one file:
+# `add_program TREE NAME FILE CRATE..`.
+add_program() {
+  local crate=$1/crates/$2
+  mkdir -p "$crate/src" "$crate/specs" "$crate/proofs"
+  cp "$3" "$crate/src/main.rt"
+  echo '-- The program cites no definition of its own.' | tee "$crate/specs/Lib.antt" >"$crate/proofs/Lib.antt"
+  echo "$2: ${*:4}" >>"$1/crates.txt"
+}
+
 # Proves the crates of a copy of the tree, and builds and runs its programs, by `rt ci`: one on each processor where memory
 # holds 4.5 GB for each, or as many at once as RT_JOBS says. Elsewhere rt reckons how many memory holds, with up to 8 GB for a
 # crate, of which the largest takes 4.8.
