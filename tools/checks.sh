@@ -8,7 +8,7 @@ failed=0
 # Counts a trial that failed, and says why.
 fails() {
   failed=$((failed + 1))
-  echo "$script: $1" >&2
+  echo "$SCRIPT: $1" >&2
 }
 
 # Prints the sum, and says whether nothing failed and something passed, or as much as the word says.

@@ -1,7 +1,7 @@
 # What the scripts of the tree share. It is sourced, with `top` set to the folder of the tree.
 
 # What this script is called where it says something.
-script=${0##*/}
+SCRIPT=${0##*/}
 
 # Answers --help with the comment at the head of this script, and ends it.
 answer_help() {
@@ -12,7 +12,7 @@ answer_help() {
 
 # Says what is wrong and ends this script, with 1 or with the status that follows.
 fail() {
-  echo "$script: $1" >&2
+  echo "$SCRIPT: $1" >&2
   exit "${2-1}"
 }
 
@@ -224,6 +224,16 @@ copy_crates() {
   for crate in "$@"; do
     grep "^$crate:" "$top/crates.txt"
   done >"$tree/crates.txt"
+}
+
+# Adds a program to a copy of the tree, as a crate over these others, whose source is one file:
+# `add_program TREE NAME FILE CRATE..`.
+add_program() {
+  local crate=$1/crates/$2
+  mkdir -p "$crate/src" "$crate/specs" "$crate/proofs"
+  cp "$3" "$crate/src/main.rt"
+  echo '-- The program cites no definition of its own.' | tee "$crate/specs/Lib.antt" >"$crate/proofs/Lib.antt"
+  echo "$2: ${*:4}" >>"$1/crates.txt"
 }
 
 # Proves the crates of a copy of the tree, and builds and runs its programs, by `rt ci`: one on each processor where memory

@@ -119,7 +119,7 @@ has_few_words() {
   local words
   words=$(cat "${pages[@]}" | wc -w)
   [ "$words" -le "$MOST_WORDS" ] || {
-    echo "$script: the pages written by hand have $words words, and may have $MOST_WORDS" >&2
+    echo "$SCRIPT: the pages written by hand have $words words, and may have $MOST_WORDS" >&2
     return 1
   }
 }

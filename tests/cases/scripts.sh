@@ -55,13 +55,13 @@ answers_help() {
     status=0
     timeout 60 "$tried" --help </dev/null >"$work/printed" 2>"$work/said" || status=$?
     if [ "$status" -ne 0 ] || [ -s "$work/said" ] || [[ ! $(head -n 1 "$work/printed") =~ ^(usage|${tried##*/}) ]]; then
-      echo "$script: $tried --help ends with $status, and prints no usage" >&2
+      echo "$SCRIPT: $tried --help ends with $status, and prints no usage" >&2
       wrong=1
     fi
     status=0
     timeout 60 "$tried" --no-such-word </dev/null >"$work/printed" 2>"$work/said" || status=$?
     if [ "$status" -ne 2 ] || [ ! -s "$work/said" ]; then
-      echo "$script: $tried --no-such-word ends with $status, and not with a message and 2" >&2
+      echo "$SCRIPT: $tried --no-such-word ends with $status, and not with a message and 2" >&2
       wrong=1
     fi
   done
