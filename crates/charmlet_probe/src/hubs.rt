@@ -5,8 +5,8 @@ ghost use Rattle.charmlet_locks.specs.GhostAuth.Naming.{table_of};
 ghost use Rattle.charmlet_sequencer.specs.Sequencer.{IsOf};
 
 use crate::Probe;
-use charmlet_sequencer::RuntimeName;
 use charmlet_testing::{Authorities, ExitReason, HubMachine, ProbeStore};
+use charmlet_watch::WatchedName;
 use std::io::Write;
 use std::marker::Brand;
 use std::sync::Wait;
@@ -25,7 +25,7 @@ pub(crate) fn live_on_hub<W: Write, R: Threads + Wait + Sync>(
 }
 
 /// Runs the lines of a probe over a hub under this name.
-fn live_as<B: RuntimeName, W: Write, R: Threads + Wait + Sync>(
+fn live_as<B: WatchedName, W: Write, R: Threads + Wait + Sync>(
     rt: &R,
     probe: &mut Probe<'_, W>,
     store: ProbeStore,
@@ -37,6 +37,7 @@ fn live_as<B: RuntimeName, W: Write, R: Threads + Wait + Sync>(
     requires seats { table_of authorities.seats ≡ B.seats }
     requires passes { table_of authorities.passes ≡ B.passes }
     requires checkpoints { table_of authorities.checkpoints ≡ B.checkpoints }
+    requires sightings { table_of authorities.sightings ≡ B.sightings }
     requires honest { B.honest → ⊥ }
 {
     match HubMachine::<B>::open(probe.alloc, store, authorities) {

@@ -4,9 +4,10 @@ use crate::disk::ProbeDisk;
 use crate::hub::hub_machine::HubMachine;
 use crate::objects::Object;
 use crate::store::{Failed, Running};
-use charmlet_hub::{Checkpoint, Hub, NotSealed};
+use charmlet_hub::{Checkpoint, NotSealed};
 use charmlet_model::Refusal;
-use charmlet_sequencer::{ProcessorState, RuntimeName};
+use charmlet_sequencer::ProcessorState;
+use charmlet_watch::{Watched, WatchedName, Watcher};
 
 /// What is lacking if no checkpoint runs.
 const CHECKPOINT: Failed = Failed::Lacks("checkpoint");
@@ -14,7 +15,7 @@ const CHECKPOINT: Failed = Failed::Lacks("checkpoint");
 /// What is lacking if it isn't this shelf's turn, or a shelf wasn't handed in yet.
 const SHELF: Failed = Failed::Lacks("shelf");
 
-impl<B: RuntimeName> HubMachine<B> {
+impl<B: WatchedName> HubMachine<B> {
     /// Makes this call with the running checkpoint. A seal answers its generation.
     pub(crate) fn call_running(&mut self, call: Running) -> Result<Option<u64>, Failed> {
         match call {
@@ -26,10 +27,14 @@ impl<B: RuntimeName> HubMachine<B> {
     }
 
     fn begin(&mut self) -> Result<Option<u64>, Failed> {
-        match self.hub.begin() {
+        match self.hub.begin(&mut self.me) {
             Ok(checkpoint) => {
                 // A hub begins none while one runs.
-                end(&mut self.hub, self.checkpoint.replace(checkpoint));
+                end(
+                    &mut self.hub,
+                    &mut self.me,
+                    self.checkpoint.replace(checkpoint),
+                );
                 Ok(None)
             }
             Err(refusal) => Err(Failed::Refused(refusal)),
@@ -51,7 +56,7 @@ impl<B: RuntimeName> HubMachine<B> {
         match self.checkpoint.take() {
             None => Err(CHECKPOINT),
             Some(checkpoint) if checkpoint.shelves() == processors => {
-                match self.hub.seal(checkpoint) {
+                match self.hub.seal(&mut self.me, checkpoint) {
                     Ok(generation) => Ok(Some(generation)),
                     Err(
                         NotSealed {
@@ -59,13 +64,21 @@ impl<B: RuntimeName> HubMachine<B> {
                             checkpoint,
                         },
                     ) => {
-                        end(&mut self.hub, self.checkpoint.replace(checkpoint));
+                        end(
+                            &mut self.hub,
+                            &mut self.me,
+                            self.checkpoint.replace(checkpoint),
+                        );
                         Err(Failed::Refused(refusal))
                     }
                 }
             }
             Some(checkpoint) => {
-                end(&mut self.hub, self.checkpoint.replace(checkpoint));
+                end(
+                    &mut self.hub,
+                    &mut self.me,
+                    self.checkpoint.replace(checkpoint),
+                );
                 Err(SHELF)
             }
         }
@@ -74,7 +87,7 @@ impl<B: RuntimeName> HubMachine<B> {
     fn abandon(&mut self) -> Result<Option<u64>, Failed> {
         match self.checkpoint.take() {
             Some(checkpoint) => {
-                self.hub.abandon(checkpoint);
+                self.hub.abandon(&mut self.me, checkpoint);
                 Ok(None)
             }
             None => Err(CHECKPOINT),
@@ -84,27 +97,28 @@ impl<B: RuntimeName> HubMachine<B> {
 
 /// Makes a checkpoint at once: it begins, all shelves are handed in, and it is sealed. If that is
 /// refused, the checkpoint is given up.
-pub(crate) fn checkpoint<B: RuntimeName>(
-    hub: &mut Hub<ProbeDisk, Object, B>,
+pub(crate) fn checkpoint<B: WatchedName>(
+    hub: &mut Watched<ProbeDisk, Object, B>,
+    me: &mut Watcher<B>,
     shelves: &mut [ProcessorState<Object, B>],
 ) -> Result<u64, Failed> {
-    let mut checkpoint = match hub.begin() {
+    let mut checkpoint = match hub.begin(me) {
         Ok(checkpoint) => checkpoint,
         Err(refusal) => return Err(Failed::Refused(refusal)),
     };
     let imaged = image_all(hub, &mut checkpoint, shelves);
     match imaged {
-        Ok(()) => seal_or_abandon(hub, checkpoint),
+        Ok(()) => seal_or_abandon(hub, me, checkpoint),
         Err(failed) => {
-            hub.abandon(checkpoint);
+            hub.abandon(me, checkpoint);
             Err(failed)
         }
     }
 }
 
 /// Hands in all shelves.
-fn image_all<B: RuntimeName>(
-    hub: &mut Hub<ProbeDisk, Object, B>,
+fn image_all<B: WatchedName>(
+    hub: &mut Watched<ProbeDisk, Object, B>,
     checkpoint: &mut Checkpoint<B>,
     shelves: &mut [ProcessorState<Object, B>],
 ) -> Result<(), Failed> {
@@ -115,15 +129,16 @@ fn image_all<B: RuntimeName>(
 }
 
 /// Seals a checkpoint, or gives it up.
-fn seal_or_abandon<B: RuntimeName>(
-    hub: &mut Hub<ProbeDisk, Object, B>,
+fn seal_or_abandon<B: WatchedName>(
+    hub: &mut Watched<ProbeDisk, Object, B>,
+    me: &mut Watcher<B>,
     checkpoint: Checkpoint<B>,
 ) -> Result<u64, Failed> {
     if checkpoint.shelves() != hub.processors() {
-        hub.abandon(checkpoint);
+        hub.abandon(me, checkpoint);
         return Err(SHELF);
     }
-    match hub.seal(checkpoint) {
+    match hub.seal(me, checkpoint) {
         Ok(generation) => Ok(generation),
         Err(
             NotSealed {
@@ -131,25 +146,26 @@ fn seal_or_abandon<B: RuntimeName>(
                 checkpoint,
             },
         ) => {
-            hub.abandon(checkpoint);
+            hub.abandon(me, checkpoint);
             Err(Failed::Refused(refusal))
         }
     }
 }
 
 /// Ends a checkpoint, if there is one.
-pub(crate) fn end<B: RuntimeName>(
-    hub: &mut Hub<ProbeDisk, Object, B>,
+pub(crate) fn end<B: WatchedName>(
+    hub: &mut Watched<ProbeDisk, Object, B>,
+    me: &mut Watcher<B>,
     checkpoint: Option<Checkpoint<B>>,
 ) {
     if let Some(checkpoint) = checkpoint {
-        hub.abandon(checkpoint);
+        hub.abandon(me, checkpoint);
     }
 }
 
 /// Hands in a shelf, if it is the next one.
-fn image<B: RuntimeName>(
-    hub: &mut Hub<ProbeDisk, Object, B>,
+fn image<B: WatchedName>(
+    hub: &mut Watched<ProbeDisk, Object, B>,
     checkpoint: &mut Checkpoint<B>,
     shelf: &mut ProcessorState<Object, B>,
 ) -> Result<Option<u64>, Failed> {

@@ -16,8 +16,9 @@ use charmlet_hub::{
 use charmlet_leases::{ClientPass, GhostIds, GhostPass, Seat};
 use charmlet_locks::UnnamedAuthority;
 use charmlet_model::Refusal;
-use charmlet_sequencer::{GhostPart, Opened, ProcessorState, RuntimeName, open_store};
+use charmlet_sequencer::{GhostPart, Opened, ProcessorState, open_store};
 use charmlet_store::empty_shelves;
+use charmlet_watch::{GhostLog, SightingsOf, Watched, WatchedName, Watcher};
 use std::alloc::{AllocError, Global};
 use std::collections::BTreeMap;
 
@@ -28,6 +29,7 @@ pub struct Authorities {
     pub seats: UnnamedAuthority<GhostIds>,
     pub passes: UnnamedAuthority<GhostPass>,
     pub checkpoints: UnnamedAuthority<GhostToken>,
+    pub sightings: UnnamedAuthority<GhostLog>,
 }
 
 impl Authorities {
@@ -37,20 +39,24 @@ impl Authorities {
         let seats = UnnamedAuthority::new(alloc)?;
         let passes = UnnamedAuthority::new(alloc)?;
         let checkpoints = UnnamedAuthority::new(alloc)?;
+        let sightings = UnnamedAuthority::new(alloc)?;
         Ok(Authorities {
             parts,
             seats,
             passes,
             checkpoints,
+            sightings,
         })
     }
 }
 
-/// A hub, the shelves under their locks, and the seats and passes that it has lent. One thread
-/// works for all processors.
-pub struct HubMachine<B: RuntimeName> {
+/// A hub with the log of its calls, the shelves under their locks, and the seats and passes that it
+/// has lent. One thread works for all processors, as one caller.
+pub struct HubMachine<B: WatchedName> {
     pub(crate) alloc: Global,
-    pub(crate) hub: Hub<ProbeDisk, Object, B>,
+    pub(crate) hub: Watched<ProbeDisk, Object, B>,
+    /// The one caller.
+    pub(crate) me: Watcher<B>,
     pub(crate) shelves: Vec<ProcessorState<Object, B>>,
     /// The seats that are lent: those that were asked for, and those of processors that delivered.
     pub(crate) seats: Vec<Seat<SeatsOf<B>>>,
@@ -65,19 +71,21 @@ pub struct HubMachine<B: RuntimeName> {
 
 // Written by hand, so that dropping a hub is proved here, and not in each crate that drops such a
 // machine.
-impl<B: RuntimeName> Drop for HubMachine<B> {
+impl<B: WatchedName> Drop for HubMachine<B> {
     fn drop(self) {
         let HubMachine {
             alloc: _,
             mut hub,
+            mut me,
             shelves,
             seats,
             passes,
             lent,
             checkpoint,
         } = self;
-        end_running(&mut hub, checkpoint);
+        end_running(&mut hub, &mut me, checkpoint);
         drop(hub);
+        drop(me);
         drop(shelves);
         drop(seats);
         drop(passes);
@@ -85,7 +93,7 @@ impl<B: RuntimeName> Drop for HubMachine<B> {
     }
 }
 
-impl<B: RuntimeName> HubMachine<B> {
+impl<B: WatchedName> HubMachine<B> {
     /// A hub over a store, under its name. Nothing is lent. It fails only when out of memory.
     pub fn open(
         alloc: Global,
@@ -98,6 +106,7 @@ impl<B: RuntimeName> HubMachine<B> {
         requires seats { table_of authorities.seats ≡ B.seats }
         requires passes { table_of authorities.passes ≡ B.passes }
         requires checkpoints { table_of authorities.checkpoints ≡ B.checkpoints }
+        requires sightings { table_of authorities.sightings ≡ B.sightings }
         requires honest { B.honest → ⊥ }
     {
         let processors = store.processors();
@@ -122,6 +131,7 @@ impl<B: RuntimeName> HubMachine<B> {
         requires seats { table_of authorities.seats ≡ B.seats }
         requires passes { table_of authorities.passes ≡ B.passes }
         requires checkpoints { table_of authorities.checkpoints ≡ B.checkpoints }
+        requires sightings { table_of authorities.sightings ≡ B.sightings }
         requires honest { B.honest → ⊥ }
         requires none { vec_len shelves ≡ 0 }
         requires room { B.processors ≤ vec_capacity shelves }
@@ -132,14 +142,18 @@ impl<B: RuntimeName> HubMachine<B> {
             seats,
             passes,
             checkpoints,
+            sightings,
         } = authorities;
         let Opened { sequencer, shelves } = open_store(store, halves, parts.named::<B>(), shelves);
         let seat_table = seats.named::<SeatsOf<B>>();
         let pass_table = passes.named::<PassesOf<B>>();
         let tokens = checkpoints.named::<CheckpointsOf<B>>();
+        let hub = Hub::new(alloc, sequencer, processors, seat_table, pass_table, tokens);
+        let (hub, me) = Watched::new(hub, sightings.named::<SightingsOf<B>>());
         HubMachine {
             alloc,
-            hub: Hub::new(alloc, sequencer, processors, seat_table, pass_table, tokens),
+            hub,
+            me,
             shelves,
             seats: Vec::new(alloc),
             passes: Vec::new(alloc),
@@ -160,13 +174,15 @@ impl<B: RuntimeName> HubMachine<B> {
         let HubMachine {
             alloc,
             mut hub,
+            mut me,
             shelves,
             mut seats,
             mut passes,
             lent,
             checkpoint,
         } = self;
-        end_running(&mut hub, checkpoint);
+        end_running(&mut hub, &mut me, checkpoint);
+        let (hub, log) = hub.into_parts();
         let seat = take_seat(&mut seats, without);
         let pass = take_pass(&mut passes, without);
         match hub.close(shelves, empty, seats, passes) {
@@ -192,7 +208,8 @@ impl<B: RuntimeName> HubMachine<B> {
                     refusal,
                     HubMachine {
                         alloc,
-                        hub,
+                        hub: Watched::from_parts(hub, log),
+                        me,
                         shelves,
                         seats,
                         passes,

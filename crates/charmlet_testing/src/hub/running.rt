@@ -11,12 +11,12 @@ use charmlet_hub::PassesOf;
 use charmlet_leases::ClientPass;
 use charmlet_model::{Answer, Elem, Kind, MsgId, Refusal, Step, Told};
 use charmlet_requests::{Handlers, Request, target};
-use charmlet_sequencer::RuntimeName;
 use charmlet_store::{Census, Look, Standing};
+use charmlet_watch::WatchedName;
 use std::alloc::AllocError;
 use std::sync::Wait;
 
-impl<B: RuntimeName> HubMachine<B> {
+impl<B: WatchedName> HubMachine<B> {
     /// A client's pass, if it is lent.
     fn pass_in(&self, client: u32) -> Option<&ClientPass<PassesOf<B>>> {
         let place = place_of_pass(self.passes.as_slice(), client)?;
@@ -65,7 +65,7 @@ impl<B: RuntimeName> HubMachine<B> {
     fn request(&mut self, client: u32, request: &Request<'_>) -> Result<Told, Refusal> {
         let place = self.pass_of(client)?;
         match self.passes.get_mut(place) {
-            Some(pass) => self.hub.request(pass, request),
+            Some(pass) => self.hub.request(&mut self.me, pass, request),
             None => Err(Refusal::PassOut),
         }
     }
@@ -74,7 +74,7 @@ impl<B: RuntimeName> HubMachine<B> {
     fn status(&mut self, client: u32, number: u64) -> Result<Told, Refusal> {
         let place = self.pass_of(client)?;
         match self.passes.get_mut(place) {
-            Some(pass) => self.hub.status(pass, number),
+            Some(pass) => self.hub.status(&mut self.me, pass, number),
             None => Err(Refusal::PassOut),
         }
     }
@@ -91,7 +91,7 @@ impl<B: RuntimeName> HubMachine<B> {
         let Some(seat) = self.seats.get_mut(place) else {
             return Err(Refusal::BadPes);
         };
-        deliver(&mut self.hub, shelf, seat, id)
+        deliver(&mut self.hub, &mut self.me, shelf, seat, id)
     }
 
     /// Commits the performed delivery on a processor.
@@ -103,7 +103,7 @@ impl<B: RuntimeName> HubMachine<B> {
         let Some(seat) = self.seats.get_mut(place) else {
             return Err(Failed::Refused(Refusal::BadPes));
         };
-        commit(&mut self.hub, shelf, seat)
+        commit(&mut self.hub, &mut self.me, shelf, seat)
     }
 
     /// Moves an element to a processor.
@@ -114,13 +114,20 @@ impl<B: RuntimeName> HubMachine<B> {
             Err(refusal) => return Err(refusal),
         };
         let shelves = self.shelves.as_mut_slice();
-        carry_among(&mut self.hub, shelves, source, usize::from(processor), elem)
+        carry_among(
+            &mut self.hub,
+            &mut self.me,
+            shelves,
+            source,
+            usize::from(processor),
+            elem,
+        )
     }
 
     /// Makes all events durable, and tells no client.
     fn flush(&mut self) -> Result<u64, Refusal> {
         let mut none = Vec::new(self.alloc);
-        self.hub.flush(none.as_mut_slice())
+        self.hub.flush(&mut self.me, none.as_mut_slice())
     }
 
     /// The processor of an element, and its packed state.
@@ -138,7 +145,7 @@ impl<B: RuntimeName> HubMachine<B> {
     }
 }
 
-impl<B: RuntimeName> Machine for HubMachine<B> {
+impl<B: WatchedName> Machine for HubMachine<B> {
     fn step(&mut self, step: &Step) -> Result<Answer, Failed> {
         match step {
             Step::Request {
@@ -174,7 +181,7 @@ impl<B: RuntimeName> Machine for HubMachine<B> {
     }
 
     fn checkpoint<R: Wait>(&mut self, _rt: &R) -> Result<u64, Failed> {
-        checkpoint(&mut self.hub, self.shelves.as_mut_slice())
+        checkpoint(&mut self.hub, &mut self.me, self.shelves.as_mut_slice())
     }
 
     fn call(&mut self, handlers: &Handlers, call: &Call<'_>) -> Result<Told, Failed> {
@@ -195,7 +202,7 @@ impl<B: RuntimeName> Machine for HubMachine<B> {
     }
 
     fn supply(&mut self, blanks: Vec<Object>) -> Result<(), Failed> {
-        match self.hub.supply(blanks) {
+        match self.hub.supply(&mut self.me, blanks) {
             Ok(()) => Ok(()),
             Err(_) => Err(Failed::MEMORY),
         }
@@ -215,6 +222,7 @@ impl<B: RuntimeName> Machine for HubMachine<B> {
     }
 
     fn look(&mut self, elem: Elem) -> Result<Look, Failed> {
+        self.hub.look(&mut self.me);
         let counts = self.hub.history().element(elem);
         let standing = match self.hub.history().where_is(elem) {
             Some(processor) => self.standing_on(processor, elem)?,
@@ -311,7 +319,7 @@ impl<B: RuntimeName> Machine for HubMachine<B> {
 
     fn assign(&mut self, processor: u16, id: MsgId) -> Result<(), Failed> {
         match self.shelves.get_mut(usize::from(processor)) {
-            Some(shelf) => Ok(self.hub.assign(shelf, id)?),
+            Some(shelf) => Ok(self.hub.assign(&mut self.me, shelf, id)?),
             None => Err(Failed::Refused(Refusal::BadPes)),
         }
     }
@@ -321,7 +329,7 @@ impl<B: RuntimeName> Machine for HubMachine<B> {
             return self.commit(processor);
         }
         match self.shelves.get_mut(usize::from(processor)) {
-            Some(shelf) => turn(&mut self.hub, shelf, of),
+            Some(shelf) => turn(&mut self.hub, &mut self.me, shelf, of),
             None => Err(Failed::Refused(Refusal::BadPes)),
         }
     }
@@ -342,7 +350,7 @@ impl<B: RuntimeName> Machine for HubMachine<B> {
 
     fn tell(&mut self) -> Result<u64, Failed> {
         let passes = self.passes.as_mut_slice();
-        Ok(self.hub.flush(passes)?)
+        Ok(self.hub.flush(&mut self.me, passes)?)
     }
 
     fn running(&mut self, call: Running) -> Result<Option<u64>, Failed> {

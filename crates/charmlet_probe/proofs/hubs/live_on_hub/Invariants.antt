@@ -17,3 +17,7 @@ ghosts-live_as-B-RuntimeName g a = record {
   generation = a.store.generation;
   honest = ⊥;
 }
+
+-- and the authority of its sightings
+abbrev pub ghosts-live_as-B-WatchedName : goal.ghosts-live_as-B-WatchedName
+ghosts-live_as-B-WatchedName g a = record { sightings = table_of a.authorities.sightings }

@@ -1,0 +1,12 @@
+use Rattle.std.proofs.Common.{ℕ, sym, subst}
+use Rattle.charmlet_model.specs.Core.{Assign}
+use Rattle.charmlet_model.specs.Run.{Goes}
+use Rattle.charmlet_delivery.specs.Workplace.{done_or_refused}
+use Rattle.charmlet_hub.specs.Hub.{store_in}
+use Rattle.charmlet_watch.proofs.Logs.{goes_at}
+use Rattle.charmlet_watch.proofs.watched.Watched.assign.Goals as goal
+
+pub note-requires-after_bounds : goal.note-requires-after_bounds
+note-requires-after_bounds g c κs within =
+    let done = c.assign-done in
+    goes_at _ c.self.inside.hub done.new.self (Assign c.number-processor.result c.args.id) (done_or_refused done.result) c.self.invariant (subst (λ (n : ℕ). Goes (store_in c.self.inside.hub) (Assign n c.args.id) (done_or_refused done.result) (store_in done.new.self)) (sym c.number-processor.ensures) done.ensures.goes)

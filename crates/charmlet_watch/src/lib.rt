@@ -1,0 +1,16 @@
+//! The hub of a runtime with the log of its calls, which is ghost state: each answer is known to be
+//! of one moment of this very store, and each call to make its own step and no other.
+#![tactic(auto)]
+
+mod checkpoint;
+mod deliveries;
+mod moves;
+mod names;
+mod noted;
+mod requests;
+mod watched;
+
+pub use crate::names::{
+    GhostCall, GhostLog, GhostMoment, LogOf, RuntimeStory, SightingsOf, WatchedName, Watcher,
+};
+pub use crate::watched::Watched;
