@@ -185,7 +185,7 @@ make_toolchain() {
   mkdir -p "$folder/toolchain/bin" "$folder/kit"
   ln -s "$kit/toolchain/lib" "$folder/toolchain/lib"
   ln -s "$kit/toolchain/bin/"* "$folder/toolchain/bin/"
-  mv "$folder/toolchain/bin/clang" "$folder/kit/clang"
+  mv "$folder/toolchain/bin/clang" "$folder/kit/clang" 2>/dev/null || return
   cat >"$folder/toolchain/bin/clang"
   chmod +x "$folder/toolchain/bin/clang"
 }
