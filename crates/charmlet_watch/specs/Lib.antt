@@ -1,4 +1,4 @@
 -- The definitions that contracts cite.
+pub mod Log
 pub mod Moments
 pub mod Entries
-pub use Rattle.charmlet_sightings.specs.Log

@@ -8,9 +8,13 @@ mod moves;
 mod names;
 mod noted;
 mod requests;
+mod sightings;
+mod story;
 mod watched;
 
 pub use crate::names::{
     GhostCall, GhostLog, GhostMoment, LogOf, RuntimeStory, SightingsOf, WatchedName, Watcher,
 };
+pub use crate::sightings::{Prefix, Sightings};
+pub use crate::story::{Next, Story};
 pub use crate::watched::Watched;

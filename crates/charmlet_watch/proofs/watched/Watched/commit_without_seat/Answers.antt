@@ -3,7 +3,7 @@ use Rattle.charmlet_model.specs.Core.{Commit}
 use Rattle.charmlet_model.specs.Run.{Goes}
 use Rattle.charmlet_delivery.specs.Workplace.{done_or_refused}
 use Rattle.charmlet_hub.specs.Hub.{store_in}
-use Rattle.charmlet_watch.proofs.Logs.{goes_at}
+use Rattle.charmlet_watch.proofs.Calls.{goes_at}
 use Rattle.charmlet_watch.proofs.watched.Watched.commit_without_seat.Goals as goal
 
 pub note-requires-after_bounds : goal.note-requires-after_bounds

@@ -2,7 +2,7 @@ use Rattle.std.proofs.Common.{ℕ, sym, subst}
 use Rattle.charmlet_model.specs.Core.{Finish, Done}
 use Rattle.charmlet_model.specs.Run.{Goes}
 use Rattle.charmlet_hub.specs.Hub.{store_in}
-use Rattle.charmlet_watch.proofs.Logs.{goes_at}
+use Rattle.charmlet_watch.proofs.Calls.{goes_at}
 use Rattle.charmlet_watch.proofs.watched.Watched.finish.Goals as goal
 
 pub note-requires-after_bounds : goal.note-requires-after_bounds

@@ -1,6 +1,6 @@
 use Rattle.charmlet_model.specs.Core.{Flush}
 use Rattle.charmlet_history.specs.Kept.{counts_or_refused}
-use Rattle.charmlet_watch.proofs.Logs.{goes_at}
+use Rattle.charmlet_watch.proofs.Calls.{goes_at}
 use Rattle.charmlet_watch.proofs.watched.Watched.flush.Goals as goal
 
 pub note-requires-after_bounds : goal.note-requires-after_bounds

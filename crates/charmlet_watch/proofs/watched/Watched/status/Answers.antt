@@ -3,7 +3,7 @@ use Rattle.charmlet_model.specs.Core.{Status}
 use Rattle.charmlet_model.specs.Run.{Goes}
 use Rattle.charmlet_history.specs.Kept.{told_or_refused}
 use Rattle.charmlet_hub.specs.Hub.{store_in}
-use Rattle.charmlet_watch.proofs.Logs.{goes_at}
+use Rattle.charmlet_watch.proofs.Calls.{goes_at}
 use Rattle.charmlet_watch.proofs.watched.Watched.status.Goals as goal
 
 pub note-requires-after_bounds : goal.note-requires-after_bounds
